@@ -1,20 +1,24 @@
 -- The chunks of a message are whole words, and a sink that refuses one of them refuses some chunk.
-use Rattle.std.proofs.Common.{◌≡◌, ◌⊎◌, inl, inr, ℕ, ◌+◌, ◌*◌, ◌/◌, Result, Ok, Err, IfErr, List, [], ◌∷◌, length, take, drop, arith}
+use Rattle.std.proofs.Common.{◌≡◌, ◌⊎◌, inl, inr, ℕ, ◌+◌, ◌*◌, ◌/◌, List, [], ◌∷◌, length, take, drop, arith}
 use Rattle.std.proofs.lemmas.List.{length-take-le, length-drop}
 use Rattle.std.specs.List.{AllByRecursion}
 use Rattle.std.specs.Prelude.{nat_lt, Bool, true, false, cond}
-use Rattle.capnp_frame.specs.declared.error.Error.{Error}
 use Rattle.capnp_frame.specs.declared.error.ErrorKind.{ErrorKind}
+use Rattle.capnp_frame.specs.declared.error.ErrorKind.TheVariants.{DeviceFailed, OutOfMemory}
 use Rattle.capnp_frame.specs.Message.{IsWholeWords, lengths}
 use Rattle.capnp_frame.specs.SegmentTable.{zero_padded_table}
 use Rattle.capnp_frame.specs.Writing.{IsWritable, RefusesMany, chunks, table_chunks}
-use Rattle.capnp_frame.specs.Sink.{Declining, DeclinesAny, DeclinesSome}
+use Rattle.capnp_frame.specs.Sink.{Declining, ByKind, DeclinesAny, DeclinesSome}
+use Rattle.capnp_frame.specs.Source.{Fails}
 use Rattle.capnp_frame.specs.declared.serialize.segment_table.Padding.TheVariants.{Zero}
+use Rattle.capnp_frame.proofs.AskLemmas.{never_fails}
 use Rattle.capnp_frame.proofs.FrameLemmas.{zero_padded_is, length-table}
 use Rattle.capnp_frame.proofs.SizeLemmas.{HasTable-writable}
 use Rattle.capnp_pack.proofs.AllLemmas.{AllByRecursion-append}
 use Rattle.capnp_pack.specs.PackedSink.{DeclinesPacked}
-use Rattle.capnp.specs.Written.{RefusesWriter, RefusesAppending}
+use Rattle.capnp.specs.declared.streams.Format.{Format}
+use Rattle.capnp.specs.declared.streams.Format.TheVariants.{Framed, Packed}
+use Rattle.capnp.specs.Written.{DeclinesAs, RefusesWriter}
 
 some_declined : (refuses : Declining) (xs : List (List ℕ)) (kind : ErrorKind) → DeclinesSome refuses xs kind → DeclinesAny refuses kind
 some_declined refuses [] kind declined = absurd declined
@@ -41,20 +45,23 @@ chunks_whole segments writable =
     let long = length-table table (lengths segments) (zero_padded_is Zero (lengths segments) (HasTable-writable segments writable)) in
     AllByRecursion-append IsWholeWords (table_chunks (lengths segments)) segments (table_whole table (length (lengths segments) / 2) (nat_lt 8 (length table)) long) writable.whole
 
--- a writer's failure, of either format, as one of messages one after the other
-pub framed_appending : {X : Type 0} (refuses : Declining) (message : List (List ℕ)) (r : Result X Error) → IfErr r (λ e. RefusesWriter refuses message e.kind)
-    → IfErr r (λ e. RefusesMany message e.kind ⊎ RefusesAppending refuses e.kind)
-framed_appending refuses message (Ok x) refused = tt
-framed_appending refuses message (Err e) (inl device) = inr (inl device)
-framed_appending refuses message (Err e) (inr (inl declined)) = inr (inr (inr (some_declined refuses (chunks message) e.kind declined)))
-framed_appending refuses message (Err e) (inr (inr (inl many))) = inl many
-framed_appending refuses message (Err e) (inr (inr (inr memory))) = inr (inr (inl memory.1))
+-- why a message is not written to memory, framed and packed: for too many segments, or for want of memory
+pub framed_memory : (message : List (List ℕ)) (kind : ErrorKind) → RefusesWriter (ByKind OutOfMemory) message kind → (kind ≡ DeviceFailed → Fails 0 0)
+    → RefusesMany message kind ⊎ (kind ≡ OutOfMemory)
+framed_memory message kind (inl device) failed = absurd (never_fails kind failed device)
+framed_memory message kind (inr (inl declined)) failed = inr (some_declined (ByKind OutOfMemory) (chunks message) kind declined).1
+framed_memory message kind (inr (inr (inl many))) failed = inl many
+framed_memory message kind (inr (inr (inr memory))) failed = inr memory.1
 
-pub packed_appending : {X : Type 0} (refuses : Declining) (message : List (List ℕ)) (r : Result X Error) → IsWritable message
-    → IfErr r (λ e. RefusesWriter (DeclinesPacked refuses) message e.kind) → IfErr r (λ e. RefusesMany message e.kind ⊎ RefusesAppending refuses e.kind)
-packed_appending refuses message (Ok x) writable refused = tt
-packed_appending refuses message (Err e) writable (inl device) = inr (inl device)
-packed_appending refuses message (Err e) writable (inr (inl declined)) =
-    inr (inr (inr (packed_declined refuses (chunks message) e.kind (chunks_whole message writable) declined)))
-packed_appending refuses message (Err e) writable (inr (inr (inl many))) = inl many
-packed_appending refuses message (Err e) writable (inr (inr (inr memory))) = inr (inr (inl memory.1))
+pub packed_memory : (message : List (List ℕ)) (kind : ErrorKind) → IsWritable message → RefusesWriter (DeclinesPacked (ByKind OutOfMemory)) message kind
+    → (kind ≡ DeviceFailed → Fails 0 0) → RefusesMany message kind ⊎ (kind ≡ OutOfMemory)
+packed_memory message kind writable (inl device) failed = absurd (never_fails kind failed device)
+packed_memory message kind writable (inr (inl declined)) failed =
+    inr (packed_declined (ByKind OutOfMemory) (chunks message) kind (chunks_whole message writable) declined).1
+packed_memory message kind writable (inr (inr (inl many))) failed = inl many
+packed_memory message kind writable (inr (inr (inr memory))) failed = inr memory.1
+
+pub format_memory : (format : Format) (message : List (List ℕ)) (kind : ErrorKind) → IsWritable message
+    → RefusesWriter (DeclinesAs format (ByKind OutOfMemory)) message kind → (kind ≡ DeviceFailed → Fails 0 0) → RefusesMany message kind ⊎ (kind ≡ OutOfMemory)
+format_memory Framed message kind writable refused failed = framed_memory message kind refused failed
+format_memory Packed message kind writable refused failed = packed_memory message kind writable refused failed

@@ -7,7 +7,7 @@ use Rattle.capnp_frame.proofs.TextLemmas.{AreTexts-once, AreTexts-most, EndsText
 use Rattle.capnp.specs.declared.streams.Format.{Format}
 use Rattle.capnp.specs.declared.streams.StoppedAt.{StoppedAt}
 use Rattle.capnp.specs.Streams.{RefusesNext, EndsBy, IsStream}
-use Rattle.capnp.specs.Runs.{Writing, DecliningWriting, IsRunFault, LacksWriting, most_messages, RanOut, StoppedReading, HasStopped, HasRun, IsResultOf, IsFaulted}
+use Rattle.capnp.specs.Runs.{Writing, DecliningWriting, IsRunFault, most_messages, RanOut, StoppedReading, HasStopped, HasRun, IsResultOf, IsFaulted}
 use Rattle.capnp.proofs.RunLemmas.{format_lawful, format_parts, writing_faulted}
 
 pub ran_out_ends : (rule : Padding) (format : Format) (limit : Option ℕ) (Writes : Writing) (left before after : Option (List ℕ))
@@ -43,12 +43,6 @@ stopped_ends rule format limit Writes count kind left before after raw stopped e
     let moved : EndsBy rule format limit (Some kind) stream.rest = subst (λ l. EndsBy rule format limit (Some kind) l) one.1 ends in
     (sym (EndsTexts-once rule (format_lawful format) limit (Some kind) ending stream.rest moved stream.ends), sym written.counted ∙ ap length one.0)
 
-lacking_faulted : (rule : Padding) (format : Format) (limit : Option ℕ) (Declines : DecliningWriting) (index : ℕ) (kind : ErrorKind)
-    (rest : List ℕ) (left : Option (List ℕ)) → IfKnown (Some rest) left (LacksWriting rule format limit Declines index kind)
-    → IsRunFault Declines index kind
-lacking_faulted rule format limit Declines index kind rest None lacks = absurd lacks
-lacking_faulted rule format limit Declines index kind rest (Some left) lacks = writing_faulted Declines index lacks.message kind lacks.writable lacks.fault
-
 pub stopped_returns : (rule : Padding) (format : Format) (limit : Option ℕ) (Writes : Writing) (Declines : DecliningWriting) (count : ℕ)
     (kind : ErrorKind) (left before after : Option (List ℕ)) (raw : List ℕ)
     → HasStopped rule format limit Writes Declines count kind left before after raw
@@ -59,7 +53,7 @@ stopped_returns rule format limit Writes Declines count kind left before after r
   | inr (inl memory) ↦ inr (inr (inl memory.0))
   | inr (inr line) ↦ inl (stopped_ends rule format limit Writes count kind left before after raw stopped (refused_ends rule format limit kind stopped.rest left line) messages ending stream)
 ]
-stopped_returns rule format limit Writes Declines count kind left before after raw (inr stopped) messages ending stream = inr (lacking_faulted rule format limit Declines count kind stopped.rest left stopped.lacks)
+stopped_returns rule format limit Writes Declines count kind left before after raw (inr stopped) messages ending stream = inr (writing_faulted Declines count stopped.message kind stopped.writable stopped.fault)
 
 returned : (rule : Padding) (format : Format) (limit : Option ℕ) (Writes : Writing) (Declines : DecliningWriting)
     (result : Result (Unit {0}) StoppedAt) (left before after : Option (List ℕ)) (raw : List ℕ)

@@ -6,7 +6,7 @@ use Rattle.capnp_frame.specs.declared.serialize.segment_table.Padding.{Padding}
 use Rattle.capnp_frame.specs.declared.error.ErrorKind.{ErrorKind}
 use Rattle.capnp_frame.specs.Limits.{IsWithin}
 use Rattle.capnp_frame.specs.Message.{IsWholeWords}
-use Rattle.capnp_frame.specs.Source.{IsSource, IfKnown, IsTail, IsFront}
+use Rattle.capnp_frame.specs.Source.{IsSource, IfKnown, IsTail}
 use Rattle.capnp_frame.specs.Sink.{Adds}
 use Rattle.capnp_frame.specs.SplittingLaws.{splitting}
 use Rattle.capnp_frame.specs.Writing.{IsWritable}
@@ -18,8 +18,8 @@ use Rattle.capnp_pack.proofs.PackedFrameLemmas.{packed_requests}
 use Rattle.capnp.specs.declared.streams.Format.{Format}
 use Rattle.capnp.specs.declared.streams.Format.TheVariants.{Framed, Packed}
 use Rattle.capnp.specs.declared.streams.StoppedAt.{StoppedAt}
-use Rattle.capnp.specs.Streams.{grammar_of, gives_of, refuses_of, rules_of, StandsNext}
-use Rattle.capnp.specs.Runs.{Writing, DecliningWriting, WritesFrom, WritesAll, HasWrittenNext, HasWritten, IsReadingFault, IsWritingFault, BreaksOffOr, IsRunFault, LacksWriting, most_messages, HasRun}
+use Rattle.capnp.specs.Streams.{grammar_of, gives_of, refuses_of, rules_of}
+use Rattle.capnp.specs.Runs.{Writing, DecliningWriting, WritesFrom, WritesAll, HasWrittenNext, HasWritten, IsReadingFault, IsWritingFault, BreaksOffOr, IsRunFault, most_messages, HasRun}
 use Rattle.capnp.proofs.FormatLemmas.{stands_next}
 use Rattle.capnp.proofs.WriterLemmas.{IsWritable-within}
 
@@ -91,17 +91,10 @@ written_next rule format limit Writes index message old new before after within 
     IfKnown-weaker old new (λ raw rest begins. record { message = message; stands = begins; written = written })
     (stands_next rule format limit message old new within stands)
 
-lacks_writing : (rule : Padding) (format : Format) (limit : Option ℕ) (Declines : DecliningWriting) (index : ℕ)
-    (message : List (List ℕ)) (kind : ErrorKind) (old new : Option (List ℕ)) → IsWritable message
-    → IsWritingFault Declines index message kind → IfKnown old new (StandsNext rule format limit message)
-    → IfKnown old new (LacksWriting rule format limit Declines index kind)
-lacks_writing rule format limit Declines index message kind old new writable fault stands =
-    IfKnown-weaker old new (λ raw rest begins. record { message = message; stands = begins; writable = writable; fault = fault }) stands
-
 -- why a message was not written is a fault
 pub writing_faulted : (Declines : DecliningWriting) (index : ℕ) (message : List (List ℕ)) (kind : ErrorKind) → IsWritable message → IsWritingFault Declines index message kind → IsRunFault Declines index kind
 writing_faulted Declines index message kind writable (inl device) = inl device
-writing_faulted Declines index message kind writable (inr (inl memory)) = inr (inl memory)
+writing_faulted Declines index message kind writable (inr (inl memory)) = inr (inl memory.0)
 writing_faulted Declines index message kind writable (inr (inr declined)) = inr (inr (message, writable, declined))
 
 -- a run stops by a fault of writing also where a reader accepts the message
@@ -149,17 +142,6 @@ stopped_reading rule format limit Writes Declines stop (Some raw) None left befo
 stopped_reading rule format limit Writes Declines stop (Some raw) (Some rest) left before between after written fault same =
     inl (record { rest = rest; written = subst (λ w. HasWritten rule format limit Writes stop.message before w raw rest) (sym same) written; fault = fault })
 
-stopped_writing : (rule : Padding) (format : Format) (limit : Option ℕ) (Writes : Writing) (Declines : DecliningWriting)
-    (stop : StoppedAt) (old mid left before between after : Option (List ℕ))
-    → IfKnown old mid (HasWritten rule format limit Writes stop.message before between)
-    → IfKnown mid left (LacksWriting rule format limit Declines stop.message stop.error.kind) → IfKnown between after IsFront
-    → (message : List (List ℕ)) × BreaksOffOr Declines stop.message message (after ≡ between) stop.error.kind
-    → IfSome old (HasRun rule format limit Writes Declines (Err stop) left before after)
-stopped_writing rule format limit Writes Declines stop None mid left before between after written lacks front untouched = tt
-stopped_writing rule format limit Writes Declines stop (Some raw) None left before between after written lacks front untouched = absurd written
-stopped_writing rule format limit Writes Declines stop (Some raw) (Some rest) left before between after written lacks front untouched =
-    inr (record { rest = rest; between = between; written = written; lacks = lacks; front = front; untouched = untouched })
-
 -- what a sink was left as is what was written to it
 pub left_as_written : {S : Type 0} (written : S → Option (List ℕ)) (Declines : DecliningWriting) (index : ℕ) (message : List (List ℕ)) (kind : ErrorKind)
     (old new : S) → BreaksOffOr Declines index message (new ≡ old) kind → BreaksOffOr Declines index message (written new ≡ written old) kind
@@ -173,10 +155,20 @@ pub stopped_at_message : (rule : Padding) (format : Format) (limit : Option ℕ)
     → IsWithin message limit → AllByRecursion IsWholeWords message
     → IfKnown old mid (HasWritten rule format limit Writes stop.message before between)
     → IfKnown mid left ((rules_of rule format).stands message)
-    → IsWritingFault Declines stop.message message stop.error.kind → IfKnown between after IsFront
+    → IsWritingFault Declines stop.message message stop.error.kind → IfKnown between after (Adds (Declines.leaves stop.message message))
     → BreaksOffOr Declines stop.message message (after ≡ between) stop.error.kind
     → IfSome old (HasRun rule format limit Writes Declines (Err stop) left before after)
-stopped_at_message rule format limit Writes Declines stop message old mid left before between after within whole written stands fault front untouched =
-    stopped_writing rule format limit Writes Declines stop old mid left before between after written
-    (lacks_writing rule format limit Declines stop.message message stop.error.kind mid left
-    (IsWritable-within message limit within whole) fault (stands_next rule format limit message mid left within stands)) front (message, untouched)
+stopped_at_message rule format limit Writes Declines stop message None mid left before between after within whole written stands fault of_it untouched = tt
+stopped_at_message rule format limit Writes Declines stop message (Some raw) None left before between after within whole written stands fault of_it untouched = absurd written
+stopped_at_message rule format limit Writes Declines stop message (Some raw) (Some rest) left before between after within whole written stands fault of_it untouched =
+    inr (record {
+      rest = rest;
+      between = between;
+      written = written;
+      message = message;
+      stands = stands_next rule format limit message (Some rest) left within stands;
+      writable = IsWritable-within message limit within whole;
+      fault = fault;
+      left_of_it = of_it;
+      untouched = untouched;
+    })

@@ -58,8 +58,11 @@ HasStopped-weaker rule format limit P Q Declines weaker count kind left before a
   rest = stopped.rest;
   between = stopped.between;
   written = HasWritten-weaker rule format limit P Q weaker count before stopped.between raw stopped.rest stopped.written;
-  lacks = stopped.lacks;
-  front = stopped.front;
+  message = stopped.message;
+  stands = stopped.stands;
+  writable = stopped.writable;
+  fault = stopped.fault;
+  left_of_it = stopped.left_of_it;
   untouched = stopped.untouched;
 })
 

@@ -1,5 +1,5 @@
 -- What writers add to a plain sink, and what a reader's message is to a writer.
-use Rattle.std.proofs.Common.{◌≡◌, ◌⊎◌, inl, inr, ℕ, Option, None, Result, Ok, Err, OnOk, IfOk, IfErr, List, [], ◌∷◌, length, ◌*◌, ap, sym, ◌∙◌, arith}
+use Rattle.std.proofs.Common.{◌≡◌, ◌⊎◌, ◌≤◌, inl, inr, ℕ, Option, None, Result, Ok, Err, OnOk, OnErr, IfOk, IfErr, List, [], ◌∷◌, length, ◌*◌, ap, sym, ◌∙◌, arith}
 use Rattle.std.specs.List.{AllByRecursion}
 use Rattle.capnp_frame.specs.declared.error.Error.{Error}
 use Rattle.capnp_frame.specs.declared.error.ErrorKind.{ErrorKind}
@@ -19,7 +19,7 @@ use Rattle.capnp_frame.proofs.WritingLemmas.{length-lengths}
 use Rattle.capnp_pack.specs.PackedSink.{AppendsPacked, DeclinesPacked}
 use Rattle.capnp_pack.proofs.PackedTextLemmas.{packed_chunks}
 use Rattle.capnp.specs.declared.streams.Format.TheVariants.{Framed, Packed}
-use Rattle.capnp.specs.Written.{IsPlainSink, IsFrameText, IsPackedTextOf, RefusesWriter, WritesMessage}
+use Rattle.capnp.specs.Written.{IsPlainSink, IsFrameText, IsPackedTextOf, RefusesWriter, AppendsMessage, LeavesMessage, WritesMessage}
 
 -- a plain sink gets the chunks themselves
 AppendsAll-plain : (appends : Appending) (xs : List (List ℕ)) (text : List ℕ) → IsPlainSink appends → AppendsAll appends xs text → AppendsAll AppendsSame xs text
@@ -68,13 +68,13 @@ IsWithin-written message limit writable few size =
 -- where a message was read, a writer's failure is a fault of the run: it has not too many segments
 pub writer_fault : {X : Type 0} (L : Type 0) (refuses : Declining) (message : List (List ℕ)) (limit : Option ℕ) (r : Result X Error) → IsWithin message limit
     → IfErr r (λ e. RefusesWriter refuses message e.kind)
-    → IfErr r (λ e. (e.kind ≡ DeviceFailed) ⊎ (e.kind ≡ OutOfMemory) ⊎ L ⊎ DeclinesSome refuses (chunks message) e.kind)
+    → IfErr r (λ e. (e.kind ≡ DeviceFailed) ⊎ ((e.kind ≡ OutOfMemory) × (4 ≤ length message)) ⊎ L ⊎ DeclinesSome refuses (chunks message) e.kind)
 writer_fault L refuses message limit (Ok x) within refused = tt
 writer_fault L refuses message limit (Err e) within (inl device) = inl device
 writer_fault L refuses message limit (Err e) within (inr (inl declined)) = inr (inr (inr declined))
 writer_fault L refuses message limit (Err e) within (inr (inr (inl many))) =
     let some = many.0 in let few = within.few in absurd (omega (arith, length-lengths message))
-writer_fault L refuses message limit (Err e) within (inr (inr (inr memory))) = inr (inl memory.1)
+writer_fault L refuses message limit (Err e) within (inr (inr (inr memory))) = inr (inl (memory.1, memory.0))
 
 -- the size of a text that was written
 pub text_size : (r : Result ℕ Error) (message : List (List ℕ)) → IsWritable message → IfOk r (λ words. words ≡ serialized_words message)
@@ -90,6 +90,7 @@ frame_written sink old new message r told = record {
   unwritten = told.unwritten;
   text = λ plain. Adds-weaker r _ _ (frame_text_added sink.appends plain message) told.parts.written;
   written = told.parts.written;
+  left = told.parts.left;
   refused = told.parts.refused;
   untouched = told.parts.untouched;
   failed = told.parts.failed;
@@ -106,16 +107,18 @@ kept_below see Declines old new (Err e) (inr (inr same)) = inr (inr (ap see same
 
 -- and packed, by a packer in which the sink is seen
 pub packed_written : {S P X : Type 0} (sink : Ghosts S) (see : P → S) (old new : P) (message : List (List ℕ)) (r : Result X Error)
-    → KeepsCount message r → (HasMany message → new ≡ old) → OnOk r (IfKnown (sink.written (see old)) (sink.written (see new)) (Adds (AppendsAll (AppendsPacked sink.appends) (chunks message))))
+    → KeepsCount message r → (HasMany message → new ≡ old) → OnOk r (IfKnown (sink.written (see old)) (sink.written (see new)) (Adds (AppendsMessage Packed sink.appends message)))
+    → OnErr r (IfKnown (sink.written (see old)) (sink.written (see new)) (Adds (LeavesMessage Packed sink.appends sink.leaves message)))
     → IfErr r (λ e. RefusesWriter (DeclinesPacked sink.refuses) message e.kind)
     → FailsOr r (λ kind. DeclinesSome (DeclinesPacked sink.refuses) (chunks message) kind ⊎ (new ≡ old))
     → IfErr r (λ e. e.kind ≡ DeviceFailed → Fails (sink.failures (see old)) (sink.failures (see new)))
     → Grows sink.written sink.failures sink.same (see old) (see new) → WritesMessage Packed sink (see old) (see new) message r
-packed_written sink see old new message r count unwritten written refused untouched failed grows = record {
+packed_written sink see old new message r count unwritten written left refused untouched failed grows = record {
   count = count;
   unwritten = λ many. ap see (unwritten many);
   text = λ plain. Adds-weaker r _ _ (packed_text_added sink.appends plain message) written;
   written = written;
+  left = left;
   refused = refused;
   untouched = kept_below see (DeclinesSome (DeclinesPacked sink.refuses) (chunks message)) old new r untouched;
   failed = failed;

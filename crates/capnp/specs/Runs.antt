@@ -7,7 +7,7 @@ use Rattle.capnp_frame.specs.declared.serialize.segment_table.Padding.{Padding}
 use Rattle.capnp_frame.specs.declared.io.Read.{Ghosts}
 use Rattle.capnp_frame.specs.declared.io.Write.{Ghosts as SinkGhosts}
 use Rattle.capnp_frame.specs.Refusals.{IsReaderKind}
-use Rattle.capnp_frame.specs.Source.{IfKnown, IsFront, Advances, Fails}
+use Rattle.capnp_frame.specs.Source.{IfKnown, Advances, Fails}
 use Rattle.capnp_frame.specs.Sink.{Adds, Grows}
 use Rattle.capnp_frame.specs.Texts.{AreTexts}
 use Rattle.capnp_frame.specs.Writing.{IsWritable}
@@ -19,12 +19,16 @@ use Rattle.capnp.specs.Streams.{grammar_of, refuses_of, rules_of, StandsNext, Re
 abbrev pub Writing : Type 1
 Writing = ℕ → List (List ℕ) → List ℕ → Type 0
 
--- Why a message of an index may fail to be written, beside the device's failure and want of memory.
+-- How a message of an index may fail to be written, beside the device's failure.
 pub record DecliningWriting : Type 1 where
   -- it lacks what is to be written of it, by this kind
   pub lacks : ℕ → List (List ℕ) → ErrorKind → Type 0
   -- the sink breaks off what is written of it, by this kind
   pub breaks : ℕ → List (List ℕ) → ErrorKind → Type 0
+  -- memory is taken to write it
+  pub takes_memory : ℕ → List (List ℕ) → Type 0
+  -- what the sink is left with of it
+  pub leaves : Writing
 
 -- of messages, the first of this index
 abbrev pub WritesFrom : Writing → ℕ → List (List (List ℕ)) → List ℕ → Type 0
@@ -58,9 +62,11 @@ IsReadingFault rule format limit kind old new = (kind ≡ DeviceFailed)
 abbrev pub Declined : DecliningWriting → ℕ → List (List ℕ) → ErrorKind → Type 0
 Declined Declines index message kind = Declines.lacks index message kind ⊎ Declines.breaks index message kind
 
--- why a message was not written: the device's fault, want of memory, what it lacks, or that the sink refuses some of it
+-- why a message was not written: the device's fault, want of memory where memory is taken, what it lacks, or that the sink refuses
+-- some of it
 abbrev pub IsWritingFault : DecliningWriting → ℕ → List (List ℕ) → ErrorKind → Type 0
-IsWritingFault Declines index message kind = (kind ≡ DeviceFailed) ⊎ (kind ≡ OutOfMemory) ⊎ Declined Declines index message kind
+IsWritingFault Declines index message kind = (kind ≡ DeviceFailed) ⊎ ((kind ≡ OutOfMemory) × Declines.takes_memory index message)
+    ⊎ Declined Declines index message kind
 
 -- the sink failed or refused some of a message, so that a front of it may be written; else `same` holds
 abbrev pub BreaksOffOr : DecliningWriting → ℕ → List (List ℕ) → Type 0 → ErrorKind → Type 0
@@ -70,13 +76,6 @@ BreaksOffOr Declines index message same kind = (kind ≡ DeviceFailed) ⊎ Decli
 abbrev pub IsRunFault : DecliningWriting → ℕ → ErrorKind → Type 0
 IsRunFault Declines index kind = (kind ≡ DeviceFailed) ⊎ (kind ≡ OutOfMemory)
     ⊎ ((message : List (List ℕ)) × IsWritable message × Declined Declines index message kind)
-
--- the next message was read, and not written as a whole
-pub record LacksWriting (rule : Padding) (format : Format) (limit : Option ℕ) (Declines : DecliningWriting) (index : ℕ) (kind : ErrorKind) (raw rest : List ℕ) : Type 0 where
-  pub message : List (List ℕ)
-  pub stands : StandsNext rule format limit message raw rest
-  pub writable : IsWritable message
-  pub fault : IsWritingFault Declines index message kind
 
 -- the most messages of one run
 abbrev pub most_messages : ℕ
@@ -99,14 +98,17 @@ pub record StoppedReading (rule : Padding) (format : Format) (limit : Option ℕ
   pub fault : IsReadingFault rule format limit kind (Some rest) left
 
 -- A given number of messages are written, and the next one was read and not written as a whole. Nothing of it is written
--- unless the sink broke it off.
+-- unless the sink broke it off, and nothing after a hole.
 pub record StoppedWriting (rule : Padding) (format : Format) (limit : Option ℕ) (Writes : Writing) (Declines : DecliningWriting) (count : ℕ) (kind : ErrorKind) (left before after : Option (List ℕ)) (raw : List ℕ) : Type 0 where
   pub rest : List ℕ
   pub between : Option (List ℕ)
   pub written : HasWritten rule format limit Writes count before between raw rest
-  pub lacks : IfKnown (Some rest) left (LacksWriting rule format limit Declines count kind)
-  pub front : IfKnown between after IsFront
-  pub untouched : (message : List (List ℕ)) × BreaksOffOr Declines count message (after ≡ between) kind
+  pub message : List (List ℕ)
+  pub stands : IfKnown (Some rest) left (StandsNext rule format limit message)
+  pub writable : IsWritable message
+  pub fault : IsWritingFault Declines count message kind
+  pub left_of_it : IfKnown between after (Adds (Declines.leaves count message))
+  pub untouched : BreaksOffOr Declines count message (after ≡ between) kind
 
 -- it stopped by this kind after a given number of messages
 abbrev pub HasStopped : Padding → Format → Option ℕ → Writing → DecliningWriting → ℕ → ErrorKind → Option (List ℕ) → Option (List ℕ) → Option (List ℕ) → List ℕ → Type 0

@@ -1,17 +1,16 @@
 -- Both ways of transcoding (src/transcoding.rt).
-use Rattle.std.specs.Prelude.{ℕ, Option, Result}
+use Rattle.std.specs.Prelude.{ℕ, ◌≤◌, length, Option, Result}
 use Rattle.capnp_frame.specs.declared.error.Error.{Error}
 use Rattle.capnp_frame.specs.declared.io.Read.{Ghosts}
 use Rattle.capnp_frame.specs.declared.io.Write.{Ghosts as SinkGhosts}
 use Rattle.capnp_frame.specs.declared.serialize.segment_table.Padding.{Padding}
-use Rattle.capnp_frame.specs.Sink.{Appending, AppendsAll, Declining, DeclinesSome}
+use Rattle.capnp_frame.specs.Sink.{Appending, Leaving, Declining, DeclinesSome}
 use Rattle.capnp_frame.specs.Writing.{chunks}
-use Rattle.capnp_pack.specs.PackedSink.{AppendsPacked, DeclinesPacked}
 use Rattle.capnp.specs.declared.streams.Format.{Format}
 use Rattle.capnp.specs.declared.streams.Format.TheVariants.{Framed, Packed}
 use Rattle.capnp.specs.declared.transcoding.Way.{Way}
 use Rattle.capnp.specs.declared.transcoding.Way.TheVariants.{Pack, Unpack}
-use Rattle.capnp.specs.Written.{IsPlainSink, IsFrameText, IsPackedTextOf}
+use Rattle.capnp.specs.Written.{IsPlainSink, IsFrameText, IsPackedTextOf, AppendsMessage, LeavesMessage, DeclinesAs}
 use Rattle.capnp.specs.Runs.{Writing, DecliningWriting, WritesEach, WithoutCount}
 
 -- the format that is read
@@ -19,15 +18,23 @@ abbrev pub input_of : Way → Format
 input_of Pack = Framed
 input_of Unpack = Packed
 
+-- and the one that is written
+abbrev pub output_of_way : Way → Format
+output_of_way Pack = Packed
+output_of_way Unpack = Framed
+
 -- What a sink adds for a message: its chunks, packed or as they are.
 abbrev pub Transcodes : Way → Appending → Writing
-Transcodes Pack appends index message text = AppendsAll (AppendsPacked appends) (chunks message) text
-Transcodes Unpack appends index message text = AppendsAll appends (chunks message) text
+Transcodes way appends index message text = AppendsMessage (output_of_way way) appends message text
 
--- with which kinds a sink that refuses so fails at a message
-abbrev pub DeclinesTranscoded : Way → Declining → DecliningWriting
-DeclinesTranscoded Pack refuses = record { lacks = λ index message kind. ⊥; breaks = λ index message. DeclinesSome (DeclinesPacked refuses) (chunks message) }
-DeclinesTranscoded Unpack refuses = record { lacks = λ index message kind. ⊥; breaks = λ index message. DeclinesSome refuses (chunks message) }
+-- and how it may fail to be written: by a chunk that the sink refuses, or, from four segments on, for want of memory for its table
+abbrev pub DeclinesTranscoded : Way → Appending → Leaving → Declining → DecliningWriting
+DeclinesTranscoded way appends leaves refuses = record {
+  lacks = λ index message kind. ⊥;
+  breaks = λ index message. DeclinesSome (DeclinesAs (output_of_way way) refuses) (chunks message);
+  takes_memory = λ index message. 4 ≤ length message;
+  leaves = λ index message. LeavesMessage (output_of_way way) appends leaves message;
+}
 
 -- the text of a message in the other format
 abbrev pub IsOtherText : Way → Writing
@@ -41,7 +48,7 @@ pub record TranscodesEach {S T : Type 0} (source : Ghosts S) (old new : S) (sink
     (rule : Padding) (way : Way) (limit : Option ℕ) (result : Result (Unit {0}) Error) : Type 0 where
   -- a plain sink gets the texts in the other format
   pub texts : IsPlainSink sink.appends → WithoutCount (WritesEach source old new sink before after rule (input_of way) limit
-      (IsOtherText way) (DeclinesTranscoded way sink.refuses)) result
+      (IsOtherText way) (DeclinesTranscoded way sink.appends sink.leaves sink.refuses)) result
   -- every sink gets what the chunks of the messages add
   pub runs : WithoutCount (WritesEach source old new sink before after rule (input_of way) limit
-      (Transcodes way sink.appends) (DeclinesTranscoded way sink.refuses)) result
+      (Transcodes way sink.appends) (DeclinesTranscoded way sink.appends sink.leaves sink.refuses)) result

@@ -1,19 +1,20 @@
 -- What writers add to sinks.
-use Rattle.std.specs.Prelude.{◌≡◌, ◌⊎◌, ℕ, List, [], ◌∷◌, ◌++◌, map, Result, OnOk, IfErr}
+use Rattle.std.specs.List.{AllByRecursion}
+use Rattle.std.specs.Prelude.{◌≡◌, ◌⊎◌, ℕ, List, [], ◌∷◌, ◌++◌, map, Result, OnOk, OnErr, IfErr}
 use Rattle.capnp_frame.specs.declared.error.Error.{Error}
 use Rattle.capnp_frame.specs.declared.error.ErrorKind.{ErrorKind}
-use Rattle.capnp_frame.specs.declared.error.ErrorKind.TheVariants.{DeviceFailed, OutOfMemory}
+use Rattle.capnp_frame.specs.declared.error.ErrorKind.TheVariants.{DeviceFailed}
 use Rattle.capnp_frame.specs.declared.io.Write.{Ghosts}
 use Rattle.capnp_frame.specs.Asking.{FailsOr}
 use Rattle.capnp_frame.specs.Frame.{frame_text}
-use Rattle.capnp_frame.specs.Sink.{Appending, Declining, DeclinesAny, DeclinesSome, Adds, AppendsAll, Grows}
+use Rattle.capnp_frame.specs.Sink.{Appending, Leaving, Declining, DeclinesSome, Adds, AppendsAll, LeavesSome, Grows}
 use Rattle.capnp_frame.specs.Source.{IfKnown, Fails}
 use Rattle.capnp_frame.specs.Writers.{KeepsCount, RefusesUnwritten}
-use Rattle.capnp_frame.specs.Writing.{HasMany, RefusesMany, chunks}
+use Rattle.capnp_frame.specs.Writing.{HasFew, HasMany, RefusesMany, chunks}
 use Rattle.capnp_build.specs.Built.{Built}
 use Rattle.capnp_build.specs.Held.{used_of}
 use Rattle.capnp_pack.specs.PackedFrame.{IsPackedText}
-use Rattle.capnp_pack.specs.PackedSink.{AppendsPacked, DeclinesPacked}
+use Rattle.capnp_pack.specs.PackedSink.{AppendsPacked, LeavesPacked, DeclinesPacked}
 use Rattle.capnp.specs.declared.streams.Format.{Format}
 use Rattle.capnp.specs.declared.streams.Format.TheVariants.{Framed, Packed}
 
@@ -41,14 +42,25 @@ output_of built = map used_of built.spaces
 abbrev pub RefusesWriter : Declining → List (List ℕ) → ErrorKind → Type 0
 RefusesWriter refuses message kind = (kind ≡ DeviceFailed) ⊎ DeclinesSome refuses (chunks message) kind ⊎ RefusesUnwritten message kind
 
--- what a chunk adds to a sink in this format, and by which kinds it may be refused
+-- what a chunk adds to a sink in this format, what a call that fails leaves of it, and by which kinds it may be refused
 abbrev pub AppendsAs : Format → Appending → Appending
 AppendsAs Framed appends = appends
 AppendsAs Packed appends = AppendsPacked appends
 
+abbrev pub LeavesAs : Format → Appending → Leaving → Leaving
+LeavesAs Framed appends leaves = leaves
+LeavesAs Packed appends leaves = LeavesPacked appends leaves
+
 abbrev pub DeclinesAs : Format → Declining → Declining
 DeclinesAs Framed refuses = refuses
 DeclinesAs Packed refuses = DeclinesPacked refuses
+
+-- what a writer adds for a message, and what is left of it where the writer fails
+abbrev pub AppendsMessage : Format → Appending → List (List ℕ) → List ℕ → Type 0
+AppendsMessage format appends message = AppendsAll (AppendsAs format appends) (chunks message)
+
+abbrev pub LeavesMessage : Format → Appending → Leaving → List (List ℕ) → List ℕ → Type 0
+LeavesMessage format appends leaves message = LeavesSome (AppendsAs format appends) (LeavesAs format appends leaves) (chunks message)
 
 -- What each writer of a message does to its sink, in this format. `sink` is what is seen of the sink (the members of the
 -- trait Write), `old` and `new` are the sink before the call and after it.
@@ -60,8 +72,9 @@ pub record WritesMessage {S X : Type 0} (format : Format) (sink : Ghosts S) (old
   -- to a plain sink the text of the message is added
   pub text : IsPlainSink sink.appends → OnOk result (IfKnown (sink.written old) (sink.written new) (Adds (IsTextOf format message)))
   -- to every sink is added what the message's chunks add, one after the other
-  pub written : OnOk result (IfKnown (sink.written old) (sink.written new)
-      (Adds (AppendsAll (AppendsAs format sink.appends) (chunks message))))
+  pub written : OnOk result (IfKnown (sink.written old) (sink.written new) (Adds (AppendsMessage format sink.appends message)))
+  -- where it fails, what the first chunks add is written, and of the next one what the sink leaves of it; nothing stands after a hole
+  pub left : OnErr result (IfKnown (sink.written old) (sink.written new) (Adds (LeavesMessage format sink.appends sink.leaves message)))
   pub refused : IfErr result (λ error. RefusesWriter (DeclinesAs format sink.refuses) message error.kind)
   -- a failure that isn't the sink's leaves the sink as it was
   pub untouched : FailsOr result (λ kind. DeclinesSome (DeclinesAs format sink.refuses) (chunks message) kind ⊎ (new ≡ old))
@@ -75,12 +88,39 @@ abbrev pub RefusesManyOf : List (List (List ℕ)) → ErrorKind → Type 0
 RefusesManyOf [] kind = ⊥
 RefusesManyOf (m ∷ ms) kind = RefusesMany m kind ⊎ RefusesManyOf ms kind
 
--- why messages are not written one after the other beside that: by the device, for want of memory, or as the sink refuses
--- some chunk
-abbrev pub RefusesAppending : Declining → ErrorKind → Type 0
-RefusesAppending refuses kind = (kind ≡ DeviceFailed) ⊎ (kind ≡ OutOfMemory) ⊎ DeclinesAny refuses kind
+-- why one of these messages isn't written
+abbrev pub RefusesOneOf : Declining → List (List (List ℕ)) → ErrorKind → Type 0
+RefusesOneOf refuses [] kind = ⊥
+RefusesOneOf refuses (m ∷ ms) kind = RefusesWriter refuses m kind ⊎ RefusesOneOf refuses ms kind
 
 -- what is added for messages, one after the other
 abbrev pub AppendsEach : (List (List ℕ) → List ℕ → Type 0) → List (List (List ℕ)) → List ℕ → Type 0
 AppendsEach Writes [] text = text ≡ []
 AppendsEach Writes (m ∷ ms) text = (first others : List ℕ) × Writes m first × AppendsEach Writes ms others × (text ≡ first ++ others)
+
+-- Of messages that are written one after the other the first ones are added, and of the next one what is left where its writer
+-- fails.
+abbrev pub LeavesEach : (List (List ℕ) → List ℕ → Type 0) → (List (List ℕ) → List ℕ → Type 0) → List (List (List ℕ)) → List ℕ → Type 0
+LeavesEach Writes Leaves [] text = text ≡ []
+LeavesEach Writes Leaves (m ∷ ms) text = Leaves m text
+    ⊎ ((first others : List ℕ) × Writes m first × LeavesEach Writes Leaves ms others × (text ≡ first ++ others))
+
+-- What writing messages one after the other does to a sink, in this format. `sink` is what is seen of the sink (the members of
+-- the trait Write), `old` and `new` are the sink before the call and after it.
+pub record WritesMessages {S X : Type 0} (format : Format) (sink : Ghosts S) (old new : S) (messages : List (List (List ℕ)))
+    (result : Result X Error) : Type 0 where
+  -- to a plain sink the texts of the messages are added
+  pub text : IsPlainSink sink.appends → OnOk result (IfKnown (sink.written old) (sink.written new) (Adds (AppendsEach (IsTextOf format) messages)))
+  -- to every sink is added what the messages' chunks add
+  pub written : OnOk result (IfKnown (sink.written old) (sink.written new) (Adds (AppendsEach (AppendsMessage format sink.appends) messages)))
+  -- where it fails, the first messages are written, and of the next one what its writer leaves; nothing stands after a hole
+  pub left : OnErr result (IfKnown (sink.written old) (sink.written new)
+      (Adds (LeavesEach (AppendsMessage format sink.appends) (LeavesMessage format sink.appends sink.leaves) messages)))
+  -- what is written has no more segments than a reader accepts
+  pub few : OnOk result (AllByRecursion HasFew messages)
+  -- it fails as the writer of one of them does
+  pub refused : IfErr result (λ error. RefusesOneOf (DeclinesAs format sink.refuses) messages error.kind)
+  -- the device is blamed only where it failed
+  pub failed : IfErr result (λ error. error.kind ≡ DeviceFailed → Fails (sink.failures old) (sink.failures new))
+  -- what was written before stays at the front, also where the call fails
+  pub grows : Grows sink.written sink.failures sink.same old new

@@ -1,18 +1,14 @@
 //! Messages that are written one after the other, and read back.
-ghost use Rattle.std.specs.Prelude.{◌≡◌, ◌⊎◌, ℕ, List, [], map, length, Some, None, IfSome, IfNone, IfOk, OnOk, IfErr};
+ghost use Rattle.std.specs.Prelude.{◌≡◌, map, IfOk};
 ghost use Rattle.std.specs.List.{AllByRecursion};
-ghost use Rattle.capnp_frame.specs.declared.error.ErrorKind.{ErrorKind};
 ghost use Rattle.capnp_frame.specs.Limits.{KeepsLimit};
 ghost use Rattle.capnp_frame.specs.Message.{lengths};
-ghost use Rattle.capnp_frame.specs.Source.{IfKnown, Advances, Fails};
-ghost use Rattle.capnp_frame.specs.Sink.{Adds, Grows};
-ghost use Rattle.capnp_frame.specs.Texts.{AreTexts};
-ghost use Rattle.capnp_frame.specs.Writing.{IsWritable, HasFew, RefusesMany};
+ghost use Rattle.capnp_frame.specs.Writing.{IsWritable};
 ghost use Rattle.capnp_frame.specs.Streams.{next_in, message_in, ReadsStream};
 ghost use Rattle.capnp.specs.Appended.{ReadsMessages, ReadsBack};
-ghost use Rattle.capnp.specs.Headline.{IsFault, ReturnsTexts, OrFailsAtEnd};
+ghost use Rattle.capnp.specs.Headline.{ReturnsTexts, OrFailsAtEnd};
 ghost use Rattle.capnp.specs.Streams.{grammar_of, rules_of};
-ghost use Rattle.capnp.specs.Written.{IsPlainSink, IsTextOf, AppendsEach, RefusesManyOf, RefusesAppending};
+ghost use Rattle.capnp.specs.Written.{WritesMessage, WritesMessages};
 
 use crate::streams::Format;
 use crate::{serialize, serialize_packed};
@@ -60,10 +56,11 @@ pub fn write_and_read_back<S: ReaderSegments>(
     Ok(ReadBack { text, readers, end })
 }
 
-/// Writes messages one after the other. What is written before a failure stays.
+/// Writes messages one after the other.
 ///
-/// Fails with `InvalidNumberOfSegments` for a message of more than 511 segments, as the sink does,
-/// and with `OutOfMemory`.
+/// Fails as the writer of one of them does: with `InvalidNumberOfSegments` for more than 511
+/// segments, with `OutOfMemory`, from four segments on, or as the sink does. Then the messages before
+/// it are written, and of its own text a front.
 pub fn write_messages<W: Write, S: ReaderSegments>(
     alloc: Global,
     format: Format,
@@ -71,15 +68,8 @@ pub fn write_messages<W: Write, S: ReaderSegments>(
     messages: &[S],
 ) -> Result<()>
     requires { AllByRecursion IsWritable (map S.segments messages.now) }
-    ensures text { IsPlainSink W.appends → OnOk result
-        (IfKnown (W.written sink.old) (W.written sink.new)
-        (Adds (AppendsEach (IsTextOf format) (map S.segments messages.now)))) }
-    ensures few { OnOk result (AllByRecursion HasFew (map S.segments messages.now)) }
-    ensures refused { IfErr result (λ error. RefusesManyOf (map S.segments messages.now) error.kind
-        ⊎ RefusesAppending W.refuses error.kind) }
-    ensures failed { IfErr result (λ error. error.kind ≡ ErrorKind.DeviceFailed →
-        Fails (W.failures sink.old) (W.failures sink.new)) }
-    ensures grows { Grows W.written W.failures W.same sink.old sink.new }
+    ensures { WritesMessages format W.Write sink.old sink.new
+        (map S.segments messages.now) result }
 {
     for message in messages {
         write_message(alloc, format, sink, message)?;
@@ -116,15 +106,7 @@ pub(crate) fn write_message<W: Write, S: ReaderSegments>(
     message: &S,
 ) -> Result<()>
     requires { IsWritable (S.segments message.now) }
-    ensures text { IsPlainSink W.appends → OnOk result
-        (IfKnown (W.written sink.old) (W.written sink.new)
-        (Adds (IsTextOf format (S.segments message.now)))) }
-    ensures few { OnOk result (HasFew (S.segments message.now)) }
-    ensures refused { IfErr result (λ error. RefusesMany (S.segments message.now) error.kind
-        ⊎ RefusesAppending W.refuses error.kind) }
-    ensures failed { IfErr result (λ error. error.kind ≡ ErrorKind.DeviceFailed →
-        Fails (W.failures sink.old) (W.failures sink.new)) }
-    ensures grows { Grows W.written W.failures W.same sink.old sink.new }
+    ensures { WritesMessage format W.Write sink.old sink.new (S.segments message.now) result }
 {
     match format {
         Format::Framed => serialize::write_message_segments(alloc, sink, message),

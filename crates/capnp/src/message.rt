@@ -2,7 +2,7 @@
 pub use capnp_build::allocator::Allocator;
 pub use capnp_build::segment_space::SegmentSpace;
 pub use capnp_frame::message::{
-    AsBytes, DEFAULT_READER_OPTIONS, ReaderOptions, ReaderSegments, SegmentArray,
+    AsBytes, BuiltMessage, DEFAULT_READER_OPTIONS, ReaderOptions, ReaderSegments, SegmentArray,
 };
 pub use capnp_message::{
     AllocationStrategy, Builder, HeapAllocator, Reader, SUGGESTED_ALLOCATION_STRATEGY,

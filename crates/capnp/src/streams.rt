@@ -1,12 +1,12 @@
 //! Streams of messages: what is done with each, until none is left.
-ghost use Rattle.std.specs.Prelude.{◌≡◌, ◌⊎◌, None, IfSome, OnOk, IfErr};
+ghost use Rattle.std.specs.Prelude.{◌≡◌, ◌⊎◌, None, IfSome, OnOk, OnErr, IfErr};
 ghost use Rattle.std.specs.List.{AllByRecursion};
 ghost use Rattle.capnp_frame.specs.declared.error.ErrorKind.{ErrorKind};
 ghost use Rattle.capnp_frame.specs.Limits.{IsWithin};
 ghost use Rattle.capnp_frame.specs.Message.{IsWholeWords};
 ghost use Rattle.capnp_frame.specs.Refusals.{IsReaderKind};
 ghost use Rattle.capnp_frame.specs.Source.{IfKnown, Advances, Fails};
-ghost use Rattle.capnp_frame.specs.Sink.{Appending, Declining, Adds, Grows};
+ghost use Rattle.capnp_frame.specs.Sink.{Appending, Leaving, Declining, Adds, Grows};
 ghost use Rattle.capnp_frame.specs.Streams.{framed_rules, ReadsStream};
 ghost use Rattle.capnp_pack.specs.PackedStreams.{packed_rules};
 ghost use Rattle.capnp.specs.Streams.{refuses_of, rules_of};
@@ -44,9 +44,9 @@ pub trait MessageWriter {
     /// What is added for a message, by its index, to a sink that appends so.
     ghost writes: { Self → Appending → Writing };
 
-    /// With which kinds a message isn't written: for what it lacks, and as a sink that declines so
-    /// fails.
-    ghost declines: { Self → Declining → DecliningWriting };
+    /// How a message may fail to be written to a sink that appends, leaves and declines so: with
+    /// which kinds, whether memory is taken for it, and what is left of it.
+    ghost declines: { Self → Appending → Leaving → Declining → DecliningWriting };
 
     /// Writes what there is to write of a message of this index.
     ///
@@ -67,10 +67,14 @@ pub trait MessageWriter {
         requires whole { AllByRecursion IsWholeWords message.now }
         ensures written { OnOk result (IfKnown (W.written sink.old) (W.written sink.new)
             (Adds (writes self.now W.appends index message.now))) }
-        ensures refused { IfErr result (λ error.
-            IsWritingFault (declines self.now W.refuses) index message.now error.kind) }
-        ensures untouched { IfErr result (λ error. BreaksOffOr (declines self.now W.refuses)
-            index message.now (sink.new ≡ sink.old) error.kind) }
+        ensures refused { IfErr result (λ error. IsWritingFault
+            (declines self.now W.appends W.leaves W.refuses) index message.now error.kind) }
+        ensures left { OnErr result (IfKnown (W.written sink.old) (W.written sink.new)
+            (Adds (DecliningWriting.leaves (declines self.now W.appends W.leaves W.refuses)
+            index message.now))) }
+        ensures untouched { IfErr result (λ error. BreaksOffOr
+            (declines self.now W.appends W.leaves W.refuses) index message.now
+            (sink.new ≡ sink.old) error.kind) }
         ensures failed { IfErr result (λ error. error.kind ≡ ErrorKind.DeviceFailed →
             Fails (W.failures sink.old) (W.failures sink.new)) }
         ensures grows { Grows W.written W.failures W.same sink.old sink.new };
@@ -95,7 +99,7 @@ pub fn write_each_message<R: BufRead, W: Write, M: MessageWriter>(
 ) -> std::result::Result<(), StoppedAt>
     ensures { WritesEach R.Read source.old source.new W.Write sink.old sink.new padding format
         options.traversal_limit_in_words (M.writes writer.now W.appends)
-        (M.declines writer.now W.refuses) result }
+        (M.declines writer.now W.appends W.leaves W.refuses) result }
 {
     write_all(alloc, format, padding, options, writer, source, sink)
 }
@@ -111,10 +115,10 @@ fn write_all<R: BufRead, W: Write, M: MessageWriter>(
     sink: &mut W,
 ) -> std::result::Result<(), StoppedAt>
     ensures written { IfSome (R.unread source.old) (HasRun padding format options.traversal_limit_in_words
-        (M.writes writer.now W.appends) (M.declines writer.now W.refuses) result
+        (M.writes writer.now W.appends) (M.declines writer.now W.appends W.leaves W.refuses) result
         (R.unread source.new) (W.written sink.old) (W.written sink.new)) }
     ensures kinds { IfErr result (λ stop. IsReaderKind padding (refuses_of format) stop.error.kind
-        ⊎ IsRunFault (M.declines writer.now W.refuses) stop.message stop.error.kind) }
+        ⊎ IsRunFault (M.declines writer.now W.appends W.leaves W.refuses) stop.message stop.error.kind) }
     ensures failed { IfErr result (λ stop. stop.error.kind ≡ ErrorKind.DeviceFailed →
         Fails (R.failures source.old) (R.failures source.new)
         ⊎ Fails (W.failures sink.old) (W.failures sink.new)) }

@@ -1,7 +1,7 @@
 -- A message that a reader accepts has a line.
-use Rattle.std.proofs.Common.{◌≡◌, ◌⊎◌, inl, inr, ℕ, ◌^◌, ◌<◌, Option, None, List, length, ap, subst, arith}
+use Rattle.std.proofs.Common.{◌≡◌, ◌⊎◌, inl, inr, ℕ, ◌^◌, ◌<◌, Option, None, List, [], length, ap, subst, arith}
 use Rattle.std.proofs.lemmas.List.{length-map}
-use Rattle.capnp.specs.Passed.{Appending, Declining, Adds, ErrorKind, DeviceFailed, OutOfMemory, Padding, IfKnown, IsWithin, lengths, word_count, size_in_words}
+use Rattle.capnp.specs.Passed.{Appending, Leaving, Declining, Adds, ErrorKind, DeviceFailed, OutOfMemory, Padding, IfKnown, IsWithin, lengths, word_count, size_in_words}
 use Rattle.capnp.specs.declared.streams.Format.TheVariants.{Framed}
 use Rattle.capnp.specs.Runs.{IsWritingFault, BreaksOffOr}
 use Rattle.capnp_ls.specs.declared.command.Command.TheVariants.{Listing}
@@ -24,16 +24,20 @@ pub line_written : (appends : Appending) (index : ℕ) (message : List (List ℕ
     → IfKnown a b (Adds (appends (line_of index ns))) → IfKnown a b (Adds (appends (line index message)))
 line_written appends index message ns a b same written = subst (λ l. IfKnown a b (Adds (appends l))) (line_told index message ns same) written
 
-pub line_refused : (refuses : Declining) (padding : Padding) (index : ℕ) (message : List (List ℕ)) (ns : List ℕ) (kind : ErrorKind)
-    → lengths message ≡ ns → (kind ≡ DeviceFailed) ⊎ (kind ≡ OutOfMemory) ⊎ refuses (line_of index ns) kind
-    → IsWritingFault (DeclinesPrinted (Listing Framed padding) refuses) index message kind
-line_refused refuses padding index message ns kind same (inl device) = inl device
-line_refused refuses padding index message ns kind same (inr (inl memory)) = inr (inl memory)
-line_refused refuses padding index message ns kind same (inr (inr refused)) = inr (inr (inr (subst (λ l. refuses l kind) (line_told index message ns same) refused)))
+pub line_left : (leaves : Leaving) (index : ℕ) (message : List (List ℕ)) (ns : List ℕ) (a b : Option (List ℕ)) → lengths message ≡ ns
+    → IfKnown a b (Adds (λ part. (part ≡ []) ⊎ leaves (line_of index ns) part)) → IfKnown a b (Adds (λ part. (part ≡ []) ⊎ leaves (line index message) part))
+line_left leaves index message ns a b same left = subst (λ l. IfKnown a b (Adds (λ part. (part ≡ []) ⊎ leaves l part))) (line_told index message ns same) left
 
-pub line_untouched : (refuses : Declining) (padding : Padding) (index : ℕ) (message : List (List ℕ)) (ns : List ℕ) (kind : ErrorKind) (Same : Type 0)
+pub line_refused : (appends : Appending) (leaves : Leaving) (refuses : Declining) (padding : Padding) (index : ℕ) (message : List (List ℕ)) (ns : List ℕ) (kind : ErrorKind)
+    → lengths message ≡ ns → (kind ≡ DeviceFailed) ⊎ (kind ≡ OutOfMemory) ⊎ refuses (line_of index ns) kind
+    → IsWritingFault (DeclinesPrinted (Listing Framed padding) appends leaves refuses) index message kind
+line_refused appends leaves refuses padding index message ns kind same (inl device) = inl device
+line_refused appends leaves refuses padding index message ns kind same (inr (inl memory)) = inr (inl (memory, tt))
+line_refused appends leaves refuses padding index message ns kind same (inr (inr refused)) = inr (inr (inr (subst (λ l. refuses l kind) (line_told index message ns same) refused)))
+
+pub line_untouched : (appends : Appending) (leaves : Leaving) (refuses : Declining) (padding : Padding) (index : ℕ) (message : List (List ℕ)) (ns : List ℕ) (kind : ErrorKind) (Same : Type 0)
     → lengths message ≡ ns → (kind ≡ DeviceFailed) ⊎ refuses (line_of index ns) kind ⊎ Same
-    → BreaksOffOr (DeclinesPrinted (Listing Framed padding) refuses) index message Same kind
-line_untouched refuses padding index message ns kind Same same (inl device) = inl device
-line_untouched refuses padding index message ns kind Same same (inr (inl refused)) = inr (inl (subst (λ l. refuses l kind) (line_told index message ns same) refused))
-line_untouched refuses padding index message ns kind Same same (inr (inr kept)) = inr (inr kept)
+    → BreaksOffOr (DeclinesPrinted (Listing Framed padding) appends leaves refuses) index message Same kind
+line_untouched appends leaves refuses padding index message ns kind Same same (inl device) = inl device
+line_untouched appends leaves refuses padding index message ns kind Same same (inr (inl refused)) = inr (inl (subst (λ l. refuses l kind) (line_told index message ns same) refused))
+line_untouched appends leaves refuses padding index message ns kind Same same (inr (inr kept)) = inr (inr kept)

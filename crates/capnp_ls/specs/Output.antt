@@ -1,8 +1,8 @@
 -- What the program prints of messages.
-use Rattle.std.specs.Prelude.{ℕ, List, [], ◌∷◌, ◌++◌, length, sum, decimal}
+use Rattle.std.specs.Prelude.{◌≡◌, ◌⊎◌, ⊤, ℕ, List, [], ◌∷◌, ◌++◌, length, sum, decimal}
 use Rattle.std.specs.List.{flat_map}
-use Rattle.capnp.specs.Passed.{Appending, Declining, lengths, size_in_words, default_root, LacksForm}
-use Rattle.capnp.specs.Canonical.{AppendsForm, BreaksForm}
+use Rattle.capnp.specs.Passed.{Appending, Leaving, Declining, lengths, size_in_words, default_root, LacksForm}
+use Rattle.capnp.specs.Canonical.{AppendsForm, LeavesForm, BreaksForm}
 use Rattle.capnp.specs.Runs.{Writing, DecliningWriting}
 use Rattle.capnp.specs.Transcoding.{Transcodes, DeclinesTranscoded}
 use Rattle.capnp_ls.specs.declared.command.Command.{Command}
@@ -27,11 +27,19 @@ Prints (Listing format padding) appends index segments text = appends (line inde
 Prints (Transcoding way padding) appends index segments text = Transcodes way appends index segments text
 Prints (Canonical format) appends index segments text = AppendsForm (default_root segments) appends text
 
--- and why this message is not printed: it has no canonical form, or the sink refuses a chunk of what is printed
-abbrev pub DeclinesPrinted : Command → Declining → DecliningWriting
-DeclinesPrinted (Listing format padding) refuses = record { lacks = λ index segments kind. ⊥; breaks = λ index segments. refuses (line index segments) }
-DeclinesPrinted (Transcoding way padding) refuses = DeclinesTranscoded way refuses
-DeclinesPrinted (Canonical format) refuses = record {
+-- and how this message may fail to be printed: it has no canonical form, or the sink refuses a chunk of what is printed. Memory is taken
+-- for a line and for a form, and the sink is left with nothing of them, or with what it leaves.
+abbrev pub DeclinesPrinted : Command → Appending → Leaving → Declining → DecliningWriting
+DeclinesPrinted (Listing format padding) appends leaves refuses = record {
+  lacks = λ index segments kind. ⊥;
+  breaks = λ index segments. refuses (line index segments);
+  takes_memory = λ index segments. ⊤;
+  leaves = λ index segments text. (text ≡ []) ⊎ leaves (line index segments) text;
+}
+DeclinesPrinted (Transcoding way padding) appends leaves refuses = DeclinesTranscoded way appends leaves refuses
+DeclinesPrinted (Canonical format) appends leaves refuses = record {
   lacks = λ index segments. LacksForm (default_root segments);
   breaks = λ index segments. BreaksForm (default_root segments) refuses;
+  takes_memory = λ index segments. ⊤;
+  leaves = λ index segments. LeavesForm (default_root segments) appends leaves;
 }

@@ -1,5 +1,5 @@
 //! The lines of framed messages, whose segments are skipped.
-ghost use Rattle.std.specs.Prelude.{◌≡◌, ◌<◌, ◌⊎◌, ◌^◌, ℕ, List, [], length, Option, None, Err, IfSome, IfOk, OnOk, IfErr};
+ghost use Rattle.std.specs.Prelude.{◌≡◌, ◌<◌, ◌⊎◌, ◌^◌, ℕ, List, [], length, Option, None, Err, IfSome, IfOk, OnOk, OnErr, IfErr};
 ghost use Rattle.capnp.specs.Passed.{ErrorKind, IsReaderKind, IfKnown, Advances, Fails, Adds, Grows, SkipsMessage, ReadsStream, default_limit};
 ghost use Rattle.capnp.specs.declared.streams.Format.{Format};
 ghost use Rattle.capnp.specs.Streams.{refuses_of, rules_of};
@@ -27,7 +27,7 @@ pub fn list_each<R: BufRead, W: Write>(
 ) -> std::result::Result<(), StoppedAt>
     ensures { WritesEach R.Read source.old source.new W.Write sink.old sink.new padding Format.Framed
         default_limit (Prints (Command.Listing Format.Framed padding) W.appends)
-        (DeclinesPrinted (Command.Listing Format.Framed padding) W.refuses) result }
+        (DeclinesPrinted (Command.Listing Format.Framed padding) W.appends W.leaves W.refuses) result }
 {
     list_all(alloc, padding, source, sink)
 }
@@ -41,10 +41,10 @@ fn list_all<R: BufRead, W: Write>(
 ) -> std::result::Result<(), StoppedAt>
     ensures written { IfSome (R.unread source.old) (HasRun padding Format.Framed default_limit
         (Prints (Command.Listing Format.Framed padding) W.appends)
-        (DeclinesPrinted (Command.Listing Format.Framed padding) W.refuses) result
+        (DeclinesPrinted (Command.Listing Format.Framed padding) W.appends W.leaves W.refuses) result
         (R.unread source.new) (W.written sink.old) (W.written sink.new)) }
     ensures kinds { IfErr result (λ stop. IsReaderKind padding (refuses_of Format.Framed) stop.error.kind
-        ⊎ IsRunFault (DeclinesPrinted (Command.Listing Format.Framed padding) W.refuses)
+        ⊎ IsRunFault (DeclinesPrinted (Command.Listing Format.Framed padding) W.appends W.leaves W.refuses)
         stop.message stop.error.kind) }
     ensures failed { IfErr result (λ stop. stop.error.kind ≡ ErrorKind.DeviceFailed →
         Fails (R.failures source.old) (R.failures source.new)
@@ -85,11 +85,11 @@ fn list_next<R: BufRead, W: Write>(
         (Prints (Command.Listing Format.Framed padding) W.appends) message before (W.written sink.old))
         → IfSome first (HasRun padding Format.Framed default_limit
         (Prints (Command.Listing Format.Framed padding) W.appends)
-        (DeclinesPrinted (Command.Listing Format.Framed padding) W.refuses)
+        (DeclinesPrinted (Command.Listing Format.Framed padding) W.appends W.leaves W.refuses)
         (Err (record { message = message; error = error }))
         (R.unread source.new) before (W.written sink.new))) }
     ensures kinds { IfErr result (λ error. IsReaderKind padding (refuses_of Format.Framed) error.kind
-        ⊎ IsRunFault (DeclinesPrinted (Command.Listing Format.Framed padding) W.refuses)
+        ⊎ IsRunFault (DeclinesPrinted (Command.Listing Format.Framed padding) W.appends W.leaves W.refuses)
         message error.kind) }
     ensures failed { IfErr result (λ error. error.kind ≡ ErrorKind.DeviceFailed →
         Fails (R.failures source.old) (R.failures source.new)
@@ -135,6 +135,8 @@ fn print_line<W: Write>(
         (Adds (W.appends (line_of index lengths.now)))) }
     ensures refused { IfErr result (λ error. (error.kind ≡ ErrorKind.DeviceFailed)
         ⊎ (error.kind ≡ ErrorKind.OutOfMemory) ⊎ W.refuses (line_of index lengths.now) error.kind) }
+    ensures left { OnErr result (IfKnown (W.written sink.old) (W.written sink.new)
+        (Adds (λ part. (part ≡ []) ⊎ W.leaves (line_of index lengths.now) part))) }
     ensures untouched { IfErr result (λ error. (error.kind ≡ ErrorKind.DeviceFailed)
         ⊎ W.refuses (line_of index lengths.now) error.kind ⊎ (sink.new ≡ sink.old)) }
     ensures failed { IfErr result (λ error. error.kind ≡ ErrorKind.DeviceFailed →

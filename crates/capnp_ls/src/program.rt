@@ -40,7 +40,7 @@ pub fn run<R: BufRead, W: Write>(
     ensures runs { (command : Command) → map string_bytes words.now ≡ command_words command →
         ForCommand (WritesEach R.Read source.old source.new W.Write sink.old sink.new
         (padding_of command) (command_input command) default_limit (Prints command W.appends)
-        (DeclinesPrinted command W.refuses)) result }
+        (DeclinesPrinted command W.appends W.leaves W.refuses)) result }
 {
     let Some(command) = Command::from_words(words) else {
         return Err(Stop::Usage);
@@ -57,7 +57,7 @@ fn print_all<R: BufRead, W: Write>(
 ) -> std::result::Result<(), Stop>
     ensures { ForCommand (WritesEach R.Read source.old source.new W.Write sink.old sink.new
         (padding_of command) (command_input command) default_limit (Prints command W.appends)
-        (DeclinesPrinted command W.refuses)) result }
+        (DeclinesPrinted command W.appends W.leaves W.refuses)) result }
 {
     match print_each(alloc, command, source, sink) {
         Ok(()) => Ok(()),
@@ -74,7 +74,7 @@ fn print_each<R: BufRead, W: Write>(
 ) -> std::result::Result<(), StoppedAt>
     ensures { WritesEach R.Read source.old source.new W.Write sink.old sink.new
         (padding_of command) (command_input command) default_limit (Prints command W.appends)
-        (DeclinesPrinted command W.refuses) result }
+        (DeclinesPrinted command W.appends W.leaves W.refuses) result }
 {
     if let Command::Listing(format, padding) = command {
         return print_lines(alloc, format, padding, source, sink);
@@ -103,7 +103,7 @@ fn print_lines<R: BufRead, W: Write>(
 ) -> std::result::Result<(), StoppedAt>
     ensures { WritesEach R.Read source.old source.new W.Write sink.old sink.new padding format
         default_limit (Prints (Command.Listing format padding) W.appends)
-        (DeclinesPrinted (Command.Listing format padding) W.refuses) result }
+        (DeclinesPrinted (Command.Listing format padding) W.appends W.leaves W.refuses) result }
 {
     match format {
         Format::Framed => list_each(alloc, padding, source, sink),

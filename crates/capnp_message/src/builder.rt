@@ -1,6 +1,5 @@
 //! Builders of messages.
-ghost use Rattle.std.specs.Prelude.{◌≡◌, ◌<◌, ◌≤◌, ◌^◌, ◌-◌, ◌↔◌, ℕ, [], false, IsTrue, length, map, None};
-ghost use Rattle.capnp_frame.specs.declared.error.ErrorKind.TheVariants.{NotOneSegment};
+ghost use Rattle.std.specs.Prelude.{◌≡◌, ◌<◌, ◌^◌, ◌-◌, ◌↔◌, [], false, IsTrue, length, map, None};
 ghost use Rattle.capnp_frame.specs.Writing.{IsWritable};
 ghost use Rattle.capnp_wire.specs.Readers.{unlimited_root};
 ghost use Rattle.capnp_build.specs.Held.{used_of};
@@ -18,7 +17,7 @@ use crate::typed_builder::TypedBuilder;
 use capnp_build::allocator::Allocator;
 use capnp_build::arena::builder_arena::BuilderArena;
 use capnp_frame::Result;
-use capnp_frame::message::{ReaderOptions, ReaderSegments};
+use capnp_frame::message::{BuiltMessage, ReaderOptions, ReaderSegments};
 use capnp_wire::traits::{FromPointerReader, SetterInput};
 use std::alloc::Global;
 use std::marker::Model;
@@ -166,5 +165,14 @@ impl<A: Allocator> ReaderSegments for Builder<A> {
         ensures some { result ≡ false → 0 < length self.now.spaces }
     {
         self.arena.is_empty()
+    }
+}
+
+impl<A: Allocator> BuiltMessage for Builder<A> {
+    ghost has_segment = { λ message. 0 < length message.spaces };
+
+    #[inline(always)]
+    fn can_be_written(&self) {
+        self.arena.are_writable();
     }
 }

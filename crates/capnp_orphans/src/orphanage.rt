@@ -1,5 +1,5 @@
 //! The segment in which objects are written.
-ghost use Rattle.std.specs.Prelude.{◌≡◌, ◌<◌, ◌≤◌, None, Some, length, map, replicate, IfOk, IsOk, MatchResult, false};
+ghost use Rattle.std.specs.Prelude.{◌≡◌, ◌<◌, None, Some, length, map, replicate, MatchResult, false};
 ghost use Rattle.capnp_frame.specs.declared.error.ErrorKind.TheVariants.{OutOfMemory, AllocationTooLarge};
 ghost use Rattle.capnp_wire.specs.Values.{HasWords, LacksWords, IsTextTree, LongText, IsBytes, ManyBytes};
 ghost use Rattle.capnp_values.specs.NumberLists.{IsNumberList, ManyNumbers};
@@ -16,7 +16,7 @@ use crate::region::Region;
 use crate::segment::GrowingSegment;
 use crate::struct_list::StructList;
 use crate::value::Value;
-use capnp_frame::message::ReaderSegments;
+use capnp_frame::message::{BuiltMessage, ReaderSegments};
 use capnp_frame::{Error, ErrorKind, Result};
 use capnp_values::NumberList;
 use capnp_wire::primitive_element::PrimitiveElement;
@@ -35,9 +35,9 @@ use std::marker::Model;
 /// the heap it fails with `OutOfMemory` where the memory that is there has no room, and no more is
 /// to be had.
 ///
-/// The message is read in place, and written framed or packed by `write_message_segments`, which
-/// takes the orphanage as it is. Once it is cleared it serves for the next message, and no call
-/// fails for want of memory as far as the memory that is there has room.
+/// The message is read in place, and written framed or packed by `write_message`, which takes the
+/// orphanage as it is. Once it is cleared it serves for the next message, and no call fails for want
+/// of memory as far as the memory that is there has room.
 ///
 /// ```
 /// let mut objects = Orphanage::new(alloc)?;
@@ -47,7 +47,7 @@ use std::marker::Model;
 /// person.adopt(0, name);
 /// objects.add_root(&person)?;
 /// let message = Reader::new(&objects, DEFAULT_READER_OPTIONS);
-/// serialize::write_message_segments(alloc, &mut stream, &objects)?;
+/// serialize::write_message(alloc, &mut stream, &objects)?;
 /// ```
 #[derive(Drop)]
 pub struct Orphanage<S: GrowingSegment = Vec<u8>> {
@@ -286,5 +286,16 @@ impl<S: GrowingSegment> ReaderSegments for Orphanage<S> {
             0 => Some(self.segment.bytes()),
             _ => None,
         }
+    }
+}
+
+impl<S: GrowingSegment> BuiltMessage for Orphanage<S> {
+    ghost use Rattle.std.specs.Prelude.{⊤};
+
+    ghost has_segment = { λ objects. ⊤ };
+
+    #[inline(always)]
+    fn can_be_written(&self) {
+        let _segment = &self.segment;
     }
 }

@@ -1,5 +1,5 @@
 -- A pointer leads to one tree.
-use Rattle.std.proofs.Common.{◌≡◌, ◌⊎◌, inl, inr, Err, ℕ, List, [], ◌∷◌, ◌++◌, false, true, refl, ◌∙◌, ap, subst, ◌<◌, length, arith}
+use Rattle.std.proofs.Common.{◌≡◌, ◌⊎◌, inl, inr, ℕ, List, [], ◌∷◌, ◌++◌, false, true, refl, ◌∙◌, ap, subst, ◌<◌, length, arith}
 use Rattle.capnp_frame.specs.declared.error.Error.{Error}
 use Rattle.capnp_frame.specs.declared.error.ErrorKind.{ErrorKind}
 use Rattle.capnp_frame.specs.declared.error.ErrorKind.TheVariants.{DeviceFailed, OutOfMemory}
@@ -17,8 +17,7 @@ use Rattle.capnp_build.specs.Bytes.{Space}
 use Rattle.capnp_build.specs.Built.{message, IsSet, IsWhole}
 use Rattle.capnp_build.specs.Placed.{DeclinesRoot}
 use Rattle.capnp_build.specs.Outcomes.{LacksFirst}
-use Rattle.capnp.proofs.AppendedLemmas.{appending_memory}
-use Rattle.capnp.proofs.ChunkLemmas.{framed_appending}
+use Rattle.capnp.proofs.ChunkLemmas.{framed_memory}
 use Rattle.capnp.specs.Written.{IsFrameText, RefusesWriter}
 
 leads_one : (p : Pointer) (a b : Trees) → LeadsToTree p a → LeadsToTree p b → a ≡ b
@@ -52,8 +51,7 @@ declined_tree p spaces kind set declined = declined_at p spaces kind set.trees s
 -- why what was set is not written to memory
 pub not_written : (message : List (List ℕ)) (error : Error) → RefusesWriter (ByKind OutOfMemory) message error.kind → (error.kind ≡ DeviceFailed → Fails 0 0)
     → RefusesMany message error.kind ⊎ (error.kind ≡ OutOfMemory)
-not_written message error refused failed =
-    appending_memory error.kind (framed_appending {X = Unit} (ByKind OutOfMemory) message (Err error) refused) failed
+not_written message error refused failed = framed_memory message error.kind refused failed
 
 -- what is added to nothing
 pub added_frame : (segments : List (List ℕ)) (old new : List ℕ) → old ≡ [] → Adds (IsFrameText segments) old new → IsFrameText segments new

@@ -161,7 +161,7 @@ fn append_people(alloc: Global, log: &mut Vec<u8>, names: &[&str]) -> Result<()>
         person.set_id(id);
         person.set_name(objects.text(name)?);
         person.add_root(&mut objects)?;
-        serialize::write_message_segments(alloc, log, &objects)?;
+        serialize::write_message(alloc, log, &objects)?;
     }
     Ok(())
 }

@@ -17,7 +17,7 @@ fn a_sample_is_written_and_read_back(rt: HostRuntime) -> Result<(), Fail> {
     made.set_origin(point_at(3, -4).add(&mut objects)?);
     made.add_root(&mut objects)?;
     let mut stream: Vec<u8> = Vec::new(alloc);
-    serialize::write_message_segments(alloc, &mut stream, &objects)?;
+    serialize::write_message(alloc, &mut stream, &objects)?;
     let mut source = stream.as_slice();
     let message = serialize::read_message(alloc, &mut source, DEFAULT_READER_OPTIONS)?;
     let read: sample::Reader<'_, OwnedSegments> = message.get_root()?;

@@ -3,31 +3,31 @@ ghost use Rattle.std.specs.Prelude.{◌≡◌, ◌*◌, ◌<◌, ℕ, List, leng
 ghost use Rattle.capnp_frame.specs.Writers.{ReturnsText, CountsWords};
 ghost use Rattle.capnp_frame.specs.Writing.{IsWritable};
 ghost use Rattle.capnp.specs.declared.streams.Format.{Format};
-ghost use Rattle.capnp.specs.Written.{IsFrameText, WritesMessage, output_of};
+ghost use Rattle.capnp.specs.Written.{IsFrameText, WritesMessage};
 
-use capnp_build::allocator::Allocator;
 use capnp_frame::Result;
 use capnp_frame::io::Write;
-use capnp_frame::message::ReaderSegments;
+use capnp_frame::message::{BuiltMessage, ReaderSegments};
 use capnp_frame::serialize::{segments_to_words, serialized_size_in_words, write_segments};
-use capnp_message::Builder;
 use std::alloc::Global;
 
-/// Writes a message that is built, each segment up to its last used word. It must have a segment,
-/// which `is_empty` tells.
+/// Writes a message that is built, by a `Builder` or in an orphanage (`capnp_orphans`), each segment
+/// up to its last used word. A builder must have a segment, which `is_empty` tells.
 ///
 /// Fails with `InvalidNumberOfSegments` for more than 511 segments, which no reader accepts; with
 /// `OutOfMemory`, from four segments on, for the table; both before anything is written; and as the
 /// sink does.
-pub fn write_message<W: Write, A: Allocator>(
+pub fn write_message<W: Write, M: BuiltMessage>(
     alloc: Global,
     sink: &mut W,
-    message: &Builder<A>,
+    message: &M,
 ) -> Result<()>
-    requires { 0 < length message.now.spaces }
-    ensures { WritesMessage Format.Framed W.Write sink.old sink.new (output_of message.now) result }
+    requires { M.has_segment message.now }
+    ensures { WritesMessage Format.Framed W.Write sink.old sink.new
+        (M.segments message.now) result }
 {
-    write_message_segments(alloc, sink, &message.get_segments_for_output())
+    message.can_be_written();
+    write_message_segments(alloc, sink, message)
 }
 
 /// Writes a message ("Serialization Over a Stream"). It needs 1 to 2^32 - 1 segments, each of whole
@@ -71,22 +71,24 @@ pub fn write_message_segments_to_words<S: ReaderSegments>(
 /// The framed text of a message that is built, in bytes; the message has one segment at least.
 ///
 /// Fails as `write_message_segments_to_words` does.
-pub fn write_message_to_words<A: Allocator>(alloc: Global, message: &Builder<A>) -> Result<Vec<u8>>
-    requires { 0 < length message.now.spaces }
-    ensures { ReturnsText (output_of message.now) (λ text. text.items) result }
+pub fn write_message_to_words<M: BuiltMessage>(alloc: Global, message: &M) -> Result<Vec<u8>>
+    requires { M.has_segment message.now }
+    ensures { ReturnsText (M.segments message.now) (λ text. text.items) result }
 {
-    write_message_segments_to_words(alloc, &message.get_segments_for_output())
+    message.can_be_written();
+    write_message_segments_to_words(alloc, message)
 }
 
 /// How many words the framed text of a message that is built takes, with its table: an eighth of
 /// the bytes that `write_message` adds to a plain sink.
 ///
 /// Fails with `MessageSizeOverflow` exactly where this number passes `usize`.
-pub fn compute_serialized_size_in_words<A: Allocator>(message: &Builder<A>) -> Result<usize>
-    requires { 0 < length message.now.spaces }
+pub fn compute_serialized_size_in_words<M: BuiltMessage>(message: &M) -> Result<usize>
+    requires { M.has_segment message.now }
     ensures bytes { IfOk result (λ words. (text : List ℕ) →
-        IsFrameText (output_of message.now) text → length text ≡ 8 * words) }
-    ensures counts { CountsWords (output_of message.now) result }
+        IsFrameText (M.segments message.now) text → length text ≡ 8 * words) }
+    ensures counts { CountsWords (M.segments message.now) result }
 {
-    serialized_size_in_words(&message.get_segments_for_output())
+    message.can_be_written();
+    serialized_size_in_words(message)
 }

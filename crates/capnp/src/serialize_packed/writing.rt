@@ -1,31 +1,30 @@
 //! Writing packed messages to a sink.
-ghost use Rattle.std.specs.Prelude.{◌<◌, length};
 ghost use Rattle.capnp_frame.specs.Writing.{IsWritable};
 ghost use Rattle.capnp.specs.declared.streams.Format.{Format};
-ghost use Rattle.capnp.specs.Written.{WritesMessage, output_of};
+ghost use Rattle.capnp.specs.Written.{WritesMessage};
 
-use capnp_build::allocator::Allocator;
 use capnp_frame::Result;
 use capnp_frame::io::Write;
-use capnp_frame::message::ReaderSegments;
+use capnp_frame::message::{BuiltMessage, ReaderSegments};
 use capnp_frame::serialize::write_segments;
-use capnp_message::Builder;
 use capnp_pack::PackedWrite;
 use std::alloc::Global;
 
-/// Writes a message that is built, packed, each segment up to its last used word. It must have a
-/// segment, which `is_empty` tells.
+/// Writes a message that is built, by a `Builder` or in an orphanage (`capnp_orphans`), packed, each
+/// segment up to its last used word. A builder must have a segment, which `is_empty` tells.
 ///
 /// Fails as `write_message_segments` does.
-pub fn write_message<W: Write, A: Allocator>(
+pub fn write_message<W: Write, M: BuiltMessage>(
     alloc: Global,
     sink: &mut W,
-    message: &Builder<A>,
+    message: &M,
 ) -> Result<()>
-    requires { 0 < length message.now.spaces }
-    ensures { WritesMessage Format.Packed W.Write sink.old sink.new (output_of message.now) result }
+    requires { M.has_segment message.now }
+    ensures { WritesMessage Format.Packed W.Write sink.old sink.new
+        (M.segments message.now) result }
 {
-    write_message_segments(alloc, sink, &message.get_segments_for_output())
+    message.can_be_written();
+    write_message_segments(alloc, sink, message)
 }
 
 /// Writes a message, packed: the first word of its table, the table's other words, and each segment

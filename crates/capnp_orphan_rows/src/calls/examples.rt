@@ -15,7 +15,7 @@ fn a_person_is_built(rt: HostRuntime) -> Result<()> {
     person.adopt(0, name);
     objects.add_root(&person)?;
     let message = Reader::new(&objects, DEFAULT_READER_OPTIONS);
-    serialize::write_message_segments(alloc, &mut stream, &objects)?;
+    serialize::write_message(alloc, &mut stream, &objects)?;
     assert_eq!(rt; stream.len(), 8 * 6);
     let root: any_struct::StructReader<'_, &Orphanage> = message.get_root()?;
     assert_eq!(rt; root.get_data_field::<u32>(0), 123);

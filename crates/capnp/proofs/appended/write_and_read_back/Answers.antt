@@ -10,7 +10,7 @@ use Rattle.capnp.proofs.appended.write_and_read_back.Goals as goal
 pub returns-in_err-write_messages : goal.returns-in_err-write_messages
 returns-in_err-write_messages g c =
     let p = err_from_is_err_and c.from_residual.result c.from_residual.ensures.1 in
-    let refused = appending_memory _ c.in_err-write_messages.ensures.refused c.in_err-write_messages.ensures.failed in
+    let refused = appending_memory c.args.format (map g.S.ReaderSegments.segments c.args.messages.now) _ c.requires.writable c.in_err-write_messages.ensures.failed c.in_err-write_messages.ensures.refused in
     rw (p.1, p.2) (record { written = tt; read = tt; back = tt; options_are = tt; ends = tt; few = tt; refused = refused })
 
 pub returns-in_err-readers : goal.returns-in_err-readers

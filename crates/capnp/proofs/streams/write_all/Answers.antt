@@ -7,12 +7,12 @@ use Rattle.capnp.proofs.streams.write_all.Goals as goal
 
 pub returns-in-Ok-None-clause-written : goal.returns-in-Ok-None-clause-written
 returns-in-Ok-None-clause-written g c = all_written c.args.padding c.args.format c.args.options.traversal_limit_in_words
-    (g.M.MessageWriter.writes c.args.writer.now g.W.Write.appends) (g.M.MessageWriter.declines c.args.writer.now g.W.Write.refuses) c.loop-message.message _ _ _ _ _ _
+    (g.M.MessageWriter.writes c.args.writer.now g.W.Write.appends) (g.M.MessageWriter.declines c.args.writer.now g.W.Write.appends g.W.Write.leaves g.W.Write.refuses) c.loop-message.message _ _ _ _ _ _
     c.loop-message.invariant.written (rw c.in-Ok-None.field-0-is at c.in-Ok-None.ensures.none) c.read_next.ensures.advances.tail refl
 
 pub returns-in-Err-clause-written : goal.returns-in-Err-clause-written
 returns-in-Err-clause-written g c = stopped_reading c.args.padding c.args.format c.args.options.traversal_limit_in_words
-    (g.M.MessageWriter.writes c.args.writer.now g.W.Write.appends) (g.M.MessageWriter.declines c.args.writer.now g.W.Write.refuses)
+    (g.M.MessageWriter.writes c.args.writer.now g.W.Write.appends) (g.M.MessageWriter.declines c.args.writer.now g.W.Write.appends g.W.Write.leaves g.W.Write.refuses)
     (record { message = c.loop-message.message; error = c.in-Err.error }) _ _ _ _ _ _
     c.loop-message.invariant.written
     (reading_fault c.args.padding c.args.format c.args.options.traversal_limit_in_words c.in-Err.error.kind _ _ c.in-Err.ensures.refused) refl
@@ -22,17 +22,17 @@ returns-in-Err-clause-advances g c = Advances-join _ _ _ (g.met.R.Read.keeps.tra
 
 pub returns-in-Err-write_message-clause-written : goal.returns-in-Err-write_message-clause-written
 returns-in-Err-write_message-clause-written g c =
-    let declines = g.M.MessageWriter.declines c.args.writer.now g.W.Write.refuses in
+    let declines = g.M.MessageWriter.declines c.args.writer.now g.W.Write.appends g.W.Write.leaves g.W.Write.refuses in
     let told = c.in-Err-write_message.ensures in
     stopped_at_message c.args.padding c.args.format c.args.options.traversal_limit_in_words (g.M.MessageWriter.writes c.args.writer.now g.W.Write.appends) declines
     (record { message = c.loop-message.message; error = c.in-Err-write_message.error }) c.in-Ok-Some.segments _ _ _ _ _ _
     (rw c.in-Ok-Some.field-0-is at c.in-Ok-Some.ensures.within) (rw c.in-Ok-Some.field-0-is at c.in-Ok-Some.ensures.whole)
-    c.loop-message.invariant.written (rw c.in-Ok-Some.field-0-is at c.in-Ok-Some.ensures.found) told.refused c.write_message.ensures.grows.front
+    c.loop-message.invariant.written (rw c.in-Ok-Some.field-0-is at c.in-Ok-Some.ensures.found) told.refused told.left
     (left_as_written g.W.Write.written declines c.loop-message.message c.in-Ok-Some.segments c.in-Err-write_message.error.kind _ _ told.untouched)
 
 pub returns-in-Err-write_message-clause-kinds : goal.returns-in-Err-write_message-clause-kinds
 returns-in-Err-write_message-clause-kinds g c = inr (message_faulted c.args.options.traversal_limit_in_words
-    (g.M.MessageWriter.declines c.args.writer.now g.W.Write.refuses) c.loop-message.message c.in-Ok-Some.segments _
+    (g.M.MessageWriter.declines c.args.writer.now g.W.Write.appends g.W.Write.leaves g.W.Write.refuses) c.loop-message.message c.in-Ok-Some.segments _
     (rw c.in-Ok-Some.field-0-is at c.in-Ok-Some.ensures.within) (rw c.in-Ok-Some.field-0-is at c.in-Ok-Some.ensures.whole)
     c.in-Err-write_message.ensures.refused)
 
@@ -56,4 +56,4 @@ loop-message-preserved g c = record {
 
 pub returns-clause-written : goal.returns-clause-written
 returns-clause-written g c = most_written c.args.padding c.args.format c.args.options.traversal_limit_in_words
-    (g.M.MessageWriter.writes c.args.writer.now g.W.Write.appends) (g.M.MessageWriter.declines c.args.writer.now g.W.Write.refuses) _ _ _ _ _ c.loop-message.invariant.written (search rules)
+    (g.M.MessageWriter.writes c.args.writer.now g.W.Write.appends) (g.M.MessageWriter.declines c.args.writer.now g.W.Write.appends g.W.Write.leaves g.W.Write.refuses) _ _ _ _ _ c.loop-message.invariant.written (search rules)

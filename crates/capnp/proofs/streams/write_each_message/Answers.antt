@@ -7,7 +7,7 @@ returns g c = record {
   written = c.write_all.ensures.written;
   exact = returned_known c.args.padding c.args.format c.args.options.traversal_limit_in_words
       (g.M.MessageWriter.writes c.args.writer.now g.W.Write.appends)
-      (g.M.MessageWriter.declines c.args.writer.now g.W.Write.refuses) c.write_all.result _ _ _ _
+      (g.M.MessageWriter.declines c.args.writer.now g.W.Write.appends g.W.Write.leaves g.W.Write.refuses) c.write_all.result _ _ _ _
       c.write_all.ensures.written;
   kinds = c.write_all.ensures.kinds;
   failed = c.write_all.ensures.failed;

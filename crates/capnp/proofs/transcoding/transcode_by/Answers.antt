@@ -9,7 +9,7 @@ returns-in-Ok g c =
     record {
       texts = λ plain. WritesEach-weaker g.R.Read _ _ g.W.Write _ _ c.args.padding (input_of c.args.way)
           c.args.options.traversal_limit_in_words (Transcodes c.args.way g.W.Write.appends) (IsOtherText c.args.way)
-          (DeclinesTranscoded c.args.way g.W.Write.refuses) (other_text_added c.args.way g.W.Write.appends plain) _ runs;
+          (DeclinesTranscoded c.args.way g.W.Write.appends g.W.Write.leaves g.W.Write.refuses) (other_text_added c.args.way g.W.Write.appends plain) _ runs;
       runs = runs;
     }
 
@@ -21,7 +21,7 @@ returns-in-Err g c =
         c.in-Err.stop.message,
         WritesEach-weaker g.R.Read _ _ g.W.Write _ _ c.args.padding (input_of c.args.way)
             c.args.options.traversal_limit_in_words (Transcodes c.args.way g.W.Write.appends) (IsOtherText c.args.way)
-            (DeclinesTranscoded c.args.way g.W.Write.refuses) (other_text_added c.args.way g.W.Write.appends plain) _ runs,
+            (DeclinesTranscoded c.args.way g.W.Write.appends g.W.Write.leaves g.W.Write.refuses) (other_text_added c.args.way g.W.Write.appends plain) _ runs,
       );
       runs = (c.in-Err.stop.message, runs);
     }

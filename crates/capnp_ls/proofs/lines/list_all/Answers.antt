@@ -1,5 +1,5 @@
 -- Each turn prints one more line, or ends the run.
-use Rattle.std.proofs.Common.{rules, refl, ap, inl, inr, arith}
+use Rattle.std.proofs.Common.{rules, refl, ap, arith}
 use Rattle.capnp.specs.Passed.{default_limit}
 use Rattle.capnp.specs.declared.streams.Format.TheVariants.{Framed}
 use Rattle.capnp.proofs.Passed.{IfKnown-join, Advances-join, Grows-join}
@@ -12,7 +12,7 @@ pub returns-in-Ok-None-clause-written : goal.returns-in-Ok-None-clause-written
 returns-in-Ok-None-clause-written g c =
     let told = (rw c.in-Ok-None.field-0-is at c.in-Ok-None.ensures.none) refl in
     let command = Listing Framed c.args.padding in
-    all_written c.args.padding Framed default_limit (Prints command g.W.Write.appends) (DeclinesPrinted command g.W.Write.refuses)
+    all_written c.args.padding Framed default_limit (Prints command g.W.Write.appends) (DeclinesPrinted command g.W.Write.appends g.W.Write.leaves g.W.Write.refuses)
     c.loop-message.message _ _ _ _ _ _ c.loop-message.invariant.written told.1 c.list_next.ensures.advances.tail (ap g.W.Write.written told.0)
 
 pub returns-in-Ok-None-clause-advances : goal.returns-in-Ok-None-clause-advances
@@ -46,5 +46,5 @@ loop-message-preserved g c =
 pub returns-clause-written : goal.returns-clause-written
 returns-clause-written g c =
     let command = Listing Framed c.args.padding in
-    most_written c.args.padding Framed default_limit (Prints command g.W.Write.appends) (DeclinesPrinted command g.W.Write.refuses)
+    most_written c.args.padding Framed default_limit (Prints command g.W.Write.appends) (DeclinesPrinted command g.W.Write.appends g.W.Write.leaves g.W.Write.refuses)
     _ _ _ _ _ c.loop-message.invariant.written (search rules)

@@ -11,7 +11,7 @@ returns g c =
     let command = Listing Framed c.args.padding in
     record {
       written = c.list_all.ensures.written;
-      exact = returned_known c.args.padding Framed default_limit (Prints command g.W.Write.appends) (DeclinesPrinted command g.W.Write.refuses)
+      exact = returned_known c.args.padding Framed default_limit (Prints command g.W.Write.appends) (DeclinesPrinted command g.W.Write.appends g.W.Write.leaves g.W.Write.refuses)
           c.list_all.result _ _ _ _ c.list_all.ensures.written;
       kinds = c.list_all.ensures.kinds;
       failed = c.list_all.ensures.failed;

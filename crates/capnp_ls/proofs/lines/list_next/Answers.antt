@@ -1,12 +1,12 @@
 -- A message's line is printed, or the run stops at it.
-use Rattle.std.proofs.Common.{refl, inl, inr}
+use Rattle.std.proofs.Common.{refl, inr}
 use Rattle.capnp.specs.Passed.{default_limit}
 use Rattle.capnp.specs.declared.streams.Format.TheVariants.{Framed}
 use Rattle.capnp.proofs.FormatLemmas.{reading_fault}
 use Rattle.capnp.proofs.RunLemmas.{written_next, stopped_reading, stopped_at_message, left_as_written, message_faulted}
 use Rattle.capnp_ls.specs.declared.command.Command.TheVariants.{Listing}
 use Rattle.capnp_ls.specs.Output.{Prints, DeclinesPrinted}
-use Rattle.capnp_ls.proofs.MessageLemmas.{few_lengths, line_written, line_refused, line_untouched}
+use Rattle.capnp_ls.proofs.MessageLemmas.{few_lengths, line_written, line_left, line_refused, line_untouched}
 use Rattle.capnp_ls.proofs.lines.list_next.Goals as goal
 
 pub print_line-requires : goal.print_line-requires
@@ -23,7 +23,7 @@ returns-in-Ok-None-clause-advances g c = (rw c.in-Ok-None.field-0-is at c.in-Ok-
 pub returns-in-Err-clause-stopped : goal.returns-in-Err-clause-stopped
 returns-in-Err-clause-stopped g c = λ first before written.
     let command = Listing Framed c.args.padding in
-    stopped_reading c.args.padding Framed default_limit (Prints command g.W.Write.appends) (DeclinesPrinted command g.W.Write.refuses)
+    stopped_reading c.args.padding Framed default_limit (Prints command g.W.Write.appends) (DeclinesPrinted command g.W.Write.appends g.W.Write.leaves g.W.Write.refuses)
     (record { message = c.args.message; error = c.in-Err.error }) first _ _ before _ _ written
     (reading_fault c.args.padding Framed default_limit c.in-Err.error.kind _ _ c.in-Err.ensures.refused) refl
 
@@ -31,22 +31,22 @@ pub returns-in-Err-print_line-clause-stopped : goal.returns-in-Err-print_line-cl
 returns-in-Err-print_line-clause-stopped g c = λ first before written.
     let told = rw c.in-Ok-Some.field-0-is at c.in-Ok-Some.ensures in
     let command = Listing Framed c.args.padding in
-    let declines = DeclinesPrinted command g.W.Write.refuses in
+    let declines = DeclinesPrinted command g.W.Write.appends g.W.Write.leaves g.W.Write.refuses in
     let kind = c.in-Err-print_line.error.kind in
     stopped_at_message c.args.padding Framed default_limit (Prints command g.W.Write.appends) declines
     (record { message = c.args.message; error = c.in-Err-print_line.error }) told.0 first _ _ before _ _
     told.2.within told.2.whole written told.2.found
-    (line_refused g.W.Write.refuses c.args.padding c.args.message told.0 c.in-Ok-Some.lengths kind told.1 c.in-Err-print_line.ensures.refused)
-    c.print_line.ensures.grows.front
+    (line_refused g.W.Write.appends g.W.Write.leaves g.W.Write.refuses c.args.padding c.args.message told.0 c.in-Ok-Some.lengths kind told.1 c.in-Err-print_line.ensures.refused)
+    (line_left g.W.Write.leaves c.args.message told.0 c.in-Ok-Some.lengths _ _ told.1 c.in-Err-print_line.ensures.left)
     (left_as_written g.W.Write.written declines c.args.message told.0 kind _ _
-    (line_untouched g.W.Write.refuses c.args.padding c.args.message told.0 c.in-Ok-Some.lengths kind _ told.1 c.in-Err-print_line.ensures.untouched))
+    (line_untouched g.W.Write.appends g.W.Write.leaves g.W.Write.refuses c.args.padding c.args.message told.0 c.in-Ok-Some.lengths kind _ told.1 c.in-Err-print_line.ensures.untouched))
 
 pub returns-in-Err-print_line-clause-kinds : goal.returns-in-Err-print_line-clause-kinds
 returns-in-Err-print_line-clause-kinds g c =
     let told = rw c.in-Ok-Some.field-0-is at c.in-Ok-Some.ensures in
-    inr (message_faulted default_limit (DeclinesPrinted (Listing Framed c.args.padding) g.W.Write.refuses) c.args.message told.0 _
+    inr (message_faulted default_limit (DeclinesPrinted (Listing Framed c.args.padding) g.W.Write.appends g.W.Write.leaves g.W.Write.refuses) c.args.message told.0 _
     told.2.within told.2.whole
-    (line_refused g.W.Write.refuses c.args.padding c.args.message told.0 c.in-Ok-Some.lengths _ told.1 c.in-Err-print_line.ensures.refused))
+    (line_refused g.W.Write.appends g.W.Write.leaves g.W.Write.refuses c.args.padding c.args.message told.0 c.in-Ok-Some.lengths _ told.1 c.in-Err-print_line.ensures.refused))
 
 pub returns-in-Ok-clause-listed : goal.returns-in-Ok-clause-listed
 returns-in-Ok-clause-listed g c =

@@ -12,4 +12,4 @@ pub returns-clause-runs : goal.returns-clause-runs
 returns-clause-runs g c = λ command is.
     let same : c.in-Some.command ≡ command = search rules in
     subst (λ (x : Command). ForCommand (WritesEach g.R.Read c.args.source.now c.print_all.new.source g.W.Write c.args.sink.now c.print_all.new.sink
-    (padding_of x) (command_input x) default_limit (Prints x g.W.Write.appends) (DeclinesPrinted x g.W.Write.refuses)) c.print_all.result) same c.print_all.ensures
+    (padding_of x) (command_input x) default_limit (Prints x g.W.Write.appends) (DeclinesPrinted x g.W.Write.appends g.W.Write.leaves g.W.Write.refuses)) c.print_all.result) same c.print_all.ensures

@@ -1,12 +1,9 @@
 -- What was written is one text, which is read.
-use Rattle.std.proofs.Common.{inl, inr, refl, Err}
+use Rattle.std.proofs.Common.{inl, inr, refl}
 use Rattle.std.proofs.lemmas.Result.{err_from_is_err_and}
-use Rattle.capnp_frame.specs.declared.error.ErrorKind.TheVariants.{OutOfMemory}
 use Rattle.capnp_frame.specs.declared.serialize.segment_table.Padding.TheVariants.{Zero}
-use Rattle.capnp_frame.specs.Sink.{ByKind}
 use Rattle.capnp.specs.declared.streams.Format.TheVariants.{Framed}
-use Rattle.capnp.proofs.AppendedLemmas.{appending_memory}
-use Rattle.capnp.proofs.ChunkLemmas.{framed_appending}
+use Rattle.capnp.proofs.ChunkLemmas.{framed_memory}
 use Rattle.capnp.proofs.FormatLemmas.{plain_reads, or_fails_map}
 use Rattle.capnp.proofs.RootLemmas.{added_alone, written_and_read}
 use Rattle.capnp_uses.proofs.ReadingLemmas.{slices_are_plain}
@@ -17,8 +14,8 @@ returns-in_err-write_message_segments g c =
     let p = err_from_is_err_and c.from_residual.result c.from_residual.ensures.1 in
     let error = c.in_err-write_message_segments.field-0.0 in
     let message = g.S.ReaderSegments.segments c.args.message.now in
-    let refused = appending_memory error.kind (framed_appending {X = Unit} (ByKind OutOfMemory) message (Err error)
-    c.in_err-write_message_segments.ensures.refused) c.in_err-write_message_segments.ensures.failed in
+    let told = c.in_err-write_message_segments.ensures in
+    let refused = framed_memory message error.kind told.refused told.failed in
     rw (p.1, p.2) (record {
       back = tt;
       size = tt;

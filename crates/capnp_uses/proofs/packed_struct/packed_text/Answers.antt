@@ -1,12 +1,10 @@
 -- The text is that of the used words.
-use Rattle.std.proofs.Common.{◌≡◌, ◌⊎◌, Err, subst}
+use Rattle.std.proofs.Common.{◌≡◌, ◌⊎◌, subst}
 use Rattle.std.proofs.lemmas.Result.{err_from_is_err_and}
 use Rattle.capnp_frame.specs.declared.error.ErrorKind.TheVariants.{OutOfMemory}
-use Rattle.capnp_frame.specs.Sink.{ByKind}
 use Rattle.capnp_frame.specs.Writing.{IsWritable, HasFew, RefusesMany}
 use Rattle.capnp.specs.Written.{IsPackedTextOf}
-use Rattle.capnp.proofs.AppendedLemmas.{appending_memory}
-use Rattle.capnp.proofs.ChunkLemmas.{packed_appending}
+use Rattle.capnp.proofs.ChunkLemmas.{packed_memory}
 use Rattle.capnp_uses.proofs.PackedStructLemmas.{added_text}
 use Rattle.capnp_uses.proofs.packed_struct.packed_text.Goals as goal
 
@@ -29,6 +27,6 @@ returns-in_err-write_message_segments-clause-refused g c =
     let p = err_from_is_err_and c.from_residual.result c.from_residual.ensures.1 in
     let output = c.get_segments_for_output-output in
     let error = c.in_err-write_message_segments.field-0.0 in
-    let refused = appending_memory error.kind (packed_appending {X = Unit} (ByKind OutOfMemory) output.result (Err error) (output.ensures.writable c.requires)
-    c.in_err-write_message_segments.ensures.refused) c.in_err-write_message_segments.ensures.failed in
+    let told = c.in_err-write_message_segments.ensures in
+    let refused = packed_memory output.result error.kind (output.ensures.writable c.requires) told.refused told.failed in
     rw (p.1, p.2) (subst (λ m. RefusesMany m error.kind ⊎ (error.kind ≡ OutOfMemory)) output.ensures.segments refused)

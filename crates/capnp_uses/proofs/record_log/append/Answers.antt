@@ -1,9 +1,6 @@
 -- The log has one record more, or is cut back.
-use Rattle.std.proofs.Common.{◌≡◌, length, Err, arith}
-use Rattle.capnp_frame.specs.declared.error.ErrorKind.TheVariants.{OutOfMemory}
-use Rattle.capnp_frame.specs.Sink.{ByKind}
-use Rattle.capnp.proofs.AppendedLemmas.{appending_memory}
-use Rattle.capnp.proofs.ChunkLemmas.{packed_appending}
+use Rattle.std.proofs.Common.{◌≡◌, length, arith}
+use Rattle.capnp.proofs.ChunkLemmas.{packed_memory}
 use Rattle.capnp_uses.proofs.LogLemmas.{appended_log, cut_back}
 use Rattle.capnp_uses.proofs.record_log.append.Goals as goal
 
@@ -18,5 +15,4 @@ returns-in-Err-clause-unchanged g c =
 
 pub returns-in-Err-clause-refused : goal.returns-in-Err-clause-refused
 returns-in-Err-clause-refused g c =
-    let m = g.S.ReaderSegments.segments c.args.message.now in
-    appending_memory c.in-Err.error.kind (packed_appending {X = Unit} (ByKind OutOfMemory) m (Err c.in-Err.error) c.requires c.in-Err.ensures.refused) c.in-Err.ensures.failed
+    packed_memory (g.S.ReaderSegments.segments c.args.message.now) c.in-Err.error.kind c.requires c.in-Err.ensures.refused c.in-Err.ensures.failed

@@ -10,6 +10,6 @@ returns g c =
     let kept = told.grows in
     let packed = packed_written g.W.Write (λ p. p.sink.now) c.new-packed.result c.write_segments.new.sink
     (g.S.ReaderSegments.segments c.args.segments.now) c.write_segments.result all.count all.unwritten
-    told.written told.refused told.untouched told.failed (record { front = kept.front; counted = kept.counted; same_sink = kept.same_sink.1 }) in
+    told.written told.left told.refused told.untouched told.failed (record { front = kept.front; counted = kept.counted; same_sink = kept.same_sink.1 }) in
     let following : c.sink-1.given.0 ≡ c.write_segments.new.sink.sink.now = search rules in
     rw following (rw c.new-packed.ensures.sink at packed)

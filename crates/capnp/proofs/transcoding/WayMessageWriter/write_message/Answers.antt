@@ -14,3 +14,9 @@ returns-in-Pack-clause-untouched g c = rw c.in-Pack.is c.write_message_segments.
 
 pub returns-in-Unpack-clause-untouched : goal.returns-in-Unpack-clause-untouched
 returns-in-Unpack-clause-untouched g c = rw c.in-Unpack.is c.write_message_segments-in-Unpack.ensures.untouched
+
+pub returns-in-Pack-clause-left : goal.returns-in-Pack-clause-left
+returns-in-Pack-clause-left g c = rw c.in-Pack.is c.write_message_segments.ensures.left
+
+pub returns-in-Unpack-clause-left : goal.returns-in-Unpack-clause-left
+returns-in-Unpack-clause-left g c = rw c.in-Unpack.is c.write_message_segments-in-Unpack.ensures.left

@@ -1,0 +1,18 @@
+//! Messages that are built, of whatever holds their segments.
+ghost use Rattle.capnp_frame.specs.Writing.{IsWritable};
+
+use crate::message::segments::ReaderSegments;
+
+/// A message that is built: its segments are what is written of it.
+///
+/// For implementers: `can_be_written` does nothing. Its contract is a fact that writers use.
+pub trait BuiltMessage: ReaderSegments {
+    /// It has a segment, so it can be written.
+    ghost has_segment: { Self → Type 0 };
+
+    /// Each segment is of whole words, and there are as many segments, and words in each, as a
+    /// segment table can tell.
+    fn can_be_written(&self)
+        requires { has_segment self.now }
+        ensures { IsWritable (Self.segments self.now) };
+}
