@@ -154,7 +154,7 @@ refused_at segments refuses [] index x kind here is refused = absurd (omega arit
 refused_at segments refuses (y ∷ ys) zero x kind here is refused = inl (subst (λ z. RefusesWriter refuses (segments z) kind) is refused)
 refused_at segments refuses (y ∷ ys) (suc index) x kind here is refused = inr (refused_at segments refuses ys index x kind (omega arith) is refused)
 
--- what is left of it stands behind the messages before it
+-- what is left of it follows the messages before it
 LeavesEach-at : {S : Type 0} (segments : S → List (List ℕ)) (Writes Leaves : List (List ℕ) → List ℕ → Type 0) (xs : List S) (index : ℕ) (x : S)
     (text more : List ℕ) → index < length xs → x ≡ get_or xs index x → AppendsEach Writes (map segments (take index xs)) text → Leaves (segments x) more
     → LeavesEach Writes Leaves (map segments xs) (text ++ more)
