@@ -12,6 +12,7 @@ pub mod LimitLemmas
 pub mod MetRefusals
 pub mod TextLemmas
 pub mod WorkedRows
+pub mod WritableLemmas
 pub mod WritingLemmas
 pub mod SizeLemmas
 pub mod ToldTables

@@ -38,6 +38,7 @@ mod segment_table_info;
 mod skipping;
 mod stream;
 mod text;
+mod writable;
 mod writing;
 
 pub use buffer_segments::{BufferSegments, take_segments, take_segments_lenient};
@@ -53,4 +54,5 @@ pub use stream::{
     try_read_segments_reusing_lenient,
 };
 pub use text::try_read_text_into;
+pub use writable::is_writable;
 pub use writing::{segments_to_words, serialized_size_in_words, write_segments};

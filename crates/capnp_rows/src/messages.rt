@@ -1,8 +1,6 @@
 //! Messages, and what is written of them.
-ghost use Rattle.std.specs.Bool.{OnTrue};
-ghost use Rattle.capnp_frame.specs.Writing.{IsWritable};
-
 use capnp_frame::message::ReaderSegments;
+pub use capnp_frame::serialize::is_writable;
 
 /// A message, its texts, and how many words it takes framed.
 #[derive(Clone, Copy)]
@@ -111,23 +109,6 @@ pub fn shows<S: ReaderSegments>(segments: &S, id: u32, bytes: &[u8]) -> bool {
         Some(segment) => segment == bytes,
         None => false,
     }
-}
-
-/// Whether a writer may be given these segments.
-pub fn is_writable<S: ReaderSegments>(segments: &S) -> bool
-    ensures { OnTrue result (IsWritable (S.segments segments.now)) }
-{
-    let mut index = 0;
-    while index < u32::MAX {
-        let Some(segment) = segments.get_segment(index) else {
-            return index > 0;
-        };
-        if segment.len() % 8 != 0 || segment.len() / 8 >= 1 << 32 {
-            return false;
-        }
-        index += 1;
-    }
-    false
 }
 
 /// Whether `text` is a table and these segments after it.
