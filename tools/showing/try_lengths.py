@@ -13,7 +13,7 @@ ENDS = [
     ("before", [16_000_000, 32_000_000, 48_000_000, 63_999_482, 63_999_999, 70_000_001], "70 MB of 70 MB, 6 messages"),
     ("at", [16_000_000, 32_000_000, 48_000_000, 64_000_000, 80_000_000, 96_000_000, 112_000_000, 127_999_482, 127_999_999,
             143_999_999, 159_999_999, 175_999_999, 191_999_999, 199_999_999, 200_000_003],
-     "64 MB of 200 MB, 4 messages", "199 MB of 200 MB, 14 messages"),
+     "64 MB of 200 MB, 4 messages", "143 MB of 200 MB, 10 messages", "199 MB of 200 MB, 14 messages"),
     ("exactly", [16_000_000, 32_000_000, 48_000_000, 64_000_000]),
     ("further", [16_000_000, 32_000_000, 48_000_000, 64_000_000, 80_000_000, 96_000_000, 112_000_000, 128_000_000],
      "64 MB of 128 MB, 4 messages", "128 MB of 128 MB, 8 messages"),
@@ -64,9 +64,10 @@ def try_ends():
         write_tables(name, ends, packed_table)
         lines = "".join(f"capnp_show: {name}: {line}\n" for line in said)
         expect(f"lengths: {name}", run(["--packed", "--count", "--progress", name]), 0, f"{len(ends)}\n", lines)
-    write_tables("a\nb", [*THREE, 104_000_000, 127_999_992, 160_000_000, 200_000_000], framed_table)
-    lines = "capnp_show: a\\nb: 64 MB of 200 MB, 3 messages\ncapnp_show: a\\nb: 160 MB of 200 MB, 6 messages\n"
-    expect("lengths: a name in two lines", run(["--count", "--progress", "a\nb"]), 0, "7\n", lines)
+    write_tables("a\nb", [*THREE, 104_000_000, 127_999_992, 199_999_992, 200_000_000], framed_table)
+    lines = "capnp_show: a\\nb: 64 MB of 200 MB, 3 messages\ncapnp_show: a\\nb: 199 MB of 200 MB, 6 messages\n"
+    result = run(["--count", "--progress", "--words", "10000000", "a\nb"])
+    expect("lengths: a name in two lines", result, 0, "7\n", lines)
 
 
 def try_without_size():
