@@ -1,4 +1,5 @@
-"""Runs capnp_show, and compares each run with what oracle.py says: try_show.py PROGRAM, in an empty folder."""
+"""Runs capnp_show, and compares each run with what oracle.py says, or with what is written out: try_show.py PROGRAM, in an
+empty folder."""
 import json
 import os
 import sys
@@ -7,10 +8,14 @@ import time
 from oracle import Tree, frame, lines_of, pack, sentence, sha256_of
 from runs import Counts, expect, refused, run
 from samples import CANONICAL, CYCLE, DOUBLINGS, ESCAPES, FAR, HELLO, MESSAGES, listed, random_messages, words
+from try_detected import try_detected
 from try_devices import try_devices, try_gigabyte, try_growing_log
+from try_drawn import try_drawn
+from try_lengths import try_lengths
 from try_page import try_pages
 from try_progress import try_progress
 from try_words import try_words
+from try_written import try_written
 
 
 def expect_messages(what, messages, text_of, args, limits):
@@ -83,8 +88,12 @@ def main():
     try_growing_log()
     try_gigabyte()
     try_words()
+    try_written()
+    try_detected()
     try_pages()
+    try_drawn()
     try_progress()
+    try_lengths()
     left_out = f", {Counts.left_out} left out" if Counts.left_out else ""
     print(f"try-show: {Counts.tried} runs, {Counts.wrong} of them wrong{left_out}, {time.monotonic() - begun:.1f} s")
     return 1 if Counts.wrong else 0

@@ -135,8 +135,8 @@ impl Grid {
     }
 }
 
-/// Adds the arrow to the object of this number, from one cell to another.
-pub fn push_path(text: &mut String, number: u64, from: Corner, to: Corner) -> Result<(), AllocError>
+// Adds the arrow to the object of this number, from one cell to another.
+fn push_path(text: &mut String, number: u64, from: Corner, to: Corner) -> Result<(), AllocError>
     ensures { OnOk result (string_bytes text.new ≡ string_bytes text.old ++ arrow_of number from to) }
 {
     push_arrow_front(text, number, from)?;

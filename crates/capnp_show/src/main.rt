@@ -15,17 +15,11 @@ mod hash;
 mod html;
 mod json;
 mod landing;
-#[cfg(test)]
-mod listed_tests;
 mod listing;
 mod markup;
 mod messages;
-#[cfg(test)]
-mod node_tests;
 mod numbers;
 mod owners;
-#[cfg(test)]
-mod page_tests;
 mod progress;
 mod refusals;
 mod runs;
@@ -33,11 +27,7 @@ mod settings;
 mod shown;
 mod sizes;
 mod style;
-#[cfg(test)]
-mod tests;
 mod text;
-#[cfg(test)]
-mod threshold_tests;
 mod tree;
 mod words;
 

@@ -1,0 +1,179 @@
+"""Pages of messages that are written out, in part or whole: cells, refusals, texts, arrows and links."""
+from oracle import frame
+from runs import count, run
+from samples import words
+from written import (
+    CYCLE, EMPTY, FAR, HELLO, MARKUP, MOST_VOIDS, SHARED, STRUCTS, VOIDS,
+    expect_parts, list_pointer, struct_pointer, text_message, zeros,
+)
+
+# The drawing of FAR, and the list of its objects.
+FAR_SECTION = """<section class="message" id="m0-0">
+<h2>message 0: offset 0, bytes 48, segments 2, words 4</h2>
+<div class="drawing">
+<div style="height: 88px">
+<h3>segment 0, words 2</h3>
+<table class="segment">
+<tr><th>0</th><td id="m0-0-0-0" class="pointer root" title="word 0:0, the root pointer, to object 0">\
+<a href="#m0-0-0-1">0000000000000100</a></td>\
+<td id="m0-0-0-1" class="pointer o0 c0" title="word 0:1, pointer of object 0, to object 1">\
+<a href="#m0-0-1-1">0200000001000000</a></td></tr>
+</table>
+</div>
+<div style="height: 88px">
+<h3>segment 1, words 2</h3>
+<table class="segment">
+<tr><th>0</th><td id="m0-0-1-0" class="landing o1 c1" title="word 1:0, landing pad of object 1">\
+010000001a000000</td><td id="m0-0-1-1" class="data o1 c1" title="word 1:1, data of object 1">\
+6869000000000000</td></tr>
+</table>
+</div>
+<svg class="arrows" width="792" height="176" aria-hidden="true">
+<path class="c0" d="M246 61H274m-5 -3l5 3l-5 3"/>
+<path class="c1" d="M418 61H425V130H267V149H274m-5 -3l5 3l-5 3"/>
+</svg>
+</div>
+<ol class="objects" start="0">
+<li class="o0 c0">root: struct, data 0, pointers 1, at 0:1</li>
+<li class="o1 c1">pointer 0: list, element byte, count 3, at 1:1, landing pad 1:0, words 1, text &quot;hi&quot;</li>
+</ol>
+</section>
+"""
+LARGE_SECTION = """<section class="message" id="m0-0">
+<h2>message 0: offset 0, bytes 32784, segments 1, words 4097</h2>
+<p class="large">A message of more than 4096 words is not drawn.</p>
+</section>
+"""
+FRONT = """<!DOCTYPE html>
+<html lang="en">
+<head>
+<meta charset="utf-8">
+<title>capnp_show</title>
+<style>
+"""
+END = "</body>\n</html>\n"
+# What the pages of messages have, in parts.
+PARTS = [
+    ("a list of structs", STRUCTS, [
+        '<td id="m0-0-0-1" class="tag o0 c0"',
+        '<td id="m0-0-0-2" class="data o0 c0"',
+        '<td id="m0-0-0-3" class="pointer o0 c0 null"',
+        '<tr><th>4</th><td id="m0-0-0-4" class="data o0 c0"',
+    ]),
+    # what two pointers lead to is of the object that comes first
+    ("two pointers to a text", SHARED, [
+        'to object 1"><a href="#m0-0-0-3">050000001a000000</a>',
+        'to object 2"><a href="#m0-0-0-3">010000001a000000</a>',
+        '<td id="m0-0-0-3" class="data o1 c1"',
+        '<li class="o2 c2">pointer 1: list, element byte, count 3, at 0:3, text &quot;hi&quot;</li>',
+    ]),
+    # a list without words at the end of its segment has no word to lead to
+    ("voids at the end", VOIDS, [
+        'class="pointer root" title="word 0:0, the root pointer, to object 0">0100000028000000</td>',
+        '<li class="o0 c0">root: list, element void, count 5, at 0:1</li>',
+    ]),
+    ("a cycle", CYCLE, [
+        '<td id="m0-0-0-1" class="pointer o0 c0 refused" title="refused, since objects are '
+        'nested deeper than --nesting allows (NestingLimitExceeded)"><a href="#m0-0-0-1">fcffffff00000100</a>',
+    ]),
+    ("too many voids", MOST_VOIDS, [
+        'class="pointer root refused" title="refused, since the objects have more words than '
+        '--words allows (ReadLimitExceeded)">01000000f8ffffff</td>',
+    ]),
+    ("no words", EMPTY, ['<p class="refused">root: refused, since a pointer leads outside of its segment (PointerOutOfBounds)</p>']),
+    ("4096 words", zeros(4096), ['<td id="m0-0-0-4095" class="free"']),
+    ("markup", MARKUP, ["text &quot;&lt;\\&quot;&amp;&gt;a\\n&quot;</li>"]),
+    ("words in hexadecimal", frame([words(3 << 32, 0) + bytes.fromhex("0123456789abcdef090a0f109fa0f0ff")]), [
+        'title="word 0:1, data of object 0">0000000000000000</td>',
+        'title="word 0:2, data of object 0">0123456789abcdef</td>',
+        'title="word 0:3, data of object 0">090a0f109fa0f0ff</td>',
+    ]),
+    ("a zero in a text", text_message("\0a\x1f "), [", text &quot;\\u0000a\\u001f &quot;</li>"]),
+]
+# The heading of a file of this name: only the characters of markup have names.
+MARKED = [
+    ("", ""),
+    ("plain", "plain"),
+    ("\1a\x1f ", "\\u0001a\\u001f "),
+    ("\t\n\x0b\r", "\\t\\n\\u000b\\r"),
+    ('!"#', "!&quot;#"),
+    ("%&'", "%&amp;'"),
+    (";<=>?", ";&lt;=&gt;?"),
+    ("[\\]", "[\\]"),
+    ("~\x7f\x80", "~\\u007f\\u0080"),
+    ("\x9f\xa0\xbf\xc0", "\\u009f\xa0\xbf\xc0"),
+    ("<<a<bc<", "&lt;&lt;a&lt;bc&lt;"),
+    ('a<b>&"\n\x7f\\\u00e9', "a&lt;b&gt;&amp;&quot;\\n\\u007f\\\u00e9"),
+]
+# Where the pointers stand that lead from one object to the next, of which the first is at the root; the last
+# object is the root's own word. A row has four words. So the arrows, each in the colour of the object that it
+# leads to, run two cells ahead, to the next cell of the row, to the rows above and below, to a cell of a row
+# before their own, and across the whole row. A cell is 142 wide and 26 high, 30 and 14 apart, and the first one
+# begins at 104 and 48.
+STEPS = [0, 2, 3, 4, 9, 6, 5, 8, 1, 10, 0]
+# Straight to the next cell of the row, and else by four turns; those side by side lie apart by the number. The one
+# in the colour 3, by hand: its cell begins at 104 and 88, so it begins at 104 + 142 = 246 and 88 + 13 = 101. It
+# turns at 246 + 4 + 3 * 3 = 259, at 128 - 3 - 3 * 3 = 116, at 276 - 9 = 267 and at 128 + 13 = 141, and ends at
+# 276 - 2 = 274. The arrows are in the order of the words where they begin.
+ARROWS = """<svg class="arrows" width="792" height="168" aria-hidden="true">
+<path class="c0" d="M246 61H250V45H439V61H446m-5 -3l5 3l-5 3"/>
+<path class="c0" d="M418 61H431V125H439V141H446m-5 -3l5 3l-5 3"/>
+<path class="c1" d="M590 61H618m-5 -3l5 3l-5 3"/>
+<path class="c2" d="M762 61H772V79H95V101H102m-5 -3l5 3l-5 3"/>
+<path class="c3" d="M246 101H259V116H267V141H274m-5 -3l5 3l-5 3"/>
+<path class="c6" d="M418 101H425V119H95V141H102m-5 -3l5 3l-5 3"/>
+<path class="c5" d="M590 101H594V82H267V101H274m-5 -3l5 3l-5 3"/>
+<path class="c7" d="M246 141H256V36H267V61H274m-5 -3l5 3l-5 3"/>
+<path class="c4" d="M418 141H434V85H439V101H446m-5 -3l5 3l-5 3"/>
+<path class="c1" d="M590 141H606V42H95V61H102m-5 -3l5 3l-5 3"/>
+</svg>
+"""
+# The row of a pointer to the last word of a segment of 16, which is a link, and to the word after it, which is none.
+LINKS = [
+    (15, '<tr><th>4</th><td id="m0-1-0-4" class="pointer o7 c7" title="word 0:4, pointer of object 7, to object 8">'
+         '<a href="#m0-1-0-15">2900000028000000</a></td><td id="m0-1-0-5"'),
+    (16, '<tr><th>4</th><td id="m0-1-0-4" class="pointer o7 c7" title="word 0:4, pointer of object 7, to object 8">'
+         '2d00000028000000</td><td id="m0-1-0-5"'),
+]
+
+
+def chain(steps, last, size):
+    """A segment of so many words in which each of these pointers leads to the next, which is a struct of one; the last pointer
+    is given."""
+    held = size * [0]
+    for at, start in zip(steps, steps[1:]):
+        held[at] = struct_pointer(at, start, 0, 1)
+    held[steps[-1]] = last
+    return words(*held)
+
+
+def expect_section(what, text, section):
+    """Compares the section of a page that has one, and looks whether the page begins and ends as it has to."""
+    shown = run(["--html"], text).stdout.decode()
+    front, between, rest = shown.partition("<section ")
+    found = between + rest.removesuffix(END)
+    wrongs = [] if found == section else [f"{found}\nwanted:\n{section}"]
+    if not front.startswith(FRONT) or not rest.endswith(END):
+        wrongs.append(f"its front or its end: {shown[:100]} .. {shown[-40:]}")
+    count(f"drawn: {what}", wrongs)
+
+
+def expect_heading(name, heading):
+    """Looks at the heading of a file, which need not be there."""
+    shown = run(["--html", name]).stdout.decode()
+    wanted = f"<h1>{heading}</h1>\n{END}"
+    count(f"drawn: the heading {heading}", [] if shown.endswith(wanted) else [f"{shown[-100:]}\nwanted:\n{wanted}"])
+
+
+def try_drawn():
+    expect_section("far pointers", FAR, FAR_SECTION)
+    expect_section("4097 words", zeros(4097), LARGE_SECTION)
+    for what, text, parts in PARTS:
+        expect_parts(what, ["--html"], text, parts)
+    for name, heading in MARKED:
+        expect_heading(name, heading)
+    arrows = chain(STEPS[:-1], struct_pointer(STEPS[-2], STEPS[-1], 1, 0), 11)
+    expect_parts("arrows", ["--html"], frame([arrows]), [ARROWS])
+    for start, row in LINKS:
+        links = chain([0, 5, 6, 7, 8, 9, 10, 11, 4], list_pointer(4, start, 0, 5), 16)
+        expect_parts(f"a link to the word {start}", ["--html"], HELLO + frame([links]), [row])
