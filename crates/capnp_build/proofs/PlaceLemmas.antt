@@ -81,12 +81,13 @@ placed_near old new words room at_end count size = record { near = λ _. (at_end
 
 -- what finds no room found none once the root was cleared
 pub found_no_room : {A S : Type 0} (alloc : Ghosts A S) (measured : ℕ → Type 0) (R E : ErrorKind → Type 0) (old new : Built A) (r : Result (Unit {0}) Error) → OnErr r (IsCleared alloc old new)
-    → IfErr r (λ error. R error.kind ⊎ E error.kind ⊎ FindsNoRoom measured new.spaces error.kind) → IfErr r (λ error. R error.kind ⊎ E error.kind ⊎ FoundNoRoom alloc measured old error.kind)
+    → IfErr r (λ error. R error.kind ⊎ ((new.spaces ≡ []) × E error.kind) ⊎ FindsNoRoom alloc measured old new.spaces error.kind)
+    → IfErr r (λ error. R error.kind ⊎ E error.kind ⊎ FoundNoRoom alloc measured old error.kind)
 found_no_room alloc measured R E old new (Ok done) nulled kind = tt
 found_no_room alloc measured R E old new (Err error) nulled kind = elim kind [
   | inl refuses ↦ inl refuses
   | inr rest ↦ elim rest [
-    | inl first ↦ inr (inl first)
+    | inl first ↦ inr (inl first.1)
     | inr no_room ↦ inr (inr (record { cleared = new; is_cleared = nulled; no_room = no_room }))
   ]
 ]

@@ -1,5 +1,6 @@
 //! What hands out segments and takes them back.
 ghost use Rattle.std.specs.Prelude.{◌≡◌, ℕ, ◌+◌, ◌*◌, ◌/◌, ◌^◌, ◌<◌, ◌≤◌, ◌⊎◌, List, length};
+ghost use Rattle.capnp_frame.specs.declared.error.ErrorKind.{ErrorKind};
 ghost use Rattle.capnp_frame.specs.Source.{IsPreorder};
 ghost use Rattle.capnp_build.specs.Bytes.{ZeroFrom};
 ghost use Rattle.capnp_build.specs.Out.{Out, IsOut};
@@ -13,9 +14,10 @@ use capnp_frame::Result;
 /// For implementers: `out` says which segments may be out, each by its length in bytes and whether
 /// it is caller-provided; `same` what each call keeps, as the region that an allocator lends;
 /// `grants` which requests have to be granted, where an allocator can say that: memory is never sure
-/// to be there; `returns` what a return does, by the segment and its used words. Where nothing
-/// depends on these it says nothing, and code over any allocator still shows it by returns of just
-/// these words alone.
+/// to be there; `refuses` how a request may be refused; `returns` what a return does, by the segment
+/// and its used words. Where nothing depends on these two they say nothing, and code over any
+/// allocator still shows them alone by a request of just these words that it refused, and by returns
+/// of just these words.
 pub trait Allocator: Drop {
     /// The bytes of what it hands out.
     type Segment: SegmentSpace;
@@ -29,6 +31,9 @@ pub trait Allocator: Drop {
     /// A request of a given number of words has to be granted, by a segment of a given number of words.
     ghost grants: { Self → ℕ → ℕ → Type 0 };
 
+    /// A request of a given number of words may be refused so.
+    ghost refuses: { Self → ℕ → ErrorKind → Type 0 };
+
     /// A return of a segment, of which a given number of words were used, leads from the one to the
     /// other.
     ghost returns: { Self → Out → ℕ → Self → Type 0 };
@@ -37,7 +42,7 @@ pub trait Allocator: Drop {
     /// fails with `OutOfMemory`, `AllocationTooLarge` with the words asked, or `SegmentTaken` alone,
     /// by the last only while a segment is out that is large enough.
     fn allocate_segment(&mut self, minimum_size: u32) -> Result<Self::Segment>
-        ensures { HandsOut out same grants Self.Segment.content Self.Segment.is_provided
+        ensures { HandsOut out same grants refuses Self.Segment.content Self.Segment.is_provided
             minimum_size self.old self.new result };
 
     /// Takes a segment back, of which the first words were used. What lies past these is zero.
@@ -68,6 +73,8 @@ impl<A: Allocator> Allocator for &mut A {
     ghost same = { λ old new. (new.ghost_name ≡ old.ghost_name) × A.same old.now new.now };
 
     ghost grants = { λ allocator asked words. A.grants allocator.now asked words };
+
+    ghost refuses = { λ allocator asked kind. A.refuses allocator.now asked kind };
 
     ghost returns = { λ old segment words new. (new.ghost_name ≡ old.ghost_name) × A.returns old.now segment words new.now };
 
