@@ -15,7 +15,7 @@ use Rattle.capnp_build.specs.RootViews.{InitsView}
 use Rattle.capnp_build.proofs.NullLemmas.{null_root}
 use Rattle.capnp_build.proofs.PlaceLemmas.{still_cleared, found_no_room}
 use Rattle.capnp_build.proofs.FirstLemmas.{first_put}
-use Rattle.capnp_build.proofs.KeptLemmas.{zero_stays}
+use Rattle.capnp_build.proofs.KeptLemmas.{zero_stays, outside_stays}
 use Rattle.capnp_build.proofs.OutcomeLemmas.{cleared_root, room_first, finds_no_room, home_alone, still_granted}
 
 -- a new object's block is placed once the root is cleared
@@ -32,6 +32,7 @@ inits_root alloc schema n form old cleared new (Ok done) keeps clear inits told 
         block = inr (told.0, (form, inits, told.1), told.2.placed, λ empty. first_put cleared new told.0 (clear.new_object empty) told.2.placed (told.2.sizes 0 clear.there));
         granted = still_granted alloc old cleared new.spaces clear (told.2.sizes 0 clear.there);
         zero = zero_stays old.location cleared.spaces new.spaces clear.following clear.zero told.2.bytes;
+        outside = outside_stays old.location old.spaces cleared.spaces new.spaces clear.outside told.2.bytes;
       };
       nulled = tt;
       kind = tt;
@@ -64,7 +65,7 @@ inits_null alloc schema n old new clear inits =
     record {
       inits = (null, t.0, inits, t.1);
       there = clear.there;
-      placed = record { cleared = new; is_cleared = cleared_root alloc old new clear; block = inl refl; granted = still_granted alloc old new new.spaces clear refl; zero = clear.zero };
+      placed = record { cleared = new; is_cleared = cleared_root alloc old new clear; block = inl refl; granted = still_granted alloc old new new.spaces clear refl; zero = clear.zero; outside = clear.outside };
       nulled = tt;
       kind = tt;
       none = λ gone. tt;

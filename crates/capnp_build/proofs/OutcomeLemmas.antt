@@ -19,7 +19,7 @@ use Rattle.capnp_build.specs.RootKind.{ShowsRoot, HoldsForm}
 use Rattle.capnp_build.proofs.NullLemmas.{null_root}
 use Rattle.capnp_build.proofs.PlaceLemmas.{still_cleared}
 use Rattle.capnp_build.proofs.FirstLemmas.{first_put, no_large}
-use Rattle.capnp_build.proofs.KeptLemmas.{zero_stays}
+use Rattle.capnp_build.proofs.KeptLemmas.{zero_stays, outside_stays}
 
 pub cleared_root : {A S : Type 0} (alloc : allocator.Ghosts A S) (old last : Built A) {done : Unit {0}} → ClearsRoot alloc old last (Ok done) → IsCleared alloc old last
 cleared_root alloc old last told = record {
@@ -28,6 +28,7 @@ cleared_root alloc old last told = record {
   zero = told.zero;
   size = omega (arith, told.size);
   rooms = told.rooms;
+  outside = told.outside;
   new_object = λ empty. inr (told.new_object empty);
   same_allocator = told.same;
   others = told.others;
@@ -104,6 +105,7 @@ is_put alloc stands measured old cleared new words clear has told = record {
   first = λ empty. first_put cleared new words (clear.new_object empty) told.placed (told.sizes 0 clear.there);
   granted = still_granted alloc old cleared new.spaces clear (told.sizes 0 clear.there);
   zero = zero_stays old.location cleared.spaces new.spaces clear.following clear.zero told.bytes;
+  outside = outside_stays old.location old.spaces cleared.spaces new.spaces clear.outside told.bytes;
 }
 
 -- want of room once the root is cleared

@@ -7,7 +7,7 @@ use Rattle.capnp_frame.specs.declared.error.ErrorKind.{ErrorKind}
 use Rattle.capnp_build.specs.Bytes.{Space}
 use Rattle.capnp_build.specs.Held.{space_at, free_words_of, KeepsOthers}
 use Rattle.capnp_build.specs.declared.allocator.Allocator.{Ghosts}
-use Rattle.capnp_build.specs.Built.{Built, size_in_words, HasNullRoot, held_of}
+use Rattle.capnp_build.specs.Built.{Built, size_in_words, HasNullRoot, KeepsOutside, held_of}
 use Rattle.capnp_build.specs.Placed.{IsAdded, IsAtEnd, IsPlaced, IsZeroAt, IsCleared, FindsNoRoom, FoundNoRoom, KeepsRooms, HasRootAlone}
 use Rattle.capnp_frame.specs.Source.{IsPreorder}
 use Rattle.capnp_build.proofs.SpaceLemmas.{size_added, past_all, added_there}
@@ -69,6 +69,7 @@ still_cleared alloc old cleared last (Err error) keeps c null kept alike others 
   zero = subst (λ (l : List Space). MatchOption old.location ⊤ (IsZeroAt l)) (sym kept) c.zero;
   size = subst (λ (l : List Space). size_in_words l ≤ max 1 (size_in_words old.spaces)) (sym kept) c.size;
   rooms = subst (λ (l : List Space). KeepsRooms old.spaces l) (sym kept) c.rooms;
+  outside = subst (λ (l : List Space). KeepsOutside old.location old.spaces l) (sym kept) c.outside;
   new_object = λ none. subst (λ (l : List Space). (l ≡ []) ⊎ HasRootAlone l) (sym kept) (c.new_object none);
   same_allocator = keeps.transitive old.allocator cleared.allocator last.allocator c.same_allocator alike;
   others = λ rest is. others rest (c.others rest is);

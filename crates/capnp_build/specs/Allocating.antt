@@ -18,8 +18,8 @@ pub record HandsOut {A S : Type 0} (out : A → List Out → Type 0) (keeps : A 
   -- where it has to be granted, it is, by a segment of a given number of words
   pub granted : (words : ℕ) → grants old asked words → IsOkAnd result (λ s. length (content s) / 8 ≡ words)
   pub refusal : IfErr result (λ error. MayRefuse asked error.kind)
-  -- which is the allocator's own answer to this request
-  pub answer : IfErr result (λ error. refuses old asked error.kind)
+  -- as the allocator says of this request
+  pub said : IfErr result (λ error. refuses old asked error.kind)
   -- by SegmentTaken only while a segment that is large enough is out
   pub taken : IfErr result (λ error. error.kind ≡ SegmentTaken → (list : List Out) → out old list → HasLarge asked list)
   -- after a failure no more segments are out

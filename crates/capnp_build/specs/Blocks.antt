@@ -9,7 +9,7 @@ use Rattle.capnp_build.specs.declared.arena.location.RootLocation.{RootLocation}
 use Rattle.capnp_build.specs.Bytes.{Space}
 use Rattle.capnp_build.specs.Out.{Out, HasLarge}
 use Rattle.capnp_build.specs.Held.{Held, space_at, pairs, KeepsOthers}
-use Rattle.capnp_build.specs.Built.{Built, held_of, message, size_in_words, HasNullRoot, IsSet, HasBody, IsLaid, IsRewritten, KeepsBytes}
+use Rattle.capnp_build.specs.Built.{Built, held_of, message, size_in_words, HasNullRoot, IsSet, HasBody, IsLaid, IsRewritten, KeepsBytes, KeepsOutside}
 use Rattle.capnp_build.specs.Placed.{IsAtEnd, IsPlaced, HasNoRoom, LacksSegment, IsZeroAt, KeepsRooms}
 
 -- a new object stands at the root
@@ -62,6 +62,7 @@ pub record WipesRoot {A S : Type 0} (alloc : Ghosts A S) (location : Option Root
   pub count : length new.spaces ≡ length old.spaces
   pub size : size_in_words new.spaces ≡ max 1 (size_in_words old.spaces)
   pub rooms : KeepsRooms old.spaces new.spaces
+  pub outside : KeepsOutside location old.spaces new.spaces
   pub allocator : new.allocator ≡ old.allocator
   -- what else the allocator has out stays out
   pub others : KeepsOthers alloc.out old new

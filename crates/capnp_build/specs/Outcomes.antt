@@ -13,7 +13,7 @@ use Rattle.capnp_build.specs.declared.allocator.Allocator as allocator
 use Rattle.capnp_build.specs.declared.owned_builder.OwnedBuilder as owned_builder
 use Rattle.capnp_build.specs.Bytes.{Space}
 use Rattle.capnp_build.specs.Held.{space_at, free_words_of, Held, KeepsOthers, BringsHome, ReturnsEach}
-use Rattle.capnp_build.specs.Built.{Built, held_of, message, size_in_words, HasNullRoot, ForRoot, IsSet, IsWhole}
+use Rattle.capnp_build.specs.Built.{Built, held_of, message, size_in_words, HasNullRoot, ForRoot, IsSet, IsWhole, KeepsOutside}
 use Rattle.capnp_build.specs.Placed.{Refuses, DeclinesRoot, IsPut, IsInit}
 use Rattle.capnp_build.specs.Placed.{InitWords, FindsNoRoom, IsCleared, IsZeroAt, KeepsRooms, HasRootAlone, IsLookedAt}
 
@@ -131,6 +131,8 @@ pub record ClearsRoot {A S : Type 0} (alloc : allocator.Ghosts A S) (old new : B
   pub null_word : HasNullRoot new.spaces
   pub zero : MatchOption old.location ⊤ (IsZeroAt new.spaces)
   pub following : MatchOption old.location ⊤ (λ location. 0 < location.start)
+  -- no other used word changes
+  pub outside : KeepsOutside old.location old.spaces new.spaces
   pub there : OnOk result (0 < length new.spaces)
   pub none : OnErr result (new.spaces ≡ [])
   -- it fails as the allocator fails to hand out the first segment

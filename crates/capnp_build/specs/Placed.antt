@@ -10,7 +10,7 @@ use Rattle.capnp_build.specs.Out.{MayRefuse}
 use Rattle.capnp_build.specs.Held.{Held, space_at, free_words_of, KeepsOthers}
 use Rattle.capnp_build.specs.declared.allocator.Allocator.{Ghosts}
 use Rattle.capnp_build.specs.declared.arena.location.RootLocation.{RootLocation}
-use Rattle.capnp_build.specs.Built.{size_in_words, HasNullRoot, Built, held_of, ForRoot}
+use Rattle.capnp_build.specs.Built.{size_in_words, HasNullRoot, Built, held_of, ForRoot, KeepsOutside}
 
 -- no segment has room for a block of a given number of words, nor one after the first for it and its landing pad
 pub record HasNoRoom (spaces : List Space) (words : ℕ) : Type 0 where
@@ -87,6 +87,8 @@ pub record IsCleared {A S : Type 0} (alloc : Ghosts A S) (old last : Built A) : 
   pub zero : MatchOption old.location ⊤ (IsZeroAt last.spaces)
   pub size : size_in_words last.spaces ≤ max 1 (size_in_words old.spaces)
   pub rooms : KeepsRooms old.spaces last.spaces
+  -- no other used word changes
+  pub outside : KeepsOutside old.location old.spaces last.spaces
   -- where there was no segment, there is none yet, or one with the root's word alone
   pub new_object : old.spaces ≡ [] → (last.spaces ≡ []) ⊎ HasRootAlone last.spaces
   pub same_allocator : alloc.same old.allocator last.allocator
@@ -124,8 +126,9 @@ pub record IsPut {A S : Type 0} (alloc : Ghosts A S) (measured : ℕ → Type 0)
   pub placed : IsPlaced cleared.spaces new words
   pub first : old.spaces ≡ [] → IsFirst new words
   pub granted : IsGranted alloc old new.spaces
-  -- the old block stays zero
+  -- the old block stays zero, and no other used word changes but the root's
   pub zero : MatchOption old.location ⊤ (IsZeroAt new.spaces)
+  pub outside : KeepsOutside old.location old.spaces new.spaces
 
 -- a new object of such words is placed once the old root is cleared, or the root is the null that this leaves
 pub record IsInit {A S : Type 0} (alloc : Ghosts A S) (measured : ℕ → Type 0) (old new : Built A) : Type 0 where
@@ -133,8 +136,9 @@ pub record IsInit {A S : Type 0} (alloc : Ghosts A S) (measured : ℕ → Type 0
   pub is_cleared : IsCleared alloc old cleared
   pub block : (new ≡ cleared) ⊎ ((words : ℕ) × measured words × IsPlaced cleared.spaces new words × (old.spaces ≡ [] → IsFirst new words))
   pub granted : IsGranted alloc old new.spaces
-  -- the old block stays zero
+  -- the old block stays zero, and no other used word changes but the root's
   pub zero : MatchOption old.location ⊤ (IsZeroAt new.spaces)
+  pub outside : KeepsOutside old.location old.spaces new.spaces
 
 -- want of room: once the old root is cleared, no segment has room for a block of such words, nor is a further one had
 pub record FoundNoRoom {A S : Type 0} (alloc : Ghosts A S) (measured : ℕ → Type 0) (old : Built A) (kind : ErrorKind) : Type 0 where

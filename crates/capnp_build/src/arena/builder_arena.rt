@@ -1,7 +1,7 @@
 //! The arena that a message is built in.
 ghost use Rattle.std.specs.Prelude.{⊤, MatchOption, ◌≡◌, ℕ, ◌+◌, ◌-◌, ◌*◌, ◌/◌, ◌<◌, ◌≤◌, [], ◌∷◌, length, map, max, slice_index_or, take, drop, Some, None, IfErr, IsOk, OnOk, OnErr};
 ghost use Rattle.capnp_build.specs.Held.{used_of, space_at};
-ghost use Rattle.capnp_build.specs.Built.{held_of, ForRoot, IsRootKind, size_in_words, message, HasNullRoot, Built};
+ghost use Rattle.capnp_build.specs.Built.{held_of, ForRoot, IsRootKind, size_in_words, message, HasNullRoot, KeepsOutside, Built};
 ghost use Rattle.capnp_build.specs.Placed.{HasRootAlone, IsZeroAt, KeepsRooms};
 ghost use Rattle.capnp_build.specs.RootKind.{ShowsRoot, HoldsForm};
 ghost use Rattle.capnp_build.specs.Output.{CanBeWritten};
@@ -64,6 +64,7 @@ impl<A: Allocator> BuilderArena<A> {
         ensures null_word { HasNullRoot self.new.spaces }
         ensures zero { MatchOption self.old.location ⊤ (IsZeroAt self.new.spaces) }
         ensures following { MatchOption self.old.location ⊤ (λ location. 0 < location.start) }
+        ensures outside { KeepsOutside self.old.location self.old.spaces self.new.spaces }
         ensures there { OnOk result (0 < length self.new.spaces) }
         ensures none { OnErr result (self.new.spaces ≡ []) }
         ensures kind { IfErr result (λ error. LacksFirst A.Allocator self.old error.kind) }

@@ -7,7 +7,7 @@ use capnp_message::builder::Builder;
 use capnp_message::heap_allocator::{AllocationStrategy, HeapAllocator};
 use std::alloc::Global;
 
-/// A heap that grants so many requests, counts them all, and notes the words of the last one.
+/// A heap that grants a given number of requests, counts them all, and notes the words of the last one.
 #[derive(Drop)]
 struct Asked {
     heap: HeapAllocator,
