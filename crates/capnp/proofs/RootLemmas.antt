@@ -1,8 +1,9 @@
 -- A message that was written and is read back.
-use Rattle.std.proofs.Common.{◌≡◌, ◌⊎◌, inl, inr, ℕ, ◌+◌, ◌-◌, ◌^◌, ◌<◌, ◌≤◌, Option, Some, None, Result, Ok, Err, IfOk, IfErr, List, [], ◌∷◌, ◌++◌, length, map, min, refl, sym, ap, ◌∙◌, subst, arith}
+use Rattle.std.proofs.Common.{◌≡◌, ◌⊎◌, inl, inr, false, ℕ, ◌+◌, ◌-◌, ◌^◌, ◌<◌, ◌≤◌, Option, Some, None, Result, Ok, Err, IfOk, IfErr, List, [], ◌∷◌, ◌++◌, length, map, min, refl, sym, ap, ◌∙◌, subst, arith}
 use Rattle.std.proofs.lemmas.List.{append-nil, length-map}
 use Rattle.capnp_frame.specs.declared.serialize.segment_table.Padding.{Padding}
 use Rattle.capnp_frame.specs.declared.error.Error.{Error}
+use Rattle.capnp_frame.specs.declared.error.ErrorKind.{ErrorKind}
 use Rattle.capnp_frame.specs.declared.error.ErrorKind.TheVariants.{DeviceFailed, OutOfMemory, MessageTooLarge}
 use Rattle.capnp_frame.specs.declared.message.options.ReaderOptions.{ReaderOptions}
 use Rattle.capnp_frame.specs.Limits.{KeepsLimit, AreWithin}
@@ -16,16 +17,19 @@ use Rattle.capnp_frame.proofs.AgreementLemmas.{limit_cases}
 use Rattle.capnp_frame.proofs.LimitLemmas.{past_limit}
 use Rattle.capnp_wire.specs.Tree.{Trees}
 use Rattle.capnp_wire.specs.Reached.{At, at, root}
+use Rattle.capnp_wire.specs.Values.{HasWords}
 use Rattle.capnp_wire.proofs.layouts.LaidOutLemmas.{word_stands}
 use Rattle.capnp_build.specs.Bytes.{Space}
-use Rattle.capnp_build.specs.Built.{message}
+use Rattle.capnp_build.specs.declared.allocator.Allocator as allocator
+use Rattle.capnp_build.specs.Built.{Built, message, IsSet}
+use Rattle.capnp_build.specs.Placed.{IsPut}
 use Rattle.capnp_build.specs.Held.{used_of}
 use Rattle.capnp_build.proofs.NullLemmas.{root_stands}
 use Rattle.capnp.specs.declared.streams.Format.{Format}
 use Rattle.capnp.specs.Headline.{IsFault, ReturnsTexts, OrFailsAtEnd}
-use Rattle.capnp.specs.Roots.{HasRootTree, HasRootOf, RefusesSize, ReadsWritten}
+use Rattle.capnp.specs.Roots.{HasRootTree, HasRootOf, RefusesSize, ReadsWritten, StaysUnset, StaysUnread}
 use Rattle.capnp.specs.Streams.{grammar_of, rules_of, StandsNext}
-use Rattle.capnp.specs.Written.{IsTextOf}
+use Rattle.capnp.specs.Written.{IsTextOf, output_of}
 use Rattle.capnp.proofs.AppendedLemmas.{text_is, memory_only}
 use Rattle.capnp.proofs.FormatLemmas.{or_fails_failed}
 use Rattle.capnp.proofs.RunLemmas.{format_lawful, format_requested, format_parts}
@@ -150,3 +154,10 @@ pub tree_again : {X : Type 0} (has_tree : Trees → Type 0) (segments : X → Li
     → IfOk r (λ x. segments x ≡ m) → IfOk r (λ x. HasRootOf has_tree (segments x))
 tree_again has_tree segments (Err e) m stands back = tt
 tree_again has_tree segments (Ok x) m stands back = subst (HasRootOf has_tree) (sym back) stands
+
+-- a message whose root is set, and that is not read back
+pub unread : {A S X : Type 0} (alloc : allocator.Ghosts A S) (has_tree : Trees → Type 0) (refuses : ErrorKind → Type 0) (limit : Option ℕ) (old new : Built A) (r : Result X Error) → IsSet has_tree false new.spaces
+    → IsPut alloc (HasWords has_tree false) old new → IfErr r (λ error. RefusesMany (output_of new) error.kind ⊎ RefusesSize (output_of new) limit error.kind ⊎ (error.kind ≡ OutOfMemory))
+    → IfErr r (λ error. StaysUnset alloc has_tree refuses old new error.kind ⊎ StaysUnread alloc has_tree limit old new error.kind)
+unread alloc has_tree refuses limit old new (Ok x) set placed refused = tt
+unread alloc has_tree refuses limit old new (Err error) set placed refused = inr (record { set = set; placed = placed; refused = refused })

@@ -1,5 +1,5 @@
 -- The root of a message that was set and is read back (src/roots.rt).
-use Rattle.std.specs.Prelude.{◌≡◌, ◌⊎◌, ℕ, List, [], ◌∷◌, Option, Result, IfOk, OnOk, IfErr}
+use Rattle.std.specs.Prelude.{◌≡◌, ◌⊎◌, ℕ, false, List, [], ◌∷◌, Option, Result, IfOk, OnOk, IfErr}
 use Rattle.capnp_frame.specs.declared.error.Error.{Error}
 use Rattle.capnp_frame.specs.declared.error.ErrorKind.{ErrorKind}
 use Rattle.capnp_frame.specs.declared.error.ErrorKind.TheVariants.{OutOfMemory, MessageTooLarge}
@@ -11,6 +11,12 @@ use Rattle.capnp_frame.specs.Writing.{HasFew, RefusesMany}
 use Rattle.capnp_wire.specs.Tree.{Trees}
 use Rattle.capnp_wire.specs.Object.{message_of}
 use Rattle.capnp_wire.specs.Reached.{At, root}
+use Rattle.capnp_wire.specs.Values.{HasWords, LacksWords}
+use Rattle.capnp_build.specs.declared.allocator.Allocator.{Ghosts}
+use Rattle.capnp_build.specs.Built.{Built, IsSet}
+use Rattle.capnp_build.specs.Placed.{FindsNoRoom, IsCleared, IsPut}
+use Rattle.capnp_build.specs.Outcomes.{StopsFirst}
+use Rattle.capnp.specs.Written.{output_of}
 
 -- these trees stand at the root
 abbrev pub HasRootTree : List (List ℕ) → Trees → Type 0
@@ -37,3 +43,16 @@ pub record ReadsWritten {X : Type 0} (message : List (List ℕ)) (options : Read
   -- it fails for too many segments, for too many words, or for want of memory
   pub refused : IfErr result (λ error. RefusesMany message error.kind
       ⊎ RefusesSize message options.traversal_limit_in_words error.kind ⊎ (error.kind ≡ OutOfMemory))
+
+-- Why a value is not set, and what that leaves: a null root.
+pub record StaysUnset {A S : Type 0} (alloc : Ghosts A S) (has_tree : Trees → Type 0) (refuses : ErrorKind → Type 0) (old new : Built A) (kind : ErrorKind) : Type 0 where
+  pub cleared : IsCleared alloc old new
+  -- it is as `set_root` fails
+  pub refused : LacksWords has_tree refuses false kind ⊎ StopsFirst alloc old new.spaces kind ⊎ FindsNoRoom alloc (HasWords has_tree false) old new.spaces kind
+
+-- Why a message whose root is set is not read back, and what that leaves: the value at the root.
+pub record StaysUnread {A S : Type 0} (alloc : Ghosts A S) (has_tree : Trees → Type 0) (limit : Option ℕ) (old new : Built A) (kind : ErrorKind) : Type 0 where
+  pub set : IsSet has_tree false new.spaces
+  pub placed : IsPut alloc (HasWords has_tree false) old new
+  -- it is for too many segments, for too many words, or for want of memory
+  pub refused : RefusesMany (output_of new) kind ⊎ RefusesSize (output_of new) limit kind ⊎ (kind ≡ OutOfMemory)

@@ -1,14 +1,14 @@
 //! Roots that are set, written, and read back.
 ghost use Rattle.std.specs.Prelude.{◌≡◌, ◌<◌, ◌⊎◌, false, length, IfOk, OnOk, IfErr};
-ghost use Rattle.capnp_frame.specs.declared.error.ErrorKind.{ErrorKind};
 ghost use Rattle.capnp_frame.specs.Limits.{KeepsLimit};
 ghost use Rattle.capnp_frame.specs.Message.{lengths};
-ghost use Rattle.capnp_frame.specs.Writing.{HasFew, RefusesMany};
-ghost use Rattle.capnp_wire.specs.Values.{HasWords, LacksWords};
-ghost use Rattle.capnp_build.specs.Placed.{FindsNoRoom};
-ghost use Rattle.capnp_build.specs.Out.{MayRefuse};
+ghost use Rattle.capnp_frame.specs.Writing.{HasFew};
+ghost use Rattle.capnp_wire.specs.Values.{HasWords};
+ghost use Rattle.capnp_build.specs.Held.{KeepsOthers};
+ghost use Rattle.capnp_build.specs.Built.{held_of};
+ghost use Rattle.capnp_build.specs.Placed.{IsPut};
 ghost use Rattle.capnp.specs.Written.{output_of};
-ghost use Rattle.capnp.specs.Roots.{HasRootOf, RefusesSize, ReadsWritten};
+ghost use Rattle.capnp.specs.Roots.{HasRootOf, ReadsWritten, StaysUnset, StaysUnread};
 
 use crate::appended::{read_message, write_message};
 use crate::streams::Format;
@@ -23,8 +23,9 @@ use std::alloc::Global;
 /// Sets the root of a message to a value, writes the message to a vector and reads it from there:
 /// the root of what is read is the value's tree.
 ///
-/// Fails as `Builder::set_root` does, with `InvalidNumberOfSegments` for more than 511 segments,
-/// with `MessageTooLarge` past the limit of words, and with `OutOfMemory`.
+/// Fails as `Builder::set_root` does, and then the root is null; or with `InvalidNumberOfSegments`
+/// for more than 511 segments, with `MessageTooLarge` past the limit of words, and with
+/// `OutOfMemory`, and then the value is the root.
 pub fn set_and_read_back<T, V: SetterInput<T> + Drop, A: Allocator>(
     alloc: Global,
     format: Format,
@@ -37,12 +38,14 @@ pub fn set_and_read_back<T, V: SetterInput<T> + Drop, A: Allocator>(
     ensures options { IfOk result (λ reader. reader.options ≡ options) }
     ensures few { OnOk result (HasFew (output_of message.new)) }
     ensures size { OnOk result (KeepsLimit (lengths (output_of message.new)) options.traversal_limit_in_words) }
-    ensures refused { IfErr result (λ error. RefusesMany (output_of message.new) error.kind
-        ⊎ RefusesSize (output_of message.new) options.traversal_limit_in_words error.kind
-        ⊎ (error.kind ≡ ErrorKind.OutOfMemory)
-        ⊎ LacksWords (V.has_tree value) (V.refuses value) false error.kind
-        ⊎ ((length message.old.spaces ≡ 0) × MayRefuse 1 error.kind)
-        ⊎ FindsNoRoom (HasWords (V.has_tree value) false) message.new.spaces error.kind) }
+    ensures placed { OnOk result
+        (IsPut A.Allocator (HasWords (V.has_tree value) false) message.old message.new) }
+    // Nothing else is written, and the root is null or the value.
+    ensures refused { IfErr result (λ error.
+        StaysUnset A.Allocator (V.has_tree value) (V.refuses value) message.old message.new error.kind
+        ⊎ StaysUnread A.Allocator (V.has_tree value) options.traversal_limit_in_words
+        message.old message.new error.kind) }
+    ensures others { KeepsOthers A.out (held_of message.old) (held_of message.new) }
 {
     message.set_root::<T, V>(value)?;
     write_and_read_back(alloc, format, message, options)

@@ -7,14 +7,16 @@ use Rattle.capnp_build.specs.declared.owned_builder.OwnedBuilder as owned_builde
 use Rattle.capnp_build.specs.Bytes.{Space}
 use Rattle.capnp_frame.specs.Source.{IsPreorder}
 use Rattle.capnp_build.specs.Built.{Built}
-use Rattle.capnp_build.specs.Placed.{HasNoRoom, NewWords}
+use Rattle.capnp_build.specs.Placed.{NewWords, InitWords}
 use Rattle.capnp_build.specs.Blocks.{IsNew, PutsBlock}
-use Rattle.capnp_build.specs.Outcomes.{InitsRoot, ClearsRoot}
+use Rattle.std.specs.Borrow.{MutBor}
+use Rattle.capnp_build.specs.Outcomes.{InitsRoot, ClearsRoot, LacksFirst}
+use Rattle.capnp_build.specs.RootViews.{InitsView}
 use Rattle.capnp_build.proofs.NullLemmas.{null_root}
-use Rattle.capnp_build.proofs.PlaceLemmas.{still_cleared}
+use Rattle.capnp_build.proofs.PlaceLemmas.{still_cleared, found_no_room}
 use Rattle.capnp_build.proofs.FirstLemmas.{first_put}
-use Rattle.capnp_build.proofs.KeptLemmas.{zero_stays}
-use Rattle.capnp_build.proofs.OutcomeLemmas.{cleared_root, home_alone, still_granted}
+use Rattle.capnp_build.proofs.KeptLemmas.{zero_stays, outside_stays}
+use Rattle.capnp_build.proofs.OutcomeLemmas.{cleared_root, room_first, finds_no_room, home_alone, still_granted}
 
 -- a new object's block is placed once the root is cleared
 pub inits_root : {A S K : Type 0} (alloc : allocator.Ghosts A S) (schema : owned_builder.Ghosts K) (n : ℕ) (form : Form) (old cleared new : Built A)
@@ -30,10 +32,12 @@ inits_root alloc schema n form old cleared new (Ok done) keeps clear inits told 
         block = inr (told.0, (form, inits, told.1), told.2.placed, λ empty. first_put cleared new told.0 (clear.new_object empty) told.2.placed (told.2.sizes 0 clear.there));
         granted = still_granted alloc old cleared new.spaces clear (told.2.sizes 0 clear.there);
         zero = zero_stays old.location cleared.spaces new.spaces clear.following clear.zero told.2.bytes;
+        outside = outside_stays old.location old.spaces cleared.spaces new.spaces clear.outside told.2.bytes;
       };
       nulled = tt;
       kind = tt;
       none = λ gone. tt;
+      fits = λ words has most room. tt;
       home = λ empty out. tt;
       same = keeps.transitive _ _ _ clear.same told.2.same;
       others = λ others is. told.2.others others (clear.others others is);
@@ -43,8 +47,11 @@ inits_root alloc schema n form old cleared new (Err error) keeps clear inits tol
   there = tt;
   placed = tt;
   nulled = still_cleared alloc old cleared new (Err error) keeps (cleared_root alloc old cleared clear) told.2.refused told.2.kept told.2.same told.2.others;
-  kind = inr (inr (told.0, (form, inits, told.1), subst (λ (l : List Space). HasNoRoom l told.0) (sym told.2.kept) told.2.kind.0, told.2.kind.1));
+  kind = inr (inr (finds_no_room alloc (InitWords schema.inits n) old cleared new told.0 clear (form, inits, told.1) told.2.kept told.2.kind));
   none = λ gone. let l : length cleared.spaces ≡ 0 = ap length (sym told.2.kept ∙ gone) in absurd (omega (arith, l, clear.there));
+  fits = λ words has most room.
+      let fit = room_first alloc old cleared words clear has.2.few room in
+      let full = told.2.kind.0.first in absurd (omega (arith, fit, full, most told.0 (form, inits, told.1)));
   home = λ empty out taken. absurd (home_alone alloc old cleared told.0 clear told.1.few told.2.kind.0 (told.2.taken taken) empty out);
   same = keeps.transitive _ _ _ clear.same told.2.same;
   others = λ others is. told.2.others others (clear.others others is);
@@ -58,11 +65,27 @@ inits_null alloc schema n old new clear inits =
     record {
       inits = (null, t.0, inits, t.1);
       there = clear.there;
-      placed = record { cleared = new; is_cleared = cleared_root alloc old new clear; block = inl refl; granted = still_granted alloc old new new.spaces clear refl; zero = clear.zero };
+      placed = record { cleared = new; is_cleared = cleared_root alloc old new clear; block = inl refl; granted = still_granted alloc old new new.spaces clear refl; zero = clear.zero; outside = clear.outside };
       nulled = tt;
       kind = tt;
       none = λ gone. tt;
+      fits = λ words has most room. tt;
       home = λ empty out. tt;
       same = clear.same;
       others = clear.others;
     }
+
+-- a view of a new object is refused as the object is
+pub init_refused : {A S K M V : Type 0} (alloc : allocator.Ghosts A S) (schema : owned_builder.Ghosts K) (n : ℕ) (built : M → Built A) (message : V → MutBor M) (old : MutBor M) (new : Built A)
+    (error : Error) → InitsRoot alloc schema n (built old.now) new (Err error) → InitsView alloc schema n built message old (Err error)
+init_refused alloc schema n built message old new error told = record {
+  same = tt;
+  inits = tt;
+  there = tt;
+  placed = tt;
+  kind = found_no_room alloc (InitWords schema.inits n) (schema.refuses n) (LacksFirst alloc (built old.now)) (built old.now) new (Err error) told.nulled told.kind;
+  fits = told.fits;
+  home = told.home;
+  allocator = tt;
+  others = tt;
+}

@@ -1,12 +1,12 @@
 -- Used bytes that stay while segments are written.
-use Rattle.std.proofs.Common.{◌≡◌, inl, inr, ℕ, zero, suc, ◌+◌, ◌*◌, ◌<◌, ◌≤◌, List, [], ◌∷◌, ◌++◌, length, take, drop, replicate, Option, Some, None, MatchOption, slice_set, refl, ap, sym, subst, ◌∙◌, arith}
+use Rattle.std.proofs.Common.{◌≡◌, ◌⊎◌, inl, inr, ℕ, zero, suc, ◌+◌, ◌*◌, ◌<◌, ◌≤◌, List, [], ◌∷◌, ◌++◌, length, take, drop, replicate, Option, Some, None, MatchOption, slice_set, refl, ap, sym, subst, ◌∙◌, arith}
 use Rattle.std.proofs.Common.{length-take, length-drop}
 use Rattle.std.specs.Prelude.{⊤}
 use Rattle.std.proofs.lemmas.Bool.{cases_lt}
 use Rattle.std.proofs.lemmas.List.{drop-take, take-append-le, drop-append-le, length-replicate}
 use Rattle.capnp_build.specs.Bytes.{Space, written, with_bytes}
 use Rattle.capnp_build.specs.Held.{space_at}
-use Rattle.capnp_build.specs.Built.{KeepsBytes}
+use Rattle.capnp_build.specs.Built.{KeepsBytes, KeepsOutside}
 use Rattle.capnp_build.specs.Placed.{IsAdded, IsZeroAt}
 use Rattle.capnp_build.specs.declared.arena.location.RootLocation.{RootLocation}
 use Rattle.capnp_build.proofs.ByteLemmas.{front_same}
@@ -59,6 +59,38 @@ kept_past spaces last i at j from n w e past fits =
     ∙ set_part spaces i j from n (with_bytes (space_at spaces i) at w) (λ same.
     let here : from + n ≤ length (space_at spaces i).used = subst (λ (k : ℕ). from + n ≤ length (space_at spaces k).used) (sym same) fits in
     ap (take n) (written_zero at from (space_at spaces i).used w (past same) (omega (arith, here))))
+
+pub kept_outside : (spaces last : List Space) (i at j from n : ℕ) (w : List ℕ) → last ≡ slice_set spaces i (with_bytes (space_at spaces i) at w)
+    → (i ≡ j → (from + n ≤ at) ⊎ (at + length w ≤ from)) → at ≤ length (space_at spaces i).used → from + n ≤ length (space_at spaces j).used
+    → take n (drop from (space_at last j).used) ≡ take n (drop from (space_at spaces j).used)
+kept_outside spaces last i at j from n w e apart fits inside =
+    ap (λ (l : List Space). take n (drop from (space_at l j).used)) e
+    ∙ set_part spaces i j from n (with_bytes (space_at spaces i) at w) (λ same. elim (apart same) [
+      | inl before ↦ part_before from n at (space_at spaces i).used w before fits
+      | inr past ↦ (let here : from + n ≤ length (space_at spaces i).used = subst (λ (k : ℕ). from + n ≤ length (space_at spaces k).used) (sym same) inside in
+          ap (take n) (written_zero at from (space_at spaces i).used w past (omega (arith, here))))
+    ])
+
+-- where there is no segment, no byte is used
+pub none_outside : (location : Option RootLocation) (old new : List Space) → length old ≡ 0 → KeepsOutside location old new
+none_outside location [] new none i from zero root lies fits = refl
+none_outside location [] new none i from (suc n) root lies fits = let empty : length {A = ℕ} [] ≡ 0 = refl in absurd (omega (arith, fits, empty))
+none_outside location (s ∷ old) new none i from n root lies fits = absurd (omega (arith, none))
+
+-- what stayed outside of the old body stays when all used bytes do
+pub outside_stays : (location : Option RootLocation) (old mid new : List Space) → KeepsOutside location old mid → KeepsBytes mid new → KeepsOutside location old new
+outside_stays location old mid new outside keeps i from zero root lies fits = refl
+outside_stays location old mid new outside keeps i from (suc n) root lies fits =
+    let same = outside i from (suc n) root lies fits in
+    keeps i from (suc n) root (omega (
+      arith,
+      ap length same,
+      fits,
+      length-take (suc n) (drop from (space_at mid i).used),
+      length-drop from (space_at mid i).used,
+      length-take (suc n) (drop from (space_at old i).used),
+      length-drop from (space_at old i).used,
+    )) ∙ same
 
 -- a segment more
 added_part : (spaces : List Space) (s : Space) (i from n : ℕ) → from + n ≤ length (space_at spaces i).used

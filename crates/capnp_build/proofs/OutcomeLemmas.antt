@@ -11,15 +11,15 @@ use Rattle.capnp_build.specs.Bytes.{Space}
 use Rattle.capnp_frame.specs.Source.{IsPreorder}
 use Rattle.capnp_build.specs.Out.{Out, HasLarge}
 use Rattle.capnp_build.specs.Held.{pairs, space_at, free_words_of}
-use Rattle.capnp_build.specs.Built.{Built, HasNullRoot, ForRoot, IsSet}
-use Rattle.capnp_build.specs.Placed.{DeclinesRoot, HasNoRoom, IsPut, IsGranted, IsCleared}
+use Rattle.capnp_build.specs.Built.{Built, held_of, size_in_words, HasNullRoot, ForRoot, IsSet}
+use Rattle.capnp_build.specs.Placed.{DeclinesRoot, HasNoRoom, LacksSegment, FindsNoRoom, IsPut, IsGranted, IsCleared, IsLookedAt}
 use Rattle.capnp_build.specs.Blocks.{PutsBlock}
 use Rattle.capnp_build.specs.Outcomes.{SetsRoot, ClearsRoot, EnsuresRoot, LooksAtRoot, HasRoomFirst}
 use Rattle.capnp_build.specs.RootKind.{ShowsRoot, HoldsForm}
 use Rattle.capnp_build.proofs.NullLemmas.{null_root}
 use Rattle.capnp_build.proofs.PlaceLemmas.{still_cleared}
 use Rattle.capnp_build.proofs.FirstLemmas.{first_put, no_large}
-use Rattle.capnp_build.proofs.KeptLemmas.{zero_stays}
+use Rattle.capnp_build.proofs.KeptLemmas.{zero_stays, outside_stays}
 
 pub cleared_root : {A S : Type 0} (alloc : allocator.Ghosts A S) (old last : Built A) {done : Unit {0}} → ClearsRoot alloc old last (Ok done) → IsCleared alloc old last
 cleared_root alloc old last told = record {
@@ -28,7 +28,29 @@ cleared_root alloc old last told = record {
   zero = told.zero;
   size = omega (arith, told.size);
   rooms = told.rooms;
+  outside = told.outside;
   new_object = λ empty. inr (told.new_object empty);
+  same_allocator = told.same;
+  others = told.others;
+}
+
+-- a root that is cleared where there was no segment is looked at
+pub looked_first : {A S : Type 0} (alloc : allocator.Ghosts A S) (old last : Built A) (r : Result (Unit {0}) Error) → old.spaces ≡ [] → ClearsRoot alloc old last r → IsLookedAt alloc old last
+looked_first alloc old last (Ok done) empty told = record {
+  stays = λ some. absurd (omega (arith, some, ap length empty));
+  null_word = λ _. told.null_word;
+  size = omega (arith, told.size);
+  new_object = λ _. inr (told.new_object empty);
+  granted = λ _ most grants. (told.granted empty most grants).1;
+  same_allocator = told.same;
+  others = told.others;
+}
+looked_first alloc old last (Err error) empty told = record {
+  stays = λ some. absurd (omega (arith, some, ap length empty));
+  null_word = λ _. told.null_word;
+  size = let none = ap size_in_words told.none in omega (arith, none);
+  new_object = λ _. inl told.none;
+  granted = λ _ most grants. (told.granted empty most grants).1;
   same_allocator = told.same;
   others = told.others;
 }
@@ -83,6 +105,21 @@ is_put alloc stands measured old cleared new words clear has told = record {
   first = λ empty. first_put cleared new words (clear.new_object empty) told.placed (told.sizes 0 clear.there);
   granted = still_granted alloc old cleared new.spaces clear (told.sizes 0 clear.there);
   zero = zero_stays old.location cleared.spaces new.spaces clear.following clear.zero told.bytes;
+  outside = outside_stays old.location old.spaces cleared.spaces new.spaces clear.outside told.bytes;
+}
+
+-- want of room once the root is cleared
+pub finds_no_room : {A S : Type 0} (alloc : allocator.Ghosts A S) (measured : ℕ → Type 0) (old cleared new : Built A) (words : ℕ) {kind : ErrorKind} {done : Unit {0}}
+    → ClearsRoot alloc old cleared (Ok done) → measured words → new.spaces ≡ cleared.spaces → HasNoRoom cleared.spaces words × LacksSegment alloc (held_of cleared) (words + 1) kind
+    → FindsNoRoom alloc measured old new.spaces kind
+finds_no_room alloc measured old cleared new words {kind} clear has kept told = record {
+  words = words;
+  words_are = has;
+  full = subst (λ (l : List Space). HasNoRoom l words) (sym kept) told.0;
+  asked = cleared.allocator;
+  lacks = subst (λ (l : List Space). LacksSegment alloc (record { spaces = l; allocator = cleared.allocator }) (words + 1) kind) (sym kept) told.1;
+  stays = clear.stays;
+  same = clear.same;
 }
 
 -- a value's block is placed once the root is cleared
@@ -108,7 +145,7 @@ sets_root alloc has_tree refuses old cleared new words (Err error) keeps clear h
   there = tt;
   placed = tt;
   nulled = still_cleared alloc old cleared new (Err error) keeps (cleared_root alloc old cleared clear) told.refused told.kept told.same told.others;
-  kind = inr (inr (words, has, subst (λ (l : List Space). HasNoRoom l words) (sym told.kept) told.kind.0, told.kind.1));
+  kind = inr (inr (finds_no_room alloc (HasWords has_tree false) old cleared new words clear has told.kept told.kind));
   none = λ empty. let l : length cleared.spaces ≡ 0 = ap length (sym told.kept ∙ empty) in absurd (omega (arith, l, clear.there));
   exact = λ kind lacks. absurd (exact kind lacks);
   fits = λ other also room.
@@ -134,6 +171,7 @@ looks_at_root alloc schema old last shown bytes (Ok done) told shows holds takes
   there = told.there;
   looked = told.looked;
   kind = tt;
+  granted = λ empty most grants. tt;
   home = λ empty out. tt;
   others = told.others;
 }
@@ -145,6 +183,7 @@ looks_at_root {A} alloc schema old last shown bytes (Err error) told shows holds
       there = tt;
       looked = told.looked;
       kind = inr is;
+      granted = λ empty most grants. is;
       home = λ empty out taken. is;
       others = told.others;
     }

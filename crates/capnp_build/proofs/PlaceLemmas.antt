@@ -7,7 +7,7 @@ use Rattle.capnp_frame.specs.declared.error.ErrorKind.{ErrorKind}
 use Rattle.capnp_build.specs.Bytes.{Space}
 use Rattle.capnp_build.specs.Held.{space_at, free_words_of, KeepsOthers}
 use Rattle.capnp_build.specs.declared.allocator.Allocator.{Ghosts}
-use Rattle.capnp_build.specs.Built.{Built, size_in_words, HasNullRoot, held_of}
+use Rattle.capnp_build.specs.Built.{Built, size_in_words, HasNullRoot, KeepsOutside, held_of}
 use Rattle.capnp_build.specs.Placed.{IsAdded, IsAtEnd, IsPlaced, IsZeroAt, IsCleared, FindsNoRoom, FoundNoRoom, KeepsRooms, HasRootAlone}
 use Rattle.capnp_frame.specs.Source.{IsPreorder}
 use Rattle.capnp_build.proofs.SpaceLemmas.{size_added, past_all, added_there}
@@ -69,6 +69,7 @@ still_cleared alloc old cleared last (Err error) keeps c null kept alike others 
   zero = subst (λ (l : List Space). MatchOption old.location ⊤ (IsZeroAt l)) (sym kept) c.zero;
   size = subst (λ (l : List Space). size_in_words l ≤ max 1 (size_in_words old.spaces)) (sym kept) c.size;
   rooms = subst (λ (l : List Space). KeepsRooms old.spaces l) (sym kept) c.rooms;
+  outside = subst (λ (l : List Space). KeepsOutside old.location old.spaces l) (sym kept) c.outside;
   new_object = λ none. subst (λ (l : List Space). (l ≡ []) ⊎ HasRootAlone l) (sym kept) (c.new_object none);
   same_allocator = keeps.transitive old.allocator cleared.allocator last.allocator c.same_allocator alike;
   others = λ rest is. others rest (c.others rest is);
@@ -81,12 +82,13 @@ placed_near old new words room at_end count size = record { near = λ _. (at_end
 
 -- what finds no room found none once the root was cleared
 pub found_no_room : {A S : Type 0} (alloc : Ghosts A S) (measured : ℕ → Type 0) (R E : ErrorKind → Type 0) (old new : Built A) (r : Result (Unit {0}) Error) → OnErr r (IsCleared alloc old new)
-    → IfErr r (λ error. R error.kind ⊎ E error.kind ⊎ FindsNoRoom measured new.spaces error.kind) → IfErr r (λ error. R error.kind ⊎ E error.kind ⊎ FoundNoRoom alloc measured old error.kind)
+    → IfErr r (λ error. R error.kind ⊎ ((new.spaces ≡ []) × E error.kind) ⊎ FindsNoRoom alloc measured old new.spaces error.kind)
+    → IfErr r (λ error. R error.kind ⊎ E error.kind ⊎ FoundNoRoom alloc measured old error.kind)
 found_no_room alloc measured R E old new (Ok done) nulled kind = tt
 found_no_room alloc measured R E old new (Err error) nulled kind = elim kind [
   | inl refuses ↦ inl refuses
   | inr rest ↦ elim rest [
-    | inl first ↦ inr (inl first)
+    | inl first ↦ inr (inl first.1)
     | inr no_room ↦ inr (inr (record { cleared = new; is_cleared = nulled; no_room = no_room }))
   ]
 ]

@@ -1,5 +1,5 @@
 -- The root's word made zero, and before it the block that it leads to.
-use Rattle.std.proofs.Common.{◌≡◌, inr, ℕ, ◌+◌, ◌*◌, ◌<◌, ◌≤◌, List, length, replicate, Some, None, slice_set, ap, sym, subst, ◌∙◌, refl, arith}
+use Rattle.std.proofs.Common.{◌≡◌, inl, inr, ℕ, ◌+◌, ◌*◌, ◌<◌, ◌≤◌, List, length, replicate, Some, None, slice_set, ap, sym, subst, ◌∙◌, refl, arith}
 use Rattle.std.proofs.lemmas.List.{length-replicate}
 use Rattle.capnp_wire.specs.Object.{word_at}
 use Rattle.capnp_wire.specs.Reached.{root}
@@ -11,6 +11,7 @@ use Rattle.capnp_build.specs.declared.allocator.Allocator.{Ghosts}
 use Rattle.capnp_build.specs.declared.arena.location.RootLocation.{RootLocation}
 use Rattle.capnp_build.proofs.HeldLemmas.{edit_keeps}
 use Rattle.capnp_build.proofs.NullLemmas.{old_cleared, old_size, first_cleared, first_size, root_stands, root_room}
+use Rattle.capnp_build.proofs.KeptLemmas.{kept_past, kept_outside}
 use Rattle.capnp_build.proofs.SpaceLemmas.{one_zeroed, two_zeroed, wiped}
 
 pub word_wiped : {A S : Type 0} (alloc : Ghosts A S) (old new : Held A) → 0 < length old.spaces → HasNullRoot old.spaces
@@ -26,6 +27,8 @@ word_wiped {A = A} alloc old new there null e =
       count = kept.0;
       size = ap size_in_words spaces_are ∙ first_size old.spaces there null;
       rooms = λ _. (kept.0, kept.1);
+      outside = λ i from n root lies fits.
+          kept_past old.spaces new.spaces 0 0 i from n (replicate 8 0) spaces_are (λ same. let past = root (sym same) in omega (arith, past, length-replicate {A = ℕ} 8 0)) fits;
       allocator = ap (λ (h : Held A). h.allocator) e;
       others = edit_keeps alloc.out old new 0 _ refl e;
     }
@@ -53,6 +56,13 @@ body_wiped {A = A} alloc old between new location k built long d e =
       count = (kept first.0).0;
       size = ap size_in_words (new_is ∙ ap wipe between_is) ∙ old_size spaces location.segment (8 * location.start) zeros word laid.root_is fits;
       rooms = kept;
+      outside = λ i from n root lies inside.
+          let used = (one_zeroed spaces between.spaces location.segment (8 * location.start) zeros fits between_is).2 i in
+          kept_past between.spaces new.spaces 0 0 i from n (replicate 8 0) new_is (λ same. let past = root (sym same) in omega (arith, past, length-replicate {A = ℕ} 8 0)) (omega (arith, used, inside))
+          ∙ kept_outside spaces between.spaces location.segment (8 * location.start) i from n zeros between_is (λ same. elim (lies (sym same)) [
+            | inl before ↦ inl before
+            | inr past ↦ inr (omega (arith, past, long, length-replicate {A = ℕ} k 0))
+          ]) (omega (arith, fits)) inside;
       allocator = ap (λ (h : Held A). h.allocator) e ∙ ap (λ (h : Held A). h.allocator) d;
       others = λ others is. edit_keeps alloc.out between new 0 _ refl e others (edit_keeps alloc.out old between location.segment _ refl d others is);
     }

@@ -1,49 +1,47 @@
 -- What a write into the object at the root keeps, and what it sets.
-use Rattle.std.proofs.Common.{refl, ◌≡◌, ℕ, ◌+◌, ◌*◌, ◌^◌, ◌<◌, ◌≤◌, List, length, Option, Some, slice_set, w64, ap, arith, ◌∙◌, slice_index_or, length-set}
+use Rattle.std.proofs.Common.{refl, ◌≡◌, inl, inr, sym, subst, MatchOption, ℕ, ◌+◌, ◌*◌, ◌^◌, ◌<◌, ◌≤◌, List, length, Option, Some, slice_set, w64, ap, arith, ◌∙◌, slice_index_or, length-set}
+use Rattle.std.specs.Prelude.{⊤}
 use Rattle.std.specs.Int.{to_le_bytes}
 use Rattle.capnp_wire.specs.Tree.{null, numbers, none, struct}
 use Rattle.capnp_build.proofs.FieldLemmas.{field_laid, same_fields}
 use Rattle.capnp_build.proofs.HeldLemmas.{pairs_set}
+use Rattle.capnp_build.proofs.KeptLemmas.{kept_outside}
 use Rattle.capnp_build.proofs.LaidLemmas.{laid_as, laid_root}
 use Rattle.capnp_build.proofs.ReadLemmas.{number_laid, same_numbers}
 use Rattle.capnp_build.proofs.RewriteLemmas.{bytes_laid}
 use Rattle.capnp_build.proofs.SpaceLemmas.{size_set}
 use Rattle.capnp_build.proofs.UsedLemmas.{written_length}
-use Rattle.capnp_build.specs.Built.{Built, IsLaid, IsBuilt, size_in_words}
+use Rattle.capnp_build.specs.Built.{Built, IsLaid, IsBuilt, LiesOutside, size_in_words}
 use Rattle.capnp_build.specs.Written.{IsWritten, HasField, IsFieldSet, HasNumber, IsNumberSet, HasBytes, IsBytesSet}
 use Rattle.capnp_build.specs.Bytes.{Space, written, with_bytes}
-use Rattle.capnp_build.specs.Held.{Held, space_at, with_space, pair, pairs}
+use Rattle.capnp_build.specs.Held.{Held, space_at, with_space, pairs}
 use Rattle.capnp_build.specs.declared.arena.location.RootLocation.{RootLocation}
 
-written_by : {A : Type 0} (held last : Held A) (location : Option RootLocation) (i : ℕ) (s : Space) → last ≡ with_space held i s → pair s ≡ pair (space_at held.spaces i)
-    → length s.used ≡ length (space_at held.spaces i).used
-    → (let old : Built A = record { spaces = held.spaces; location = location; allocator = held.allocator } in let new : Built A = record {
-      spaces = last.spaces;
-      location = location;
-      allocator =
-          last.allocator;
-    } in IsWritten old new)
-written_by {A = A} held last location i s e same long = record {
-  location = refl;
-  count = ap (λ (h : Held A). length h.spaces) e ∙ length-set held.spaces i s;
-  size = ap (λ (h : Held A). size_in_words h.spaces) e ∙ size_set held.spaces i s long;
-  allocator = ap (λ (h : Held A). h.allocator) e;
-  pairs = λ others. ap (λ (h : Held A). pairs h.spaces others) e ∙ pairs_set held.spaces i s others same;
-}
-
-pub written_at : {A : Type 0} (held last : Held A) (location : Option RootLocation) (i from : ℕ) (w : List ℕ) → last ≡ with_space held i (with_bytes (space_at held.spaces i) from w)
-    → from + length w ≤ length (space_at held.spaces i).used
-    → (let old : Built A = record { spaces = held.spaces; location = location; allocator = held.allocator } in let new : Built A = record {
-      spaces = last.spaces;
-      location = location;
-      allocator =
-          last.allocator;
-    } in IsWritten old new)
-written_at held last location i from w e room =
-    written_by held last location i (with_bytes (space_at held.spaces i) from w) e refl (written_length from (space_at held.spaces i).used w room)
+-- bytes of the root's body are written
+pub written_at : {A : Type 0} (held last : Held A) (place : Option RootLocation) (location : RootLocation) (at : ℕ) (w : List ℕ) → place ≡ Some location
+    → last ≡ with_space held location.segment (with_bytes (space_at held.spaces location.segment) at w) → 8 * location.start ≤ at
+    → at + length w ≤ 8 * location.start + 8 * location.words → at + length w ≤ length (space_at held.spaces location.segment).used
+    → IsWritten (record { spaces = held.spaces; location = place; allocator = held.allocator }) (record { spaces = last.spaces; location = place; allocator = last.allocator })
+written_at {A = A} held last place location at w is e following within room =
+    let i : ℕ = location.segment in
+    let s : Space = with_bytes (space_at held.spaces i) at w in
+    let long : length s.used ≡ length (space_at held.spaces i).used = written_length at (space_at held.spaces i).used w room in
+    record {
+      location = refl;
+      count = ap (λ (h : Held A). length h.spaces) e ∙ length-set held.spaces i s;
+      size = ap (λ (h : Held A). size_in_words h.spaces) e ∙ size_set held.spaces i s long;
+      outside = λ j from n lies inside.
+          kept_outside held.spaces last.spaces i at j from n w (ap (λ (h : Held A). h.spaces) e)
+          (λ same. elim (subst (λ (o : Option RootLocation). MatchOption o ⊤ (LiesOutside j from n)) is lies (sym same)) [
+            | inl before ↦ inl (omega (arith, before, following))
+            | inr past ↦ inr (omega (arith, past, within))
+          ]) (omega (arith, room)) inside;
+      allocator = ap (λ (h : Held A). h.allocator) e;
+      pairs = λ others. ap (λ (h : Held A). pairs h.spaces others) e ∙ pairs_set held.spaces i s others refl;
+    }
 
 pub unwritten : {A : Type 0} (old : Built A) → IsWritten old old
-unwritten old = record { location = refl; count = refl; size = refl; allocator = refl; pairs = λ others. refl }
+unwritten old = record { location = refl; count = refl; size = refl; outside = λ i from n lies fits. refl; allocator = refl; pairs = λ others. refl }
 
 -- a data word of the struct at the root
 pub field_known : (spaces : List Space) (location : RootLocation) (index : ℕ) (f : HasField spaces index) → IsBuilt spaces (Some location) → IsLaid spaces location (struct f.words) f.held
@@ -52,6 +50,10 @@ field_known spaces location index f p = laid_as spaces location p.0 (struct f.wo
 pub field_room : (spaces : List Space) (location : RootLocation) (index n : ℕ) (f : HasField spaces index) → IsBuilt spaces (Some location) → n ≡ 8
     → 8 * (location.start + index) + n ≤ length (space_at spaces location.segment).used
 field_room spaces location index n f p eight = let r = field_known spaces location index f p in omega (arith, eight, r.body_is.room, r.body_is.size, f.within)
+
+pub field_inside : (spaces : List Space) (location : RootLocation) (index n : ℕ) (f : HasField spaces index) → IsBuilt spaces (Some location) → n ≡ 8
+    → 8 * (location.start + index) + n ≤ 8 * location.start + 8 * location.words
+field_inside spaces location index n f p eight = let r = field_known spaces location index f p in omega (arith, eight, r.body_is.size, f.within)
 
 pub field_set : (spaces last : List Space) (location : RootLocation) (index x : ℕ) (w : List ℕ) (f : HasField spaces index) → IsBuilt spaces (Some location) → x < 2 ^ 64 → w ≡ to_le_bytes w64 x → length w ≡ 8
     → last ≡ slice_set spaces location.segment (with_bytes (space_at spaces location.segment) (8 * (location.start + index)) w) → IsFieldSet spaces last index x
@@ -72,6 +74,10 @@ pub number_room : (spaces : List Space) (location : RootLocation) (index n : ℕ
     → 8 * location.start + 8 * index + n ≤ length (space_at spaces location.segment).used
 number_room spaces location index n f p eight = let r = number_known spaces location index f p in omega (arith, eight, r.body_is.room, r.body_is.size, f.within)
 
+pub number_inside : (spaces : List Space) (location : RootLocation) (index n : ℕ) (f : HasNumber spaces index) → IsBuilt spaces (Some location) → n ≡ 8
+    → 8 * location.start + 8 * index + n ≤ 8 * location.start + 8 * location.words
+number_inside spaces location index n f p eight = let r = number_known spaces location index f p in omega (arith, eight, r.body_is.size, f.within)
+
 pub number_set : (spaces last : List Space) (location : RootLocation) (index x : ℕ) (w : List ℕ) (f : HasNumber spaces index) → IsBuilt spaces (Some location) → x < 2 ^ 64 → w ≡ to_le_bytes w64 x → length w ≡ 8
     → last ≡ slice_set spaces location.segment (with_bytes (space_at spaces location.segment) (8 * location.start + 8 * index) w) → IsNumberSet spaces last index x
 number_set spaces last location index x w f p small is eight e values traversed there =
@@ -89,6 +95,10 @@ bytes_known spaces location index n f p = laid_as spaces location p.0 (numbers 2
 pub bytes_room : (spaces : List Space) (location : RootLocation) (index n : ℕ) (f : HasBytes spaces index n) → IsBuilt spaces (Some location)
     → 8 * location.start + index + n ≤ length (space_at spaces location.segment).used
 bytes_room spaces location index n f p = let r = bytes_known spaces location index n f p in omega (arith, r.body_is.room, r.body_is.size, f.within)
+
+pub bytes_inside : (spaces : List Space) (location : RootLocation) (index n : ℕ) (f : HasBytes spaces index n) → IsBuilt spaces (Some location)
+    → 8 * location.start + index + n ≤ 8 * location.start + 8 * location.words
+bytes_inside spaces location index n f p = let r = bytes_known spaces location index n f p in omega (arith, r.body_is.size, f.within)
 
 pub no_bytes : (values : List ℕ) → numbers 2 values ≡ null → ⊥
 no_bytes values e = cc

@@ -1,15 +1,16 @@
 -- What an allocator keeps that hands out a segment, or takes one back (src/allocator.rt). `out` says which segments may be out,
--- `keeps` what each call keeps, `grants` which requests have to be granted, and `returns` what a return leads to, as the members
--- of the trait Allocator.
+-- `keeps` what each call keeps, `grants` which requests have to be granted, `refuses` how one may be refused, and `returns` what
+-- a return leads to, as the members of the trait Allocator.
 use Rattle.std.specs.Prelude.{ℕ, ◌/◌, ◌^◌, ◌<◌, ◌≤◌, ◌≡◌, Bool, List, length, Result, IfOk, IfErr, IsOkAnd, OnErr}
 use Rattle.capnp_frame.specs.declared.error.Error.{Error}
+use Rattle.capnp_frame.specs.declared.error.ErrorKind.{ErrorKind}
 use Rattle.capnp_frame.specs.declared.error.ErrorKind.TheVariants.{SegmentTaken}
 use Rattle.capnp_build.specs.Bytes.{ZeroFrom}
 use Rattle.capnp_build.specs.Out.{Out, AddsOut, TakesOff, HasLarge, MayRefuse}
 
 -- A segment of at least a given number of words is handed out, all zero; `content` is its bytes.
-pub record HandsOut {A S : Type 0} (out : A → List Out → Type 0) (keeps : A → A → Type 0) (grants : A → ℕ → ℕ → Type 0) (content : S → List ℕ) (is_provided : S → Bool)
-    (asked : ℕ) (old new : A) (result : Result S Error) : Type 0 where
+pub record HandsOut {A S : Type 0} (out : A → List Out → Type 0) (keeps : A → A → Type 0) (grants : A → ℕ → ℕ → Type 0)
+    (refuses : A → ℕ → ErrorKind → Type 0) (content : S → List ℕ) (is_provided : S → Bool) (asked : ℕ) (old new : A) (result : Result S Error) : Type 0 where
   pub room : IfOk result (λ s. asked ≤ length (content s) / 8)
   pub field : IfOk result (λ s. length (content s) / 8 < 2 ^ 32)
   pub zero : IfOk result (λ s. ZeroFrom 0 (content s))
@@ -17,6 +18,8 @@ pub record HandsOut {A S : Type 0} (out : A → List Out → Type 0) (keeps : A 
   -- where it has to be granted, it is, by a segment of a given number of words
   pub granted : (words : ℕ) → grants old asked words → IsOkAnd result (λ s. length (content s) / 8 ≡ words)
   pub refusal : IfErr result (λ error. MayRefuse asked error.kind)
+  -- as the allocator says of this request
+  pub said : IfErr result (λ error. refuses old asked error.kind)
   -- by SegmentTaken only while a segment that is large enough is out
   pub taken : IfErr result (λ error. error.kind ≡ SegmentTaken → (list : List Out) → out old list → HasLarge asked list)
   -- after a failure no more segments are out

@@ -7,10 +7,10 @@ use Rattle.capnp_wire.specs.Reached.{Root}
 use Rattle.capnp_build.specs.declared.allocator.Allocator.{Ghosts}
 use Rattle.capnp_build.specs.declared.arena.location.RootLocation.{RootLocation}
 use Rattle.capnp_build.specs.Bytes.{Space}
-use Rattle.capnp_build.specs.Out.{Out, HasLarge, MayRefuse}
+use Rattle.capnp_build.specs.Out.{Out, HasLarge}
 use Rattle.capnp_build.specs.Held.{Held, space_at, pairs, KeepsOthers}
-use Rattle.capnp_build.specs.Built.{Built, held_of, message, size_in_words, HasNullRoot, IsSet, HasBody, IsLaid, IsRewritten, KeepsBytes}
-use Rattle.capnp_build.specs.Placed.{IsAtEnd, IsPlaced, HasNoRoom, IsZeroAt, KeepsRooms}
+use Rattle.capnp_build.specs.Built.{Built, held_of, message, size_in_words, HasNullRoot, IsSet, HasBody, IsLaid, IsRewritten, KeepsBytes, KeepsOutside}
+use Rattle.capnp_build.specs.Placed.{IsAtEnd, IsPlaced, HasNoRoom, LacksSegment, IsZeroAt, KeepsRooms}
 
 -- a new object stands at the root
 abbrev pub IsNew : Form → List Space → Type 0
@@ -26,7 +26,7 @@ pub record PutsBlock {A S : Type 0} (alloc : Ghosts A S) (stands : List Space �
   pub sizes : OnOk result ((i : ℕ) → i < length old.spaces → (space_at new.spaces i).size ≡ (space_at old.spaces i).size)
   pub refused : OnErr result (new.location ≡ None)
   pub kept : OnErr result (new.spaces ≡ old.spaces)
-  pub kind : IfErr result (λ error. HasNoRoom old.spaces words × MayRefuse (words + 1) error.kind)
+  pub kind : IfErr result (λ error. HasNoRoom old.spaces words × LacksSegment alloc (held_of old) (words + 1) error.kind)
   pub taken : IfErr result (λ error. error.kind ≡ SegmentTaken → (others : List Out) → alloc.out old.allocator (pairs old.spaces others)
       → HasLarge (words + 1) (pairs old.spaces others))
   pub same : alloc.same old.allocator new.allocator
@@ -62,6 +62,7 @@ pub record WipesRoot {A S : Type 0} (alloc : Ghosts A S) (location : Option Root
   pub count : length new.spaces ≡ length old.spaces
   pub size : size_in_words new.spaces ≡ max 1 (size_in_words old.spaces)
   pub rooms : KeepsRooms old.spaces new.spaces
+  pub outside : KeepsOutside location old.spaces new.spaces
   pub allocator : new.allocator ≡ old.allocator
   -- what else the allocator has out stays out
   pub others : KeepsOthers alloc.out old new

@@ -1,6 +1,6 @@
 -- A message that is built, whose root is a tree.
 use Rattle.std.specs.Prelude.{⊤, ◌≡◌, ◌⊎◌, ℕ, ◌+◌, ◌-◌, ◌*◌, ◌/◌, ◌^◌, ◌<◌, ◌≤◌, Bool, List, zero, suc, [], ◌∷◌, length, map, Option, Some, None}
-use Rattle.std.specs.Prelude.{take, drop}
+use Rattle.std.specs.Prelude.{take, drop, MatchOption}
 use Rattle.capnp_wire.specs.Pointer.{words_of}
 use Rattle.capnp_wire.specs.Tree.{Form, struct, numbers, Trees, none, tree, count, total_words}
 use Rattle.capnp_wire.specs.Object.{message_of, word_at}
@@ -91,6 +91,15 @@ pub record IsLaid (spaces : List Space) (location : RootLocation) (form : Form) 
 -- the used bytes of these segments stay, but for the root's word
 abbrev pub KeepsBytes : List Space → List Space → Type 0
 KeepsBytes old new = (i from n : ℕ) → (i ≡ 0 → 8 ≤ from) → from + n ≤ length (space_at old i).used
+    → take n (drop from (space_at new i).used) ≡ take n (drop from (space_at old i).used)
+
+-- bytes of a segment lie outside of a body
+abbrev pub LiesOutside : ℕ → ℕ → ℕ → RootLocation → Type 0
+LiesOutside segment from n location = segment ≡ location.segment → (from + n ≤ 8 * location.start) ⊎ (8 * location.start + 8 * location.words ≤ from)
+
+-- the used bytes outside of the root's body stay, but for the root's word
+abbrev pub KeepsOutside : Option RootLocation → List Space → List Space → Type 0
+KeepsOutside location old new = (i from n : ℕ) → (i ≡ 0 → 8 ≤ from) → MatchOption location ⊤ (LiesOutside i from n) → from + n ≤ length (space_at old i).used
     → take n (drop from (space_at new i).used) ≡ take n (drop from (space_at old i).used)
 
 -- the same segments, of which some used bytes may be others

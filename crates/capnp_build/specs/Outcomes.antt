@@ -12,23 +12,34 @@ use Rattle.capnp_wire.specs.Values.{HasWords, LacksWords}
 use Rattle.capnp_build.specs.declared.allocator.Allocator as allocator
 use Rattle.capnp_build.specs.declared.owned_builder.OwnedBuilder as owned_builder
 use Rattle.capnp_build.specs.Bytes.{Space}
-use Rattle.capnp_build.specs.Out.{MayRefuse}
 use Rattle.capnp_build.specs.Held.{space_at, free_words_of, Held, KeepsOthers, BringsHome, ReturnsEach}
-use Rattle.capnp_build.specs.Built.{Built, held_of, message, size_in_words, HasNullRoot, ForRoot, IsSet, IsWhole}
-use Rattle.capnp_build.specs.Placed.{DeclinesRoot, IsPut, IsInit}
+use Rattle.capnp_build.specs.Built.{Built, held_of, message, size_in_words, HasNullRoot, ForRoot, IsSet, IsWhole, KeepsOutside}
+use Rattle.capnp_build.specs.Placed.{Refuses, DeclinesRoot, IsPut, IsInit}
 use Rattle.capnp_build.specs.Placed.{InitWords, FindsNoRoom, IsCleared, IsZeroAt, KeepsRooms, HasRootAlone, IsLookedAt}
 
--- there is no segment yet, and the allocator fails to hand out the first one
-abbrev pub LacksFirst : List Space → ErrorKind → Type 0
-LacksFirst spaces kind = (length spaces ≡ 0) × MayRefuse 1 kind
+-- there is no segment yet, and the allocator refuses the first one, of a word
+abbrev pub LacksFirst : {A S : Type 0} → allocator.Ghosts A S → Built A → ErrorKind → Type 0
+LacksFirst alloc old kind = (length old.spaces ≡ 0) × Refuses alloc old.allocator 1 kind
+
+-- so there is none after the call
+abbrev pub StopsFirst : {A S : Type 0} → allocator.Ghosts A S → Built A → List Space → ErrorKind → Type 0
+StopsFirst alloc old spaces kind = (spaces ≡ []) × LacksFirst alloc old kind
 
 -- the first segment has room for a block of a given number of words, or has to be granted with that room
 abbrev pub HasRoomFirst : {A S : Type 0} → allocator.Ghosts A S → Built A → ℕ → Type 0
 HasRoomFirst alloc old words = ((0 < length old.spaces) × (words ≤ free_words_of (space_at old.spaces 0)))
     ⊎ ((old.spaces ≡ []) × ((most : ℕ) × alloc.grants old.allocator 1 most × (words < most)))
 
+-- so a fact holds, where a block of such words, and of no more, has room there
+abbrev pub FitsFirst : {A S : Type 0} → allocator.Ghosts A S → (ℕ → Type 0) → Built A → Type 0 → Type 0
+FitsFirst alloc measured old fact = (words : ℕ) → measured words → ((other : ℕ) → measured other → other ≤ words) → HasRoomFirst alloc old words → fact
+
+-- a fact holds as the first action on a message, over an allocator that has to grant the first segment
+abbrev pub WhereGranted : {A S : Type 0} → allocator.Ghosts A S → Built A → Type 0 → Type 0
+WhereGranted alloc old fact = old.spaces ≡ [] → (most : ℕ) → alloc.grants old.allocator 1 most → fact
+
 -- as the first action, over an allocator that has nothing out, a call does not fail with SegmentTaken, but where `refuses` says so
-abbrev pub NotTakenAtHome : {A S : Type 0} → allocator.Ghosts A S → (ErrorKind → Type 0) → Built A → Result (Unit {0}) Error → Type 0
+abbrev pub NotTakenAtHome : {A S X : Type 0} → allocator.Ghosts A S → (ErrorKind → Type 0) → Built A → Result X Error → Type 0
 NotTakenAtHome alloc refuses old result = old.spaces ≡ [] → alloc.out old.allocator [] → IfErr result (λ error. error.kind ≡ SegmentTaken → refuses error.kind)
 
 -- which refusal of a value in canonical form comes once the old root is cleared: the lines are tested in this order
@@ -52,12 +63,12 @@ pub record SetsRoot {A S : Type 0} (alloc : allocator.Ghosts A S) (has_tree : Tr
   -- after a failure the root is null
   pub nulled : OnErr result (IsCleared alloc old new)
   -- it fails as `measure` does, as the allocator fails to hand out the first segment, or where no segment has room
-  pub kind : IfErr result (λ error. LacksWords has_tree refuses false error.kind ⊎ LacksFirst old.spaces error.kind
-      ⊎ FindsNoRoom (HasWords has_tree false) new.spaces error.kind)
+  pub kind : IfErr result (λ error. LacksWords has_tree refuses false error.kind ⊎ StopsFirst alloc old new.spaces error.kind
+      ⊎ FindsNoRoom alloc (HasWords has_tree false) old new.spaces error.kind)
   -- the first segment is asked for before the value is measured
-  pub none : new.spaces ≡ [] → IfErr result (λ error. LacksFirst old.spaces error.kind)
+  pub none : new.spaces ≡ [] → IfErr result (λ error. LacksFirst alloc old error.kind)
   -- what `measure` fails with is returned
-  pub exact : (kind : ErrorKind) → LacksWords has_tree refuses false kind → IsErrAnd result (λ error. (error.kind ≡ kind) ⊎ LacksFirst old.spaces error.kind)
+  pub exact : (kind : ErrorKind) → LacksWords has_tree refuses false kind → IsErrAnd result (λ error. (error.kind ≡ kind) ⊎ StopsFirst alloc old new.spaces error.kind)
   -- a value is set where the first segment has room
   pub fits : (words : ℕ) → HasWords has_tree false words → HasRoomFirst alloc old words → IsOk result
   pub home : NotTakenAtHome alloc (LacksWords has_tree refuses false) old result
@@ -78,11 +89,11 @@ pub record SetsRootCanonical {A S : Type 0} (alloc : allocator.Ghosts A S) (has_
   -- after a failure the root is null
   pub nulled : OnErr result (IsCleared alloc old new)
   -- it fails as the allocator fails to hand out the first segment; once that is there, by the first line that holds
-  pub kind : IfErr result (λ error. ((new.spaces ≡ []) × LacksFirst old.spaces error.kind) ⊎ RefusesCanonical has_tree refuses new.spaces error.kind)
+  pub kind : IfErr result (λ error. StopsFirst alloc old new.spaces error.kind ⊎ RefusesCanonical has_tree refuses new.spaces error.kind)
   -- where there was a segment, the first line that holds is returned
   pub exact : (kind : ErrorKind) → RefusesCanonical has_tree refuses old.spaces kind → IsErrAnd result (λ error. error.kind ≡ kind)
   -- what `measure` fails with is returned, once the first segment is there
-  pub lacks : old.spaces ≡ [] → (kind : ErrorKind) → LacksWords has_tree refuses true kind → IsErrAnd result (λ error. (error.kind ≡ kind) ⊎ LacksFirst old.spaces error.kind)
+  pub lacks : old.spaces ≡ [] → (kind : ErrorKind) → LacksWords has_tree refuses true kind → IsErrAnd result (λ error. (error.kind ≡ kind) ⊎ StopsFirst alloc old new.spaces error.kind)
   -- a value is set where the one segment has room
   pub fits : length old.spaces ≤ 1 → (words : ℕ) → HasWords has_tree true words → HasRoomFirst alloc old words → IsOk result
   pub home : NotTakenAtHome alloc (LacksWords has_tree refuses true) old result
@@ -103,10 +114,12 @@ pub record InitsRoot {A S K : Type 0} (alloc : allocator.Ghosts A S) (schema : o
   pub nulled : OnErr result (IsCleared alloc old new)
   -- it fails as the type has no such object, as the allocator fails to hand out the first segment, or where no segment
   -- has room
-  pub kind : IfErr result (λ error. schema.refuses n error.kind ⊎ LacksFirst old.spaces error.kind
-      ⊎ FindsNoRoom (InitWords schema.inits n) new.spaces error.kind)
+  pub kind : IfErr result (λ error. schema.refuses n error.kind ⊎ StopsFirst alloc old new.spaces error.kind
+      ⊎ FindsNoRoom alloc (InitWords schema.inits n) old new.spaces error.kind)
   -- the first segment is asked for before the type is
-  pub none : new.spaces ≡ [] → IfErr result (λ error. LacksFirst old.spaces error.kind)
+  pub none : new.spaces ≡ [] → IfErr result (λ error. LacksFirst alloc old error.kind)
+  -- an object that the type has is made where the first segment has room
+  pub fits : FitsFirst alloc (InitWords schema.inits n) old (IfErr result (λ error. schema.refuses n error.kind))
   pub home : NotTakenAtHome alloc (schema.refuses n) old result
   pub same : alloc.same old.allocator new.allocator
   -- what else the allocator has out stays out
@@ -118,13 +131,17 @@ pub record ClearsRoot {A S : Type 0} (alloc : allocator.Ghosts A S) (old new : B
   pub null_word : HasNullRoot new.spaces
   pub zero : MatchOption old.location ⊤ (IsZeroAt new.spaces)
   pub following : MatchOption old.location ⊤ (λ location. 0 < location.start)
+  -- no other used word changes
+  pub outside : KeepsOutside old.location old.spaces new.spaces
   pub there : OnOk result (0 < length new.spaces)
   pub none : OnErr result (new.spaces ≡ [])
   -- it fails as the allocator fails to hand out the first segment
-  pub kind : IfErr result (λ error. LacksFirst old.spaces error.kind)
+  pub kind : IfErr result (λ error. LacksFirst alloc old error.kind)
   pub same : alloc.same old.allocator new.allocator
   -- what else the allocator has out stays out
   pub others : KeepsOthers alloc.out (held_of old) (held_of new)
+  -- where there was a segment, none is asked for
+  pub stays : 0 < length old.spaces → new.allocator ≡ old.allocator
   pub size : OnOk result (size_in_words new.spaces ≡ max 1 (size_in_words old.spaces))
   -- no room is lost
   pub rooms : KeepsRooms old.spaces new.spaces
@@ -139,7 +156,9 @@ pub record EnsuresRoot {A S : Type 0} (alloc : allocator.Ghosts A S) (old new : 
   pub none : OnErr result (new.spaces ≡ [])
   pub looked : IsLookedAt alloc old new
   -- it fails as the allocator fails to hand out the first segment
-  pub kind : IfErr result (λ error. LacksFirst old.spaces error.kind)
+  pub kind : IfErr result (λ error. LacksFirst alloc old error.kind)
+  -- where it has to be granted, the first segment is
+  pub granted : WhereGranted alloc old (IsOk result)
   pub home : NotTakenAtHome alloc (λ kind. ⊥) old result
   -- what else the allocator has out stays out
   pub others : KeepsOthers alloc.out (held_of old) (held_of new)
@@ -151,7 +170,9 @@ pub record LooksAtRoot {A S K : Type 0} (alloc : allocator.Ghosts A S) (schema :
   pub there : OnOk result (0 < length new.spaces)
   pub looked : IsLookedAt alloc old new
   -- it fails as the allocator fails to hand out the first segment, or as the type declines the root
-  pub kind : IfErr result (λ error. LacksFirst old.spaces error.kind ⊎ DeclinesRoot schema.declines old.spaces error.kind)
+  pub kind : IfErr result (λ error. StopsFirst alloc old new.spaces error.kind ⊎ DeclinesRoot schema.declines old.spaces error.kind)
+  -- where it has to be granted, the first segment is
+  pub granted : WhereGranted alloc old (IfErr result (λ error. DeclinesRoot schema.declines old.spaces error.kind))
   pub home : NotTakenAtHome alloc (DeclinesRoot schema.declines old.spaces) old result
   -- what else the allocator has out stays out
   pub others : KeepsOthers alloc.out (held_of old) (held_of new)

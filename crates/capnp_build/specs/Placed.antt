@@ -2,23 +2,43 @@
 use Rattle.std.specs.Prelude.{⊤, ◌≡◌, ◌⊎◌, ℕ, ◌+◌, ◌*◌, ◌/◌, ◌^◌, ◌<◌, ◌≤◌, min, max, false, List, [], ◌∷◌, ◌++◌, length, Option, Some, None, MatchOption}
 use Rattle.std.specs.Prelude.{take, drop, replicate}
 use Rattle.capnp_frame.specs.declared.error.ErrorKind.{ErrorKind}
+use Rattle.capnp_frame.specs.declared.error.ErrorKind.TheVariants.{OutOfMemory, AllocationTooLarge}
 use Rattle.capnp_wire.specs.Tree.{Form, null, none, tree}
 use Rattle.capnp_wire.specs.Values.{HasWords}
 use Rattle.capnp_build.specs.Bytes.{Space}
 use Rattle.capnp_build.specs.Out.{MayRefuse}
-use Rattle.capnp_build.specs.Held.{space_at, free_words_of, KeepsOthers}
+use Rattle.capnp_build.specs.Held.{Held, space_at, free_words_of, KeepsOthers}
 use Rattle.capnp_build.specs.declared.allocator.Allocator.{Ghosts}
 use Rattle.capnp_build.specs.declared.arena.location.RootLocation.{RootLocation}
-use Rattle.capnp_build.specs.Built.{size_in_words, HasNullRoot, Built, held_of, ForRoot}
+use Rattle.capnp_build.specs.Built.{size_in_words, HasNullRoot, Built, held_of, ForRoot, KeepsOutside}
 
 -- no segment has room for a block of a given number of words, nor one after the first for it and its landing pad
 pub record HasNoRoom (spaces : List Space) (words : ℕ) : Type 0 where
   pub first : free_words_of (space_at spaces 0) < words
   pub others : (i : ℕ) → 0 < i → i < length spaces → free_words_of (space_at spaces i) < words + 1
 
--- want of room: the value has a given number of words, and no segment has room for them
-abbrev pub FindsNoRoom : (ℕ → Type 0) → List Space → ErrorKind → Type 0
-FindsNoRoom measured spaces kind = (words : ℕ) × measured words × HasNoRoom spaces words × MayRefuse (words + 1) kind
+-- an allocator refuses a request of a given number of words
+abbrev pub Refuses : {A S : Type 0} → Ghosts A S → A → ℕ → ErrorKind → Type 0
+Refuses alloc allocator asked kind = alloc.refuses allocator asked kind × MayRefuse asked kind
+
+-- a further segment of a given number of words is not had: there are as many segments as there may be, the list of those after the
+-- first can't grow, or the allocator refuses it
+abbrev pub LacksSegment : {A S : Type 0} → Ghosts A S → Held A → ℕ → ErrorKind → Type 0
+LacksSegment alloc held asked kind =
+    ((2 ^ 32 ≤ length held.spaces + 1) × (kind ≡ AllocationTooLarge asked))
+    ⊎ ((length held.spaces + 1 < 2 ^ 32) × (((0 < length held.spaces) × (kind ≡ OutOfMemory)) ⊎ Refuses alloc held.allocator asked kind))
+
+-- want of room in these segments once the old root is cleared: the value has a given number of words, no segment has room for
+-- them, and a further one is not had
+pub record FindsNoRoom {A S : Type 0} (alloc : Ghosts A S) (measured : ℕ → Type 0) (old : Built A) (spaces : List Space) (kind : ErrorKind) : Type 0 where
+  pub words : ℕ
+  pub words_are : measured words
+  pub full : HasNoRoom spaces words
+  -- the allocator that is asked, where there was a segment as it was before the call
+  pub asked : A
+  pub lacks : LacksSegment alloc (record { spaces = spaces; allocator = asked }) (words + 1) kind
+  pub stays : 0 < length old.spaces → asked ≡ old.allocator
+  pub same : alloc.same old.allocator asked
 
 -- the words of a new object, and of one that an init gives
 abbrev pub NewWords : Form → ℕ → Type 0
@@ -67,6 +87,8 @@ pub record IsCleared {A S : Type 0} (alloc : Ghosts A S) (old last : Built A) : 
   pub zero : MatchOption old.location ⊤ (IsZeroAt last.spaces)
   pub size : size_in_words last.spaces ≤ max 1 (size_in_words old.spaces)
   pub rooms : KeepsRooms old.spaces last.spaces
+  -- no other used word changes
+  pub outside : KeepsOutside old.location old.spaces last.spaces
   -- where there was no segment, there is none yet, or one with the root's word alone
   pub new_object : old.spaces ≡ [] → (last.spaces ≡ []) ⊎ HasRootAlone last.spaces
   pub same_allocator : alloc.same old.allocator last.allocator
@@ -104,8 +126,9 @@ pub record IsPut {A S : Type 0} (alloc : Ghosts A S) (measured : ℕ → Type 0)
   pub placed : IsPlaced cleared.spaces new words
   pub first : old.spaces ≡ [] → IsFirst new words
   pub granted : IsGranted alloc old new.spaces
-  -- the old block stays zero
+  -- the old block stays zero, and no other used word changes but the root's
   pub zero : MatchOption old.location ⊤ (IsZeroAt new.spaces)
+  pub outside : KeepsOutside old.location old.spaces new.spaces
 
 -- a new object of such words is placed once the old root is cleared, or the root is the null that this leaves
 pub record IsInit {A S : Type 0} (alloc : Ghosts A S) (measured : ℕ → Type 0) (old new : Built A) : Type 0 where
@@ -113,20 +136,24 @@ pub record IsInit {A S : Type 0} (alloc : Ghosts A S) (measured : ℕ → Type 0
   pub is_cleared : IsCleared alloc old cleared
   pub block : (new ≡ cleared) ⊎ ((words : ℕ) × measured words × IsPlaced cleared.spaces new words × (old.spaces ≡ [] → IsFirst new words))
   pub granted : IsGranted alloc old new.spaces
-  -- the old block stays zero
+  -- the old block stays zero, and no other used word changes but the root's
   pub zero : MatchOption old.location ⊤ (IsZeroAt new.spaces)
+  pub outside : KeepsOutside old.location old.spaces new.spaces
 
--- want of room: once the old root is cleared, no segment has room for a block of such words
+-- want of room: once the old root is cleared, no segment has room for a block of such words, nor is a further one had
 pub record FoundNoRoom {A S : Type 0} (alloc : Ghosts A S) (measured : ℕ → Type 0) (old : Built A) (kind : ErrorKind) : Type 0 where
   pub cleared : Built A
   pub is_cleared : IsCleared alloc old cleared
-  pub no_room : FindsNoRoom measured cleared.spaces kind
+  pub no_room : FindsNoRoom alloc measured old cleared.spaces kind
 
 -- after a look at the root: all is as it was, but that there is a null root where there was no segment
 pub record IsLookedAt {A S : Type 0} (alloc : Ghosts A S) (old last : Built A) : Type 0 where
   pub stays : 0 < length old.spaces → last ≡ old
   pub null_word : old.spaces ≡ [] → HasNullRoot last.spaces
   pub size : size_in_words last.spaces ≤ max 1 (size_in_words old.spaces)
+  -- where there was no segment, there is none yet, or one with the root's word alone
+  pub new_object : old.spaces ≡ [] → (last.spaces ≡ []) ⊎ HasRootAlone last.spaces
+  pub granted : IsGranted alloc old last.spaces
   pub same_allocator : alloc.same old.allocator last.allocator
   -- what else the allocator has out stays out
   pub others : KeepsOthers alloc.out (held_of old) (held_of last)

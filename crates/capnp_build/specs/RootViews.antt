@@ -19,7 +19,7 @@ use Rattle.capnp_build.specs.Held.{used_of, KeepsOthers}
 use Rattle.capnp_build.specs.Built.{Built, held_of, message as words_of_message, ForRoot}
 use Rattle.capnp_build.specs.Placed.{DeclinesRoot, InitWords, IsInit, FoundNoRoom, IsLookedAt}
 use Rattle.capnp_build.specs.Written.{IsWritten}
-use Rattle.capnp_build.specs.Outcomes.{LacksFirst}
+use Rattle.capnp_build.specs.Outcomes.{LacksFirst, FitsFirst, WhereGranted, NotTakenAtHome}
 
 -- What a call keeps that makes the root a new object of length `n` and returns a view that writes it.
 pub record InitsView {A S K M V : Type 0} (alloc : allocator.Ghosts A S) (schema : owned_builder.Ghosts K) (n : ℕ) (built : M → Built A)
@@ -34,8 +34,11 @@ pub record InitsView {A S K M V : Type 0} (alloc : allocator.Ghosts A S) (schema
   pub placed : IfOk result (λ view. IsInit alloc (InitWords schema.inits n) (built old.now) (built (message view).now))
   -- it fails as the type has no such object, as the allocator fails to hand out the first segment, or where no segment
   -- had room once the old root was cleared
-  pub kind : IfErr result (λ error. schema.refuses n error.kind ⊎ LacksFirst (built old.now).spaces error.kind
+  pub kind : IfErr result (λ error. schema.refuses n error.kind ⊎ LacksFirst alloc (built old.now) error.kind
       ⊎ FoundNoRoom alloc (InitWords schema.inits n) (built old.now) error.kind)
+  -- an object that the type has is made where the first segment has room
+  pub fits : FitsFirst alloc (InitWords schema.inits n) (built old.now) (IfErr result (λ error. schema.refuses n error.kind))
+  pub home : NotTakenAtHome alloc (schema.refuses n) (built old.now) result
   pub allocator : IfOk result (λ view. alloc.same (built old.now).allocator (built (message view).now).allocator)
   -- what else the allocator has out stays out
   pub others : IfOk result (λ view. KeepsOthers alloc.out (held_of (built old.now)) (held_of (built (message view).now)))
@@ -52,8 +55,11 @@ pub record GetsView {A S K M V : Type 0} (alloc : allocator.Ghosts A S) (schema 
   -- what else the allocator has out stays out
   pub others : IfOk result (λ view. KeepsOthers alloc.out (held_of (built old.now)) (held_of (built (message view).now)))
   -- it fails as the allocator fails to hand out the first segment, or as the type declines the root
-  pub kind : IfErr result (λ error. LacksFirst (built old.now).spaces error.kind
+  pub kind : IfErr result (λ error. LacksFirst alloc (built old.now) error.kind
       ⊎ DeclinesRoot schema.declines (built old.now).spaces error.kind)
+  -- where it has to be granted, the first segment is
+  pub granted : WhereGranted alloc (built old.now) (IfErr result (λ error. DeclinesRoot schema.declines (built old.now).spaces error.kind))
+  pub home : NotTakenAtHome alloc (DeclinesRoot schema.declines (built old.now).spaces) (built old.now) result
 
 -- What writing into the root's object keeps: a relation of the segments before and after says what is written.
 pub record WritesRoot {A : Type 0} (writes : List Space → List Space → Type 0) (old new : Built A) : Type 0 where

@@ -1,11 +1,11 @@
 -- What views write into the root's object, by its tree.
-use Rattle.std.specs.Prelude.{◌≡◌, ℕ, ◌+◌, ◌<◌, ◌≤◌, List, [], ◌∷◌, length, slice_set}
+use Rattle.std.specs.Prelude.{⊤, ◌≡◌, ℕ, ◌+◌, ◌<◌, ◌≤◌, List, [], ◌∷◌, length, take, drop, MatchOption, slice_set}
 use Rattle.capnp_wire.specs.Tree.{struct, numbers, Trees, none, tree}
 use Rattle.capnp_wire.specs.Reached.{At, root}
 use Rattle.capnp_build.specs.Bytes.{Space, written}
 use Rattle.capnp_build.specs.Out.{Out}
-use Rattle.capnp_build.specs.Held.{pairs as pairs_of}
-use Rattle.capnp_build.specs.Built.{Built, message, size_in_words}
+use Rattle.capnp_build.specs.Held.{space_at, pairs as pairs_of}
+use Rattle.capnp_build.specs.Built.{Built, message, size_in_words, LiesOutside}
 
 -- the root is a struct with such a data word
 pub record HasField (spaces : List Space) (index : ℕ) : Type 0 where
@@ -52,5 +52,8 @@ pub record IsWritten {A : Type 0} (old new : Built A) : Type 0 where
   pub location : new.location ≡ old.location
   pub count : length new.spaces ≡ length old.spaces
   pub size : size_in_words new.spaces ≡ size_in_words old.spaces
+  -- the used bytes outside of the root's body stay
+  pub outside : (i from n : ℕ) → MatchOption old.location ⊤ (LiesOutside i from n) → from + n ≤ length (space_at old.spaces i).used
+      → take n (drop from (space_at new.spaces i).used) ≡ take n (drop from (space_at old.spaces i).used)
   pub allocator : new.allocator ≡ old.allocator
   pub pairs : (others : List Out) → pairs_of new.spaces others ≡ pairs_of old.spaces others

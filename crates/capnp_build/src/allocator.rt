@@ -1,5 +1,6 @@
 //! What hands out segments and takes them back.
 ghost use Rattle.std.specs.Prelude.{◌≡◌, ℕ, ◌+◌, ◌*◌, ◌/◌, ◌^◌, ◌<◌, ◌≤◌, ◌⊎◌, List, length};
+ghost use Rattle.capnp_frame.specs.declared.error.ErrorKind.{ErrorKind};
 ghost use Rattle.capnp_frame.specs.Source.{IsPreorder};
 ghost use Rattle.capnp_build.specs.Bytes.{ZeroFrom};
 ghost use Rattle.capnp_build.specs.Out.{Out, IsOut};
@@ -13,9 +14,10 @@ use capnp_frame::Result;
 /// For implementers: `out` says which segments may be out, each by its length in bytes and whether
 /// it is caller-provided. `same` is what each call keeps, as the caller-provided region of an
 /// allocator. `grants` says which requests have to be granted, where an allocator can promise that:
-/// memory is never sure to be there. `returns` says what a return does, by the segment and its used
-/// words; an allocator for which nothing depends on these leaves it open, and code over any
-/// allocator still shows that it returns just these words.
+/// memory is never sure to be there. `refuses` says how a request may be refused, and `returns` what
+/// a return does, by the segment and its used words. An allocator for which nothing depends on these
+/// two leaves them open, and code over any allocator still shows that it asked for just these words
+/// where it was refused, and that it returns just these words.
 pub trait Allocator: Drop {
     /// The bytes of a segment.
     type Segment: SegmentSpace;
@@ -30,6 +32,9 @@ pub trait Allocator: Drop {
     /// words.
     ghost grants: { Self → ℕ → ℕ → Type 0 };
 
+    /// A request of a given number of words may be refused so.
+    ghost refuses: { Self → ℕ → ErrorKind → Type 0 };
+
     /// A return of a segment, of which this many words were used, leads from the one allocator to
     /// the other.
     ghost returns: { Self → Out → ℕ → Self → Type 0 };
@@ -39,7 +44,7 @@ pub trait Allocator: Drop {
     /// Fails with `OutOfMemory`, with `AllocationTooLarge` of the words asked, or with
     /// `SegmentTaken`, alone; with the last only while a segment is out that is large enough.
     fn allocate_segment(&mut self, minimum_size: u32) -> Result<Self::Segment>
-        ensures { HandsOut out same grants Self.Segment.content Self.Segment.is_provided
+        ensures { HandsOut out same grants refuses Self.Segment.content Self.Segment.is_provided
             minimum_size self.old self.new result };
 
     /// Takes a segment back, of which the first words were used. The rest of it is zero.
@@ -70,6 +75,8 @@ impl<A: Allocator> Allocator for &mut A {
     ghost same = { λ old new. (new.ghost_name ≡ old.ghost_name) × A.same old.now new.now };
 
     ghost grants = { λ allocator asked words. A.grants allocator.now asked words };
+
+    ghost refuses = { λ allocator asked kind. A.refuses allocator.now asked kind };
 
     ghost returns = { λ old segment words new. (new.ghost_name ≡ old.ghost_name) × A.returns old.now segment words new.now };
 

@@ -134,7 +134,7 @@ pub fn init<M: Building, K: OwnedBuilder>(message: &mut M, n: u32) -> Result<()>
         (M.built message.old) (M.built message.new) result }
     // The error by what the message was before the call.
     ensures no_room { IfErr result (λ error. K.refuses n error.kind
-        ⊎ LacksFirst (M.built message.old).spaces error.kind
+        ⊎ LacksFirst M.Allocator.Allocator (M.built message.old) error.kind
         ⊎ FoundNoRoom M.Allocator.Allocator (InitWords K.inits n) (M.built message.old) error.kind) }
 {
     message.init_object::<K>(n)

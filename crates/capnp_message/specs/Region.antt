@@ -1,6 +1,8 @@
 -- One caller-provided region: at home, or away (src/scratch_space.rt, src/single_segment.rt).
-use Rattle.std.specs.Prelude.{◌≡◌, ℕ, ◌/◌, ◌≤◌, true, List, [], ◌∷◌, length, Option, Some, None, IfSome, IsSome, MatchOption, refl}
+use Rattle.std.specs.Prelude.{◌≡◌, ◌⊎◌, ℕ, ◌/◌, ◌<◌, ◌≤◌, true, List, [], ◌∷◌, length, Option, Some, None, IfSome, IsSome, MatchOption, refl}
 use Rattle.std.specs.Borrow.{MutBor}
+use Rattle.capnp_frame.specs.declared.error.ErrorKind.{ErrorKind}
+use Rattle.capnp_frame.specs.declared.error.ErrorKind.TheVariants.{AllocationTooLarge, SegmentTaken}
 use Rattle.capnp_build.specs.Bytes.{ZeroFrom}
 use Rattle.capnp_build.specs.Out.{Out, provided_of}
 
@@ -25,6 +27,11 @@ pub record IsHome (region : Option (MutBor (List ℕ))) (size : ℕ) : Type 0 wh
 -- while it is at home a request of no more words than it has is granted, by the region
 abbrev pub GrantsRegion : {X : Type 0} → Option X → ℕ → ℕ → ℕ → Type 0
 GrantsRegion region size asked words = IsSome region × (asked ≤ size / 8) × (words ≡ size / 8)
+
+-- a request of more words than it has is refused, and while it is away any other one
+abbrev pub RefusesRegion : {X : Type 0} → Option X → ℕ → ℕ → ErrorKind → Type 0
+RefusesRegion region size asked kind =
+    ((size / 8 < asked) × (kind ≡ AllocationTooLarge asked)) ⊎ ((asked ≤ size / 8) × (region ≡ None) × (kind ≡ SegmentTaken))
 
 -- either way some segments are out, if only none
 pub some_out : {X : Type 0} (region : Option X) (size : ℕ) → (list : List Out) × IsOutAlone region size list

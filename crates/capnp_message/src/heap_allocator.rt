@@ -124,13 +124,15 @@ impl Allocator for HeapAllocator {
     // Memory is never sure to be there.
     ghost grants = { λ allocator asked words. ⊥ };
 
+    ghost refuses = { λ allocator asked kind. kind ≡ OutOfMemory };
+
     // The next size is the suggested first one again, or the maximum.
     ghost returns = { λ old segment words new. StartsAnew old new };
 
     // Beside what any allocator ensures: how many words there are, and what the next size is.
     fn allocate_segment(&mut self, minimum_size: u32) -> Result<Vec<u8>>
         ensures hands_out { HandsOut (λ allocator list. ⊤) (λ old new. ⊤) (λ allocator asked words. ⊥)
-            (λ s. s.items) (λ s. false)
+            (λ allocator asked kind. kind ≡ OutOfMemory) (λ s. s.items) (λ s. false)
             minimum_size self.old self.new result }
         ensures kind { IfErr result (λ error. error.kind ≡ OutOfMemory) }
         ensures size { IfOk result (λ s.

@@ -139,6 +139,8 @@ impl<'a> Allocator for ScratchSpaceHeapAllocator<'a> {
 
     ghost grants = { λ allocator. GrantsRegion allocator.region allocator.size };
 
+    ghost refuses = { λ allocator asked kind. kind ≡ OutOfMemory };
+
     // The region is back, or the heap is as after a return to it.
     ghost returns = { λ old segment words new. ReturnsTo segment.is_provided old new };
 
@@ -147,7 +149,8 @@ impl<'a> Allocator for ScratchSpaceHeapAllocator<'a> {
     fn allocate_segment(&mut self, minimum_size: u32) -> Result<ScratchSegment<'a>>
         ensures hands_out { HandsOut (λ allocator. IsProvidedAlone allocator.region allocator.size)
             (λ old new. new.size ≡ old.size)
-            (λ allocator. GrantsRegion allocator.region allocator.size) scratch_bytes scratch_provided
+            (λ allocator. GrantsRegion allocator.region allocator.size)
+            (λ allocator asked kind. kind ≡ OutOfMemory) scratch_bytes scratch_provided
             minimum_size self.old self.new result }
         ensures provided { minimum_size ≤ self.old.size / 8 → IsSome self.old.region →
             IsOk result × IfOk result (λ s. scratch_provided s ≡ true) }

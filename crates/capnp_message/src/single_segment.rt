@@ -5,7 +5,7 @@ ghost use Rattle.std.specs.Result.{IsErrAnd};
 ghost use Rattle.capnp_frame.specs.declared.error.ErrorKind.TheVariants.{AllocationTooLarge, SegmentTaken};
 ghost use Rattle.capnp_build.specs.Bytes.{ZeroFrom};
 ghost use Rattle.capnp_build.specs.Out.{TakesOff, IsOut};
-ghost use Rattle.capnp_message.specs.Region.{IsOutAlone, GrantsRegion, region_out, HoldsRegion};
+ghost use Rattle.capnp_message.specs.Region.{IsOutAlone, GrantsRegion, RefusesRegion, region_out, HoldsRegion};
 ghost use Rattle.capnp_build.specs.Allocating.{HandsOut};
 
 use capnp_build::allocator::Allocator;
@@ -56,13 +56,16 @@ impl<'a> Allocator for SingleSegmentAllocator<'a> {
 
     ghost grants = { λ allocator. GrantsRegion allocator.region allocator.size };
 
+    ghost refuses = { λ allocator. RefusesRegion allocator.region allocator.size };
+
     ghost returns = { λ old segment words new. IsHome new.region old.size };
 
     // Beside what any allocator ensures: when it fails, and with which kind.
     fn allocate_segment(&mut self, minimum_size: u32) -> Result<&'a mut [u8]>
         ensures hands_out { HandsOut (λ allocator. IsOutAlone allocator.region allocator.size)
             (λ old new. new.size ≡ old.size)
-            (λ allocator. GrantsRegion allocator.region allocator.size) (λ s. s.now) (λ s. true)
+            (λ allocator. GrantsRegion allocator.region allocator.size)
+            (λ allocator. RefusesRegion allocator.region allocator.size) (λ s. s.now) (λ s. true)
             minimum_size self.old self.new result }
         ensures too_large { self.old.size / 8 < minimum_size →
             IsErrAnd result (λ error. error.kind ≡ AllocationTooLarge minimum_size) }

@@ -3,6 +3,7 @@
 mod allocators;
 mod any_objects;
 mod arenas;
+mod asked;
 mod builders;
 mod canonical_messages;
 mod canonical_words;

@@ -14,7 +14,8 @@ use Rattle.capnp_wire.proofs.pointers.FaultLemmas.{word_of_object}
 use Rattle.capnp_wire.proofs.views.OneValueLemmas.{one_there}
 use Rattle.capnp_frame.specs.Sink.{Adds, ByKind}
 use Rattle.capnp_build.specs.Bytes.{Space}
-use Rattle.capnp_build.specs.Built.{message, IsSet, IsWhole}
+use Rattle.capnp_build.specs.declared.allocator.Allocator.{Ghosts}
+use Rattle.capnp_build.specs.Built.{Built, message, IsSet, IsWhole}
 use Rattle.capnp_build.specs.Placed.{DeclinesRoot}
 use Rattle.capnp_build.specs.Outcomes.{LacksFirst}
 use Rattle.capnp.proofs.ChunkLemmas.{framed_memory}
@@ -38,15 +39,16 @@ root_has_segment [] form held traversed (at {shape = shape} points inside others
 root_has_segment (space ∷ spaces) form held traversed stands = omega arith
 
 -- a type that declines the root declines the tree that was set
-declined_at : (p : Pointer) (spaces : List Space) (kind : ErrorKind) (trees : Trees) (traversed : ℕ) → LeadsToTree p trees → At (message spaces) (root ∷ []) trees traversed
-    → LacksFirst spaces kind ⊎ DeclinesRoot DeclinesStruct spaces kind → (form : Form) × (held : Trees) × LeadsToTree p (tree form held none) × DeclinesStruct form kind
-declined_at p [] kind trees traversed leads (at {shape = shape} points inside others) declined = absurd (word_of_object [] root shape refl points)
-declined_at p (space ∷ spaces) kind trees traversed leads (at points inside nowhere) (inl lacks) = absurd (omega (arith, lacks.0))
-declined_at p (space ∷ spaces) kind trees traversed leads (at points inside nowhere) (inr declined) = (_, _, leads, declined _ _ _ (at points inside nowhere))
+declined_at : {A S : Type 0} (alloc : Ghosts A S) (p : Pointer) (old : Built A) (spaces : List Space) (kind : ErrorKind) (trees : Trees) (traversed : ℕ) → LeadsToTree p trees → At (message spaces) (root ∷ []) trees traversed
+    → old.spaces ≡ spaces → LacksFirst alloc old kind ⊎ DeclinesRoot DeclinesStruct spaces kind → (form : Form) × (held : Trees) × LeadsToTree p (tree form held none) × DeclinesStruct form kind
+declined_at alloc p old [] kind trees traversed leads (at {shape = shape} points inside others) same declined = absurd (word_of_object [] root shape refl points)
+declined_at alloc p old (space ∷ spaces) kind trees traversed leads (at points inside nowhere) same (inl lacks) = absurd (omega (arith, ap length same, lacks.0))
+declined_at alloc p old (space ∷ spaces) kind trees traversed leads (at points inside nowhere) same (inr declined) = (_, _, leads, declined _ _ _ (at points inside nowhere))
 
-pub declined_tree : (p : Pointer) (spaces : List Space) (kind : ErrorKind) → IsSet (LeadsToTree p) false spaces → LacksFirst spaces kind ⊎ DeclinesRoot DeclinesStruct spaces kind
+pub declined_tree : {A S : Type 0} (alloc : Ghosts A S) (p : Pointer) (old : Built A) (kind : ErrorKind) → IsSet (LeadsToTree p) false old.spaces
+    → LacksFirst alloc old kind ⊎ DeclinesRoot DeclinesStruct old.spaces kind
     → (form : Form) × (held : Trees) × LeadsToTree p (tree form held none) × DeclinesStruct form kind
-declined_tree p spaces kind set declined = declined_at p spaces kind set.trees set.traversed set.tree_is set.stands declined
+declined_tree alloc p old kind set declined = declined_at alloc p old old.spaces kind set.trees set.traversed set.tree_is set.stands refl declined
 
 -- why what was set is not written to memory
 pub not_written : (message : List (List ℕ)) (error : Error) → RefusesWriter (ByKind OutOfMemory) message error.kind → (error.kind ≡ DeviceFailed → Fails 0 0)

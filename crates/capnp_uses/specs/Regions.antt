@@ -1,8 +1,18 @@
 -- What stands in a region that the caller provides.
-use Rattle.std.specs.Prelude.{◌≡◌, ℕ, ◌+◌, length}
+use Rattle.std.specs.Prelude.{◌≡◌, ◌⊎◌, ℕ, ◌+◌, ◌≤◌, false, length}
+use Rattle.capnp_frame.specs.declared.error.ErrorKind.{ErrorKind}
+use Rattle.capnp_frame.specs.declared.error.ErrorKind.TheVariants.{OutOfMemory, AllocationTooLarge}
+use Rattle.capnp_wire.specs.Tree.{Trees}
+use Rattle.capnp_wire.specs.Values.{HasWords}
 use Rattle.capnp_build.specs.Built.{Built, size_in_words}
 use Rattle.capnp_build.specs.Placed.{StandsAt}
 
 -- a block of a given number of words stands just after the root's word in the one segment, and nothing else
 abbrev pub StandsAlone : {A : Type 0} → Built A → ℕ → Type 0
 StandsAlone message words = StandsAt message.location 0 1 words × (length message.spaces ≡ 1) × (size_in_words message.spaces ≡ 1 + words)
+
+-- a region of a given number of words has none for the root, or not those of a value after it: it is asked for one more, unless
+-- the list of segments can't grow
+abbrev pub LacksRegion : (Trees → Type 0) → ℕ → ErrorKind → Type 0
+LacksRegion has_tree room kind = ((room ≡ 0) × (kind ≡ AllocationTooLarge 1))
+    ⊎ ((words : ℕ) × HasWords has_tree false words × (room ≤ words) × ((kind ≡ AllocationTooLarge (words + 1)) ⊎ (kind ≡ OutOfMemory)))

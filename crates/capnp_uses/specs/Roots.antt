@@ -15,7 +15,7 @@ use Rattle.capnp_build.specs.declared.allocator.Allocator.{Ghosts}
 use Rattle.capnp_build.specs.Bytes.{Space}
 use Rattle.capnp_build.specs.Built.{Built}
 use Rattle.capnp_build.specs.Placed.{FindsNoRoom, FoundNoRoom, InitWords}
-use Rattle.capnp_build.specs.Outcomes.{LacksFirst, RefusesCanonical}
+use Rattle.capnp_build.specs.Outcomes.{LacksFirst, StopsFirst, RefusesCanonical}
 use Rattle.capnp.specs.declared.streams.Format.TheVariants.{Packed}
 use Rattle.capnp.specs.Streams.{StandsNext, EndsBy}
 use Rattle.capnp_build.specs.Held.{used_of}
@@ -30,17 +30,16 @@ HasRootForm spaces form = HasPlainRoot (map used_of spaces) form
 
 -- An object of this form is not made the root: the first segment is not handed out, or none has room once the old root is cleared.
 abbrev pub LacksRoom : {A S : Type 0} → Ghosts A S → Form → Built A → ErrorKind → Type 0
-LacksRoom alloc form old kind = LacksFirst old.spaces kind ⊎ FoundNoRoom alloc (InitWords (λ n made. made ≡ form) 0) old kind
+LacksRoom alloc form old kind = LacksFirst alloc old kind ⊎ FoundNoRoom alloc (InitWords (λ n made. made ≡ form) 0) old kind
 
 -- The root is not set to a value: measuring it fails, the first segment is not handed out, or none has room.
-abbrev pub RefusesRoot : {A : Type 0} → (Trees → Type 0) → (ErrorKind → Type 0) → Built A → Built A → ErrorKind → Type 0
-RefusesRoot has_tree refuses old new kind =
-    LacksWords has_tree refuses false kind ⊎ LacksFirst old.spaces kind ⊎ FindsNoRoom (HasWords has_tree false) new.spaces kind
+abbrev pub RefusesRoot : {A S : Type 0} → Ghosts A S → (Trees → Type 0) → (ErrorKind → Type 0) → Built A → Built A → ErrorKind → Type 0
+RefusesRoot alloc has_tree refuses old new kind =
+    LacksWords has_tree refuses false kind ⊎ StopsFirst alloc old new.spaces kind ⊎ FindsNoRoom alloc (HasWords has_tree false) old new.spaces kind
 
 -- nor to its canonical form
-abbrev pub RefusesForm : {A : Type 0} → (Trees → Type 0) → (ErrorKind → Type 0) → Built A → Built A → ErrorKind → Type 0
-RefusesForm has_tree refuses old new kind =
-    ((new.spaces ≡ []) × LacksFirst old.spaces kind) ⊎ RefusesCanonical has_tree refuses new.spaces kind
+abbrev pub RefusesForm : {A S : Type 0} → Ghosts A S → (Trees → Type 0) → (ErrorKind → Type 0) → Built A → Built A → ErrorKind → Type 0
+RefusesForm alloc has_tree refuses old new kind = StopsFirst alloc old new.spaces kind ⊎ RefusesCanonical has_tree refuses new.spaces kind
 
 -- No struct is read at the root of a packed message: memory is wanting, no message stands there, or its root is refused.
 abbrev pub RefusesPackedStruct : List ℕ → ErrorKind → Type 0

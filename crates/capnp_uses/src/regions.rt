@@ -2,10 +2,9 @@
 ghost use Rattle.std.specs.Prelude.{◌≡◌, ◌⊎◌, ℕ, ◌+◌, ◌/◌, ◌^◌, ◌<◌, false, length, IfOk, IfErr, IsOk};
 ghost use Rattle.capnp_frame.specs.declared.error.ErrorKind.TheVariants.{SegmentTaken};
 ghost use Rattle.capnp_wire.specs.Values.{HasWords, LacksWords};
-ghost use Rattle.capnp_build.specs.Out.{MayRefuse};
 ghost use Rattle.capnp_build.specs.Built.{IsSet};
 ghost use Rattle.capnp_message.specs.Region.{IsHome};
-ghost use Rattle.capnp_uses.specs.Regions.{StandsAlone};
+ghost use Rattle.capnp_uses.specs.Regions.{StandsAlone, LacksRegion};
 
 use capnp_frame::Result;
 use capnp_message::laws::a_single_region_comes_home;
@@ -30,9 +29,8 @@ pub fn set_in_region<'a, T, V: SetterInput<T> + Drop>(
         LacksWords (V.has_tree value) (V.refuses value) false error.kind) }
     // It fails as measuring the value does, or for want of room.
     ensures refused { IfErr result (λ error.
-        LacksWords (V.has_tree value) (V.refuses value) false error.kind ⊎ MayRefuse 1 error.kind
-        ⊎ ((words : ℕ) × HasWords (V.has_tree value) false words
-        × MayRefuse (words + 1) error.kind)) }
+        LacksWords (V.has_tree value) (V.refuses value) false error.kind
+        ⊎ LacksRegion (V.has_tree value) (length region.old / 8) error.kind) }
 {
     let mut message = Builder::new(alloc, SingleSegmentAllocator::new(region));
     message.set_root::<T, V>(value)?;

@@ -23,7 +23,7 @@ pub fn copy_root<S: ReaderSegments, A: Allocator>(
         (IsSet (LeadsToTree (root_of S.segments reader.now)) false message.new.spaces) }
     ensures refused { let pointer = root_of S.segments reader.now in IfErr result (λ error.
         NoWord pointer.message root error.kind
-        ⊎ RefusesRoot (LeadsToTree pointer) (StopsWalkFrom pointer)
+        ⊎ RefusesRoot A.Allocator (LeadsToTree pointer) (StopsWalkFrom pointer)
         message.old message.new error.kind) }
 {
     let root: any_pointer::Reader<'_, S> = reader.get_root()?;
@@ -35,7 +35,8 @@ pub fn set_text_is_read_back<A: Allocator>(message: &mut Builder<A>, text: &str)
     ensures back { IfOk result (λ same. same ≡ true) }
     ensures set { OnOk result (IsSet (λ trees. IsTextTree text.now trees) false message.new.spaces) }
     ensures cleared { OnErr result (IsCleared A.Allocator message.old message.new) }
-    ensures refused { IfErr result (λ error. RefusesRoot (IsTextTree text.now) (LongText text.now)
+    ensures refused { IfErr result (λ error.
+        RefusesRoot A.Allocator (IsTextTree text.now) (LongText text.now)
         message.old message.new error.kind) }
 {
     message.set_root::<text::Owned, &str>(text)?;

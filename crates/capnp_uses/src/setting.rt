@@ -34,7 +34,8 @@ pub fn set_tree<A: Allocator, S: ReaderSegments>(
     ensures stands { OnOk result
         (IsSet (LeadsToTree (pointer_of S.segments source.entry)) false built.new.spaces) }
     ensures refused { let pointer = pointer_of S.segments source.entry in IfErr result (λ error.
-        RefusesRoot (LeadsToTree pointer) (StopsWalkFrom pointer) built.old built.new error.kind) }
+        RefusesRoot A.Allocator (LeadsToTree pointer) (StopsWalkFrom pointer)
+        built.old built.new error.kind) }
 {
     built.set_root::<any_pointer::Owned, any_pointer::Reader<'_, S>>(source)
 }
@@ -51,7 +52,7 @@ pub fn set_tree_and_word<A: Allocator, S: ReaderSegments>(
         × Root (message built.new.spaces) (struct (slice_set words 0 word)) held traversed) }
     // It fails as setting the root does, or where what is set is no struct.
     ensures refused { let pointer = pointer_of S.segments source.entry in IfErr result (λ error.
-        ((last : Built A) × RefusesRoot (LeadsToTree pointer) (StopsWalkFrom pointer)
+        ((last : Built A) × RefusesRoot A.Allocator (LeadsToTree pointer) (StopsWalkFrom pointer)
         built.old last error.kind)
         ⊎ ((form : Form) × (held : Trees) × LeadsToTree pointer (tree form held none)
         × DeclinesStruct form error.kind)) }
@@ -73,7 +74,8 @@ pub fn set_canonical<A: Allocator, S: ReaderSegments>(
     ensures set { (trees : Trees) → LeadsToTree (pointer_of S.segments source.entry) trees →
         OnOk result (message built.new.spaces ≡ canon trees ∷ []) }
     ensures refused { let pointer = pointer_of S.segments source.entry in IfErr result (λ error.
-        RefusesForm (LeadsToTree pointer) (StopsWalkFrom pointer) built.old built.new error.kind) }
+        RefusesForm A.Allocator (LeadsToTree pointer) (StopsWalkFrom pointer)
+        built.old built.new error.kind) }
 {
     built.set_root_canonical::<any_pointer::Owned, any_pointer::Reader<'_, S>>(source)
 }
@@ -87,7 +89,7 @@ pub fn set_and_write<T, V: SetterInput<T> + Drop, A: Allocator>(
     ensures set { OnOk result (IsSet (V.has_tree value) false built.new.spaces) }
     ensures written { IfOk result (λ text. IsFrameText (output_of built.new) text.items) }
     ensures refused { IfErr result (λ error.
-        RefusesRoot (V.has_tree value) (V.refuses value) built.old built.new error.kind
+        RefusesRoot A.Allocator (V.has_tree value) (V.refuses value) built.old built.new error.kind
         ⊎ RefusesMany (output_of built.new) error.kind ⊎ (error.kind ≡ ErrorKind.OutOfMemory)) }
 {
     built.set_root::<T, V>(value)?;
@@ -105,7 +107,7 @@ pub fn set_canonical_and_write<T, V: SetterInput<T> + Drop, A: Allocator>(
     ensures set { OnOk result (IsSet (V.has_tree value) true built.new.spaces) }
     ensures written { IfOk result (λ text. IsFrameText (output_of built.new) text.items) }
     ensures refused { IfErr result (λ error.
-        RefusesForm (V.has_tree value) (V.refuses value) built.old built.new error.kind
+        RefusesForm A.Allocator (V.has_tree value) (V.refuses value) built.old built.new error.kind
         ⊎ RefusesMany (output_of built.new) error.kind ⊎ (error.kind ≡ ErrorKind.OutOfMemory)) }
 {
     built.set_root_canonical::<T, V>(value)?;

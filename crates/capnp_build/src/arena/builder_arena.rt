@@ -1,8 +1,7 @@
 //! The arena that a message is built in.
 ghost use Rattle.std.specs.Prelude.{⊤, MatchOption, ◌≡◌, ℕ, ◌+◌, ◌-◌, ◌*◌, ◌/◌, ◌<◌, ◌≤◌, [], ◌∷◌, length, map, max, slice_index_or, take, drop, Some, None, IfErr, IsOk, OnOk, OnErr};
-ghost use Rattle.capnp_build.specs.Out.{MayRefuse};
 ghost use Rattle.capnp_build.specs.Held.{used_of, space_at};
-ghost use Rattle.capnp_build.specs.Built.{held_of, ForRoot, IsRootKind, size_in_words, message, HasNullRoot, Built};
+ghost use Rattle.capnp_build.specs.Built.{held_of, ForRoot, IsRootKind, size_in_words, message, HasNullRoot, KeepsOutside, Built};
 ghost use Rattle.capnp_build.specs.Placed.{HasRootAlone, IsZeroAt, KeepsRooms};
 ghost use Rattle.capnp_build.specs.RootKind.{ShowsRoot, HoldsForm};
 ghost use Rattle.capnp_build.specs.Output.{CanBeWritten};
@@ -10,7 +9,7 @@ ghost use Rattle.capnp_wire.specs.Tree.{Form, Trees, none, tree, count};
 ghost use Rattle.capnp_wire.specs.Reached.{At, root};
 ghost use Rattle.capnp_wire.specs.Layout.{pointer};
 ghost use Rattle.capnp_wire.specs.Readers.{pointer_of, unlimited_root};
-ghost use Rattle.capnp_build.specs.Outcomes.{ClearsRoot, EnsuresRoot, NotTakenAtHome, IsNewMessage, GivesBack};
+ghost use Rattle.capnp_build.specs.Outcomes.{ClearsRoot, EnsuresRoot, LacksFirst, NotTakenAtHome, IsNewMessage, GivesBack};
 ghost use Rattle.capnp_build.specs.Blocks.{LeavesNull};
 ghost use Rattle.capnp_build.specs.RootViews.{HoldsTree};
 
@@ -67,9 +66,11 @@ impl<A: Allocator> BuilderArena<A> {
         ensures null_word { HasNullRoot self.new.spaces }
         ensures zero { MatchOption self.old.location ⊤ (IsZeroAt self.new.spaces) }
         ensures following { MatchOption self.old.location ⊤ (λ location. 0 < location.start) }
+        ensures outside { KeepsOutside self.old.location self.old.spaces self.new.spaces }
         ensures there { OnOk result (0 < length self.new.spaces) }
         ensures none { OnErr result (self.new.spaces ≡ []) }
-        ensures kind { IfErr result (λ error. (length self.old.spaces ≡ 0) × MayRefuse 1 error.kind) }
+        ensures kind { IfErr result (λ error. LacksFirst A.Allocator self.old error.kind) }
+        ensures stays { 0 < length self.old.spaces → self.new.allocator ≡ self.old.allocator }
         ensures size { OnOk result (size_in_words self.new.spaces ≡ max 1 (size_in_words self.old.spaces)) }
         ensures rooms { KeepsRooms self.old.spaces self.new.spaces }
         ensures new_object { self.old.spaces ≡ [] → OnOk result (HasRootAlone self.new.spaces) }

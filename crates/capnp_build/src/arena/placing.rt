@@ -1,10 +1,10 @@
 //! Where the block of a value goes, and the pointer to it.
 ghost use Rattle.std.specs.Prelude.{◌≡◌, ℕ, ◌+◌, ◌-◌, ◌*◌, ◌/◌, ◌^◌, ◌<◌, ◌≤◌, List, length, Some, None, IfOk, IfErr, OnErr};
 ghost use Rattle.capnp_frame.specs.declared.error.ErrorKind.TheVariants.{SegmentTaken};
-ghost use Rattle.capnp_build.specs.Out.{Out, HasLarge, MayRefuse};
+ghost use Rattle.capnp_build.specs.Out.{Out, HasLarge};
 ghost use Rattle.capnp_build.specs.Held.{space_at, free_words_of, pairs};
-ghost use Rattle.capnp_build.specs.Built.{IsSet, IsWhole};
-ghost use Rattle.capnp_build.specs.Placed.{IsAdded};
+ghost use Rattle.capnp_build.specs.Built.{held_of, IsSet, IsWhole};
+ghost use Rattle.capnp_build.specs.Placed.{LacksSegment, IsAdded};
 ghost use Rattle.capnp_wire.specs.Tree.{count};
 ghost use Rattle.capnp_wire.specs.Reached.{root};
 ghost use Rattle.capnp_wire.specs.Layout.{pointer};
@@ -29,7 +29,7 @@ impl<A: Allocator> BuilderArena<A> {
         ensures leaves { LeavesNull A.Allocator self.old self.new }
         ensures kept { OnErr result (self.new.spaces ≡ self.old.spaces) }
         ensures full { OnErr result ((i : ℕ) → 0 < i → i < length self.old.spaces → free_words_of (space_at self.old.spaces i) < words) }
-        ensures kind { IfErr result (λ error. MayRefuse words error.kind) }
+        ensures kind { IfErr result (λ error. LacksSegment A.Allocator (held_of self.old) words error.kind) }
         ensures taken { IfErr result (λ error. error.kind ≡ SegmentTaken → (others : List Out) →
             A.out self.old.allocator (pairs self.old.spaces others) →
             HasLarge words (pairs self.old.spaces others)) }

@@ -29,6 +29,8 @@ impl Allocator for WordsAllocator {
 
     ghost grants = { λ allocator asked words. ⊥ };
 
+    ghost refuses = { λ allocator asked kind. ⊤ };
+
     ghost returns = { λ old segment words new. ⊤ };
 
     fn allocate_segment(&mut self, minimum_size: u32) -> Result<Vec<u8>> {

@@ -1,15 +1,20 @@
 -- The tree that was set stands where the message is read.
-use Rattle.std.proofs.Common.{inr}
+use Rattle.std.proofs.Common.{inl}
 use Rattle.capnp_frame.proofs.AskLemmas.{passed_on}
-use Rattle.capnp.proofs.RootLemmas.{has_segment, tree_again}
+use Rattle.capnp.proofs.RootLemmas.{has_segment, tree_again, unread}
 use Rattle.capnp.proofs.roots.set_and_read_back.Goals as goal
 
 pub returns-in_err-set_root-clause-refused : goal.returns-in_err-set_root-clause-refused
-returns-in_err-set_root-clause-refused g c = passed_on _ _ c.from_residual.ensures.1 (inr (inr (inr c.in_err-set_root.ensures.kind)))
+returns-in_err-set_root-clause-refused g c = passed_on _ _ c.from_residual.ensures.1 (inl (record { cleared = c.in_err-set_root.ensures.nulled; refused = c.in_err-set_root.ensures.kind }))
 
 pub write_and_read_back-requires : goal.write_and_read_back-requires
 write_and_read_back-requires g c =
     let set = c.in_ok-set_root.ensures.set in has_segment _ _ _ set.stands
+
+pub returns-clause-refused : goal.returns-clause-refused
+returns-clause-refused g c =
+    let sets = c.in_ok-set_root.ensures in
+    unread g.A.Allocator (g.V.SetterInput.has_tree c.args.value) (g.V.SetterInput.refuses c.args.value) _ _ _ c.write_and_read_back.result sets.set sets.placed c.write_and_read_back.ensures.refused
 
 pub returns-clause-tree : goal.returns-clause-tree
 returns-clause-tree g c =

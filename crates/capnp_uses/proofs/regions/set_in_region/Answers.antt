@@ -1,9 +1,10 @@
 -- The region is granted as the first segment, and has room.
-use Rattle.std.proofs.Common.{inr, ◌/◌, [], refl, sym, subst, arith}
+use Rattle.std.proofs.Common.{inl, inr, ◌/◌, ◌≤◌, [], length, refl, ap, sym, subst, ◌∙◌, arith}
+use Rattle.std.proofs.lemmas.Bool.{cases_lt}
 use Rattle.std.proofs.lemmas.Result.{err_from_is_err_and}
-use Rattle.capnp_message.specs.Region.{GrantsRegion, IsOutAlone}
+use Rattle.capnp_message.specs.Region.{GrantsRegion, RefusesRegion, IsOutAlone}
 use Rattle.capnp_message.specs.declared.single_segment.SingleSegmentAllocator.{SingleSegmentAllocator}
-use Rattle.capnp_uses.proofs.RegionLemmas.{home_alone}
+use Rattle.capnp_uses.proofs.RegionLemmas.{home_alone, first_refused, further_refused}
 use Rattle.capnp_uses.proofs.regions.set_in_region.Goals as goal
 
 pub returns-in_err-set_root-clause-fits : goal.returns-in_err-set_root-clause-fits
@@ -19,6 +20,34 @@ returns-in_err-set_root-clause-home g c =
     let alone = subst (λ (a : SingleSegmentAllocator). IsOutAlone a.region a.size []) (sym c.new-message.ensures.allocator)
     (home_alone c.new.result.region c.new.result.size c.new.ensures.home) in
     rw (p.1, p.2) (c.in_err-set_root.ensures.home c.new-message.ensures.spaces alone)
+
+pub returns-in_err-set_root-clause-refused : goal.returns-in_err-set_root-clause-refused
+returns-in_err-set_root-clause-refused g c =
+    let p = err_from_is_err_and c.from_residual.result c.from_residual.ensures.1 in
+    let told = c.in_err-set_root.ensures in
+    let own = c.new-message.ensures.allocator in
+    rw (p.1, p.2) (elim told.kind [
+      | inl lacks ↦ inl lacks
+      | inr (inl first) ↦ inr (inl (first_refused c.new.result.region c.new.result.size _ _ c.new.ensures.home c.new.ensures.size
+          (subst (λ (a : SingleSegmentAllocator). RefusesRegion a.region a.size 1 _) own first.1.1.0)))
+      | inr (inr no_room) ↦ (
+          let words = no_room.words in
+          let full : length c.args.region.now / 8 ≤ words = elim (cases_lt words (length c.args.region.now / 8)) [
+            | inl less ↦ (
+                let granted = subst (λ (a : SingleSegmentAllocator). GrantsRegion a.region a.size 1 (c.new.result.size / 8)) (sym own)
+                (c.new.ensures.home, omega (arith, less, c.new.ensures.size), refl) in
+                let ok = told.fits words no_room.words_are (inr (c.new-message.ensures.spaces, (c.new.result.size / 8, granted, omega (arith, less, c.new.ensures.size)))) in
+                absurd (cc))
+            | inr past ↦ past
+          ] in
+          inr (inr (
+            words,
+            no_room.words_are,
+            full,
+            further_refused _ _ no_room.asked.region no_room.asked.size (length c.args.region.now) words _
+                (no_room.same ∙ ap (λ (a : SingleSegmentAllocator). a.size) own ∙ c.new.ensures.size) full (λ refused. refused) no_room.lacks,
+          )))
+    ])
 
 pub returns-clause-stands : goal.returns-clause-stands
 returns-clause-stands g c =

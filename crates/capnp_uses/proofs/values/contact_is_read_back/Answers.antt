@@ -13,6 +13,6 @@ returns g c =
           c.args.name.now c.args.mail.now trees e.id e.name e.mail e.phones is)
           c.set_and_read_back.ensures.tree;
       options = c.set_and_read_back.ensures.options;
-      refused = contact_back (λ p. p.words) (λ p. p.fields.value.now) v.fields.rest.rest.value.items.now v.words v.fields.value.now v.fields.rest.value.now _ _ _ _ _ _
+      refused = contact_back g.A.Allocator (λ p. p.words) (λ p. p.fields.value.now) v.fields.rest.rest.value.items.now v.words v.fields.value.now v.fields.rest.value.now _ _ _ _
           c.set_and_read_back.result c.set_and_read_back.ensures.refused;
     }

@@ -1,12 +1,12 @@
 -- A number of the list at the root is another one, and all else stays.
-use Rattle.std.proofs.Common.{◌+◌, ◌*◌, List, length, Option, Some, slice_set, ap, sym, subst}
+use Rattle.std.proofs.Common.{◌+◌, ◌*◌, List, length, Option, Some, slice_set, ap, sym, subst, arith}
 use Rattle.capnp_wire.specs.Tree.{numbers, none}
 use Rattle.capnp_build.specs.Bytes.{Space}
 use Rattle.capnp_build.specs.Held.{Held}
 use Rattle.capnp_build.specs.Built.{Built, HasNullRoot, IsBuilt}
 use Rattle.capnp_build.specs.Written.{IsWritten, HasNumber, IsNumberSet}
 use Rattle.capnp_build.specs.declared.arena.location.RootLocation.{RootLocation}
-use Rattle.capnp_build.proofs.WriteLemmas.{written_at, number_known, number_room, number_set, no_list}
+use Rattle.capnp_build.proofs.WriteLemmas.{written_at, number_known, number_inside, number_room, number_set, no_list}
 use Rattle.capnp_build.proofs.NullLemmas.{null_only}
 use Rattle.capnp_build.proofs.ReadLemmas.{number_laid}
 use Rattle.capnp_build.proofs.arena.builder_arena.BuilderArena.set_number.Goals as goal
@@ -41,7 +41,8 @@ returns-in-Some g c =
     record {
       set = subst (λ (v : Built g.row.A.Denot). IsNumberSet v.spaces c.write_at.new.self.spaces c.args.index c.args.number) c.self.view_is a;
       written = subst (λ (v : Built g.row.A.Denot). IsWritten v new) c.self.view_is
-          (written_at c.self.inside.segments c.write_at.new.self c.self.inside.location location.segment (8 * location.start + 8 * c.args.index) c.to_le_bytes.result c.write_at.ensures
+          (written_at c.self.inside.segments c.write_at.new.self c.self.inside.location location (8 * location.start + 8 * c.args.index) c.to_le_bytes.result c.in-Some.is c.write_at.ensures (omega arith)
+          (number_inside spaces location c.args.index (length c.to_le_bytes.result) f p (ap length c.to_le_bytes.ensures))
           (number_room spaces location c.args.index (length c.to_le_bytes.result) f p (ap length c.to_le_bytes.ensures)));
     }
 

@@ -6,7 +6,7 @@ use Rattle.capnp_build.specs.Built.{Built}
 use Rattle.capnp_build.proofs.OutcomeLemmas.{cleared_root, still_granted}
 use Rattle.capnp_build.proofs.CanonicalLemmas.{canonical_unmeasured, canonical_full, none_refused}
 use Rattle.capnp_build.proofs.FirstLemmas.{first_put}
-use Rattle.capnp_build.proofs.KeptLemmas.{zero_stays}
+use Rattle.capnp_build.proofs.KeptLemmas.{zero_stays, outside_stays}
 use Rattle.capnp_build.proofs.PlaceLemmas.{placed_near}
 use Rattle.capnp_build.proofs.arena.builder_arena.BuilderArena.set_root_canonical.Goals as goal
 
@@ -27,6 +27,7 @@ returns g c =
         first = λ none. first_put c.clear_root.new.self c.put_near.new.self c.in_ok-words.words (clear.new_object none) placed (near.sizes 0);
         granted = still_granted g.A.Allocator _ c.clear_root.new.self c.put_near.new.self.spaces clear (near.sizes 0);
         zero = zero_stays _ c.clear_root.new.self.spaces c.put_near.new.self.spaces clear.following clear.zero near.bytes;
+        outside = outside_stays _ _ c.clear_root.new.self.spaces c.put_near.new.self.spaces clear.outside near.bytes;
       };
       one = omega (arith, near.count, alone, c.if-len-gt1.false, c.len.ensures, clear.there);
       whole = λ none. c.put_near.ensures.whole (clear.new_object none).0 (clear.new_object none).1;

@@ -1,5 +1,5 @@
 -- A data word of the struct at the root is another one, and all else stays.
-use Rattle.std.proofs.Common.{◌≡◌, ◌+◌, ◌*◌, List, length, Option, Some, slice_set, ap, sym, subst}
+use Rattle.std.proofs.Common.{◌≡◌, ◌+◌, ◌*◌, List, length, Option, Some, slice_set, ap, sym, subst, arith}
 use Rattle.capnp_build.specs.Bytes.{Space}
 use Rattle.capnp_build.specs.Held.{Held}
 use Rattle.capnp_build.specs.Built.{Built, HasNullRoot, IsBuilt}
@@ -8,7 +8,7 @@ use Rattle.capnp_wire.specs.Tree.{null, struct}
 use Rattle.capnp_build.specs.declared.arena.location.RootLocation.{RootLocation}
 use Rattle.capnp_build.proofs.FieldLemmas.{field_laid}
 use Rattle.capnp_build.proofs.NullLemmas.{null_only}
-use Rattle.capnp_build.proofs.WriteLemmas.{written_at, field_known, field_room, field_set, no_struct}
+use Rattle.capnp_build.proofs.WriteLemmas.{written_at, field_known, field_inside, field_room, field_set, no_struct}
 use Rattle.capnp_build.proofs.arena.builder_arena.BuilderArena.set_word.Goals as goal
 
 pub write_at-requires-clause-room : goal.write_at-requires-clause-room
@@ -41,7 +41,8 @@ returns-in-Some g c =
     record {
       set = subst (λ (v : Built g.row.A.Denot). IsFieldSet v.spaces c.write_at.new.self.spaces c.args.index c.args.word) c.self.view_is a;
       written = subst (λ (v : Built g.row.A.Denot). IsWritten v new) c.self.view_is
-          (written_at c.self.inside.segments c.write_at.new.self c.self.inside.location location.segment (8 * (location.start + c.args.index)) c.to_le_bytes.result c.write_at.ensures
+          (written_at c.self.inside.segments c.write_at.new.self c.self.inside.location location (8 * (location.start + c.args.index)) c.to_le_bytes.result c.in-Some.is c.write_at.ensures (omega arith)
+          (field_inside spaces location c.args.index (length c.to_le_bytes.result) f p (ap length c.to_le_bytes.ensures))
           (field_room spaces location c.args.index (length c.to_le_bytes.result) f p (ap length c.to_le_bytes.ensures)));
     }
 

@@ -1,5 +1,5 @@
 -- Some bytes of the list at the root are others, and all else stays.
-use Rattle.std.proofs.Common.{ℕ, ◌+◌, ◌*◌, List, length, Option, Some, ap, sym, subst}
+use Rattle.std.proofs.Common.{ℕ, ◌+◌, ◌*◌, List, length, Option, Some, ap, sym, subst, arith}
 use Rattle.std.specs.Option.{option_copied}
 use Rattle.capnp_wire.specs.Tree.{numbers, none}
 use Rattle.capnp_build.specs.Bytes.{Space}
@@ -9,7 +9,7 @@ use Rattle.capnp_build.specs.Written.{IsWritten, HasBytes, IsBytesSet}
 use Rattle.capnp_build.specs.declared.arena.location.RootLocation.{RootLocation}
 use Rattle.capnp_build.proofs.SpaceLemmas.{got_low, got_none}
 use Rattle.capnp_build.proofs.NullLemmas.{null_only}
-use Rattle.capnp_build.proofs.WriteLemmas.{written_at, bytes_room, bytes_rewritten, bytes_set, no_bytes}
+use Rattle.capnp_build.proofs.WriteLemmas.{written_at, bytes_inside, bytes_room, bytes_rewritten, bytes_set, no_bytes}
 use Rattle.capnp_build.proofs.arena.builder_arena.BuilderArena.write_bytes.Goals as goal
 
 pub returns-in_default : goal.returns-in_default
@@ -56,5 +56,6 @@ returns g c =
       set = subst (λ (v : Built g.row.A.Denot). IsBytesSet v.spaces c.write_at.new.self.spaces c.args.index w) c.self.view_is
           (bytes_set spaces c.write_at.new.self.spaces location c.args.index w f p low c.each_is_a_byte-2.ensures (ap (λ (h : Held g.row.A.Denot). h.spaces) c.write_at.ensures));
       written = subst (λ (v : Built g.row.A.Denot). IsWritten v new) c.self.view_is
-          (written_at c.self.inside.segments c.write_at.new.self c.self.inside.location location.segment (8 * location.start + c.args.index) c.args.bytes.now c.write_at.ensures (bytes_room spaces location c.args.index (length w) f p));
+          (written_at c.self.inside.segments c.write_at.new.self c.self.inside.location location (8 * location.start + c.args.index) c.args.bytes.now c.in-Some.is c.write_at.ensures (omega arith)
+          (bytes_inside spaces location c.args.index (length w) f p) (bytes_room spaces location c.args.index (length w) f p));
     }

@@ -1,0 +1,14 @@
+-- A view is refused as the object is, and leaves a null root.
+use Rattle.std.proofs.Common.{refl}
+use Rattle.std.proofs.lemmas.Result.{err_from_is_err_and}
+use Rattle.capnp_build.proofs.InitLemmas.{init_refused}
+use Rattle.capnp_message.proofs.root.Builder.initn_root.Goals as goal
+
+pub returns-in_err-init : goal.returns-in_err-init
+returns-in_err-init g c =
+    let p = err_from_is_err_and c.from_residual.result c.from_residual.ensures.1 in
+    let told = c.in_err-init.ensures.inits in
+    rw (p.1, p.2) (
+      (refl, λ w. tt, told.nulled),
+      record { rests = tt; inits = init_refused g.A.Allocator g.K.OwnedBuilder c.args.n (λ message. message) (λ view. view.message) c.args.self _ _ told },
+    )
