@@ -35,7 +35,7 @@ Exit status:
 pub const VERSION: &str = "capnp_ls 0.1.0\n";
 
 /// A flag that stands alone, in place of a command.
-#[derive(Clone, Copy, Debug, PartialEq, Eq)]
+#[derive(Clone, Copy)]
 pub enum Flag {
     /// `--help`, and `-h`: what the program does, its commands and their options.
     Help,

@@ -2,6 +2,7 @@
 mod input;
 mod output;
 
+use capnp_frame::Result;
 use std::alloc::Global;
 use std::io;
 
@@ -74,13 +75,14 @@ struct ChoppyWriter {
     flushes: u64,
 }
 
-fn taking(alloc: Global, ways: Ways) -> ChoppyWriter {
-    ChoppyWriter {
+// It has room for what the tests write, so it does not fail for want of memory.
+fn taking(alloc: Global, ways: Ways) -> Result<ChoppyWriter> {
+    Ok(ChoppyWriter {
         ways,
-        got: Vec::new(alloc),
+        got: Vec::with_capacity(alloc, 16)?,
         writes: 0,
         flushes: 0,
-    }
+    })
 }
 
 impl io::Write for ChoppyWriter {

@@ -2,11 +2,11 @@
 //! buffer stands before the device. `tools/try-program` shows what runs print, and where they stop else.
 use crate::program::run;
 use crate::stop::Stop;
+use capnp::Result;
 use capnp::devices::Output;
 use capnp::io::Write;
 use std::alloc::Global;
 use std::io;
-use std::test::*;
 
 /// A device that takes what it is given. The write `bad_write`, counted from 1, fails.
 #[derive(Drop)]
@@ -37,8 +37,8 @@ fn stop_of<W: Write>(
     command: &str,
     mut input: &[u8],
     sink: &mut W,
-) -> Result<Option<(u64, u8)>, Fail> {
-    let words = vec![in alloc; String::from_str(alloc, command)?]?;
+) -> Result<Option<(u64, u8)>> {
+    let words = [String::from_str(alloc, command)?];
     Ok(match run(alloc, &words, &mut input, sink) {
         Err(Stop::Refused { message, error }) => Some((message, error.kind.number())),
         _ => None,
@@ -98,7 +98,7 @@ const WRITES: [Row; 7] = [
 ];
 
 #[test]
-fn a_failed_write_stops_at_its_message(rt: HostRuntime) -> Result<(), Fail> {
+fn a_failed_write_stops_at_its_message(rt: HostRuntime) -> Result<()> {
     for row in &WRITES {
         let (command, bad_write) = (row.command, row.bad_write);
         assert!(rt;
@@ -110,7 +110,7 @@ fn a_failed_write_stops_at_its_message(rt: HostRuntime) -> Result<(), Fail> {
 }
 
 // Whether the run stops at the row's message by 13, with so much of the output taken.
-fn stops_there(alloc: Global, row: &Row) -> Result<bool, Fail> {
+fn stops_there(alloc: Global, row: &Row) -> Result<bool> {
     let mut device = FailingWriter {
         got: Vec::new(alloc),
         bad_write: row.bad_write,
@@ -125,7 +125,7 @@ fn stops_there(alloc: Global, row: &Row) -> Result<bool, Fail> {
 
 // A slice of 40 bytes takes one form of 32, and the table of another.
 #[test]
-fn a_form_without_room_stops_at_its_message(rt: HostRuntime) -> Result<(), Fail> {
+fn a_form_without_room_stops_at_its_message(rt: HostRuntime) -> Result<()> {
     let mut room = [0; 40];
     let mut sink = room.as_mut_slice();
     let stop = stop_of(rt.alloc(), "canon", HELLOS, &mut sink)?;

@@ -82,7 +82,7 @@ fn parts_and_interruptions_lose_nothing(rt: HostRuntime) -> Result<()> {
 
 fn write_whole(rt: &(impl Abort + AllocGlobal), capacity: usize, ways: Ways) -> Result<()> {
     let at = At::new("bytes collected", capacity as u64);
-    let mut device = taking(rt.alloc(), ways);
+    let mut device = taking(rt.alloc(), ways)?;
     let mut output = Output::new(rt.alloc(), capacity, &mut device)?;
     write_chunks(&mut output)?;
     output.flush()?;
@@ -94,11 +94,13 @@ fn write_whole(rt: &(impl Abort + AllocGlobal), capacity: usize, ways: Ways) -> 
     Ok(())
 }
 
+const CHUNKS: [&[u8]; 4] = [b"abc", b"", b"defgh", b"i"];
+
 fn write_chunks<W: Write>(output: &mut W) -> Result<()> {
-    output.write_all(b"abc")?;
-    output.write_all(b"")?;
-    output.write_all(b"defgh")?;
-    output.write_all(b"i")
+    for chunk in &CHUNKS {
+        output.write_all(chunk)?;
+    }
+    Ok(())
 }
 
 // The call that a fault is returned from.
@@ -171,7 +173,7 @@ fn a_fault_is_returned(rt: HostRuntime) -> Result<()> {
 
 fn fail_at(rt: &(impl Abort + AllocGlobal), row: &Faulty) -> Result<()> {
     let at = At::new("bytes collected", row.capacity as u64);
-    let mut device = taking(rt.alloc(), row.ways);
+    let mut device = taking(rt.alloc(), row.ways)?;
     let mut output = Output::new(rt.alloc(), row.capacity, &mut device)?;
     let fault = fault_of(&mut output)?;
     let failures = output.failures();
