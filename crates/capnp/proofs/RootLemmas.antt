@@ -1,5 +1,5 @@
 -- A message that was written and is read back.
-use Rattle.std.proofs.Common.{◌≡◌, ◌⊎◌, inl, inr, false, ℕ, ◌+◌, ◌-◌, ◌^◌, ◌<◌, ◌≤◌, Option, Some, None, Result, Ok, Err, IfOk, IfErr, List, [], ◌∷◌, ◌++◌, length, map, min, refl, sym, ap, ◌∙◌, subst, arith}
+use Rattle.std.proofs.Common.{◌≡◌, ◌⊎◌, inl, inr, false, ℕ, ◌+◌, ◌-◌, ◌^◌, ◌<◌, ◌≤◌, Option, Some, None, Result, Ok, Err, IfOk, IfErr, OnOk, List, [], ◌∷◌, ◌++◌, length, map, min, refl, sym, ap, ◌∙◌, subst, arith}
 use Rattle.std.proofs.lemmas.List.{append-nil, length-map}
 use Rattle.capnp_frame.specs.declared.serialize.segment_table.Padding.{Padding}
 use Rattle.capnp_frame.specs.declared.error.Error.{Error}
@@ -161,3 +161,8 @@ pub unread : {A S X : Type 0} (alloc : allocator.Ghosts A S) (has_tree : Trees �
     → IfErr r (λ error. StaysUnset alloc has_tree refuses old new error.kind ⊎ StaysUnread alloc has_tree limit old new error.kind)
 unread alloc has_tree refuses limit old new (Ok x) set placed refused = tt
 unread alloc has_tree refuses limit old new (Err error) set placed refused = inr (record { set = set; placed = placed; refused = refused })
+
+-- what holds either way
+pub holds_at_ok : {X E P : Type 0} (r : Result X E) → P → OnOk r P
+holds_at_ok (Ok x) holds = holds
+holds_at_ok (Err e) holds = tt

@@ -1,7 +1,7 @@
 -- The tree that was set stands where the message is read.
 use Rattle.std.proofs.Common.{inl}
 use Rattle.capnp_frame.proofs.AskLemmas.{passed_on}
-use Rattle.capnp.proofs.RootLemmas.{has_segment, tree_again, unread}
+use Rattle.capnp.proofs.RootLemmas.{has_segment, tree_again, unread, holds_at_ok}
 use Rattle.capnp.proofs.roots.set_and_read_back.Goals as goal
 
 pub returns-in_err-set_root-clause-refused : goal.returns-in_err-set_root-clause-refused
@@ -10,6 +10,9 @@ returns-in_err-set_root-clause-refused g c = passed_on _ _ c.from_residual.ensur
 pub write_and_read_back-requires : goal.write_and_read_back-requires
 write_and_read_back-requires g c =
     let set = c.in_ok-set_root.ensures.set in has_segment _ _ _ set.stands
+
+pub returns-clause-placed : goal.returns-clause-placed
+returns-clause-placed g c = holds_at_ok c.write_and_read_back.result c.in_ok-set_root.ensures.placed
 
 pub returns-clause-refused : goal.returns-clause-refused
 returns-clause-refused g c =

@@ -2,7 +2,7 @@
 use Rattle.std.proofs.Common.{refl}
 use Rattle.std.proofs.lemmas.Result.{err_from_is_err_and}
 use Rattle.capnp_build.proofs.InitLemmas.{init_refused}
-use Rattle.capnp_message.proofs.root.Builder.initn_root.Goals as goal
+use Rattle.capnp_message.proofs.builder.Builder.initn_root.Goals as goal
 
 pub returns-in_err-init : goal.returns-in_err-init
 returns-in_err-init g c =
