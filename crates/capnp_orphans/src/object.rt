@@ -27,6 +27,12 @@ pub trait Object {
         ensures exact { (kind : ErrorKind) → refuses self.now kind →
             IsErrAnd result (λ error. error.kind ≡ kind) };
 
+    /// Whether its type alone tells how many words it has. Only how fast it is written depends on it.
+    #[inline(always)]
+    fn is_of_known_size(&self) -> bool {
+        false
+    }
+
     /// Writes it over a block of just its words, which are zero and begin at a word of the segment.
     /// Returns its word as an orphan.
     fn write(&self, start: u32, block: &mut [u8]) -> u64

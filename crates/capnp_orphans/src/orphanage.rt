@@ -141,6 +141,7 @@ impl<S: GrowingSegment> Orphanage<S> {
     /// A value of 2^29 words and more fails with `AllocationTooLarge` of its words, at most 2^32 -
     /// 1; one that can't be read, as its view does; and one for which there is no room, as
     /// `Orphanage` says.
+    #[inline(always)]
     pub fn set<T, V: SetterInput<T>>(&mut self, value: &V) -> Result<Orphan<T>>
         ensures adds { Adds (HoldsValue (V.has_tree value.now)) self.old self.new word_of result }
         ensures writes { Writes (HasWords (V.has_tree value.now) false)
@@ -154,6 +155,7 @@ impl<S: GrowingSegment> Orphanage<S> {
     ///
     /// Fails for 2^29 - 1 bytes and more with `AllocationTooLarge` of the text's words, at most
     /// 2^32 - 1, and for want of room as `Orphanage` says.
+    #[inline(always)]
     pub fn text(&mut self, text: &str) -> Result<Orphan<text::Owned>>
         ensures adds { Adds (HoldsValue (IsTextTree text.now)) self.old self.new word_of result }
         ensures writes { Writes (HasWords (IsTextTree text.now) false)

@@ -52,9 +52,11 @@ impl GrowingSegment for Vec<u8> {
         self.as_slice()
     }
 
+    // Speed: of a text that is known when it is compiled, as in a table, a few stores are left.
+    #[inline(always)]
     fn append<O: Object>(&mut self, object: &O, words: u32) -> Result<u64> {
         let from = self.len();
-        add_zeros(self, 8 * words as usize)?;
+        add_zeros(self, 8 * words as usize, object.is_of_known_size())?;
         Ok(write_after(self, from, object))
     }
 
@@ -70,10 +72,13 @@ impl GrowingSegment for Vec<u8> {
 
 // Adds zeros to a vector. Fails with `OutOfMemory`, and changes nothing, where it has no room for
 // them and no more memory is to be had.
+//
 // Speed: up to 64 are made by stores of a constant size, so a short object needs no call whose
-// branches depend on the size (`tools/time-building built`).
+// branches depend on the size. Of a number that is known when it is compiled, as for the nodes of a
+// tree, just as many are made: then none is stored that the object is written over
+// (`tools/time-building built`).
 #[inline(always)]
-fn add_zeros(bytes: &mut Vec<u8>, added: usize) -> Result<()>
+fn add_zeros(bytes: &mut Vec<u8>, added: usize, known: bool) -> Result<()>
     ensures items { bytes.new.items ≡ (if is_ok result
         then bytes.old.items ++ replicate added 0 else bytes.old.items) }
     ensures capacity { bytes.old.cap ≤ bytes.new.cap }
@@ -83,7 +88,7 @@ fn add_zeros(bytes: &mut Vec<u8>, added: usize) -> Result<()>
     ensures kind { IfErr result (λ error. error.kind ≡ OutOfMemory) }
 {
     let from = bytes.len();
-    if added <= 64 && bytes.capacity() - from >= 64 {
+    if !known && added <= 64 && bytes.capacity() - from >= 64 {
         bytes.resize(from + 64, 0)?;
         bytes.truncate(from + added);
         return Ok(());

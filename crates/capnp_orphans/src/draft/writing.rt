@@ -28,6 +28,11 @@ impl<T, const D: usize, const P: usize> Object for StructDraft<T, D, P> {
     }
 
     #[inline(always)]
+    fn is_of_known_size(&self) -> bool {
+        true
+    }
+
+    #[inline(always)]
     fn write(&self, start: u32, block: &mut [u8]) -> u64 {
         // For the prover: the draft has as many data words and pointers as its type says.
         draft_fits(self);
