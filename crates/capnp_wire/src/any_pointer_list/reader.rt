@@ -42,6 +42,9 @@ impl<'a, S: ReaderSegments> Reader<'a, S> {
         ensures { pointer_of S.segments result
             ≡ pointer_at (pointer_list_of S.segments self.now) index }
     {
+        // `rt try`, which tests no `requires`, stops here at an index past the end.
+        let len = self.len();
+        prove!(index < len);
         any_pointer::Reader {
             segments: self.segments,
             limiter: self.limiter,

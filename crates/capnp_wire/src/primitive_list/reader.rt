@@ -41,6 +41,9 @@ impl<'a, T: PrimitiveElement> Reader<'a, T> {
         requires { index < length (numbers_of T.code self.now) }
         ensures { result ≡ T.value_of (slice_index (numbers_of T.code self.now) index) }
     {
+        // `rt try`, which tests no `requires`, stops here at an index past the end.
+        let len = self.len();
+        prove!(index < len);
         // For the prover: each word is below 2^64, and so is the number of bytes.
         words_fit(self.bytes);
         let size = T::size();

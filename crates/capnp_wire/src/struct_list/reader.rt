@@ -53,6 +53,9 @@ impl<'a, S: ReaderSegments> Reader<'a, S> {
         ensures { struct_of S.segments result
             ≡ element_of (struct_list_of S.segments self.now) index }
     {
+        // `rt try`, which tests no `requires`, stops here at an index past the end.
+        let len = self.len();
+        prove!(index < len);
         let words_before = index as usize * self.elements.size.words() as usize;
         StructReader {
             segments: self.segments,

@@ -1,5 +1,6 @@
 //! Texts that are read.
-ghost use Rattle.std.specs.Prelude.{◌≡◌, ◌+◌, ◌/◌, ◌≤◌, ◌++◌, ◌∷◌, [], ℕ, List, length, MatchResult, MatchOption};
+ghost use Rattle.std.specs.Prelude.{◌≡◌, ◌↔◌, ◌+◌, ◌/◌, ◌≤◌, ◌++◌, ◌∷◌, [], ℕ, List, length, IsTrue, MatchResult, MatchOption};
+ghost use Rattle.std.specs.Str.{IsUtf8, IsValidUpTo, valid_up_to};
 ghost use Rattle.capnp_wire.specs.Landing.{room_of};
 ghost use Rattle.capnp_wire.specs.Views.{IsViewOf, Accepts, Reads, Refuses, Declines, IsText, TakesText, DeclinesText};
 ghost use Rattle.capnp_wire.specs.Readers.{pointer_of, form_of};
@@ -11,6 +12,7 @@ use crate::layout::object::Object;
 use crate::traits::FromPointerReader;
 use capnp_frame::message::ReaderSegments;
 use capnp_frame::{Error, ErrorKind, Result};
+use std::str::{Utf8Error, from_utf8};
 
 /// A text in a message, by its bytes.
 #[derive(Clone, Copy)]
@@ -31,6 +33,33 @@ impl<'a> Reader<'a> {
         ensures { result ≡ length self.now.bytes.now }
     {
         self.bytes.len()
+    }
+
+    /// Whether there is no byte.
+    pub fn is_empty(&self) -> bool
+        ensures { IsTrue result ↔ (self.now.bytes.now ≡ []) }
+    {
+        self.bytes.is_empty()
+    }
+
+    /// The text as a `str`.
+    ///
+    /// Fails where the bytes aren't UTF-8, and tells how many of them are: writers should write no
+    /// other text ("Blobs"), but no reader tests what it isn't asked for.
+    pub fn to_str(&self) -> std::result::Result<&'a str, Utf8Error>
+        ensures { MatchResult result
+            (λ text. (text.now ≡ self.now.bytes.now) × IsUtf8 self.now.bytes.now)
+            (λ error. ¬ (IsUtf8 self.now.bytes.now)
+            × IsValidUpTo self.now.bytes.now (valid_up_to error)) }
+    {
+        from_utf8(self.bytes)
+    }
+
+    /// Whether the text is this one, byte by byte.
+    pub fn is(&self, text: &str) -> bool
+        ensures { IsTrue result ↔ (self.now.bytes.now ≡ text.now) }
+    {
+        self.bytes == text.as_bytes()
     }
 }
 

@@ -45,6 +45,9 @@ impl<'a, S: ReaderSegments> PointerList<'a, S> {
         ensures { pointer_of S.segments result
             ≡ pointer_at (upgraded_pointers_of S.segments self.now) index }
     {
+        // `rt try`, which tests no `requires`, stops here at an index past the end.
+        let len = self.len();
+        prove!(index < len);
         let words_before = index as usize * self.step;
         any_pointer::Reader {
             segments: self.segments,
