@@ -1,5 +1,9 @@
 -- The words that the program takes (src/arguments.rt).
-use Rattle.std.specs.Prelude.{◌≡◌, ◌⊎◌, ℕ, Bool, true, false, List, Some, None, codes}
+use Rattle.std.specs.Prelude.{◌≡◌, ◌⊎◌, ◌<◌, ◌-◌, ◌^◌, FitsSigned, ℕ, ℤ, Bool, true, false, List, Some, None, codes}
+use Rattle.std.specs.Int.{w32}
+use Rattle.std.specs.Str.Parse.{IsNumeral, digits_value, signed_digits_value, without_leading_plus, without_leading_sign}
+use Rattle.capnp_frame.specs.declared.message.options.ReaderOptions.{ReaderOptions}
+use Rattle.capnp_frame.specs.declared.message.options.TheConstants.{DEFAULT_READER_OPTIONS}
 use Rattle.capnp_show.specs.declared.settings.Reading.{Reading}
 use Rattle.capnp_show.specs.declared.settings.Reading.TheVariants.{Framed, Packed, Detected}
 use Rattle.capnp_show.specs.declared.settings.Form.{Form}
@@ -26,6 +30,35 @@ pub record AsksForm (found : Found) (form : Form) : Type 0 where
   pub json : IsAbsent found (codes "count") → IsGiven found (codes "json") → form ≡ Json
   pub html : IsAbsent found (codes "count") → IsAbsent found (codes "json") → IsGiven found (codes "html") → form ≡ Html
   pub lines : IsAbsent found (codes "count") → IsAbsent found (codes "json") → IsAbsent found (codes "html") → form ≡ Lines
+
+-- A number is given for an option: a numeral below 2 ^ 64, which may have a plus in front.
+pub record GivesNumber (found : Found) (name : List ℕ) (number : ℕ) : Type 0 where
+  pub text : List ℕ
+  pub given : one_text found name ≡ Some text
+  pub numeral : IsNumeral 10 (without_leading_plus text)
+  pub fits : digits_value 10 (without_leading_plus text) < 2 ^ 64
+  pub value : number ≡ digits_value 10 (without_leading_plus text)
+
+-- A number of 32 bits is given for an option: a numeral, which may have a sign in front.
+pub record GivesSigned (found : Found) (name : List ℕ) (number : ℤ) : Type 0 where
+  pub text : List ℕ
+  pub given : one_text found name ≡ Some text
+  pub numeral : IsNumeral 10 (without_leading_sign text)
+  pub fits : FitsSigned w32 (signed_digits_value 10 text)
+  pub value : number ≡ signed_digits_value 10 text
+
+-- how many messages are shown: as many as --first says, and all where it is left out
+pub record AsksFirst (found : Found) (first : ℕ) : Type 0 where
+  pub given : (number : ℕ) → GivesNumber found (codes "first") number → first ≡ number
+  pub absent : one_text found (codes "first") ≡ None → first ≡ 2 ^ 64 - 1
+
+-- the limits: what --words and --nesting say, and the readers' own where they are left out
+pub record AsksLimits (found : Found) (limits : ReaderOptions) : Type 0 where
+  pub words : (number : ℕ) → GivesNumber found (codes "words") number → limits.traversal_limit_in_words ≡ Some number
+  pub all_words : one_text found (codes "words") ≡ None
+      → limits.traversal_limit_in_words ≡ DEFAULT_READER_OPTIONS.traversal_limit_in_words
+  pub nesting : (number : ℤ) → GivesSigned found (codes "nesting") number → limits.nesting_limit ≡ number
+  pub all_nesting : one_text found (codes "nesting") ≡ None → limits.nesting_limit ≡ DEFAULT_READER_OPTIONS.nesting_limit
 
 -- whether a flag is given
 pub record AsksFlag (found : Found) (name : List ℕ) (flag : Bool) : Type 0 where

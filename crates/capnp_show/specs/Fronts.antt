@@ -1,6 +1,7 @@
 -- What the bytes at the front of an input say of its format (src/detected.rt).
 use Rattle.std.specs.Prelude.{◌≡◌, ◌⊎◌, ℕ, ◌<◌, ◌≤◌, List, length, Option}
 use Rattle.capnp.specs.Passed.{ErrorKind, Zero}
+use Rattle.capnp.specs.declared.streams.Format.{Format}
 use Rattle.capnp.specs.declared.streams.Format.TheVariants.{Framed, Packed}
 use Rattle.capnp_frame.specs.declared.error.ErrorKind.TheVariants.{EmptyBuffer, MessageEndsPrematurely}
 use Rattle.capnp_frame.specs.FlatReaders.{FlatRules, no_alloc_rules, StandsBy, RefusesBy}
@@ -32,6 +33,16 @@ pub record Differs (limit : Option ℕ) (front : List ℕ) : Type 0 where
   pub kind : ErrorKind
   pub refused : RefusesBy (framed_within limit) kind front
   pub whole : IsCut kind → ⊥
+
+-- the bytes begin a framed message: one stands at their front, or they end within one
+abbrev pub Begins : Option ℕ → List ℕ → Type 0
+Begins limit front = Stands limit front ⊎ Ends limit front
+
+-- The format in which an input is read that has these bytes at its front: framed where they begin a framed message, also
+-- where they end too early, and packed only where they begin none.
+abbrev pub IsReadAs : Option ℕ → List ℕ → Format → Type 0
+IsReadAs limit front Framed = Begins limit front
+IsReadAs limit front Packed = Differs limit front
 
 -- What some bytes say, of which `enough` are enough to tell: they are framed where a message stands there or may follow, packed where
 -- none begins so, and they say nothing yet where they are few and end within what may be one.

@@ -9,3 +9,4 @@ pub mod Arguments
 pub mod Refusals
 pub mod Arrows
 pub mod Plain
+pub mod Shown

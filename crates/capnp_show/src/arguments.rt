@@ -1,7 +1,7 @@
 //! The words that the program takes.
-ghost use Rattle.std.specs.Prelude.{◌≡◌, Some, None, codes};
-ghost use Rattle.clap.specs.Words.{found_of, one_text};
-ghost use Rattle.capnp_show.specs.Arguments.{AsksFlag, AsksReading, AsksForm};
+ghost use Rattle.std.specs.Prelude.{◌≡◌, Some, codes};
+ghost use Rattle.clap.specs.Words.{found_of};
+ghost use Rattle.capnp_show.specs.Arguments.{AsksFlag, AsksFirst, AsksForm, AsksLimits, AsksReading};
 
 use crate::settings::{Form, Reading, Settings};
 use capnp::message::{DEFAULT_READER_OPTIONS, ReaderOptions};
@@ -136,7 +136,8 @@ fn named<'a>(alloc: Global, name: &'a str, help: &'a str) -> Arg<'a>
 pub fn settings_of(matches: &ArgMatches<'_>) -> Settings
     ensures reading { AsksReading (found_of matches.now) result.reading }
     ensures form { AsksForm (found_of matches.now) result.form }
-    ensures all { one_text (found_of matches.now) (codes "first") ≡ None → result.first ≡ u64.MAX }
+    ensures first { AsksFirst (found_of matches.now) result.first }
+    ensures limits { AsksLimits (found_of matches.now) result.limits }
     ensures shows { AsksFlag (found_of matches.now) (codes "hash") result.has_hash
         × AsksFlag (found_of matches.now) (codes "tree") result.has_tree
         × AsksFlag (found_of matches.now) (codes "progress") result.has_progress }
@@ -179,10 +180,7 @@ fn form_of(matches: &ArgMatches<'_>) -> Form
 }
 
 fn limits_of(matches: &ArgMatches<'_>) -> ReaderOptions
-    ensures words { one_text (found_of matches.now) (codes "words") ≡ None
-        → result.traversal_limit_in_words ≡ DEFAULT_READER_OPTIONS.traversal_limit_in_words }
-    ensures nesting { one_text (found_of matches.now) (codes "nesting") ≡ None
-        → result.nesting_limit ≡ DEFAULT_READER_OPTIONS.nesting_limit }
+    ensures { AsksLimits (found_of matches.now) result }
 {
     let mut limits = DEFAULT_READER_OPTIONS;
     if let Some(words) = matches.get_one::<usize>("words") {

@@ -1,6 +1,6 @@
 //! Whether the messages of an input are packed, by the bytes at its front.
-ghost use Rattle.std.specs.Prelude.{◌≡◌, ◌⊎◌, IfOk};
-ghost use Rattle.capnp_show.specs.Fronts.{Says};
+ghost use Rattle.std.specs.Prelude.{IfOk};
+ghost use Rattle.capnp_show.specs.Fronts.{IsReadAs, Says};
 
 use capnp::ErrorKind;
 use capnp::message::ReaderOptions;
@@ -41,15 +41,15 @@ pub fn look_at(front: &[u8], limits: ReaderOptions) -> Look
     }
 }
 
-/// Reads bytes of a device into `front` until they say how its messages stand, or it ends. Packed
-/// is what they say then, and what an input is that ends before it says anything.
+/// Reads bytes of a device into `front` until they say how its messages stand, or it ends. Framed is
+/// what begins a framed message within the limit of words, also where it ends too early, and packed
+/// only what begins none.
 pub fn detect<D: Read>(
     device: &mut D,
     front: &mut Vec<u8>,
     limits: ReaderOptions,
 ) -> Result<Format, AllocError>
-    ensures { let says = Says FRONT_BYTES limits.traversal_limit_in_words front.new.items in
-        IfOk result (λ format. says (Look.Is format) ⊎ (says Look.More × (format ≡ Format.Packed))) }
+    ensures { IfOk result (IsReadAs limits.traversal_limit_in_words front.new.items) }
 {
     let mut part = [0; FRONT_BYTES];
     for _ in 0..u64::MAX {
@@ -67,7 +67,7 @@ pub fn detect<D: Read>(
         }
     }
     match look_at(front.as_slice(), limits) {
-        Look::Is(format) => Ok(format),
-        Look::More => Ok(Format::Packed),
+        Look::Is(Format::Packed) => Ok(Format::Packed),
+        Look::Is(Format::Framed) | Look::More => Ok(Format::Framed),
     }
 }

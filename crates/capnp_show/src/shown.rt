@@ -1,6 +1,7 @@
 //! What is shown of a message, and of an input.
-ghost use Rattle.std.specs.Prelude.{◌≡◌, ◌<◌, OnOk, Some, None, if◌then◌else◌};
+ghost use Rattle.std.specs.Prelude.{◌≡◌, ◌<◌, OnOk, Some, None, string_bytes, if◌then◌else◌};
 ghost use Rattle.std.specs.String.{string_len};
+ghost use Rattle.capnp_show.specs.Shown.{WritesFull};
 
 use crate::drawing::{is_drawn, show_drawing};
 use crate::drawn::Anchor;
@@ -158,9 +159,11 @@ fn show_tree<S: ReaderSegments, W: Write>(
     Ok(())
 }
 
-/// Writes a text that has grown to `TEXT_BYTES`, and clears it.
+/// Writes a text that has grown to `TEXT_BYTES`, and clears it; a shorter one stays.
 pub fn write_full<W: Write>(text: &mut String, sink: &mut W) -> Result<()>
-    ensures { OnOk result (string_len text.new < TEXT_BYTES) }
+    ensures short { OnOk result (string_len text.new < TEXT_BYTES) }
+    ensures writes { OnOk result (WritesFull TEXT_BYTES W.appends (string_bytes text.old)
+        (string_bytes text.new) (W.written sink.old) (W.written sink.new)) }
 {
     if text.len() >= TEXT_BYTES {
         sink.write_all(text.as_bytes())?;
