@@ -9,8 +9,6 @@ ghost use Rattle.capnp.specs.Devices.{pending, taken_so_far, IsOutOfMemory};
 ghost use Rattle.capnp_ls.specs.declared.stop.Stop.TheVariants.{Usage, Refused};
 ghost use Rattle.capnp_ls.specs.Stop.{IsAtStart, status_of};
 
-#[cfg(test)]
-mod choppy;
 mod command;
 mod lines;
 mod listing;

@@ -120,8 +120,4 @@ fn print_lines<R: BufRead, W: Write>(
 }
 
 #[cfg(test)]
-mod canon_tests;
-#[cfg(test)]
-mod padding_tests;
-#[cfg(test)]
 mod tests;

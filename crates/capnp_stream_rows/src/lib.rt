@@ -15,6 +15,8 @@ mod calls_told;
 #[cfg(test)]
 mod canonical_texts;
 #[cfg(test)]
+mod devices;
+#[cfg(test)]
 mod each_message;
 #[cfg(test)]
 mod faults;

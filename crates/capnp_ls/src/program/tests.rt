@@ -1,278 +1,135 @@
-//! What a run prints of an input, and where it stops.
+//! Where a run stops whose sink fails within it, which `main` sees after a long output alone: there a
+//! buffer stands before the device. `tools/try-program` shows what runs print, and where they stop else.
 use crate::program::run;
 use crate::stop::Stop;
-use capnp::io::{BufRead, Write};
-use std::alloc::{AllocError, Global};
-use std::process::Abort;
-use std::test::*;
+use capnp::Result;
+use capnp::devices::Output;
+use capnp::io::Write;
+use std::alloc::Global;
+use std::io;
 
-pub(crate) mod device_faults;
-mod long_streams;
+/// A device that takes what it is given. The write `bad_write`, counted from 1, fails.
+#[derive(Drop)]
+struct FailingWriter {
+    got: Vec<u8>,
+    bad_write: u64,
+    writes: u64,
+}
 
-// Three messages: segments [] and [1, 2, 3, 4, 5, 6, 7, 8]; one empty segment; one of two words.
-pub(crate) const STREAM: [u8; 56] = [
+impl io::Write for FailingWriter {
+    fn write(&mut self, buf: &[u8]) -> io::Result<usize> {
+        self.writes = self.writes.saturating_add(1);
+        if self.writes == self.bad_write {
+            return Err(io::Error::from(io::ErrorKind::StorageFull));
+        }
+        self.got.extend_from_slice(buf)?;
+        Ok(buf.len())
+    }
+
+    fn flush(&mut self) -> io::Result<()> {
+        Ok(())
+    }
+}
+
+// The message at which a run of a command stops, and the number of its error.
+fn stop_of<W: Write>(
+    alloc: Global,
+    command: &str,
+    mut input: &[u8],
+    sink: &mut W,
+) -> Result<Option<(u64, u8)>> {
+    let words = [String::from_str(alloc, command)?];
+    Ok(match run(alloc, &words, &mut input, sink) {
+        Err(Stop::Refused { message, error }) => Some((message, error.kind.number())),
+        _ => None,
+    })
+}
+
+// Segments of no words and of the bytes 1 to 8; one empty segment; one of two words.
+const STREAM: &[u8] = &[
     1, 0, 0, 0, 0, 0, 0, 0, 1, 0, 0, 0, 0, 0, 0, 0, 1, 2, 3, 4, 5, 6, 7, 8, 0, 0, 0, 0, 0, 0, 0, 0,
     0, 0, 0, 0, 2, 0, 0, 0, 1, 1, 1, 1, 1, 1, 1, 1, 2, 2, 2, 2, 2, 2, 2, 2,
 ];
 
-// Their lines, and the lines before each message.
-pub(crate) const LINE: &[u8] = b"0 2 1 0 1\n";
+const LINES: &[u8] = b"0 2 1 0 1\n1 1 0 0\n2 1 2 2\n";
 
-pub(crate) const TWO_LINES: &[u8] = b"0 2 1 0 1\n1 1 0 0\n";
+// "Hello, World!" twice, which is canonical.
+const HELLOS: &[u8] =
+    b"\0\0\0\0\x03\0\0\0\x01\0\0\0\x72\0\0\0Hello, World!\0\0\0\0\0\0\0\x03\0\0\0\x01\0\0\0\x72\0\0\0Hello, World!\0\0\0";
 
-pub(crate) const THREE_LINES: &[u8] = b"0 2 1 0 1\n1 1 0 0\n2 1 2 2\n";
-
-const LINES: [&[u8]; 4] = [b"", LINE, TWO_LINES, THREE_LINES];
-
-// The first two of them.
-const TWO: &[u8] = &[
-    1, 0, 0, 0, 0, 0, 0, 0, 1, 0, 0, 0, 0, 0, 0, 0, 1, 2, 3, 4, 5, 6, 7, 8, 0, 0, 0, 0, 0, 0, 0, 0,
-];
-
-// The first of them, framed and packed.
-pub(crate) const FRAMED: &[u8] = &[
-    1, 0, 0, 0, 0, 0, 0, 0, 1, 0, 0, 0, 0, 0, 0, 0, 1, 2, 3, 4, 5, 6, 7, 8,
-];
-
-pub(crate) const PACKED: &[u8] = &[1, 1, 1, 1, 255, 1, 2, 3, 4, 5, 6, 7, 8, 0];
-
-/// How a run ends.
-#[derive(Clone, Copy, Debug, PartialEq, Eq)]
-pub(crate) enum Ended {
-    Whole,
-    Usage,
-    /// At this message, by the number of a refusal's kind.
-    At(u64, u8),
-}
-
-/// The words of a command, what it reads, how the run ends, what it prints, and how many bytes stay
-/// unread.
+/// A command, what it reads and what it prints of that, the write that fails, the message there, and
+/// how many bytes the device has then.
 #[derive(Drop)]
-pub(crate) struct Row {
-    pub words: &'static [&'static str],
-    pub input: &'static [u8],
-    pub ended: Ended,
-    pub printed: &'static [u8],
-    pub unread: usize,
+struct Row {
+    command: &'static str,
+    input: &'static [u8],
+    printed: &'static [u8],
+    bad_write: u64,
+    message: u64,
+    taken: usize,
 }
 
-/// A run that reads all.
-pub(crate) const WHOLE: Row = Row {
-    words: &[],
-    input: &[],
-    ended: Ended::Whole,
-    printed: &[],
-    unread: 0,
+const LIST: Row = Row {
+    command: "list",
+    input: STREAM,
+    printed: LINES,
+    bad_write: 1,
+    message: 0,
+    taken: 0,
 };
 
-/// Runs the command of these words.
-pub(crate) fn end_of<R: BufRead, W: Write>(
-    alloc: Global,
-    texts: &[&str],
-    source: &mut R,
-    sink: &mut W,
-) -> Result<Ended, AllocError> {
-    let words = words_of(alloc, texts)?;
-    Ok(match run(alloc, &words, source, sink) {
-        Ok(()) => Ended::Whole,
-        Err(Stop::Usage) => Ended::Usage,
-        Err(Stop::Refused { message, error }) => Ended::At(message, error.kind.number()),
-    })
-}
-
-fn words_of(alloc: Global, texts: &[&str]) -> Result<Vec<String>, AllocError> {
-    let mut words = Vec::new(alloc);
-    for text in texts {
-        words.push(String::from_str(alloc, text)?)?;
-    }
-    Ok(words)
-}
-
-/// Each row's run prints what it has to, stops where it has to, and leaves so much.
-pub(crate) fn assert_runs(rt: &(impl Abort + AllocGlobal), rows: &[Row]) -> Result<(), AllocError> {
-    for row in rows {
-        assert_run(rt, row)?;
-    }
-    Ok(())
-}
-
-pub(crate) fn assert_run(rt: &(impl Abort + AllocGlobal), row: &Row) -> Result<(), AllocError> {
-    let mut source = row.input;
-    let mut sink = Vec::new(rt.alloc());
-    let ended = end_of(rt.alloc(), row.words, &mut source, &mut sink)?;
-    let is_printed = sink.as_slice() == row.printed;
-    let unread = source.len();
-    let (words, input) = (row.words, row.input);
-    assert!(rt;
-        ended == row.ended && is_printed && unread == row.unread,
-        "{words:?} of {input:?}: {ended:?}, {sink:?}, {unread} bytes unread"
-    );
-    Ok(())
-}
+const CANON: Row = Row {
+    command: "canon",
+    input: HELLOS,
+    printed: HELLOS,
+    ..LIST
+};
 
 #[rattlefmt::skip]
-const OUTPUTS: [Row; 11] = [
-    Row { words: &["list"], ..WHOLE },
-    Row { words: &["list"], input: FRAMED, printed: LINE, ..WHOLE },
-    Row { words: &["list"], input: TWO, printed: TWO_LINES, ..WHOLE },
-    Row { words: &["list"], input: &STREAM, printed: THREE_LINES, ..WHOLE },
-    Row { words: &["list", "--packed"], input: PACKED, printed: LINE, ..WHOLE },
-    Row {
-        words: &["list", "--packed"],
-        input: &[0, 0, 17, 4, 1, 0, 1, 0, 0],
-        printed: b"0 1 0 0\n1 5 1 1 0 0 0 0\n",
-        ..WHOLE
-    },
-    Row { words: &["list", "--packed"], ..WHOLE },
-    Row { words: &["pack"], input: FRAMED, printed: PACKED, ..WHOLE },
-    Row { words: &["pack"], ..WHOLE },
-    Row { words: &["unpack"], input: PACKED, printed: FRAMED, ..WHOLE },
-    Row { words: &["unpack"], ..WHOLE },
+const WRITES: [Row; 7] = [
+    LIST,
+    Row { bad_write: 2, message: 1, taken: 10, ..LIST },
+    Row { bad_write: 3, message: 2, taken: 18, ..LIST },
+    // the table and the segment of each message
+    CANON,
+    Row { bad_write: 2, message: 0, taken: 8, ..CANON },
+    Row { bad_write: 3, message: 1, taken: 32, ..CANON },
+    Row { bad_write: 4, message: 1, taken: 40, ..CANON },
 ];
 
 #[test]
-fn each_command_prints_its_output(rt: HostRuntime) -> Result<(), Fail> {
-    assert_runs(&rt, &OUTPUTS)?;
-    Ok(())
-}
-
-// What stands after the first message stops a list: cut, of too many segments, too large, or of a
-// padding that isn't zero. What is printed before a refusal stays.
-#[rattlefmt::skip]
-const STOPS: [Row; 9] = [
-    Row {
-        words: &["list"],
-        input: &[1, 0, 0, 0, 0, 0, 0, 0, 1, 0, 0, 0, 0, 0, 0, 0, 1, 2, 3, 4, 5, 6, 7, 8, 0, 0, 0, 0],
-        ended: Ended::At(1, 1),
-        printed: LINE,
-        unread: 0,
-    },
-    Row {
-        words: &["list"],
-        input: &[
-            1, 0, 0, 0, 0, 0, 0, 0, 1, 0, 0, 0, 0, 0, 0, 0, 1, 2, 3, 4, 5, 6, 7, 8,
-            0, 0, 0, 0, 1, 0, 0, 0, 1,
-        ],
-        ended: Ended::At(1, 1),
-        printed: LINE,
-        unread: 0,
-    },
-    Row {
-        words: &["list"],
-        input: &[
-            1, 0, 0, 0, 0, 0, 0, 0, 1, 0, 0, 0, 0, 0, 0, 0, 1, 2, 3, 4, 5, 6, 7, 8,
-            255, 1, 0, 0, 7, 7, 7, 7, 5,
-        ],
-        ended: Ended::At(1, 5),
-        printed: LINE,
-        unread: 1,
-    },
-    Row {
-        words: &["list"],
-        input: &[
-            1, 0, 0, 0, 0, 0, 0, 0, 1, 0, 0, 0, 0, 0, 0, 0, 1, 2, 3, 4, 5, 6, 7, 8,
-            0, 0, 0, 0, 1, 0, 128, 0, 5,
-        ],
-        ended: Ended::At(1, 8),
-        printed: LINE,
-        unread: 1,
-    },
-    Row {
-        words: &["list"],
-        input: &[
-            1, 0, 0, 0, 0, 0, 0, 0, 1, 0, 0, 0, 0, 0, 0, 0, 1, 2, 3, 4, 5, 6, 7, 8,
-            1, 0, 0, 0, 0, 0, 0, 0, 0, 0, 0, 0, 0, 0, 0, 1, 5,
-        ],
-        ended: Ended::At(1, 26),
-        printed: LINE,
-        unread: 1,
-    },
-    Row { words: &["pack"], input: &[0; 12], ended: Ended::At(1, 1), printed: &[0, 0], unread: 0 },
-    Row {
-        words: &["unpack"],
-        input: &[0, 0, 16, 1, 0, 0, 170],
-        ended: Ended::At(2, 10),
-        printed: &[0, 0, 0, 0, 0, 0, 0, 0, 0, 0, 0, 0, 1, 0, 0, 0, 0, 0, 0, 0, 0, 0, 0, 0],
-        unread: 0,
-    },
-    Row {
-        words: &["list", "--packed"],
-        input: &[0, 0, 0, 1],
-        ended: Ended::At(1, 11),
-        printed: b"0 1 0 0\n",
-        unread: 0,
-    },
-    Row { words: &["unpack"], input: &[255], ended: Ended::At(0, 10), printed: &[], unread: 0 },
-];
-
-#[test]
-fn output_before_a_refusal_stays(rt: HostRuntime) -> Result<(), Fail> {
-    assert_runs(&rt, &STOPS)?;
-    Ok(())
-}
-
-const OTHERS: [&[&str]; 22] = [
-    &[],
-    &["lists"],
-    &["list", "list"],
-    &["list", ""],
-    &["list", "--packed", "x"],
-    &["list", "--packed", "--packed"],
-    &["list", "--lenient", "--packed"],
-    &["list", "--lenient", "--lenient"],
-    &["list", "--packed", "--lenient", "--lenient"],
-    &["--lenient", "list"],
-    &["--lenient", "pack"],
-    &["--packed", "list"],
-    &["pack", "--packed"],
-    &["pack", "--packed", "--lenient"],
-    &["unpack", "--packed"],
-    &["unpack", "--lenient", "--lenient"],
-    &["canon", "--lenient"],
-    &["canon", "--packed", "--lenient"],
-    &["canon", "canon"],
-    &["canon", "--packed", "--packed"],
-    &["canonical"],
-    &["LIST"],
-];
-
-#[test]
-fn other_words_read_nothing(rt: HostRuntime) -> Result<(), Fail> {
-    for &words in &OTHERS {
-        let row = Row {
-            words,
-            input: &STREAM,
-            ended: Ended::Usage,
-            printed: &[],
-            unread: 56,
-        };
-        assert_run(&rt, &row)?;
+fn a_failed_write_stops_at_its_message(rt: HostRuntime) -> Result<()> {
+    for row in &WRITES {
+        let (command, bad_write) = (row.command, row.bad_write);
+        assert!(rt;
+            stops_there(rt.alloc(), row)?,
+            "{command}, write {bad_write}"
+        );
     }
     Ok(())
 }
 
-// `rt try --test --fail-alloc N` refuses one growth: the run then stops at its message by 12, and a
-// second one lists them all.
-#[test]
-fn a_refused_growth_stops_at_its_message(rt: HostRuntime) -> Result<(), Fail> {
-    if list_or_lack_memory(&rt).is_err() {
-        list_or_lack_memory(&rt)?;
-    }
-    Ok(())
+// Whether the run stops at the row's message by 13, with so much of the output taken.
+fn stops_there(alloc: Global, row: &Row) -> Result<bool> {
+    let mut device = FailingWriter {
+        got: Vec::new(alloc),
+        bad_write: row.bad_write,
+        writes: 0,
+    };
+    let mut sink = Output::new(alloc, 0, &mut device)?;
+    let stop = stop_of(alloc, row.command, row.input, &mut sink)?;
+    drop(sink);
+    let is_taken = Some(device.got.as_slice()) == row.printed.get(..row.taken);
+    Ok(is_taken && stop == Some((row.message, 13)))
 }
 
-fn list_or_lack_memory(rt: &(impl Abort + AllocGlobal)) -> Result<(), AllocError> {
-    let mut source = STREAM.as_slice();
-    let mut sink = Vec::new(rt.alloc());
-    match end_of(rt.alloc(), &["list"], &mut source, &mut sink)? {
-        Ended::Whole => {
-            assert!(rt; sink.as_slice() == THREE_LINES);
-            Ok(())
-        }
-        Ended::At(message, 12) if message < 3 => {
-            assert!(rt; sink.as_slice() == LINES[message as usize]);
-            Err(AllocError)
-        }
-        _ => panic!(rt; "neither a list nor a growth that was refused"),
-    }
+// A slice of 40 bytes takes one form of 32, and the table of another.
+#[test]
+fn a_form_without_room_stops_at_its_message(rt: HostRuntime) -> Result<()> {
+    let mut room = [0; 40];
+    let mut sink = room.as_mut_slice();
+    let stop = stop_of(rt.alloc(), "canon", HELLOS, &mut sink)?;
+    assert!(rt; stop == Some((1, 2)) && sink.is_empty());
+    assert!(rt; Some(room.as_slice()) == HELLOS.get(..40));
+    Ok(())
 }

@@ -1,0 +1,82 @@
+"""Devices that move little at a time, are interrupted, or fail, and memory that is refused."""
+import os
+import subprocess
+
+from messages import EMPTY, HELLO, LINES, STREAM
+from runs import Ended, name_of, stopped, usage, whole
+
+FAILED = "13 DeviceFailed"
+CUT = "1 FailedToFillTheWholeBuffer"
+
+# The device fails at its nth read of at most 8 bytes, one of the 8 that the stream and its end take: the
+# message there.
+READS = [(1, 0), (2, 0), (3, 0), (4, 1), (5, 2), (6, 2), (7, 2), (8, 3)]
+
+
+def try_reads(program):
+    for fails, message in READS:
+        ended = program.slow(["list"], STREAM, READ_MOST="8", READ_FAILS=str(fails))
+        program.compare(stopped(message, FAILED, b"".join(LINES[:message]), None), ended, "list, read %d fails" % fails)
+    program.compare(whole(b"".join(LINES)), program.slow(["list"], STREAM, READ_MOST="8"), "list, 8 bytes a read")
+    # Reads and writes of two bytes, of which the first are interrupted, lose nothing.
+    for interrupted in "3", "1000":
+        ended = program.slow(["list"], STREAM, READ_MOST="2", READ_INTERRUPTED=interrupted, WRITE_MOST="2",
+                             WRITE_INTERRUPTED=interrupted)
+        program.compare(whole(b"".join(LINES)), ended, "list, %s interruptions" % interrupted)
+
+
+def try_writes(program):
+    # Two canonical messages whose segments pass the program's buffer: it writes each table and each segment.
+    large = b"\0\0\0\0\x02\x10\0\0\x01\0\0\0\x82\0\x04\0" + 32767 * b"x" + bytes(9)
+    for fails, message, taken in (1, 0, 0), (2, 0, 8), (3, 1, len(large)), (4, 1, len(large) + 8):
+        ended = program.slow(["canon"], 2 * large, READ_MOST="100000", WRITE_FAILS=str(fails))
+        program.compare(stopped(message, FAILED, (2 * large)[:taken], None), ended, "canon, write %d fails" % fails)
+
+
+def try_devices(program):
+    # A device that can't be read, and one that can't be written: then the last flush fails. Nothing is known of
+    # what it took.
+    folder = os.open(program.folder, os.O_RDONLY)
+    ran = subprocess.run([program.path, "list"], stdin=folder, capture_output=True)
+    os.close(folder)
+    ended = Ended(ran.returncode, ran.stdout, ran.stderr, None)
+    program.compare(stopped(0, FAILED, left=None), ended, "list of a folder")
+    for words, given in ("list", EMPTY), ("pack", EMPTY), ("canon", HELLO):
+        program.compare(stopped(0, FAILED, left=None), program.run([words], given, "/dev/full"), words + " > /dev/full")
+    # A stop is reported before a failed flush.
+    ended = program.run(["list"], bytes(12), "/dev/full")
+    program.compare(stopped(1, CUT, left=None), ended, "list of 12 bytes > /dev/full")
+
+
+def try_diagnostics(program):
+    """The line of a stop is added to what stands there, and where it can't be written the status is the same."""
+    for given, words, wanted in ((bytes(12), ["list"], stopped(1, CUT, b"0 1 0 0\n")), (EMPTY, ["lst"], usage(EMPTY))):
+        with open(program.file("before"), "w+b") as diagnostics:
+            diagnostics.write(b"before\n")
+            diagnostics.flush()
+            ran = subprocess.run([program.path, *words], input=given, stdout=subprocess.PIPE, stderr=diagnostics)
+        ended = Ended(ran.returncode, ran.stdout, program.read("before"), wanted.left)
+        program.compare(wanted._replace(said=b"before\n" + wanted.said), ended, name_of(words, given) + " 2>> before")
+        with open("/dev/full", "wb") as full:
+            ran = subprocess.run([program.path, *words], input=given, stdout=subprocess.PIPE, stderr=full)
+        ended = Ended(ran.returncode, ran.stdout, b"", wanted.left)
+        program.compare(wanted._replace(said=b""), ended, name_of(words, given) + " 2> /dev/full")
+
+
+def try_growths(program):
+    """One growth of memory is refused, and each in turn: the run stops at its message by 12, or lists them all."""
+    counted, number, growths = program.file("counted"), 0, 1
+    while number < growths:
+        number += 1
+        ended = program.run(["list"], STREAM, LD_PRELOAD=program.refusing, REFUSED=str(number), COUNTED=counted)
+        growths = max(growths, int(program.read("counted")))
+        message = next((count for count in range(4) if ended.printed == b"".join(LINES[:count])), 0)
+        wanted = whole(b"".join(LINES), None)
+        if ended.status != 0:
+            wanted = stopped(min(message, 2), "12 OutOfMemory", b"".join(LINES[:min(message, 2)]), None)
+        program.compare(wanted, ended, "list, growth %d refused" % number)
+
+
+def try_faults(program):
+    for part in try_reads, try_writes, try_devices, try_diagnostics, try_growths:
+        part(program)
