@@ -1,6 +1,6 @@
 /* Framed and packed messages of Cap'n Proto over caller-provided buffers. No call takes memory.
  *
- * Each call returns 0, or the number of a refusal (docs/REFUSALS.md). A pointer and the length
+ * Each call returns 0, or the number of a refusal, an `enum linsjoar_error`. A pointer and the length
  * after it are one block; what is written overlaps nothing else that is passed. Messages have 1 to 511
  * segments and at most 8,388,608 words, and zeros as the padding of their table. */
 #ifndef CAPNP_C_H
@@ -12,6 +12,122 @@
 #ifdef __cplusplus
 extern "C" {
 #endif
+
+/* The refusals by their numbers, whatever part of the library has them. */
+enum linsjoar_error {
+    /* The bytes end within a part that is read at once. */
+    LINSJOAR_FAILED_TO_FILL_THE_WHOLE_BUFFER = 1,
+    /* A buffer has no room for what was to be put there. */
+    LINSJOAR_BUFFER_NOT_LARGE_ENOUGH = 2,
+    /* A buffer that was to hold a message has no bytes. */
+    LINSJOAR_EMPTY_BUFFER = 3,
+    /* There are no bytes where a message was to begin. */
+    LINSJOAR_EMPTY_SLICE = 4,
+    /* A message has not 1 to 511 segments. */
+    LINSJOAR_INVALID_NUMBER_OF_SEGMENTS = 5,
+    /* A message is cut, or bytes follow the only one. */
+    LINSJOAR_MESSAGE_ENDS_PREMATURELY = 6,
+    /* A number of words or bytes does not fit size_t. */
+    LINSJOAR_MESSAGE_SIZE_OVERFLOW = 7,
+    /* A message has more words than a reader takes. */
+    LINSJOAR_MESSAGE_TOO_LARGE = 8,
+    /* The bytes end where a message was to begin. */
+    LINSJOAR_PREMATURE_END_OF_FILE = 9,
+    /* Packed bytes end within a word or a run. */
+    LINSJOAR_PREMATURE_END_OF_PACKED_INPUT = 10,
+    /* A packed run goes past the end of its part. */
+    LINSJOAR_PACKED_INPUT_DID_NOT_END_CLEANLY_ON_A_SEGMENT_BOUNDARY = 11,
+    /* Memory was refused. */
+    LINSJOAR_OUT_OF_MEMORY = 12,
+    /* A source or a sink failed. */
+    LINSJOAR_DEVICE_FAILED = 13,
+    /* What is packed or unpacked is not of whole words. */
+    LINSJOAR_NOT_WHOLE_WORDS = 14,
+    /* An object or a segment of a given number of words can't be had. */
+    LINSJOAR_ALLOCATION_TOO_LARGE = 15,
+    /* The only segment is handed out already. */
+    LINSJOAR_SEGMENT_TAKEN = 16,
+    /* A pointer, or what it leads to, lies outside of its segment. */
+    LINSJOAR_POINTER_OUT_OF_BOUNDS = 17,
+    /* A message has no segment of this number. */
+    LINSJOAR_INVALID_SEGMENT_ID = 18,
+    /* Objects are nested too deep. */
+    LINSJOAR_NESTING_LIMIT_EXCEEDED = 19,
+    /* More words are visited than a reader allows. */
+    LINSJOAR_READ_LIMIT_EXCEEDED = 20,
+    /* A message has a pointer to a capability. */
+    LINSJOAR_CAPABILITY_REFUSED = 21,
+    /* A pointer leads to another kind of object. */
+    LINSJOAR_WRONG_POINTER_KIND = 22,
+    /* A text has no zero byte at its end. */
+    LINSJOAR_TEXT_NOT_TERMINATED = 23,
+    /* A canonical form has more words than a segment may. */
+    LINSJOAR_CANONICAL_TOO_LARGE = 24,
+    /* What was to be canonical is not in one segment. */
+    LINSJOAR_NOT_ONE_SEGMENT = 25,
+    /* The padding of a segment table is not zero. */
+    LINSJOAR_NON_ZERO_PADDING = 26
+};
+
+/* The name of a refusal, as InvalidSegmentId; "" for a number that none has, as 0. */
+static inline const char *linsjoar_error_name(int number) {
+    switch (number) {
+    case LINSJOAR_FAILED_TO_FILL_THE_WHOLE_BUFFER:
+        return "FailedToFillTheWholeBuffer";
+    case LINSJOAR_BUFFER_NOT_LARGE_ENOUGH:
+        return "BufferNotLargeEnough";
+    case LINSJOAR_EMPTY_BUFFER:
+        return "EmptyBuffer";
+    case LINSJOAR_EMPTY_SLICE:
+        return "EmptySlice";
+    case LINSJOAR_INVALID_NUMBER_OF_SEGMENTS:
+        return "InvalidNumberOfSegments";
+    case LINSJOAR_MESSAGE_ENDS_PREMATURELY:
+        return "MessageEndsPrematurely";
+    case LINSJOAR_MESSAGE_SIZE_OVERFLOW:
+        return "MessageSizeOverflow";
+    case LINSJOAR_MESSAGE_TOO_LARGE:
+        return "MessageTooLarge";
+    case LINSJOAR_PREMATURE_END_OF_FILE:
+        return "PrematureEndOfFile";
+    case LINSJOAR_PREMATURE_END_OF_PACKED_INPUT:
+        return "PrematureEndOfPackedInput";
+    case LINSJOAR_PACKED_INPUT_DID_NOT_END_CLEANLY_ON_A_SEGMENT_BOUNDARY:
+        return "PackedInputDidNotEndCleanlyOnASegmentBoundary";
+    case LINSJOAR_OUT_OF_MEMORY:
+        return "OutOfMemory";
+    case LINSJOAR_DEVICE_FAILED:
+        return "DeviceFailed";
+    case LINSJOAR_NOT_WHOLE_WORDS:
+        return "NotWholeWords";
+    case LINSJOAR_ALLOCATION_TOO_LARGE:
+        return "AllocationTooLarge";
+    case LINSJOAR_SEGMENT_TAKEN:
+        return "SegmentTaken";
+    case LINSJOAR_POINTER_OUT_OF_BOUNDS:
+        return "PointerOutOfBounds";
+    case LINSJOAR_INVALID_SEGMENT_ID:
+        return "InvalidSegmentId";
+    case LINSJOAR_NESTING_LIMIT_EXCEEDED:
+        return "NestingLimitExceeded";
+    case LINSJOAR_READ_LIMIT_EXCEEDED:
+        return "ReadLimitExceeded";
+    case LINSJOAR_CAPABILITY_REFUSED:
+        return "CapabilityRefused";
+    case LINSJOAR_WRONG_POINTER_KIND:
+        return "WrongPointerKind";
+    case LINSJOAR_TEXT_NOT_TERMINATED:
+        return "TextNotTerminated";
+    case LINSJOAR_CANONICAL_TOO_LARGE:
+        return "CanonicalTooLarge";
+    case LINSJOAR_NOT_ONE_SEGMENT:
+        return "NotOneSegment";
+    case LINSJOAR_NON_ZERO_PADDING:
+        return "NonZeroPadding";
+    default:
+        return "";
+    }
+}
 
 /* Whole messages. */
 

@@ -1,8 +1,8 @@
 /* Packs, unpacks, lists or canonicalizes the messages on standard input, by crates/capnp_c.
  *
  * `list` prints a line a message: its index, how many segments it has, how many words in all, and the
- * words of each segment. `canonical` takes one message. The status is the number of the refusal, 0
- * without one. */
+ * words of each segment. `canonical` takes one message. The status is the number of the refusal, whose
+ * name stands on standard error, and 0 without one. */
 #include "capnp_c.h"
 
 #include <stdio.h>
@@ -86,16 +86,23 @@ static int canonical(size_t len) {
     return refusal ? refusal : write_out(output, 8 * words);
 }
 
-int main(int argc, char **argv) {
-    size_t len = fread(input, 1, sizeof input, stdin);
-    if (argc == 2 && strcmp(argv[1], "pack") == 0)
+static int run(const char *command, size_t len) {
+    if (strcmp(command, "pack") == 0)
         return pack(len);
-    if (argc == 2 && strcmp(argv[1], "unpack") == 0)
+    if (strcmp(command, "unpack") == 0)
         return unpack(len);
-    if (argc == 2 && strcmp(argv[1], "list") == 0)
+    if (strcmp(command, "list") == 0)
         return list(len);
-    if (argc == 2 && strcmp(argv[1], "canonical") == 0)
+    if (strcmp(command, "canonical") == 0)
         return canonical(len);
     fputs("usage: example pack | unpack | list | canonical\n", stderr);
     return 254;
+}
+
+int main(int argc, char **argv) {
+    size_t len = fread(input, 1, sizeof input, stdin);
+    int status = run(argc == 2 ? argv[1] : "", len);
+    if (*linsjoar_error_name(status))
+        fprintf(stderr, "example: %s\n", linsjoar_error_name(status));
+    return status;
 }
