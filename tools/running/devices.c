@@ -1,7 +1,7 @@
 // Preloaded into a program, it makes standard input and output move little at a time, be interrupted, or
 // fail. READ_MOST and WRITE_MOST say how many bytes a call moves at most, READ_INTERRUPTED and
-// WRITE_INTERRUPTED how many calls are interrupted first, and READ_FAILS and WRITE_FAILS which call, counted
-// from 1, fails, by EIO and by ENOSPC. What is not set changes nothing.
+// WRITE_INTERRUPTED how many calls are interrupted first, and READ_FAILS and WRITE_FAILS from which call on,
+// counted from 1, each fails, by EIO and by ENOSPC. What is not set changes nothing.
 #include <errno.h>
 #include <limits.h>
 #include <stdlib.h>
@@ -35,7 +35,7 @@ static ssize_t moved(long number, int file, struct device *device, const void *b
         errno = EINTR;
         return -1;
     }
-    if (device->calls == device->fails) {
+    if (device->fails && device->calls >= device->fails) {
         errno = device->reason;
         return -1;
     }

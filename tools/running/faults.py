@@ -6,6 +6,8 @@ from messages import EMPTY, HELLO, LINES, STREAM
 from runs import Ended, name_of, stopped, usage, whole
 
 FAILED = "13 DeviceFailed"
+UNREAD = ["standard input: Input/output error (os error 5)"]
+FULL = ["standard output: No space left on device (os error 28)"]
 CUT = "1 FailedToFillTheWholeBuffer"
 
 # The device fails at its nth read of at most 8 bytes, one of the 8 that the stream and its end take: the
@@ -16,7 +18,8 @@ READS = [(1, 0), (2, 0), (3, 0), (4, 1), (5, 2), (6, 2), (7, 2), (8, 3)]
 def try_reads(program):
     for fails, message in READS:
         ended = program.slow(["list"], STREAM, READ_MOST="8", READ_FAILS=str(fails))
-        program.compare(stopped(message, FAILED, b"".join(LINES[:message]), None), ended, "list, read %d fails" % fails)
+        wanted = stopped(message, FAILED, b"".join(LINES[:message]), None, UNREAD)
+        program.compare(wanted, ended, "list, read %d fails" % fails)
     program.compare(whole(b"".join(LINES)), program.slow(["list"], STREAM, READ_MOST="8"), "list, 8 bytes a read")
     # Reads and writes of two bytes, of which the first are interrupted, lose nothing.
     for interrupted in "3", "1000":
@@ -27,10 +30,11 @@ def try_reads(program):
 
 def try_writes(program):
     # Two canonical messages whose segments pass the program's buffer: it writes each table and each segment.
-    large = b"\0\0\0\0\x02\x10\0\0\x01\0\0\0\x82\0\x04\0" + 32767 * b"x" + bytes(9)
+    large = b"\0\0\0\0\x02\x10\0\0\x01\0\0\0\x42\0\x04\0" + 32767 * b"x" + bytes(9)
     for fails, message, taken in (1, 0, 0), (2, 0, 8), (3, 1, len(large)), (4, 1, len(large) + 8):
         ended = program.slow(["canon"], 2 * large, READ_MOST="100000", WRITE_FAILS=str(fails))
-        program.compare(stopped(message, FAILED, (2 * large)[:taken], None), ended, "canon, write %d fails" % fails)
+        wanted = stopped(message, FAILED, (2 * large)[:taken], None, FULL)
+        program.compare(wanted, ended, "canon, write %d fails" % fails)
 
 
 def try_devices(program):
@@ -40,12 +44,14 @@ def try_devices(program):
     ran = subprocess.run([program.path, "list"], stdin=folder, capture_output=True)
     os.close(folder)
     ended = Ended(ran.returncode, ran.stdout, ran.stderr, None)
-    program.compare(stopped(0, FAILED, left=None), ended, "list of a folder")
+    wanted = stopped(0, FAILED, left=None, faults=["standard input: Is a directory (os error 21)"])
+    program.compare(wanted, ended, "list of a folder")
     for words, given in ("list", EMPTY), ("pack", EMPTY), ("canon", HELLO):
-        program.compare(stopped(0, FAILED, left=None), program.run([words], given, "/dev/full"), words + " > /dev/full")
-    # A stop is reported before a failed flush.
+        wanted = stopped(0, FAILED, left=None, faults=FULL)
+        program.compare(wanted, program.run([words], given, "/dev/full"), words + " > /dev/full")
+    # A stop is reported before a failed flush, whose reason stands after it.
     ended = program.run(["list"], bytes(12), "/dev/full")
-    program.compare(stopped(1, CUT, left=None), ended, "list of 12 bytes > /dev/full")
+    program.compare(stopped(1, CUT, left=None, faults=FULL), ended, "list of 12 bytes > /dev/full")
 
 
 def try_diagnostics(program):

@@ -17,9 +17,11 @@ def whole(printed=b"", left=0):
     return Ended(0, printed, b"", left)
 
 
-def stopped(message, error, printed=b"", left=0):
-    """A run that stops after so many messages by an error, which is its number and its text."""
-    return Ended(1, printed, b"capnp_ls: message %d: error %s\n" % (message, error.encode()), left)
+def stopped(message, error, printed=b"", left=0, faults=()):
+    """A run that stops after so many messages by an error, which is its number and its text; the faults are the
+    streams that failed, each with its reason."""
+    lines = ["message %d: error %s" % (message, error), *faults]
+    return Ended(1, printed, b"".join(b"capnp_ls: %s\n" % line.encode() for line in lines), left)
 
 
 def usage(given):

@@ -1,4 +1,5 @@
 pub mod Commands
+pub mod Flags
 pub mod Output
 pub mod Runs
 pub mod Stop

@@ -22,6 +22,10 @@ abbrev pub IsLineOf : Stop → List ℕ → Type 0
 IsLineOf Usage line = line ≡ usage_line
 IsLineOf (Refused message error) line = (text : List ℕ) × (line ≡ refusal_front message error.kind ++ (text ++ newline))
 
+-- `line` tells why a stream of this name failed; the text of the reason is free
+abbrev pub IsFaultLine : List ℕ → List ℕ → Type 0
+IsFaultLine name line = (text : List ℕ) × (line ≡ codes "capnp_ls: " ++ (name ++ (codes ": " ++ (text ++ newline))))
+
 -- the status that the program ends with
 abbrev pub status_of : Stop → ℕ
 status_of Usage = 2

@@ -10,34 +10,50 @@ ghost use Rattle.capnp_ls.specs.declared.stop.Stop.TheVariants.{Usage, Refused};
 ghost use Rattle.capnp_ls.specs.Stop.{IsAtStart, status_of};
 
 mod command;
+mod flags;
 mod lines;
 mod listing;
 mod program;
 mod stop;
+mod watched;
 
-use crate::stop::{Stop, report};
+use crate::flags::{Flag, print_flag};
+use crate::stop::{Stop, report, report_fault};
+use crate::watched::Watched;
 use capnp::devices::{Input, OUTPUT_BYTES, Output};
 use capnp::{Error, ErrorKind};
-use std::io::Write;
+use std::io::{Read, Write};
 use std::process::ExitCode;
 use std::{env, io};
 
 fn main(rt: HostRuntime) -> ExitCode {
-    let returned = run_on_standard_streams(rt);
+    let mut input = Watched::new(rt.stdin());
+    let mut output = Watched::new(rt.stdout());
+    let returned = run_on(rt, &mut input, &mut output);
     if let Err(stop) = &returned
         && let Ok(mut diagnostics) = Output::new(rt.alloc(), 0, rt.stderr())
     {
         let _ = report(rt.alloc(), stop, &mut diagnostics);
+        if let Some(fault) = input.fault() {
+            let _ = report_fault(rt.alloc(), "standard input", &fault, &mut diagnostics);
+        }
+        if let Some(fault) = output.fault() {
+            let _ = report_fault(rt.alloc(), "standard output", &fault, &mut diagnostics);
+        }
     }
     exit_code(&returned)
 }
 
-fn run_on_standard_streams(rt: HostRuntime) -> Result<(), Stop> {
+// Prints what a flag prints, or runs a command over these streams.
+fn run_on<R: Read, W: Write>(rt: HostRuntime, input: &mut R, output: &mut W) -> Result<(), Stop> {
     let alloc = rt.alloc();
     let words = words(rt).map_err(stop_without_words)?;
-    let mut source = Input::new(alloc, rt.stdin()).map_err(stop_at_start)?;
-    let mut sink = Output::new(alloc, OUTPUT_BYTES, rt.stdout()).map_err(stop_at_start)?;
-    let returned = program::run(alloc, &words, &mut source, &mut sink);
+    let mut source = Input::new(alloc, input).map_err(stop_at_start)?;
+    let mut sink = Output::new(alloc, OUTPUT_BYTES, output).map_err(stop_at_start)?;
+    let returned = match Flag::from_words(&words) {
+        Some(flag) => print_flag(flag, &mut sink).map_err(stop_at_start),
+        None => program::run(alloc, &words, &mut source, &mut sink),
+    };
     flush_after(returned, &mut sink)
 }
 

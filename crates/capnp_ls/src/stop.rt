@@ -2,11 +2,12 @@
 ghost use Rattle.std.specs.Prelude.{◌≡◌, ◌⊎◌, List, ℕ, IfOk, IfErr, OnOk, string_bytes};
 ghost use Rattle.capnp.specs.Passed.{ErrorKind, Fails, IfKnown, Adds, Grows};
 ghost use Rattle.capnp_ls.specs.declared.stop.Stop.TheVariants.{Refused};
-ghost use Rattle.capnp_ls.specs.Stop.{IsLineOf, status_of};
+ghost use Rattle.capnp_ls.specs.Stop.{IsLineOf, IsFaultLine, status_of};
 
 use capnp::io::Write;
 use capnp::{Error, ErrorKind, Result};
 use std::alloc::{AllocError, Global};
+use std::io;
 
 const USAGE: &str =
     "usage: capnp_ls list [--packed] [--lenient] | pack [--lenient] | unpack [--lenient] | canon [--packed]\n";
@@ -64,6 +65,42 @@ fn refusal_line(
     let number = error.kind.number();
     let text = error.to_string(alloc)?;
     let mut line = format!(in alloc; "capnp_ls: message {message}: error {number} ")?;
+    line.push_str(&text)?;
+    line.push('\n')?;
+    Ok(line)
+}
+
+/// Writes why the stream of this name failed as one line, in one chunk.
+///
+/// It is refused as `report` is.
+pub fn report_fault<W: Write>(
+    alloc: Global,
+    name: &str,
+    fault: &io::Error,
+    sink: &mut W,
+) -> Result<()>
+    ensures line { OnOk result (IfKnown (W.written sink.old) (W.written sink.new)
+        (Adds (λ text. (line : List ℕ) × IsFaultLine name.now line × W.appends line text))) }
+    ensures failed { IfErr result (λ error. error.kind ≡ ErrorKind.DeviceFailed →
+        Fails (W.failures sink.old) (W.failures sink.new)) }
+    ensures refused { IfErr result (λ error. (error.kind ≡ ErrorKind.DeviceFailed)
+        ⊎ (error.kind ≡ ErrorKind.OutOfMemory)
+        ⊎ ((line : List ℕ) × IsFaultLine name.now line × W.refuses line error.kind)) }
+    ensures grows { Grows W.written W.failures W.same sink.old sink.new }
+{
+    let line = fault_line(alloc, name, fault)?;
+    sink.write_all(line.as_bytes())
+}
+
+fn fault_line(
+    alloc: Global,
+    name: &str,
+    fault: &io::Error,
+) -> std::result::Result<String, AllocError>
+    ensures { IfOk result (λ line. IsFaultLine name.now (string_bytes line)) }
+{
+    let text = fault.to_string(alloc)?;
+    let mut line = format!(in alloc; "capnp_ls: {name}: ")?;
     line.push_str(&text)?;
     line.push('\n')?;
     Ok(line)

@@ -1,0 +1,15 @@
+-- The flags that stand in place of a command.
+use Rattle.std.specs.Prelude.{◌≡◌, ◌⊎◌, ℕ, List, [], ◌∷◌, codes}
+use Rattle.capnp_ls.specs.declared.flags.Flag.{Flag}
+use Rattle.capnp_ls.specs.declared.flags.Flag.TheVariants.{Help, Version}
+use Rattle.capnp_ls.specs.declared.flags.TheConstants.{HELP, VERSION}
+
+-- the words, each its bytes, that are the flag
+abbrev pub IsFlag : Flag → List (List ℕ) → Type 0
+IsFlag Help words = (words ≡ codes "--help" ∷ []) ⊎ (words ≡ codes "-h" ∷ [])
+IsFlag Version words = words ≡ codes "--version" ∷ []
+
+-- the bytes that it prints
+abbrev pub text_of : Flag → List ℕ
+text_of Help = HELP.now
+text_of Version = VERSION.now

@@ -1,0 +1,85 @@
+//! The flags that stand in place of a command, and print what the program is.
+ghost use Rattle.std.specs.Prelude.{◌≡◌, ◌⊎◌, map, string_bytes, IfSome, IfNone, IfErr, OnOk};
+ghost use Rattle.capnp.specs.Passed.{ErrorKind, Fails, IfKnown, Adds, Grows};
+ghost use Rattle.capnp_ls.specs.declared.flags.Flag.{Flag};
+ghost use Rattle.capnp_ls.specs.Flags.{IsFlag, text_of};
+
+use capnp::Result;
+use capnp::io::Write;
+
+/// What `--help` prints. The manual's page is made of it, too.
+pub const HELP: &str = "Lists and converts the messages of Cap'n Proto that come on standard input
+
+Usage: capnp_ls COMMAND [OPTIONS]
+
+Commands:
+  list [--packed] [--lenient]  Print of each message a line: its index, how many segments it has,
+                               its words in all, and the words of each segment
+  pack [--lenient]             Write each message packed
+  unpack [--lenient]           Write each packed message framed
+  canon [--packed]             Write the canonical form of each message, framed
+
+Options:
+      --packed   The messages are packed
+      --lenient  Take any padding; else it has to be zero
+  -h, --help     Print help
+      --version  Print version
+
+Exit status:
+  0  Each message was read, and what the command prints is written
+  1  A message is refused, or a device fails: standard error has its index and the reason
+  2  The words are no command
+";
+
+/// What `--version` prints.
+pub const VERSION: &str = "capnp_ls 0.1.0\n";
+
+/// A flag that stands alone, in place of a command.
+#[derive(Clone, Copy)]
+pub enum Flag {
+    /// `--help`, and `-h`: what the program does, its commands and their options.
+    Help,
+    /// `--version`: the program's name and version.
+    Version,
+}
+
+impl Flag {
+    /// The flag of these words, which stand after the program's name.
+    pub fn from_words(words: &[String]) -> Option<Flag>
+        ensures some { IfSome result (λ flag. IsFlag flag (map string_bytes words.now)) }
+        ensures none { IfNone result
+            ((flag : Flag) → IsFlag flag (map string_bytes words.now) → ⊥) }
+    {
+        let [word] = words else {
+            return None;
+        };
+        match word.as_str() {
+            "--help" | "-h" => Some(Flag::Help),
+            "--version" => Some(Flag::Version),
+            _ => None,
+        }
+    }
+
+    /// What it prints.
+    fn text(self) -> &'static str
+        ensures { result.now ≡ text_of self }
+    {
+        match self {
+            Flag::Help => HELP,
+            Flag::Version => VERSION,
+        }
+    }
+}
+
+/// Writes what a flag prints, in one chunk.
+pub fn print_flag<W: Write>(flag: Flag, sink: &mut W) -> Result<()>
+    ensures text { OnOk result (IfKnown (W.written sink.old) (W.written sink.new)
+        (Adds (W.appends (text_of flag)))) }
+    ensures failed { IfErr result (λ error. error.kind ≡ ErrorKind.DeviceFailed →
+        Fails (W.failures sink.old) (W.failures sink.new)) }
+    ensures refused { IfErr result (λ error. (error.kind ≡ ErrorKind.DeviceFailed)
+        ⊎ W.refuses (text_of flag) error.kind) }
+    ensures grows { Grows W.written W.failures W.same sink.old sink.new }
+{
+    sink.write_all(flag.text().as_bytes())
+}

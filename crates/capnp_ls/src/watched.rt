@@ -1,0 +1,102 @@
+//! Devices that tell why they failed.
+ghost use Rattle.std.specs.Prelude.{◌≡◌, ◌≢◌, None, Some, IfErr, OnOk};
+ghost use Rattle.std.specs.Io.{ReadsAtMost, WritesAtMost};
+ghost use Rattle.std.specs.Io.KnownBytes.{Keeps, ReadConsumes, WriteAppends};
+ghost use Rattle.std.specs.IoError.{error_kind};
+
+use std::io;
+use std::io::{ErrorKind, Read, Write};
+
+/// A device that keeps the error of the last call of it that failed. An interrupted call is made again,
+/// so its error isn't kept.
+#[derive(Drop)]
+pub struct Watched<D> {
+    device: D,
+    fault: Option<io::Error>,
+}
+
+impl<D> Watched<D> {
+    /// The device, which has not failed.
+    pub fn new(device: D) -> Watched<D>
+        ensures device { result.device ≡ device }
+        ensures unfailed { result.fault ≡ None }
+    {
+        Watched {
+            device,
+            fault: None,
+        }
+    }
+
+    /// Why the device failed last, if it did.
+    pub fn fault(&self) -> Option<io::Error>
+        ensures { result ≡ self.now.fault }
+    {
+        self.fault
+    }
+
+    fn note(&mut self, error: io::Error)
+        ensures noted { error_kind error ≢ ErrorKind.Interrupted → self.new.fault ≡ Some error }
+        ensures device { self.new.device ≡ self.old.device }
+    {
+        if error.kind() != ErrorKind::Interrupted {
+            self.fault = Some(error);
+        }
+    }
+}
+
+impl<R: Read> Read for Watched<R> {
+    ghost remaining = { λ watched. R.remaining watched.device };
+
+    fn read(&mut self, buffer: &mut [u8]) -> io::Result<usize>
+        ensures bound { ReadsAtMost result buffer.new }
+        ensures bytes { ReadConsumes (R.remaining self.old.device) (R.remaining self.new.device)
+            result buffer.new }
+        ensures noted { IfErr result (λ error. error_kind error ≢ ErrorKind.Interrupted →
+            self.new.fault ≡ Some error) }
+        ensures kept { OnOk result (self.new.fault ≡ self.old.fault) }
+    {
+        match self.device.read(buffer) {
+            Ok(count) => Ok(count),
+            Err(error) => {
+                self.note(error);
+                Err(error)
+            }
+        }
+    }
+}
+
+impl<W: Write> Write for Watched<W> {
+    ghost contents = { λ watched. W.contents watched.device };
+
+    fn write(&mut self, bytes: &[u8]) -> io::Result<usize>
+        ensures bound { WritesAtMost result bytes.now }
+        ensures bytes { WriteAppends (W.contents self.old.device) (W.contents self.new.device)
+            result bytes.now }
+        ensures noted { IfErr result (λ error. error_kind error ≢ ErrorKind.Interrupted →
+            self.new.fault ≡ Some error) }
+        ensures kept { OnOk result (self.new.fault ≡ self.old.fault) }
+    {
+        match self.device.write(bytes) {
+            Ok(count) => Ok(count),
+            Err(error) => {
+                self.note(error);
+                Err(error)
+            }
+        }
+    }
+
+    fn flush(&mut self) -> io::Result<()>
+        ensures bytes { Keeps (W.contents self.old.device) (W.contents self.new.device) }
+        ensures noted { IfErr result (λ error. error_kind error ≢ ErrorKind.Interrupted →
+            self.new.fault ≡ Some error) }
+        ensures kept { OnOk result (self.new.fault ≡ self.old.fault) }
+    {
+        match self.device.flush() {
+            Ok(()) => Ok(()),
+            Err(error) => {
+                self.note(error);
+                Err(error)
+            }
+        }
+    }
+}
