@@ -1,0 +1,86 @@
+"""Writes the manual page of a built program: manual.py ROOT CRATE NAME
+
+The page is made of what the program prints for `--help`, or of the comment at the head of its main.rt, where it
+has no such word. NAME is what it is installed as.
+"""
+import os
+import re
+import subprocess
+import sys
+
+NAME = r"(?:(?<=\W)|^)(--?[a-zA-Z][\w-]*)"
+
+
+def escaped(text):
+    """Text as troff reads it."""
+    text = text.replace("\\", "\\e").replace("-", "\\-").replace("'", "\\(aq").replace("`", "\\(ga")
+    return "\\&" + text if text.startswith((".", "\\(aq")) else text
+
+
+def bold(text):
+    return "\\fB" + escaped(text) + "\\fR"
+
+
+def term(text):
+    """The words of a command, an option or an example; options are bold."""
+    return "".join(bold(part) if re.fullmatch(NAME, part) else escaped(part) for part in re.split(NAME, text))
+
+
+def items_of(lines):
+    """The terms of a section, each with its text: a line is two spaces, the term, at least two spaces, the text; or
+    it goes on with the text above it."""
+    items = []
+    for line in lines:
+        if not line.strip():
+            continue
+        begun = re.fullmatch(r" {2,6}(\S.*?)(?: {2,}(\S.*))?", line)
+        if begun:
+            items.append([begun[1], begun[2] or ""])
+        else:
+            items[-1][1] = (items[-1][1] + " " + line.strip()).strip()
+    return items
+
+
+def section(title, lines):
+    page = [".SH " + title.upper()]
+    for words, text in items_of(lines):
+        page += [".TP", term(words), escaped(text)]
+    return page
+
+
+def page_of_help(text):
+    """The pages' part after its head, of what --help prints."""
+    about, rest = text.split("\n\n", 1)
+    usage, rest = re.match(r"Usage: (.*)\n\n?([\s\S]*)", rest).groups()
+    page = [".SH SYNOPSIS", term(usage)]
+    parts = re.split(r"^(\S.*):\n", rest, flags=re.MULTILINE)
+    if parts[0].strip():
+        page += [".SH DESCRIPTION", escaped(" ".join(parts[0].split()))]
+    for title, lines in zip(parts[1::2], parts[2::2]):
+        page += section(title, lines.splitlines())
+    return about, page
+
+
+def page_of_comment(source):
+    """The same of the comment at the head of a file."""
+    comment = "\n".join(line[3:].strip() for line in re.match(r"(?://!.*\n)+", source)[0].splitlines())
+    first, *paragraphs = comment.split("\n\n")
+    about = re.split(r"[:.]", first)[0]
+    marked = [re.sub(r"`(.*?)`", r"\\fB\1\\fR", " ".join(part.split()).replace("-", "\\-"))
+              for part in [first] + paragraphs]
+    return about, [".SH SYNOPSIS", bold(re.search(r"`(.*?)`", first)[1]), ".SH DESCRIPTION", "\n.PP\n".join(marked)]
+
+
+root, crate, name = sys.argv[1:]
+with open(os.path.join(root, "crates", crate, "src/main.rt")) as file:
+    source = file.read()
+with open(os.path.join(root, "VERSION")) as file:
+    version = file.read().strip()
+if crate == "capnpc_rattle":
+    about, page = page_of_comment(source)
+else:
+    program = os.path.join(root, "crates", crate, "out", crate)
+    about, page = page_of_help(subprocess.run([program, "--help"], check=True, capture_output=True, text=True).stdout)
+print('.TH "%s" 1 "" "linsjoar %s"' % (escaped(name.upper()), version))
+print(".SH NAME\n%s \\- %s" % (escaped(name), escaped(about[0].lower() + about[1:])))
+print("\n".join(page))
