@@ -1,5 +1,5 @@
 //! Segments that grow at their end.
-ghost use Rattle.std.specs.Prelude.{◌≡◌, ◌+◌, ◌-◌, ◌*◌, ◌/◌, ◌%◌, ◌^◌, ◌<◌, ◌≤◌, ◌++◌, if◌then◌else◌, is_ok, None, length, drop, replicate, ◌∷◌, OnOk, OnErr, IfErr};
+ghost use Rattle.std.specs.Prelude.{◌≡◌, ◌+◌, ◌-◌, ◌*◌, ◌/◌, ◌%◌, ◌^◌, ◌<◌, ◌≤◌, ◌++◌, if◌then◌else◌, is_ok, None, length, take, drop, replicate, ◌∷◌, OnOk, OnErr, IfErr};
 ghost use Rattle.capnp_frame.specs.declared.error.ErrorKind.TheVariants.{OutOfMemory};
 ghost use Rattle.capnp_wire.specs.Pointer.{words_of};
 ghost use Rattle.capnp_orphans.specs.Segments.{Segment, IsSegment, AppendsObject, PutsRoot, IsWrittenAfter, with_root_alone};
@@ -62,9 +62,11 @@ impl GrowingSegment for Vec<u8> {
         put_root(self, word);
     }
 
+    // Speed: one store, for each record of a message of its own.
+    #[tactic(auto, using(std::proofs::lemmas::List::take_all))]
     fn clear(&mut self) {
         self.truncate(8);
-        self.fill(0);
+        zero_first(self);
     }
 }
 
@@ -120,4 +122,14 @@ pub(crate) fn put_root(bytes: &mut [u8], word: u64)
     ensures len { length bytes.new ≡ length bytes.old }
 {
     put_word(bytes, 0, word);
+}
+
+/// Makes the first word zero.
+#[inline(always)]
+pub(crate) fn zero_first(bytes: &mut [u8])
+    requires { 8 ≤ length bytes.old }
+    ensures zero { take 8 bytes.new ≡ replicate 8 0 }
+    ensures len { length bytes.new ≡ length bytes.old }
+{
+    bytes[..8].fill(0);
 }
