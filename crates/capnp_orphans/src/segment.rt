@@ -75,7 +75,7 @@ impl GrowingSegment for Vec<u8> {
 //
 // Speed: up to 64 are made by stores of a constant size, so that no call whose branches depend on
 // the size is needed for a short text. Of a number that is known when it is compiled, as for the
-// nodes of a tree, just as many are made: then none is stored that the object is written over.
+// nodes of a tree, just as many are made.
 #[inline(always)]
 fn add_zeros(bytes: &mut Vec<u8>, added: usize, known: bool) -> Result<()>
     ensures items { bytes.new.items ≡ (if is_ok result
