@@ -3,7 +3,7 @@ ghost use Rattle.std.specs.Prelude.{◌≡◌, ◌<◌, ◌≤◌, take, length,
 ghost use Rattle.capnp_frame.specs.declared.error.ErrorKind.TheVariants.{AllocationTooLarge};
 
 use crate::object::Object;
-use crate::segment::{GrowingSegment, put_root, write_after};
+use crate::segment::{GrowingSegment, put_root, write_after, zero_first};
 use capnp_frame::{Error, ErrorKind, Result};
 use std::marker::Model;
 
@@ -74,14 +74,4 @@ impl<'a> GrowingSegment for Region<'a> {
         zero_first(self.bytes);
         self.used = 8;
     }
-}
-
-// Makes the first word zero.
-#[inline(always)]
-fn zero_first(bytes: &mut [u8])
-    requires { 8 ≤ length bytes.old }
-    ensures zero { take 8 bytes.new ≡ replicate 8 0 }
-    ensures len { length bytes.new ≡ length bytes.old }
-{
-    bytes[..8].fill(0);
 }

@@ -1,5 +1,5 @@
 //! Segments that grow at their end.
-ghost use Rattle.std.specs.Prelude.{◌≡◌, ◌+◌, ◌-◌, ◌*◌, ◌/◌, ◌%◌, ◌^◌, ◌<◌, ◌≤◌, ◌++◌, if◌then◌else◌, is_ok, None, length, drop, replicate, ◌∷◌, OnOk, OnErr, IfErr};
+ghost use Rattle.std.specs.Prelude.{◌≡◌, ◌+◌, ◌-◌, ◌*◌, ◌/◌, ◌%◌, ◌^◌, ◌<◌, ◌≤◌, ◌++◌, if◌then◌else◌, is_ok, None, length, take, drop, replicate, ◌∷◌, OnOk, OnErr, IfErr};
 ghost use Rattle.capnp_frame.specs.declared.error.ErrorKind.TheVariants.{OutOfMemory};
 ghost use Rattle.capnp_wire.specs.Pointer.{words_of};
 ghost use Rattle.capnp_orphans.specs.Segments.{Segment, IsSegment, AppendsObject, PutsRoot, IsWrittenAfter, with_root_alone};
@@ -64,9 +64,11 @@ impl GrowingSegment for Vec<u8> {
         put_root(self, word);
     }
 
+    // Speed: one store, for each record of a message of its own.
+    #[tactic(auto, using(std::proofs::lemmas::List::take_all))]
     fn clear(&mut self) {
         self.truncate(8);
-        self.fill(0);
+        zero_first(self);
     }
 }
 
@@ -75,8 +77,7 @@ impl GrowingSegment for Vec<u8> {
 //
 // Speed: up to 64 are made by stores of a constant size, so a short object needs no call whose
 // branches depend on the size. Of a number that is known when it is compiled, as for the nodes of a
-// tree, just as many are made: then none is stored that the object is written over
-// (`tools/time-building built`).
+// tree, just as many are made (`tools/time-building built`).
 #[inline(always)]
 fn add_zeros(bytes: &mut Vec<u8>, added: usize, known: bool) -> Result<()>
     ensures items { bytes.new.items ≡ (if is_ok result
@@ -123,4 +124,14 @@ pub(crate) fn put_root(bytes: &mut [u8], word: u64)
     ensures len { length bytes.new ≡ length bytes.old }
 {
     put_word(bytes, 0, word);
+}
+
+/// Makes the first word zero.
+#[inline(always)]
+pub(crate) fn zero_first(bytes: &mut [u8])
+    requires { 8 ≤ length bytes.old }
+    ensures zero { take 8 bytes.new ≡ replicate 8 0 }
+    ensures len { length bytes.new ≡ length bytes.old }
+{
+    bytes[..8].fill(0);
 }
