@@ -150,11 +150,14 @@ fn shown<S: ReaderSegments>(
     Ok(Some((person.has_email(), has_job(&person, job)?)))
 }
 
-// The next message of a stream, and what is left of that.
-fn next_message<'a>(alloc: Global, stream: &'a [u8]) -> Result<(Reader<OwnedSegments>, &'a [u8])> {
-    let mut source = stream;
-    let message = serialize::read_message(alloc, &mut source, DEFAULT_READER_OPTIONS)?;
-    Ok((message, source))
+// The first two messages of a stream.
+fn two_messages(
+    alloc: Global,
+    mut source: &[u8],
+) -> Result<(Reader<OwnedSegments>, Reader<OwnedSegments>)> {
+    let first = serialize::read_message(alloc, &mut source, DEFAULT_READER_OPTIONS)?;
+    let second = serialize::read_message(alloc, &mut source, DEFAULT_READER_OPTIONS)?;
+    Ok((first, second))
 }
 
 // Each message has a word of framing, the root's word, one of the text and five of the struct.
@@ -163,8 +166,7 @@ fn records_are_appended(rt: HostRuntime) -> Result<()> {
     let mut log = Vec::new(rt.alloc());
     append_people(rt.alloc(), &mut log, &["Alice", "Bob"])?;
     expect(&rt, "bytes", log.len(), 2 * 8 * 8);
-    let (first, left) = next_message(rt.alloc(), log.as_slice())?;
-    let (second, _) = next_message(rt.alloc(), left)?;
+    let (first, second) = two_messages(rt.alloc(), log.as_slice())?;
     expect(&rt, "Alice", person_of(&first)?.get_id(), 1);
     let bob = person_of(&second)?;
     expect(&rt, "Bob", bob.get_id(), 2);
