@@ -76,11 +76,17 @@ class Maker:
                 continue
             is_union, is_named = odds < 0.93, has_union or odds > 0.87
             has_union = has_union or not is_named
-            name = self.name(FIELD_NAMES, "group", self.names, self.modules) if is_named else ""
-            group = Group(name, is_union, [])
+            group = self.group(around, is_union) if is_named else Group("", is_union, [])
             group.members = self.members([*around, group], is_union, self.chance.randrange(2, 6))
             members.append(group)
         return members
+
+    def group(self, around, is_union):
+        while True:
+            group = Group(self.name(FIELD_NAMES, "group", self.names, self.modules), is_union, [])
+            if setter(around, group) not in self.setters:
+                self.setters.add(setter(around, group))
+                return group
 
     def field(self, around, in_union):
         self.left -= 1

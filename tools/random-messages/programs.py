@@ -3,16 +3,17 @@ compiler made."""
 import re
 
 from schemas import setter, snake
-from values import is_pointer, setters
+from values import groups, is_pointer, setters
 
-AT_ONCE = 8  # setters in one function
+AT_ONCE = 8  # calls in one function
 NUMBERS = {"Void": "()", "Bool": "bool", "Int8": "i8", "Int16": "i16", "Int32": "i32", "Int64": "i64", "UInt8": "u8",
            "UInt16": "u16", "UInt32": "u32", "UInt64": "u64", "Float32": "f32", "Float64": "f64"}
 
 HEAD = """\
 //! Builds structs of %(module)s from their descriptions.
 use super::%(module)s as schema;
-use crate::source::{Source, data_of, numbers_of, text_of};
+use crate::source::{Source, data_of, message_of, numbers_of, text_of};
+use capnp::message::{DEFAULT_READER_OPTIONS, Reader, SegmentArray};
 use capnp_frame::Result;
 use capnp_orphans::{GrowingSegment, Orphan, Orphanage};
 use capnp_wire::{data, list_list, primitive_list, text};
@@ -56,26 +57,43 @@ fn struct_%(index)d<S: GrowingSegment>(
     source: &mut Source<'_>,
     objects: &mut Orphanage<S>,
 ) -> Result<%(path)s::Builder> {
-    let mut made = %(path)s::Builder::new();
+    let mut made = match source.number::<u8>() {
+        0 => %(path)s::Builder::new(),
+        way => read_%(index)d(way, source, objects)?,
+    };
     for _ in 0..source.number::<u16>() {
-        let setter = source.number::<u8>();
-        match setter / %(at_once)d {
+        let call = source.number::<u8>();
+        match call / %(at_once)d {
 %(parts)s
             _ => {}
         }
     }
     Ok(made)
 }
+
+fn read_%(index)d<S: GrowingSegment>(
+    way: u8,
+    source: &mut Source<'_>,
+    objects: &mut Orphanage<S>,
+) -> Result<%(path)s::Builder> {
+    let mut written = Orphanage::new(source.alloc)?;
+    struct_%(index)d(source, &mut written)?.add_root(&mut written)?;
+    let bytes = message_of(source.alloc, way, &written)?;
+    let segments = [bytes.as_slice()];
+    let message = Reader::new(SegmentArray::new(&segments), DEFAULT_READER_OPTIONS);
+    let read: %(path)s::Reader<'_, SegmentArray<'_>> = message.get_root()?;
+    %(path)s::Builder::from_reader(&read, objects)
+}
 """
 
 PART = """
-fn set_%(index)d_%(part)d<S: GrowingSegment>(
-    setter: u8,
+fn call_%(index)d_%(part)d<S: GrowingSegment>(
+    call: u8,
     made: &mut %(path)s::Builder,
     source: &mut Source<'_>,
     objects: &mut Orphanage<S>,
 ) -> Result<()> {
-    match setter {
+    match call {
 %(calls)s
         _ => {}
     }
@@ -135,13 +153,14 @@ class Program:
         return "::".join([*around, made.name + "_" * (made.name in self.taken[1])])
 
     def struct(self, index, made):
-        """The function that builds a struct, and those that call its setters."""
-        calls = ["        %d => %s," % (number, self.call(around, field))
-                 for number, (around, field) in enumerate(setters(made))]
+        """The function that builds a struct, the one that reads it first, and those that call its setters."""
+        made_calls = [self.call(around, field) for around, field in setters(made)]
+        made_calls += ["made.init_%s()" % setter(around, group) for around, group in groups(made.members)]
+        calls = ["        %d => %s," % pair for pair in enumerate(made_calls)]
         names = {"index": index, "path": self.path(made), "at_once": AT_ONCE}
         parts = [calls[at:at + AT_ONCE] for at in range(0, len(calls), AT_ONCE)]
         yield STRUCT % {**names, "parts": "\n".join(
-            "            %d => set_%d_%d(setter, &mut made, source, objects)?," % (part, index, part)
+            "            %d => call_%d_%d(call, &mut made, source, objects)?," % (part, index, part)
             for part in range(len(parts)))}
         for part, lines in enumerate(parts):
             yield PART % {**names, "part": part, "calls": "\n".join(lines)}

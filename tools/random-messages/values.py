@@ -4,7 +4,7 @@ A struct is a list of steps: a member and what it is set to, which of a group or
 a pointer that is set to null, or not at all; a list is a list, a text is a `str`, data are `bytes`."""
 import struct
 
-from schemas import FLOATS, SIGNED, UNSIGNED, Field, fields, shown_number, some_number
+from schemas import FLOATS, SIGNED, UNSIGNED, Field, Group, fields, shown_number, some_number
 
 NULL = object()
 LETTERS = "abc XYZ\0\n\"'\\\x7f\u00e9\u4e2d\U0001f600"
@@ -27,10 +27,34 @@ def setters(made):
     return [(around, field) for around, field in fields(made.members) if has_setter(around, field)]
 
 
-def can_select(member):
-    """Whether a member of a union can be made its member by a setter."""
+def groups(members, around=(), in_union=False):
+    """The groups that are members of unions, each with the groups around it: these can be selected."""
+    for member in members:
+        if isinstance(member, Group):
+            if in_union:
+                yield around, member
+            yield from groups(member.members, [*around, member], member.is_union)
+
+
+def can_set(member):
+    """Whether a member of a union can be made its member by a field's setter."""
     held = [([], member)] if isinstance(member, Field) else fields(member.members)
     return any(field.kind[0] != "interface" for _, field in held)
+
+
+def has_union(group):
+    return group.is_union or any(isinstance(held, Group) and has_union(held) for held in group.members)
+
+
+class Made(list):
+    """The steps of a struct. It is built in one go, or (`way`) some calls are made on a builder that is written, read
+    as it stands (1) or as its canonical form (2), and made a builder again, on which the others are made. The first
+    builder may have other values in fields that are set later (`replaced`)."""
+    way, first, replaced = 0, 0, ()
+
+
+class Selected(list):
+    """The steps of a group that is selected, and cleared, before they are taken."""
 
 
 class Values:
@@ -43,7 +67,17 @@ class Values:
 
     def struct(self, made, depth):
         self.left -= 1
-        return self.steps(made.members, depth, self.chance.choice([0.1, 0.5, 0.9, 1]))
+        steps = Made(self.steps(made.members, depth, self.chance.choice([0.1, 0.5, 0.9, 1])))
+        if self.chance.random() < 0.2:
+            self.read_between(made, steps)
+        return steps
+
+    def read_between(self, made, steps):
+        calls = list(leaves(steps))
+        steps.way, steps.first = self.chance.choice([1, 2]), self.chance.randrange(len(calls) + 1)
+        later = [member for member, _ in calls[steps.first:]]
+        steps.replaced = [(field, self.null_or(field.kind, 0)) for around, field in setters(made)
+                          if field in later and not any(part.is_union for part in around) and self.chance.random() < 0.5]
 
     def steps(self, members, depth, odds):
         """Sets some members, in any order."""
@@ -61,22 +95,38 @@ class Values:
 
     def union(self, union, depth, odds):
         """Sets a member, or one and then another that takes its place. Where that is a group, the C++ tool clears
-        it first, which setters do not."""
-        members = [member for member in union.members if can_select(member)]
+        it first, so it is selected. Of a union in it the tool clears the first member alone, and the builder all."""
+        members = [member for member in union.members if isinstance(member, Group) or can_set(member)]
         self.chance.shuffle(members)
-        chosen = members[:1]
+        chosen = [(member, self.selected(member, depth, odds)) for member in members[:1]]
         if self.chance.random() < 0.2:
-            chosen += [member for member in members[1:] if isinstance(member, Field)][:1]
-        return [(member, self.chosen(member, depth, odds)) for member in chosen]
+            others = [member for member in members[1:] if isinstance(member, Field) or not has_union(member)]
+            for member in others[:1]:
+                is_field = isinstance(member, Field)
+                value = self.value(member.kind, depth) if is_field else Selected(self.held(member, depth, odds))
+                chosen.append((member, value))
+        return chosen
+
+    def selected(self, member, depth, odds):
+        """What a member of a union is set to, a group by a field of it or by being selected."""
+        if can_set(member) and (isinstance(member, Field) or self.chance.random() < 0.5):
+            return self.chosen(member, depth, odds)
+        return Selected(self.held(member, depth, odds))
+
+    def held(self, group, depth, odds):
+        """What a group that is selected is set to, if to anything."""
+        if group.is_union:
+            return self.union(group, depth, odds) if self.chance.random() < odds else []
+        return self.steps(group.members, depth, odds)
 
     def chosen(self, member, depth, odds):
-        """What a member of a union is set to: no null pointer, since the text format has none there, and of a
+        """What a member is set to by a setter: no null pointer, since the text format has none in unions, and of a
         group one field at least."""
         if isinstance(member, Field):
             return self.value(member.kind, depth)
         if member.is_union:
             return self.union(member, depth, odds)
-        members = [held for held in member.members if can_select(held)]
+        members = [held for held in member.members if can_set(held)]
         first = self.chance.choice(members)
         others = self.steps([held for held in member.members if held is not first], depth, odds)
         return [(first, self.chosen(first, depth, odds)), *others]
@@ -100,7 +150,7 @@ class Values:
         if form == "data":
             return bytes(self.chance.randrange(256) for _ in range(self.length(40)))
         if form == "struct":
-            return self.struct(of, depth - 1) if depth > 0 else []
+            return self.struct(of, depth - 1) if depth > 0 else Made()
         return self.list(of, depth) if form == "list" else self.value(of, depth)
 
     def length(self, most):
@@ -169,21 +219,41 @@ def number_bytes(name, value):
 
 
 def struct_bytes(made, steps):
-    """How many setters are called, and of each its number and what it takes."""
-    numbers = {field: number for number, (_, field) in enumerate(setters(made))}
-    calls = [call_bytes(numbers[field], field.kind, value) for field, value in leaves(steps) if field in numbers]
+    """The builder from which it goes on, and the calls on that."""
+    numbers = call_numbers(made)
+    calls = list(leaves(steps))
+    if not steps.way:
+        return b"\0" + calls_bytes(numbers, calls)
+    before = b"\0" + calls_bytes(numbers, [*steps.replaced, *calls[:steps.first]])
+    return bytes([steps.way]) + before + calls_bytes(numbers, calls[steps.first:])
+
+
+def call_numbers(made):
+    """The numbers of a builder's calls: those that set fields, and those that select groups."""
+    members = [member for _, member in [*setters(made), *groups(made.members)]]
+    return {member: number for number, member in enumerate(members)}
+
+
+def calls_bytes(numbers, calls):
+    """How many calls there are, and of each its number and what it takes."""
+    calls = [call_bytes(numbers[member], member, value) for member, value in calls if member in numbers]
     return struct.pack("<H", len(calls)) + b"".join(calls)
 
 
-def call_bytes(number, kind, value):
-    if not is_pointer(kind):
-        return bytes([number]) + bytes_of(kind, value)
-    return bytes([number]) + (b"\0" if value is NULL else b"\1" + bytes_of(kind, value))
+def call_bytes(number, member, value):
+    if isinstance(member, Group):
+        return bytes([number])
+    if not is_pointer(member.kind):
+        return bytes([number]) + bytes_of(member.kind, value)
+    return bytes([number]) + (b"\0" if value is NULL else b"\1" + bytes_of(member.kind, value))
 
 
 def leaves(steps):
+    """The calls that the steps are, in their order, each with its value."""
     for member, value in steps:
         if isinstance(member, Field):
             yield member, value
-        else:
-            yield from leaves(value)
+            continue
+        if isinstance(value, Selected):
+            yield member, None
+        yield from leaves(value)

@@ -1,90 +1,100 @@
 //! What was read is changed, and written again.
+use crate::address_book::{Job, with_email};
 use crate::addressbook_capnp::person;
-use crate::addressbook_capnp::person::{employment, phone_number};
+use crate::addressbook_capnp::person::phone_number;
+use crate::assertions::{expect, expect_bytes, expect_that};
+use crate::people::{email, has_job, name, person_of};
 use crate::read::FILLED;
 use crate::sample_capnp::{point, sample, shape};
-use capnp::message::{DEFAULT_READER_OPTIONS, Reader, ReaderSegments, SegmentArray};
+use crate::shown::{has_title_and_label, made_counts, message_in, message_of, sample_of};
+use capnp::message::ReaderSegments;
 use capnp_frame::{ErrorKind, Result};
 use capnp_orphans::{GrowingSegment, Orphanage};
 use capnp_rows::retried;
-
-/// Writes a person as it was read, but with another email, as the root of a message.
-fn with_email<R: ReaderSegments, S: GrowingSegment>(
-    read: &person::Reader<'_, R>,
-    email: &str,
-    objects: &mut Orphanage<S>,
-) -> Result<()> {
-    let mut made = person::Builder::from_reader(read, objects)?;
-    made.set_email(objects.text(email)?);
-    made.add_root(objects)
-}
+use std::alloc::Global;
 
 // A person of whom all is known but the email.
-fn alice(rt: &impl AllocGlobal) -> Result<Orphanage> {
-    let mut objects = Orphanage::new(rt.alloc())?;
-    let mut mobile = phone_number::Builder::new();
-    mobile.set_number(objects.text("555-1212")?);
+fn alice(alloc: Global) -> Result<Orphanage> {
+    let mut objects = Orphanage::new(alloc)?;
     let mut made = person::Builder::new();
     made.set_id(123);
     made.set_name(objects.text("Alice")?);
-    made.set_phones(phone_number::Builder::add_list(&[mobile], &mut objects)?);
+    set_phone(&mut made, &mut objects)?;
     made.set_employment_school(objects.text("MIT")?);
     made.add_root(&mut objects)?;
     Ok(objects)
 }
 
+fn set_phone(made: &mut person::Builder, objects: &mut Orphanage) -> Result<()> {
+    let mut mobile = phone_number::Builder::new();
+    mobile.set_number(objects.text("555-1212")?);
+    made.set_phones(phone_number::Builder::add_list(&[mobile], objects)?);
+    Ok(())
+}
+
 // The same with an email, in another message.
-fn changed(rt: &impl AllocGlobal, before: &Orphanage) -> Result<Orphanage> {
-    let message = Reader::new(before, DEFAULT_READER_OPTIONS);
-    let read: person::Reader<'_, &Orphanage> = message.get_root()?;
-    let mut objects = Orphanage::new(rt.alloc())?;
+fn changed(alloc: Global, before: &Orphanage) -> Result<Orphanage> {
+    let message = message_in(before);
+    let read = person_of(&message)?;
+    let mut objects = Orphanage::new(alloc)?;
     with_email(&read, "alice@example.com", &mut objects)?;
     Ok(objects)
 }
 
 #[test]
 fn all_else_stays(rt: HostRuntime) -> Result<()> {
-    let before = retried!(alice(&rt))?;
-    let objects = retried!(changed(&rt, &before))?;
-    let message = Reader::new(&objects, DEFAULT_READER_OPTIONS);
-    let read: person::Reader<'_, &Orphanage> = message.get_root()?;
-    assert_eq!(rt; read.get_id(), 123);
-    assert_eq!(rt; read.get_name()?.as_bytes(), b"Alice".as_slice());
-    assert_eq!(rt;
-        read.get_email()?.as_bytes(),
-        b"alice@example.com".as_slice()
-    );
-    let phones = read.get_phones()?;
-    assert_eq!(rt; phones.len(), 1);
-    assert_eq!(rt;
-        phones.get(0).get_number()?.as_bytes(),
-        b"555-1212".as_slice()
-    );
-    assert!(rt;
-        matches!(read.get_employment().which(), employment::Which::School(Ok(name)) if name.as_bytes() == b"MIT".as_slice())
-    );
+    let alloc = rt.alloc();
+    let before = retried!(alice(alloc))?;
+    let objects = retried!(changed(alloc, &before))?;
+    let message = message_in(&objects);
+    let read = person_of(&message)?;
+    expect(&rt, "id", read.get_id(), 123);
+    expect_bytes(&rt, "name", name(&read)?, b"Alice");
+    expect_bytes(&rt, "email", email(&read)?, b"alice@example.com");
+    let (count, number) = phones(&read)?;
+    expect(&rt, "phones", count, 1);
+    expect_bytes(&rt, "phone number", number, b"555-1212");
+    expect_that(&rt, "school", has_job(&read, Job::Learns("MIT"))?);
     Ok(())
 }
 
+// How many phones there are, and the number of the first.
+fn phones<'a, S: ReaderSegments>(read: &person::Reader<'a, S>) -> Result<(u32, &'a [u8])> {
+    let phones = read.get_phones()?;
+    if phones.len() == 0 {
+        return Ok((0, b""));
+    }
+    Ok((phones.len(), phones.get(0).get_number()?.as_bytes()))
+}
+
+// A copy of what a sample shows, in this message.
+fn copy<R: ReaderSegments, S: GrowingSegment>(
+    read: &sample::Reader<'_, R>,
+    objects: &mut Orphanage<S>,
+) -> Result<sample::Builder> {
+    sample::Builder::from_reader(read, objects)
+}
+
 // The sample of `FILLED`, which is copied.
-fn copied(rt: &impl AllocGlobal) -> Result<Orphanage> {
+fn copied(alloc: Global) -> Result<Orphanage> {
     let segments = [FILLED];
-    let message = Reader::new(SegmentArray::new(&segments), DEFAULT_READER_OPTIONS);
-    let read: sample::Reader<'_, SegmentArray<'_>> = message.get_root()?;
-    let mut objects = Orphanage::new(rt.alloc())?;
-    sample::Builder::from_reader(&read, &mut objects)?.add_root(&mut objects)?;
+    let message = message_of(&segments);
+    let read = sample_of(&message)?;
+    let mut objects = Orphanage::new(alloc)?;
+    copy(&read, &mut objects)?.add_root(&mut objects)?;
     Ok(objects)
 }
 
 #[test]
 fn a_copy_is_what_was_copied(rt: HostRuntime) -> Result<()> {
-    let objects = retried!(copied(&rt))?;
-    let copy = Reader::new(&objects, DEFAULT_READER_OPTIONS);
-    let copy = retried!(copy.canonical_segment(rt.alloc()))?;
+    let alloc = rt.alloc();
+    let objects = retried!(copied(alloc))?;
+    let copy = message_in(&objects);
+    let copy = retried!(copy.canonical_segment(alloc))?;
     let segments = [FILLED];
-    let written = Reader::new(SegmentArray::new(&segments), DEFAULT_READER_OPTIONS);
-    let written = retried!(written.canonical_segment(rt.alloc()))?;
-    assert_eq!(rt; copy.as_slice(), written.as_slice());
+    let written = message_of(&segments);
+    let written = retried!(written.canonical_segment(alloc))?;
+    expect_bytes(&rt, "copy", copy.as_slice(), written.as_slice());
     Ok(())
 }
 
@@ -100,12 +110,22 @@ const SHORT: &[u8] = &[
 #[test]
 fn what_an_older_writer_left_out_is_zero(rt: HostRuntime) -> Result<()> {
     let segments = [SHORT];
-    let message = Reader::new(SegmentArray::new(&segments), DEFAULT_READER_OPTIONS);
-    let read: sample::Reader<'_, SegmentArray<'_>> = message.get_root()?;
+    let message = message_of(&segments);
+    let read = sample_of(&message)?;
     let mut objects = retried!(Orphanage::new(rt.alloc()))?;
-    let made = retried!(sample::Builder::from_reader(&read, &mut objects))?;
-    assert_eq!(rt; (made.get_count(), made.get_balance()), (7, -5));
-    assert!(rt; made.has_title() && !made.has_payload() && made.get_ratio() == 0.5);
+    let made = retried!(copy(&read, &mut objects))?;
+    expect(&rt, "count, balance", made_counts(&made), (7, -5));
+    expect(
+        &rt,
+        "title, label",
+        has_title_and_label(&made),
+        (true, false),
+    );
+    expect_that(
+        &rt,
+        "payload, ratio",
+        !made.has_payload() && made.get_ratio() == 0.5,
+    );
     Ok(())
 }
 
@@ -113,23 +133,28 @@ fn what_an_older_writer_left_out_is_zero(rt: HostRuntime) -> Result<()> {
 #[test]
 fn what_a_newer_writer_had_is_left_out(rt: HostRuntime) -> Result<()> {
     let segments = [FILLED];
-    let message = Reader::new(SegmentArray::new(&segments), DEFAULT_READER_OPTIONS);
-    let read: point::Reader<'_, SegmentArray<'_>> = message.get_root()?;
+    let message = message_of(&segments);
+    let read: point::Reader<'_, _> = message.get_root()?;
     let mut objects = retried!(Orphanage::new(rt.alloc()))?;
     let made = point::Builder::from_reader(&read, &mut objects)?;
-    assert_eq!(rt; (made.get_x(), made.get_y()), (65543, -9));
-    assert_eq!(rt; objects.bytes().len(), 8);
+    expect(&rt, "x, y", (made.get_x(), made.get_y()), (65543, -9));
+    expect(&rt, "bytes", objects.bytes().len(), 8);
     Ok(())
 }
 
 #[test]
 fn pointers_may_be_left_out(rt: HostRuntime) -> Result<()> {
     let segments = [FILLED];
-    let message = Reader::new(SegmentArray::new(&segments), DEFAULT_READER_OPTIONS);
-    let read: sample::Reader<'_, SegmentArray<'_>> = message.get_root()?;
-    let made = sample::Builder::from_data_section(&read);
-    assert_eq!(rt; (made.get_count(), made.get_balance()), (7, 12));
-    assert!(rt; !made.has_title() && !made.has_origin() && !made.has_label());
+    let message = message_of(&segments);
+    let made = sample::Builder::from_data_section(&sample_of(&message)?);
+    expect(&rt, "count, balance", made_counts(&made), (7, 12));
+    expect(
+        &rt,
+        "title, label",
+        has_title_and_label(&made),
+        (false, false),
+    );
+    expect_that(&rt, "origin", !made.has_origin());
     Ok(())
 }
 
@@ -137,19 +162,21 @@ fn pointers_may_be_left_out(rt: HostRuntime) -> Result<()> {
 #[test]
 fn a_copy_lacks_room(rt: HostRuntime) -> Result<()> {
     let segments = [FILLED];
-    let message = Reader::new(SegmentArray::new(&segments), DEFAULT_READER_OPTIONS);
-    let read: sample::Reader<'_, SegmentArray<'_>> = message.get_root()?;
+    let message = message_of(&segments);
+    let read = sample_of(&message)?;
     let mut region = [1u8; 8 * 4];
     let mut objects = Orphanage::in_region(&mut region)?;
-    let refused = sample::Builder::from_reader(&read, &mut objects);
-    assert!(rt; matches!(refused, Err(error) if error.kind == ErrorKind::AllocationTooLarge(3)));
-    assert_eq!(rt; objects.bytes().len(), 8 * 3);
+    let refused = copy(&read, &mut objects);
+    let is_refused =
+        matches!(refused, Err(error) if error.kind == ErrorKind::AllocationTooLarge(3));
+    expect_that(&rt, "refusal", is_refused);
+    expect(&rt, "bytes", objects.bytes().len(), 8 * 3);
     Ok(())
 }
 
 // A circle that becomes a rectangle, of which nothing was set.
-fn rectangle(rt: &impl AllocGlobal) -> Result<Orphanage> {
-    let mut objects = Orphanage::new(rt.alloc())?;
+fn rectangle(alloc: Global) -> Result<Orphanage> {
+    let mut objects = Orphanage::new(alloc)?;
     let mut made = shape::Builder::new();
     made.set_rectangle_label(objects.text("here")?);
     made.set_radius(-1.5);
@@ -160,12 +187,27 @@ fn rectangle(rt: &impl AllocGlobal) -> Result<Orphanage> {
 
 #[test]
 fn a_group_is_cleared(rt: HostRuntime) -> Result<()> {
-    let objects = retried!(rectangle(&rt))?;
-    let message = Reader::new(&objects, DEFAULT_READER_OPTIONS);
+    let objects = retried!(rectangle(rt.alloc()))?;
+    let message = message_in(&objects);
     let read: shape::Reader<'_, &Orphanage> = message.get_root()?;
-    assert!(rt; matches!(read.which(), shape::Which::Rectangle(_)));
-    let rectangle = read.get_rectangle();
-    assert_eq!(rt; (rectangle.get_width(), rectangle.get_height()), (0, 0));
-    assert!(rt; !rectangle.get_is_filled() && !rectangle.has_label());
+    expect_that(
+        &rt,
+        "member",
+        matches!(read.which(), shape::Which::Rectangle(_)),
+    );
+    expect(&rt, "width, height", sides(&read), (0, 0));
+    expect(&rt, "is_filled, label", fills(&read), (false, false));
     Ok(())
+}
+
+// The `width` and `height` of a shape's rectangle.
+fn sides<S: ReaderSegments>(read: &shape::Reader<'_, S>) -> (u32, u32) {
+    let rectangle = read.get_rectangle();
+    (rectangle.get_width(), rectangle.get_height())
+}
+
+// Whether it is filled, and has a label.
+fn fills<S: ReaderSegments>(read: &shape::Reader<'_, S>) -> (bool, bool) {
+    let rectangle = read.get_rectangle();
+    (rectangle.get_is_filled(), rectangle.has_label())
 }

@@ -5,11 +5,19 @@
 #[cfg(test)]
 mod address_book;
 #[cfg(test)]
+mod assertions;
+#[cfg(test)]
 mod builders;
 #[cfg(test)]
 mod changed;
 #[cfg(test)]
+mod fields;
+#[cfg(test)]
+mod people;
+#[cfg(test)]
 mod read;
+#[cfg(test)]
+mod shown;
 #[cfg(test)]
 mod trees;
 

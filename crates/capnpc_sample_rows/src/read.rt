@@ -1,9 +1,11 @@
 //! Messages that the C++ tool wrote of `sample.capnp`, read by the types that are made of it.
-use crate::sample_capnp::{Color, LIMIT, get_corner, sample};
+use crate::assertions::{expect, expect_bytes, expect_that};
+use crate::sample_capnp::{Color, LIMIT, get_corner, point, sample};
+use crate::shown::{coordinates, counts, has_color_and_ratio, label, note, origin, title};
 use capnp_constant::OrDefault;
-use capnp_frame::message::{ReaderOptions, SegmentArray};
+use capnp_frame::Result;
+use capnp_frame::message::{ReaderOptions, ReaderSegments, SegmentArray};
 use capnp_wire::arena::ReaderArena;
-use std::test::Fail;
 
 // (count = 7, balance = 12, isReady = true, title = "A title", payload = 0x"01 02 ff",
 // points = [(x = 1, y = -2), (x = 3)], numbers = [5, 6, 4294967295], origin = (x = -9, y = 9),
@@ -61,89 +63,140 @@ fn arena_of<'a>(segments: &'a [&'a [u8]]) -> ReaderArena<SegmentArray<'a>> {
     ReaderArena::new(SegmentArray::new(segments), ReaderOptions::new())
 }
 
+// The sample at the root of an arena.
+fn sample_in<'a>(
+    arena: &'a ReaderArena<SegmentArray<'a>>,
+) -> Result<sample::Reader<'a, SegmentArray<'a>>> {
+    arena.get_root()?.get_as()
+}
+
 #[test]
-fn numbers_are_what_was_set(rt: HostRuntime) -> Result<(), Fail> {
+fn numbers_are_what_was_set(rt: HostRuntime) -> Result<()> {
     let segments = [FILLED];
     let arena = arena_of(&segments);
-    let read: sample::Reader<'_, SegmentArray<'_>> = arena.get_root()?.get_as()?;
-    assert_eq!(rt; (read.get_count(), read.get_balance()), (7, 12));
-    assert!(rt; read.get_is_ready());
-    assert!(rt; read.get_color() == Color::DeepBlue);
-    assert!(rt; read.get_ratio() == -2.5);
+    let read = sample_in(&arena)?;
+    expect(&rt, "count, balance", counts(&read), (7, 12));
+    expect_that(&rt, "is_ready", read.get_is_ready());
+    expect_that(
+        &rt,
+        "color, ratio",
+        has_color_and_ratio(&read, Color::DeepBlue, -2.5),
+    );
+    expect(&rt, "window", window(&read), (80, 24));
+    Ok(())
+}
+
+// The `width` and `height` of a window.
+fn window<S: ReaderSegments>(read: &sample::Reader<'_, S>) -> (u16, u16) {
     let window = read.get_window();
-    assert_eq!(rt; (window.get_width(), window.get_height()), (80, 24));
-    Ok(())
+    (window.get_width(), window.get_height())
 }
 
 #[test]
-fn pointers_lead_to_what_was_set(rt: HostRuntime) -> Result<(), Fail> {
+fn pointers_lead_to_what_was_set(rt: HostRuntime) -> Result<()> {
     let segments = [FILLED];
     let arena = arena_of(&segments);
-    let read: sample::Reader<'_, SegmentArray<'_>> = arena.get_root()?.get_as()?;
-    assert!(rt; read.has_title() && read.has_origin() && !read.has_anything());
-    assert_eq!(rt; read.get_title()?.as_bytes(), b"A title".as_slice());
-    assert_eq!(rt; read.get_payload()?, b"\x01\x02\xff".as_slice());
-    assert_eq!(rt; read.get_note()?.as_bytes(), b"some".as_slice());
-    let origin = read.get_origin()?;
-    assert_eq!(rt; (origin.get_x(), origin.get_y()), (-9, 9));
-    let OrDefault::Stored(target) = read.get_target() else {
-        return Err(Fail::new("the target is there"));
-    };
-    let target = target?;
-    assert_eq!(rt; (target.get_x(), target.get_y()), (0, 8));
+    let read = sample_in(&arena)?;
+    expect(
+        &rt,
+        "title, origin, anything",
+        are_there(&read),
+        (true, true, false),
+    );
+    expect_bytes(&rt, "title", title(&read)?, b"A title");
+    expect_bytes(&rt, "payload", payload(&read)?, b"\x01\x02\xff");
+    expect_bytes(&rt, "note", note(&read)?, b"some");
+    expect(&rt, "origin", origin(&read)?, (-9, 9));
+    expect(&rt, "target", target(&read)?, (true, (0, 8)));
     Ok(())
 }
 
+// Which of the pointers to the title, the origin and anything are not null.
+fn are_there<S: ReaderSegments>(read: &sample::Reader<'_, S>) -> (bool, bool, bool) {
+    (read.has_title(), read.has_origin(), read.has_anything())
+}
+
+fn payload<'a, S: ReaderSegments>(read: &sample::Reader<'a, S>) -> Result<&'a [u8]> {
+    read.get_payload()
+}
+
+// The target, and whether it stands in the message.
+fn target<S: ReaderSegments>(read: &sample::Reader<'_, S>) -> Result<(bool, (i32, i32))> {
+    match read.get_target() {
+        OrDefault::Stored(target) => Ok((true, coordinates(&target?))),
+        OrDefault::Default(target) => Ok((false, coordinates(&target?))),
+    }
+}
+
 #[test]
-fn lists_have_what_was_set(rt: HostRuntime) -> Result<(), Fail> {
+fn lists_have_what_was_set(rt: HostRuntime) -> Result<()> {
     let segments = [FILLED];
     let arena = arena_of(&segments);
-    let read: sample::Reader<'_, SegmentArray<'_>> = arena.get_root()?.get_as()?;
+    let read = sample_in(&arena)?;
     let points = read.get_points()?;
-    assert_eq!(rt; points.len(), 2);
-    assert_eq!(rt; (points.get(0).get_x(), points.get(0).get_y()), (1, -2));
-    assert_eq!(rt; (points.get(1).get_x(), points.get(1).get_y()), (3, 0));
-    let numbers = read.get_numbers()?;
-    assert_eq!(rt; numbers.len(), 3);
-    assert_eq!(rt; (numbers.get(0), numbers.get(2)), (5, 4294967295));
+    expect(&rt, "points", points.len(), 2);
+    expect(&rt, "the first point", point_in(&points, 0), Some((1, -2)));
+    expect(&rt, "the second point", point_in(&points, 1), Some((3, 0)));
+    expect(&rt, "numbers", numbers(&read)?, (3, 5, 4294967295));
     Ok(())
 }
 
+// The point of an index.
+fn point_in<S: ReaderSegments>(
+    points: &point::ListReader<'_, S>,
+    index: u32,
+) -> Option<(i32, i32)> {
+    if index < points.len() {
+        Some(coordinates(&points.get(index)))
+    } else {
+        None
+    }
+}
+
+// How many numbers there are, and the first and the third of them.
+fn numbers<S: ReaderSegments>(read: &sample::Reader<'_, S>) -> Result<(u32, u32, u32)> {
+    let numbers = read.get_numbers()?;
+    if numbers.len() < 3 {
+        return Ok((numbers.len(), 0, 0));
+    }
+    Ok((numbers.len(), numbers.get(0), numbers.get(2)))
+}
+
 #[test]
-fn a_union_has_the_member_that_was_set(rt: HostRuntime) -> Result<(), Fail> {
+fn a_union_has_the_member_that_was_set(rt: HostRuntime) -> Result<()> {
     let segments = [FILLED];
     let arena = arena_of(&segments);
-    let read: sample::Reader<'_, SegmentArray<'_>> = arena.get_root()?.get_as()?;
-    let sample::Which::Label(label) = read.which() else {
-        return Err(Fail::new("the label is there"));
-    };
-    assert_eq!(rt; label?.as_bytes(), b"here".as_slice());
+    let read = sample_in(&arena)?;
+    expect_bytes(&rt, "label", label(&read)?.unwrap_or(b"not there"), b"here");
     Ok(())
 }
 
 #[test]
-fn what_was_not_set_is_the_default(rt: HostRuntime) -> Result<(), Fail> {
+fn what_was_not_set_is_the_default(rt: HostRuntime) -> Result<()> {
     let segments = [EMPTY];
     let arena = arena_of(&segments);
-    let read: sample::Reader<'_, SegmentArray<'_>> = arena.get_root()?.get_as()?;
-    assert_eq!(rt; (read.get_count(), read.get_balance()), (0, -5));
-    assert!(rt; !read.get_is_ready() && read.get_color() == Color::Red);
-    assert!(rt; read.get_ratio() == 0.5);
-    assert!(rt; matches!(read.which(), sample::Which::Nothing));
-    assert_eq!(rt; read.get_title()?.as_bytes(), b"".as_slice());
-    assert_eq!(rt; read.get_note()?.as_bytes(), b"none".as_slice());
-    let OrDefault::Default(target) = read.get_target() else {
-        return Err(Fail::new("the target is not there"));
-    };
-    let target = target?;
-    assert_eq!(rt; (target.get_x(), target.get_y()), (3, 4));
+    let read = sample_in(&arena)?;
+    expect(&rt, "count, balance", counts(&read), (0, -5));
+    expect_that(&rt, "is_ready", !read.get_is_ready());
+    expect_that(
+        &rt,
+        "color, ratio",
+        has_color_and_ratio(&read, Color::Red, 0.5),
+    );
+    expect_that(
+        &rt,
+        "nothing",
+        matches!(read.which(), sample::Which::Nothing),
+    );
+    expect_bytes(&rt, "title", title(&read)?, b"");
+    expect_bytes(&rt, "note", note(&read)?, b"none");
+    expect(&rt, "target", target(&read)?, (false, (3, 4)));
     Ok(())
 }
 
 #[test]
-fn constants_are_those_of_the_schema(rt: HostRuntime) -> Result<(), Fail> {
-    assert_eq!(rt; LIMIT, 1000);
-    let corner = get_corner()?;
-    assert_eq!(rt; (corner.get_x(), corner.get_y()), (640, 480));
+fn constants_are_those_of_the_schema(rt: HostRuntime) -> Result<()> {
+    expect(&rt, "limit", LIMIT, 1000);
+    expect(&rt, "corner", coordinates(&get_corner()?), (640, 480));
     Ok(())
 }
