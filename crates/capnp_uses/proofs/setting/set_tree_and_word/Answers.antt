@@ -37,4 +37,4 @@ returns-in_err-set_tree-clause-refused g c =
 pub returns-in_err-fields-clause-refused : goal.returns-in_err-fields-clause-refused
 returns-in_err-fields-clause-refused g c =
     let p = err_from_is_err_and c.from_residual-in_err-fields.result c.from_residual-in_err-fields.ensures.1 in
-    rw (p.1, p.2) (inr (declined_tree g.A.Allocator _ _ _ c.in_ok-set_tree.ensures.stands c.in_err-fields.ensures.gets.kind))
+    rw (p.1, p.2) (inr (declined_tree g.A.Allocator _ c.set_tree.new.built _ c.in_ok-set_tree.ensures.stands c.in_err-fields.ensures.gets.kind))
