@@ -1,15 +1,10 @@
-//! The calls of reading views, of builders and of allocators by worked bytes: what no contract says,
-//! above all that they succeed. Where a growth is refused, these tests may fail.
-mod allocators;
+//! The calls of reading views by worked bytes: what no contract says, above all that they succeed. Where
+//! a growth is refused, these tests may fail.
 mod any_objects;
-mod arenas;
-mod asked;
-mod builders;
 mod canonical_messages;
 mod canonical_words;
 mod empty_structs;
 mod fields;
-mod given_back;
 mod lists;
 mod numbers;
 mod objects;
@@ -18,4 +13,3 @@ mod traversals;
 mod unlimited_roots;
 mod upgrades;
 mod values;
-mod views;

@@ -1,8 +1,9 @@
-//! What these tests share: arenas over worked segments, what views and walks say of their roots, and
-//! what is expected at a row.
-use capnp_frame::message::{ReaderOptions, ReaderSegments, SegmentArray};
+//! What these tests share: what views and walks say of roots, and what is expected at a row.
+pub use crate::arenas::{
+    Arena, Numbered, Walked, arena_of, kind_of, plain_arena, root_as, text_at,
+};
+use capnp_frame::message::ReaderSegments;
 use capnp_frame::{ErrorKind, Result};
-use capnp_rows::limits::DEFAULT_LIMIT;
 use capnp_rows::refusals::refusal;
 use capnp_wire::any_struct::StructReader;
 use capnp_wire::arena::ReaderArena;
@@ -10,15 +11,6 @@ use capnp_wire::traits::FromPointerReader;
 use capnp_wire::{any_pointer, primitive_list, text};
 use std::fmt::Debug;
 use std::process::Abort;
-
-/// What a call returns, a refusal by its kind.
-pub type Walked<T> = std::result::Result<T, ErrorKind>;
-
-/// What a call returns, a refusal by its number.
-pub type Numbered<T> = std::result::Result<T, u8>;
-
-/// Segments that are read.
-pub type Arena<'a> = ReaderArena<SegmentArray<'a>>;
 
 /// What is found at a row is what is wanted there.
 pub fn expect<R: Debug + Drop, T: PartialEq + Debug + Drop>(
@@ -28,27 +20,6 @@ pub fn expect<R: Debug + Drop, T: PartialEq + Debug + Drop>(
     wanted: T,
 ) {
     assert!(rt; found == wanted, "at {row:?}: {found:?} is not {wanted:?}");
-}
-
-/// An arena of segments, of which nothing has been read.
-pub fn arena_of<'a>(segments: &'a [&'a [u8]], limit: Option<usize>, nesting: i32) -> Arena<'a> {
-    let mut options = ReaderOptions::new();
-    options
-        .traversal_limit_in_words(limit)
-        .nesting_limit(nesting);
-    ReaderArena::new(SegmentArray::new(segments), options)
-}
-
-/// An arena with the limits of the default options.
-pub fn plain_arena<'a>(segments: &'a [&'a [u8]]) -> Arena<'a> {
-    arena_of(segments, DEFAULT_LIMIT, 64)
-}
-
-/// A view of the root.
-pub fn root_as<'a, S: ReaderSegments, T: FromPointerReader<'a, S>>(
-    arena: &'a ReaderArena<S>,
-) -> Result<T> {
-    arena.get_root()?.get_as()
 }
 
 /// The number of the refusal of a view of the root, and 0 where there is one.
@@ -83,14 +54,6 @@ pub fn root_as_any<S: ReaderSegments>(
     root_as(arena)
 }
 
-/// The text at a pointer.
-pub fn text_at<'a, S: ReaderSegments>(pointer: &any_pointer::Reader<'a, S>) -> Numbered<&'a [u8]> {
-    match pointer.get_as::<text::Reader<'a>>() {
-        Ok(text) => Ok(text.as_bytes()),
-        Err(error) => Err(error.kind.number()),
-    }
-}
-
 /// Whether these bytes stand at a pointer as a text.
 pub fn has_text<S: ReaderSegments>(
     pointer: &any_pointer::Reader<'_, S>,
@@ -99,14 +62,6 @@ pub fn has_text<S: ReaderSegments>(
     match text_at(pointer) {
         Ok(bytes) => Ok(bytes == wanted),
         Err(number) => Err(number),
-    }
-}
-
-/// The kind of a refusal.
-pub fn kind_of<T: Drop>(returned: Result<T>) -> Option<ErrorKind> {
-    match returned {
-        Ok(_) => None,
-        Err(error) => Some(error.kind),
     }
 }
 
@@ -122,24 +77,6 @@ pub fn refusals_of(
         kind_of(root_as_data(&arena_of(segments, limit, nesting))),
         kind_of(root_as_words(&arena_of(segments, limit, nesting))),
         kind_of(root_as_struct(&arena_of(segments, limit, nesting))),
-    ]
-}
-
-fn number_of(kind: Option<ErrorKind>) -> u8 {
-    match kind {
-        None => 0,
-        Some(kind) => kind.number(),
-    }
-}
-
-/// The same by their numbers, 0 for a view.
-pub fn refusal_numbers(segments: &[&[u8]], limit: Option<usize>) -> [u8; 4] {
-    let [text, data, words, fields] = refusals_of(segments, limit, 64);
-    [
-        number_of(text),
-        number_of(data),
-        number_of(words),
-        number_of(fields),
     ]
 }
 

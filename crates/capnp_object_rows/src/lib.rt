@@ -1,30 +1,15 @@
-//! Worked rows over objects: hostile pointers, and messages that are built; and the calls of views,
-//! builders and allocators. It holds tests alone, by the rules of `capnp_rows`.
+//! Worked rows over objects that are read: hostile pointers, and the calls of views; and what the tests
+//! of builders share with them. It holds tests by the rules of `capnp_rows`.
 #![tactic(auto)]
 
-#[cfg(test)]
-mod builder_memory;
-#[cfg(test)]
-mod building;
+pub mod arenas;
 #[cfg(test)]
 mod calls;
-#[cfg(test)]
-mod data_sections;
 #[cfg(test)]
 mod fixtures;
 #[cfg(test)]
 mod hostile;
-#[cfg(test)]
-mod hostile_messages;
-#[cfg(test)]
-mod made_lists;
-#[cfg(test)]
-mod read_lists;
-#[cfg(test)]
-mod regions;
+pub mod messages;
 #[cfg(test)]
 mod roots;
-#[cfg(test)]
-mod value_lists;
-#[cfg(test)]
-mod values;
+pub mod trees;

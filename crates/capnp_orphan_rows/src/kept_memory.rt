@@ -3,6 +3,7 @@
 //! A message that is no longer takes no more of it: whichever growth is refused, only the first one may
 //! lack it.
 use crate::built::{Built, build};
+use crate::fixtures::{empty, expect};
 use capnp_frame::Result;
 use capnp_orphans::Orphanage;
 use capnp_rows::retried;
@@ -23,7 +24,7 @@ fn fill(objects: &mut Orphanage) -> Result<()> {
 }
 
 fn filled(rt: &impl AllocGlobal) -> Result<Orphanage> {
-    let mut objects = Orphanage::new(rt.alloc())?;
+    let mut objects = empty(rt)?;
     fill(&mut objects)?;
     Ok(objects)
 }
@@ -31,11 +32,11 @@ fn filled(rt: &impl AllocGlobal) -> Result<Orphanage> {
 #[test]
 fn equal_messages_take_no_more_memory(rt: HostRuntime) -> Result<()> {
     let mut objects = retried!(filled(&rt))?;
-    assert_eq!(rt; objects.bytes().len(), 8 * 21);
+    expect(&rt, "the first", objects.bytes().len(), 8 * 21);
     for _ in 0..9 {
         objects.clear();
         fill(&mut objects)?;
-        assert_eq!(rt; objects.bytes().len(), 8 * 21);
+        expect(&rt, "another", objects.bytes().len(), 8 * 21);
     }
     Ok(())
 }

@@ -6,6 +6,8 @@ mod built;
 #[cfg(test)]
 mod calls;
 #[cfg(test)]
+mod fixtures;
+#[cfg(test)]
 mod kept_memory;
 #[cfg(test)]
 mod refusals;

@@ -1,6 +1,6 @@
 //! What is refused: the error that the page says, and what stood before still stands.
 use crate::built::{Built, build};
-use capnp::message::{DEFAULT_READER_OPTIONS, Reader};
+use crate::fixtures::{Fields, Pointer, empty, expect, message_of, text_at};
 use capnp_frame::{ErrorKind, Result};
 use capnp_orphans::{DraftSource, Orphan, Orphanage, StructDraft};
 use capnp_rows::growths::lacks_memory;
@@ -74,15 +74,15 @@ fn too_large(number: u32) -> Option<ErrorKind> {
 
 // The orphan's text stands where the root leads, and it is as it was.
 fn shows(rt: &impl Abort, objects: &Orphanage, wanted: &str) -> Result<()> {
-    let message = Reader::new(objects, DEFAULT_READER_OPTIONS);
+    let message = message_of(objects);
     let text: text::Reader<'_> = message.get_root()?;
-    assert_eq!(rt; text.as_bytes(), wanted.as_bytes());
+    expect(rt, "the root", text.as_bytes(), wanted.as_bytes());
     Ok(())
 }
 
 // An orphanage whose root is this text.
 fn rooted(rt: &impl AllocGlobal, text: &str) -> Result<Orphanage> {
-    let mut objects = Orphanage::new(rt.alloc())?;
+    let mut objects = empty(rt)?;
     let root = objects.text(text)?;
     objects.set_root(root);
     Ok(objects)
@@ -92,25 +92,51 @@ fn alice(rt: &impl AllocGlobal) -> Result<Orphanage> {
     retried!(rooted(rt, "Alice"))
 }
 
+// Two words, whose root is the text.
+fn expect_alice(rt: &impl Abort, objects: &Orphanage) -> Result<()> {
+    expect(rt, "bytes", objects.bytes().len(), 16);
+    shows(rt, objects, "Alice")
+}
+
+fn refusal_of_empty(objects: &mut Orphanage, count: usize) -> Option<ErrorKind> {
+    let many = Many { count };
+    refusal(objects.made_struct_list::<any_struct::Owned, 0, 0, Many>(&many))
+}
+
+fn refusal_of_words(objects: &mut Orphanage, count: usize) -> Option<ErrorKind> {
+    let many = Many { count };
+    refusal(objects.made_struct_list::<any_struct::Owned, 1, 0, Many>(&many))
+}
+
+// Structs of no words, how many, and the number that is told.
+const TOO_MANY: [(usize, u32); 3] = [(1 << 29, 1 << 29), (1 << 30, 1 << 30), (1 << 32, u32::MAX)];
+
 #[test]
 fn what_is_too_large_changes_nothing(rt: HostRuntime) -> Result<()> {
     let mut objects = alice(&rt)?;
-    for (count, number) in [(1 << 29, 1 << 29), (1 << 30, 1 << 30), (1 << 32, u32::MAX)] {
-        let empty = Many { count };
-        let returned = objects.made_struct_list::<any_struct::Owned, 0, 0, Many>(&empty);
-        assert_eq!(rt; refusal(returned), too_large(number));
+    for (count, number) in &TOO_MANY {
+        let found = refusal_of_empty(&mut objects, *count);
+        expect(&rt, *count, found, too_large(*number));
     }
     // With the tag they have 2^29 words, which is told, and not how many they are.
-    let count = (1 << 29) - 1;
-    let single = Many { count };
-    let returned = objects.made_struct_list::<any_struct::Owned, 1, 0, Many>(&single);
-    assert_eq!(rt; refusal(returned), too_large(1 << 29));
-    let returned = objects.add(&StructDraft::<any_struct::Owned, 65536, 0>::new());
-    assert_eq!(rt; refusal(returned), too_large(1 << 16));
-    let returned = objects.add_root(&StructDraft::<any_struct::Owned, 0, 65536>::new());
-    assert_eq!(rt; refusal(returned), too_large(1 << 16));
-    assert_eq!(rt; objects.bytes().len(), 16);
-    shows(&rt, &objects, "Alice")
+    let found = refusal_of_words(&mut objects, (1 << 29) - 1);
+    expect(&rt, "with the tag", found, too_large(1 << 29));
+    let found = refusals_of_wide(&mut objects);
+    expect(
+        &rt,
+        "wide structs",
+        found,
+        [too_large(1 << 16), too_large(1 << 16)],
+    );
+    expect_alice(&rt, &objects)
+}
+
+// A struct of 2^16 words, and a root of as many pointers.
+fn refusals_of_wide(objects: &mut Orphanage) -> [Option<ErrorKind>; 2] {
+    [
+        refusal(objects.add(&StructDraft::<any_struct::Owned, 65536, 0>::new())),
+        refusal(objects.add_root(&StructDraft::<any_struct::Owned, 0, 65536>::new())),
+    ]
 }
 
 // An orphan of an orphanage with more words.
@@ -120,7 +146,7 @@ fn strange_orphan(rt: &impl AllocGlobal) -> Result<Orphan<text::Owned>> {
 }
 
 fn with_strange(rt: &impl AllocGlobal, strange: Orphan<text::Owned>) -> Result<Orphanage> {
-    let mut objects = Orphanage::new(rt.alloc())?;
+    let mut objects = empty(rt)?;
     let mut draft = StructDraft::<any_struct::Owned, 0, 2>::new();
     draft.adopt(0, objects.text("Alice")?);
     draft.adopt(1, strange);
@@ -128,37 +154,42 @@ fn with_strange(rt: &impl AllocGlobal, strange: Orphan<text::Owned>) -> Result<O
     Ok(objects)
 }
 
+fn strange(rt: &impl AllocGlobal) -> Result<Orphanage> {
+    let strange: Orphan<text::Owned> = retried!(strange_orphan(rt))?;
+    retried!(with_strange(rt, strange))
+}
+
 // The pointer of an orphan of another orphanage leads past the end, and is refused where it is read.
 #[test]
 fn orphans_of_others_do_no_harm(rt: HostRuntime) -> Result<()> {
-    let strange: Orphan<text::Owned> = retried!(strange_orphan(&rt))?;
-    let objects = retried!(with_strange(&rt, strange))?;
-    let message = Reader::new(&objects, DEFAULT_READER_OPTIONS);
-    let root: any_struct::StructReader<'_, &Orphanage> = message.get_root()?;
-    let alice: text::Reader<'_> = root.get_pointer(0).get_as()?;
-    assert_eq!(rt; alice.as_bytes(), b"Alice".as_slice());
-    let bob: Result<text::Reader<'_>> = root.get_pointer(1).get_as();
-    assert_eq!(rt; refusal(bob), Some(ErrorKind::PointerOutOfBounds));
+    let objects = strange(&rt)?;
+    let message = message_of(&objects);
+    let root: Fields<'_, '_> = message.get_root()?;
+    let alice = text_at(&root.get_pointer(0))?;
+    expect(&rt, "its own", alice, b"Alice".as_slice());
+    let bob = refusal(text_at(&root.get_pointer(1)));
+    expect(&rt, "the other's", bob, Some(ErrorKind::PointerOutOfBounds));
     Ok(())
+}
+
+fn refusal_of_view(objects: &mut Orphanage, view: &Pointer<'_, '_>) -> Option<ErrorKind> {
+    refusal(objects.set::<any_pointer::Owned, Pointer<'_, '_>>(view))
 }
 
 // A view of what is refused is refused alike, and nothing is written.
 #[test]
 fn a_refused_view_changes_nothing(rt: HostRuntime) -> Result<()> {
-    let strange: Orphan<text::Owned> = retried!(strange_orphan(&rt))?;
-    let others = retried!(with_strange(&rt, strange))?;
-    let message = Reader::new(&others, DEFAULT_READER_OPTIONS);
-    let view: any_pointer::Reader<'_, &Orphanage> = message.get_root()?;
+    let others = strange(&rt)?;
+    let message = message_of(&others);
     let mut objects = alice(&rt)?;
-    let returned = objects.set::<any_pointer::Owned, any_pointer::Reader<'_, &Orphanage>>(&view);
-    assert_eq!(rt; refusal(returned), Some(ErrorKind::PointerOutOfBounds));
-    assert_eq!(rt; objects.bytes().len(), 16);
-    shows(&rt, &objects, "Alice")
+    let found = refusal_of_view(&mut objects, &message.get_root()?);
+    expect(&rt, "the view", found, Some(ErrorKind::PointerOutOfBounds));
+    expect_alice(&rt, &objects)
 }
 
 // Where an orphan of before the last `clear` stood, other objects stand.
 fn with_cleared(rt: &impl AllocGlobal) -> Result<Orphanage> {
-    let mut objects = Orphanage::new(rt.alloc())?;
+    let mut objects = empty(rt)?;
     let before = objects.text("Alice")?;
     objects.clear();
     objects.text("Bob")?;
@@ -177,14 +208,19 @@ fn orphans_of_before_do_no_harm(rt: HostRuntime) -> Result<()> {
 #[test]
 fn refused_memory_is_taken_later(rt: HostRuntime) -> Result<()> {
     let mut objects = alice(&rt)?;
-    let returned = objects.data(&[1; 4096]);
+    let returned = add_data(&mut objects);
     if returned.is_err() {
         assert!(rt; lacks_memory(&returned));
-        assert_eq!(rt; objects.bytes().len(), 16);
-        objects.data(&[1; 4096])?;
+        expect(&rt, "refused", objects.bytes().len(), 16);
+        add_data(&mut objects)?;
     }
-    assert_eq!(rt; objects.bytes().len(), 16 + 4096);
+    expect(&rt, "taken", objects.bytes().len(), 16 + 4096);
     shows(&rt, &objects, "Alice")
+}
+
+fn add_data(objects: &mut Orphanage) -> Result<()> {
+    objects.data(&[1; 4096])?;
+    Ok(())
 }
 
 // Each object in turn after those before it: where a growth is refused, what stood before still stands,

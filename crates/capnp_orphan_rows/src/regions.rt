@@ -1,4 +1,5 @@
 //! Regions that are too short, full or used again.
+use crate::fixtures::expect;
 use crate::refusals::refusal;
 use capnp_frame::{ErrorKind, Result};
 use capnp_orphans::{Orphanage, Region};
@@ -13,29 +14,36 @@ fn fewer_than_8_bytes_have_no_root(rt: HostRuntime) {
     let mut region = [7; 7];
     for len in 0..8 {
         let refused = Orphanage::in_region(&mut region[..len]);
-        assert_eq!(rt; refusal(refused), lacks_words(1), "in {len} bytes");
+        expect(&rt, len, refusal(refused), lacks_words(1));
     }
+}
+
+const ONE: &[u8] = b"\0\0\0\0\0\0\0\0\x01\0\0\0\0\0\0\0";
+
+#[rattlefmt::skip]
+const BOTH: &[u8] = b"\0\0\0\0\0\0\0\0\x01\0\0\0\0\0\0\0\
+    \x02\x02\x02\x02\x02\x02\x02\x02\x02\x02\x02\x02\x02\x02\x02\x02";
+
+// How data is refused in a region.
+fn data_refusal(objects: &mut Orphanage<Region<'_>>, bytes: &[u8]) -> Option<ErrorKind> {
+    refusal(objects.data(bytes))
 }
 
 // After the root's word and one of data there is room for two words, and for no words.
 fn is_filled(rt: &impl Abort, objects: &mut Orphanage<Region<'_>>) -> Result<()> {
-    objects.data(&[1])?;
-    let refused = objects.data(&[3; 17]);
-    assert_eq!(rt; refusal(refused), lacks_words(3));
-    assert_eq!(rt;
-        objects.bytes(),
-        b"\0\0\0\0\0\0\0\0\x01\0\0\0\0\0\0\0".as_slice()
+    expect(rt, "one", data_refusal(objects, &[1]), None);
+    expect(
+        rt,
+        "17 bytes",
+        data_refusal(objects, &[3; 17]),
+        lacks_words(3),
     );
-    objects.data(&[2; 16])?;
-    assert_eq!(rt; objects.bytes().len(), 32);
+    expect(rt, "one", objects.bytes(), ONE);
+    expect(rt, "16 bytes", data_refusal(objects, &[2; 16]), None);
+    expect(rt, "both", objects.bytes().len(), 32);
     objects.numbers(&[(), ()])?;
-    let refused = objects.data(&[3]);
-    assert_eq!(rt; refusal(refused), lacks_words(1));
-    assert_eq!(rt; objects.bytes().len(), 32);
-    assert_eq!(rt;
-        &objects.bytes()[8..],
-        b"\x01\0\0\0\0\0\0\0\x02\x02\x02\x02\x02\x02\x02\x02\x02\x02\x02\x02\x02\x02\x02\x02".as_slice()
-    );
+    expect(rt, "a byte", data_refusal(objects, &[3]), lacks_words(1));
+    expect(rt, "both, and no words", objects.bytes(), BOTH);
     Ok(())
 }
 
@@ -46,6 +54,6 @@ fn a_smaller_object_still_fits(rt: HostRuntime) -> Result<()> {
     let mut objects = Orphanage::in_region(&mut region)?;
     is_filled(&rt, &mut objects)?;
     objects.clear();
-    assert_eq!(rt; objects.bytes(), [0; 8].as_slice());
+    expect(&rt, "cleared", objects.bytes(), [0; 8].as_slice());
     is_filled(&rt, &mut objects)
 }

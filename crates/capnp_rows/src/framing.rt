@@ -1,10 +1,10 @@
 //! Messages that are written and read, each call in a function of its own.
-use crate::messages::{has_segments, is_writable};
+use crate::messages::has_segments;
 use capnp_frame::Result;
 use capnp_frame::io::{Read, Write};
 use capnp_frame::message::{DEFAULT_READER_OPTIONS, ReaderOptions, ReaderSegments, SegmentArray};
 use capnp_frame::serialize::{
-    Padding, segments_to_words, try_read_segments, try_read_segments_into,
+    Padding, is_writable, segments_to_words, try_read_segments, try_read_segments_into,
     try_read_segments_lenient, write_segments,
 };
 use capnp_pack::PackedWrite;

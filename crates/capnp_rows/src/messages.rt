@@ -1,6 +1,5 @@
 //! Messages, and what is written of them.
 use capnp_frame::message::ReaderSegments;
-pub use capnp_frame::serialize::is_writable;
 
 /// A message, its texts, and how many words it takes framed.
 #[derive(Clone, Copy)]

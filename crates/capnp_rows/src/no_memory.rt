@@ -1,11 +1,12 @@
 //! Calls that take no memory: they succeed whichever growth is refused, and none is made twice.
 use crate::assertions::{At, assert_bytes, assert_count, assert_holds, assert_refused};
 use crate::framing::{Found, read_into, read_packed, write, write_packed};
-use crate::messages::{has_segments, is_writable};
+use crate::messages::has_segments;
 use crate::packing::{pack, unpack, unpack_some};
 use capnp_frame::message::{DEFAULT_READER_OPTIONS, ReaderSegments, SegmentArray};
 use capnp_frame::serialize::{
-    NoAllocBufferSegments, NoAllocSliceSegments, serialized_size_in_words, try_read_text_into,
+    NoAllocBufferSegments, NoAllocSliceSegments, is_writable, serialized_size_in_words,
+    try_read_text_into,
 };
 use capnp_frame::{ErrorKind, Result};
 use capnp_pack::PackedRead;

@@ -3,9 +3,8 @@ use capnp::streams::Format;
 use capnp::{serialize, serialize_packed};
 use capnp_frame::Result;
 use capnp_frame::message::ReaderSegments;
-use capnp_frame::serialize::{segments_to_words, write_segments};
+use capnp_frame::serialize::{is_writable, segments_to_words, write_segments};
 use capnp_pack::PackedWrite;
-use capnp_rows::messages::is_writable;
 use std::process::Abort;
 
 /// The calls that write a message's text, of segments and of the crate `capnp`.

@@ -8,10 +8,12 @@ use crate::streams::{Reader, Wanted, is_returned};
 use crate::writers::{WRITERS, Writer, write};
 use capnp::streams::Format;
 use capnp_frame::message::{DEFAULT_READER_OPTIONS, ReaderSegments, SegmentArray};
-use capnp_frame::serialize::{BufferSegments, OwnedSegments, Padding, serialized_size_in_words};
+use capnp_frame::serialize::{
+    BufferSegments, OwnedSegments, Padding, is_writable, serialized_size_in_words,
+};
 use capnp_frame::{Error, ErrorKind, Result};
 use capnp_rows::limits::DEFAULT_LIMIT;
-use capnp_rows::messages::{MESSAGES, Message, has_segments, is_framed, is_writable};
+use capnp_rows::messages::{MESSAGES, Message, has_segments, is_framed};
 use capnp_rows::retried;
 use std::alloc::Global;
 use std::process::Abort;

@@ -1,6 +1,7 @@
 //! Messages in canonical form, and others.
-use crate::fixtures::{Numbered, expect};
-use crate::hostile_messages::{Source, canonical_bytes_of, joined, reader_of};
+use crate::calls::values::form_of;
+use crate::fixtures::{Numbered, arena_of, by_number, expect, is_canonical};
+use crate::messages::{Source, canonical_bytes_of, joined, reader_of};
 use capnp_frame::Result;
 use capnp_frame::message::{ReaderOptions, SegmentArray};
 use capnp_message::laws::canonicalize_twice;
@@ -15,7 +16,7 @@ type Form = Numbered<&'static [u8]>;
 // Segments, a traversal limit, whether they are canonical, and their canonical words; a refusal by its
 // number.
 #[rattlefmt::skip]
-const EXPECTED: [(&[&[u8]], Option<usize>, Numbered<bool>, Form); 22] = [
+const EXPECTED: [(&[&[u8]], Option<usize>, Numbered<bool>, Form); 24] = [
     // "Hello, World!", within two words and not within one
     (&[b"\x01\0\0\0\x72\0\0\0Hello, World!\0\0\0"], DEFAULT_LIMIT,
         Ok(true), Ok(b"\x01\0\0\0\x72\0\0\0Hello, World!\0\0\0")),
@@ -46,11 +47,15 @@ const EXPECTED: [(&[&[u8]], Option<usize>, Numbered<bool>, Form); 22] = [
         Ok(false), Ok(b"\x01\0\0\0\x12\0\0\0\x41\0\0\0\0\0\0\0")),
     (&[b"\x06\0\0\0\x01\0\0\0", b"\x02\0\0\0\x02\0\0\0\x01\0\0\0\x12\0\0\0", b"\x41\0\0\0\0\0\0\0"],
         DEFAULT_LIMIT, Ok(false), Ok(b"\x01\0\0\0\x12\0\0\0\x41\0\0\0\0\0\0\0")),
-    // a byte with another after it, one bit, no elements
+    (&[b"\x02\0\0\0\x01\0\0\0", b"\x01\0\0\0\x12\0\0\0\x41\0\0\0\0\0\0\0"], DEFAULT_LIMIT,
+        Ok(false), Ok(b"\x01\0\0\0\x12\0\0\0\x41\0\0\0\0\0\0\0")),
+    // a byte with another after it, one bit, and one with others after it, no elements
     (&[b"\x01\0\0\0\x0a\0\0\0\x41\0\0\0\0\0\0\x01"], DEFAULT_LIMIT,
         Ok(false), Ok(b"\x01\0\0\0\x0a\0\0\0\x41\0\0\0\0\0\0\0")),
     (&[b"\x01\0\0\0\x09\0\0\0\x01\0\0\0\0\0\0\0"], DEFAULT_LIMIT,
         Ok(true), Ok(b"\x01\0\0\0\x09\0\0\0\x01\0\0\0\0\0\0\0")),
+    (&[b"\x01\0\0\0\x09\0\0\0\xff\0\0\0\0\0\0\x80"], DEFAULT_LIMIT,
+        Ok(false), Ok(b"\x01\0\0\0\x09\0\0\0\x01\0\0\0\0\0\0\0")),
     (&[b"\x01\0\0\0\x07\0\0\0\0\0\0\0\0\0\0\0"], DEFAULT_LIMIT,
         Ok(true), Ok(b"\x01\0\0\0\x07\0\0\0\0\0\0\0\0\0\0\0")),
     // a far pointer to no segment, a capability
@@ -67,13 +72,14 @@ const EXPECTED: [(&[&[u8]], Option<usize>, Numbered<bool>, Form); 22] = [
 // Each is asked twice: the walks leave what is read of the message as it was.
 #[test]
 fn canonical_words(rt: HostRuntime) {
-    for (segments, limit, is_canonical, form) in &EXPECTED {
+    for (segments, limit, canonical, form) in &EXPECTED {
         let reader = reader_of(segments, *limit);
         for _time in 0..2u32 {
             let found = numbered(reader.is_canonical());
-            expect(&rt, *segments, found, *is_canonical);
+            expect(&rt, *segments, found, *canonical);
             expect_form(&rt, segments, &reader, *form);
         }
+        expect_bytes(&rt, segments, *limit, *form);
     }
 }
 
@@ -85,6 +91,24 @@ fn expect_form(
 ) {
     match canonical_bytes_of(rt.alloc(), reader) {
         Ok(words) => expect(rt, segments, Ok(words.as_slice()), form),
+        Err(error) => expect(rt, segments, Err(error.kind.number()), form),
+    }
+}
+
+// The canonical form that an arena has, which is in canonical form itself.
+fn expect_bytes(
+    rt: &(impl Abort + AllocGlobal),
+    segments: &[&[u8]],
+    limit: Option<usize>,
+    form: Form,
+) {
+    match form_of(rt.alloc(), &arena_of(segments, limit, 64)) {
+        Ok(bytes) => {
+            expect(rt, segments, Ok(bytes.as_slice()), form);
+            let made = [bytes.as_slice()];
+            let canonical = by_number(is_canonical(&arena_of(&made, limit, 64)));
+            expect(rt, segments, canonical, Ok(true));
+        }
         Err(error) => expect(rt, segments, Err(error.kind.number()), form),
     }
 }

@@ -1,7 +1,6 @@
-//! Values that are measured and written, and canonical forms.
-use crate::fixtures::{Arena, Numbered, expect, is_canonical, plain_arena, root_as_struct};
-use crate::hostile::chain;
-use crate::hostile_messages::trimmed_chain;
+//! Values that are measured and written, and the canonical form of a deep tree.
+use crate::fixtures::{Arena, expect, plain_arena, root_as_struct};
+use crate::trees::{chain, trimmed_chain};
 use capnp_frame::Result;
 use capnp_frame::message::SegmentArray;
 use capnp_wire::canonical::canonical_bytes;
@@ -9,47 +8,9 @@ use capnp_wire::traits::SetterInput;
 use capnp_wire::{any_struct, text};
 use std::alloc::Global;
 
-// Segments, and the canonical form of their root, or the refusal's number.
-#[rattlefmt::skip]
-const FORMS: [(&[&[u8]], Numbered<&[u8]>); 10] = [
-    // padding of bytes, one bit, a list of no structs, null, an empty struct
-    (&[b"\x01\0\0\0\x0a\0\0\0\x41\0\0\0\0\0\0\x01"],        Ok(b"\x01\0\0\0\x0a\0\0\0\x41\0\0\0\0\0\0\0")),
-    (&[b"\x01\0\0\0\x09\0\0\0\xff\0\0\0\0\0\0\x80"],        Ok(b"\x01\0\0\0\x09\0\0\0\x01\0\0\0\0\0\0\0")),
-    (&[b"\x01\0\0\0\x07\0\0\0\0\0\0\0\0\0\0\0"],            Ok(b"\x01\0\0\0\x07\0\0\0\0\0\0\0\0\0\0\0")),
-    (&[b"\0\0\0\0\0\0\0\0"],                                Ok(b"\0\0\0\0\0\0\0\0")),
-    (&[b"\xfc\xff\xff\xff\0\0\0\0"],                        Ok(b"\xfc\xff\xff\xff\0\0\0\0")),
-    // a struct of two words and a null pointer, trimmed
-    (&[b"\0\0\0\0\x02\0\x01\0\x05\0\0\0\0\0\0\0\0\0\0\0\0\0\0\0\0\0\0\0\0\0\0\0"],
-        Ok(b"\0\0\0\0\x01\0\0\0\x05\0\0\0\0\0\0\0")),
-    // a list of two structs of three words
-    (&[b"\x01\0\0\0\x37\0\0\0\x08\0\0\0\x02\0\x01\0\x07\0\0\0\0\0\0\0\0\0\0\0\0\0\0\0\0\0\0\0\0\0\0\0\0\0\0\0\0\0\0\0\0\0\0\0\0\0\0\0\0\0\0\0\0\0\0\0"],
-        Ok(b"\x01\0\0\0\x17\0\0\0\x08\0\0\0\x01\0\0\0\x07\0\0\0\0\0\0\0\0\0\0\0\0\0\0\0")),
-    // two pointers to one struct
-    (&[b"\0\0\0\0\0\0\x02\0\x04\0\0\0\x01\0\0\0\0\0\0\0\x01\0\0\0\x09\0\0\0\0\0\0\0"],
-        Ok(b"\0\0\0\0\0\0\x02\0\x04\0\0\0\x01\0\0\0\x04\0\0\0\x01\0\0\0\x09\0\0\0\0\0\0\0\x09\0\0\0\0\0\0\0")),
-    // after a far pointer; past the end
-    (&[b"\x02\0\0\0\x01\0\0\0", b"\x01\0\0\0\x12\0\0\0\x41\0\0\0\0\0\0\0"], Ok(b"\x01\0\0\0\x12\0\0\0\x41\0\0\0\0\0\0\0")),
-    (&[b"\x04\0\0\0\0\0\0\0"],                              Err(17)),
-];
-
-fn form_of(alloc: Global, arena: &Arena<'_>) -> Result<Vec<u8>> {
+/// The bytes of the canonical form of an arena's root.
+pub fn form_of(alloc: Global, arena: &Arena<'_>) -> Result<Vec<u8>> {
     canonical_bytes(alloc, &arena.get_root()?)
-}
-
-#[test]
-fn canonical_forms(rt: HostRuntime) {
-    for (segments, wanted) in &FORMS {
-        let arena = plain_arena(segments);
-        match form_of(rt.alloc(), &arena) {
-            Ok(bytes) => {
-                expect(&rt, *segments, Ok(bytes.as_slice()), *wanted);
-                let form = [bytes.as_slice()];
-                let canonical = is_canonical(&plain_arena(&form));
-                expect(&rt, *segments, canonical, Ok(true));
-            }
-            Err(error) => expect(&rt, *segments, Err(error.kind.number()), *wanted),
-        }
-    }
 }
 
 // 64 structs of one pointer, each held by the one before; the last pointer is null, and is left out.

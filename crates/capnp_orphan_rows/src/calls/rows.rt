@@ -1,5 +1,6 @@
 //! Segments that are built beside their bytes, which are worked out by hand from the encoding document.
 use crate::built::{Built, build};
+use crate::fixtures::{empty, expect};
 use crate::refusals::refusal;
 use capnp::{serialize, serialize_packed};
 use capnp_frame::{ErrorKind, Result};
@@ -8,8 +9,10 @@ use std::process::Abort;
 
 // What is built, the words of the last object, or 1 of the root's where it has none, and the bytes of
 // the segment: the root's word, then the objects, each after what it holds.
+type Row = (Built, u32, &'static [u8]);
+
 #[rattlefmt::skip]
-const ROWS: [(Built, u32, &[u8]); 16] = [
+const ROWS: [Row; 16] = [
     (Built::Null, 1, b"\0\0\0\0\0\0\0\0"),
     // A list of 3 bytes, which begins at word 1.
     (Built::Text, 1, b"\x01\0\0\0\x1a\0\0\0hi\0\0\0\0\0\0"),
@@ -45,44 +48,51 @@ fn build_in(region: &mut [u8], built: Built) -> Result<Orphanage<Region<'_>>> {
 }
 
 // A region with room for just the segment serves, whatever it held, and one with a word less does not.
-fn stands_in_regions(rt: &impl Abort, built: Built, last: u32, segment: &[u8]) -> Result<()> {
+fn stands_in_regions(rt: &impl Abort, &(built, last, segment): &Row) -> Result<()> {
     let mut region = [7; 64];
     assert!(rt; segment.len() <= region.len());
     let objects = build_in(&mut region[..segment.len()], built)?;
-    assert_eq!(rt; objects.bytes(), segment, "of {built:?} in a region");
+    expect(rt, (built, "in a region"), objects.bytes(), segment);
     let mut short = [7; 64];
     let refused = build_in(&mut short[..segment.len() - segment.len().min(8)], built);
     let full = Some(ErrorKind::AllocationTooLarge(last));
-    assert_eq!(rt; refusal(refused), full, "of {built:?} in a short region");
+    expect(rt, (built, "in a short region"), refusal(refused), full);
     Ok(())
 }
 
 #[test]
 fn segments_are_as_the_document_has_them(rt: HostRuntime) -> Result<()> {
-    let mut objects = Orphanage::new(rt.alloc())?;
-    for (built, last, segment) in ROWS {
-        objects.clear();
-        let root = build(&mut objects, built)?;
-        objects.set_root(root);
-        assert_eq!(rt; objects.bytes(), segment, "of {built:?}");
-        stands_in_regions(&rt, built, last, segment)?;
+    let mut objects = empty(&rt)?;
+    for row in &ROWS {
+        stands(&rt, &mut objects, row)?;
+        stands_in_regions(&rt, row)?;
     }
     Ok(())
 }
 
+// Alone in an orphanage that is used again.
+fn stands(rt: &impl Abort, objects: &mut Orphanage, &(built, _, segment): &Row) -> Result<()> {
+    objects.clear();
+    let root = build(objects, built)?;
+    objects.set_root(root);
+    expect(rt, built, objects.bytes(), segment);
+    Ok(())
+}
+
+const FRAMED: &[u8] = b"\0\0\0\0\x02\0\0\0\x01\0\0\0\x1a\0\0\0hi\0\0\0\0\0\0";
+
+const PACKED: &[u8] = b"\x10\x02\x11\x01\x1a\x03hi";
+
 #[test]
 fn messages_are_written_framed_and_packed(rt: HostRuntime) -> Result<()> {
-    let mut objects = Orphanage::new(rt.alloc())?;
+    let mut objects = empty(&rt)?;
     let root = build(&mut objects, Built::Text)?;
     objects.set_root(root);
     let mut framed = Vec::new(rt.alloc());
     serialize::write_message_segments(rt.alloc(), &mut framed, &objects)?;
-    assert_eq!(rt;
-        framed.as_slice(),
-        b"\0\0\0\0\x02\0\0\0\x01\0\0\0\x1a\0\0\0hi\0\0\0\0\0\0".as_slice()
-    );
+    expect(&rt, "framed", framed.as_slice(), FRAMED);
     let mut packed = Vec::new(rt.alloc());
     serialize_packed::write_message_segments(rt.alloc(), &mut packed, &objects)?;
-    assert_eq!(rt; packed.as_slice(), b"\x10\x02\x11\x01\x1a\x03hi".as_slice());
+    expect(&rt, "packed", packed.as_slice(), PACKED);
     Ok(())
 }

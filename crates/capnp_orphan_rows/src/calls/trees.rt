@@ -1,25 +1,36 @@
 //! Messages that are built, read in place and copied.
+use crate::fixtures::{Fields, Message, Pointer, empty, expect, fields_at, message_of, text_at};
 use crate::uses::tree;
-use capnp::any_struct::{self, StructReader};
-use capnp::message::{DEFAULT_READER_OPTIONS, Reader};
-use capnp::{any_pointer, primitive_list, struct_list, text, text_list};
+use capnp::{any_pointer, any_struct, primitive_list, struct_list, text_list};
 use capnp_frame::Result;
 use capnp_orphans::{Orphan, Orphanage, StructDraft};
+use std::process::Abort;
+
+// A tree of a depth, whose nodes have the same number, as the root.
+fn with_tree(rt: &impl AllocGlobal, depth: u32, number: u64) -> Result<Orphanage> {
+    let mut objects = empty(rt)?;
+    let root = tree(&mut objects, depth, number)?;
+    objects.set_root(root);
+    Ok(objects)
+}
 
 #[test]
 fn a_tree_of_any_depth_is_read_in_place(rt: HostRuntime) -> Result<()> {
-    let mut objects = Orphanage::new(rt.alloc())?;
-    let root = tree(&mut objects, 5, 6)?;
-    objects.set_root(root);
-    assert_eq!(rt; objects.bytes().len(), 8 + 63 * 24);
-    let message = Reader::new(&objects, DEFAULT_READER_OPTIONS);
-    let root: StructReader<'_, &Orphanage> = message.get_root()?;
-    let right: StructReader<'_, &Orphanage> = root.get_pointer(1).get_as()?;
-    let left: StructReader<'_, &Orphanage> = right.get_pointer(0).get_as()?;
-    assert_eq!(rt; left.get_data_field::<u64>(0), 6);
-    let words = message.canonicalize(rt.alloc())?;
-    assert_eq!(rt; words.len(), 1 + 31 * 3 + 32);
+    let objects = with_tree(&rt, 5, 6)?;
+    expect(&rt, "bytes", objects.bytes().len(), 8 + 63 * 24);
+    let message = message_of(&objects);
+    let root: Fields<'_, '_> = message.get_root()?;
+    let right = fields_at(&root.get_pointer(1))?;
+    let left = fields_at(&right.get_pointer(0))?;
+    expect(&rt, "a node", left.get_data_field::<u64>(0), 6);
+    let words = canonical_words(&rt, &message)?;
+    expect(&rt, "canonical words", words, 1 + 31 * 3 + 32);
     Ok(())
+}
+
+// How many words the canonical form has.
+fn canonical_words(rt: &impl AllocGlobal, message: &Message<'_>) -> Result<usize> {
+    Ok(message.canonicalize(rt.alloc())?.len())
 }
 
 // A list of structs, a list of texts and a text; the struct holds what is told at run time.
@@ -38,9 +49,9 @@ fn book(objects: &mut Orphanage, email: Option<&str>) -> Result<Orphan<any_struc
     objects.add(&draft)
 }
 
-#[test]
-fn a_pointer_is_null_or_not(rt: HostRuntime) -> Result<()> {
-    let mut objects = Orphanage::new(rt.alloc())?;
+// Two of them as the pointers of a struct.
+fn two_books(rt: &(impl Abort + AllocGlobal)) -> Result<Orphanage> {
+    let mut objects = empty(rt)?;
     let alice = book(&mut objects, Some("alice@example.com"))?;
     let bob = book(&mut objects, None)?;
     let mut draft = StructDraft::<any_struct::Owned, 0, 2>::new();
@@ -48,41 +59,72 @@ fn a_pointer_is_null_or_not(rt: HostRuntime) -> Result<()> {
     draft.adopt(1, bob);
     assert!(rt; draft.has_pointer(1));
     objects.add_root(&draft)?;
-    let message = Reader::new(&objects, DEFAULT_READER_OPTIONS);
-    let root: StructReader<'_, &Orphanage> = message.get_root()?;
-    let alice: StructReader<'_, &Orphanage> = root.get_pointer(0).get_as()?;
-    assert_eq!(rt; alice.get_data_field::<u16>(3), 7);
-    let email: text::Reader<'_> = alice.get_pointer(2).get_as()?;
-    assert_eq!(rt; email.as_bytes(), b"alice@example.com".as_slice());
-    let bob: StructReader<'_, &Orphanage> = root.get_pointer(1).get_as()?;
+    Ok(objects)
+}
+
+#[test]
+fn a_pointer_is_null_or_not(rt: HostRuntime) -> Result<()> {
+    let objects = two_books(&rt)?;
+    let message = message_of(&objects);
+    let root: Fields<'_, '_> = message.get_root()?;
+    let alice = fields_at(&root.get_pointer(0))?;
+    expect(&rt, "alice", alice.get_data_field::<u16>(3), 7);
+    let email = text_at(&alice.get_pointer(2))?;
+    expect(&rt, "her email", email, b"alice@example.com".as_slice());
+    let bob = fields_at(&root.get_pointer(1))?;
     assert!(rt; bob.get_pointer(2).is_null());
-    let phones: struct_list::Reader<'_, &Orphanage> = bob.get_pointer(0).get_as()?;
-    assert_eq!(rt; phones.len(), 2);
-    let number: text::Reader<'_> = phones.get(1).get_pointer(0).get_as()?;
-    assert_eq!(rt; number.as_bytes(), b"555-1212".as_slice());
-    let names: text_list::Reader<'_, &Orphanage> = bob.get_pointer(1).get_as()?;
-    assert_eq!(rt; names.len(), 2);
-    assert_eq!(rt; names.get(0)?.as_bytes(), b"one".as_slice());
+    expect_phones(&rt, &bob.get_pointer(0))?;
+    expect_names(&rt, &bob.get_pointer(1))
+}
+
+fn expect_phones(rt: &impl Abort, pointer: &Pointer<'_, '_>) -> Result<()> {
+    let phones: struct_list::Reader<'_, &Orphanage> = pointer.get_as()?;
+    assert!(rt; phones.len() == 2);
+    let number = text_at(&phones.get(1).get_pointer(0))?;
+    expect(rt, "the second phone", number, b"555-1212".as_slice());
     Ok(())
+}
+
+fn expect_names(rt: &impl Abort, pointer: &Pointer<'_, '_>) -> Result<()> {
+    let names: text_list::Reader<'_, &Orphanage> = pointer.get_as()?;
+    assert!(rt; names.len() == 2);
+    expect(
+        rt,
+        "the first name",
+        names.get(0)?.as_bytes(),
+        b"one".as_slice(),
+    );
+    Ok(())
+}
+
+// A list of numbers as the root.
+fn with_numbers(rt: &impl AllocGlobal, numbers: &[u32]) -> Result<Orphanage> {
+    let mut objects = empty(rt)?;
+    let list = objects.numbers::<u32>(numbers)?;
+    objects.set_root(list);
+    Ok(objects)
+}
+
+// A struct whose pointer leads to a copy of what another message's does.
+fn with_copy(rt: &impl AllocGlobal, view: &Pointer<'_, '_>) -> Result<Orphanage> {
+    let mut objects = empty(rt)?;
+    let copy = objects.set::<any_pointer::Owned, Pointer<'_, '_>>(view)?;
+    let mut draft = StructDraft::<any_struct::Owned, 1, 1>::new();
+    draft.adopt(0, copy);
+    objects.add_root(&draft)?;
+    Ok(objects)
 }
 
 // What a pointer of another message leads to is copied, a list among it.
 #[test]
 fn what_a_view_shows_is_copied(rt: HostRuntime) -> Result<()> {
-    let mut others = Orphanage::new(rt.alloc())?;
-    let numbers = others.numbers::<u32>(&[1, 2, 3])?;
-    others.set_root(numbers);
-    let message = Reader::new(&others, DEFAULT_READER_OPTIONS);
-    let view: any_pointer::Reader<'_, &Orphanage> = message.get_root()?;
-    let mut objects = Orphanage::new(rt.alloc())?;
-    let copy = objects.set::<any_pointer::Owned, any_pointer::Reader<'_, &Orphanage>>(&view)?;
-    let mut draft = StructDraft::<any_struct::Owned, 1, 1>::new();
-    draft.adopt(0, copy);
-    objects.add_root(&draft)?;
-    let message = Reader::new(&objects, DEFAULT_READER_OPTIONS);
-    let root: StructReader<'_, &Orphanage> = message.get_root()?;
+    let others = with_numbers(&rt, &[1, 2, 3])?;
+    let message = message_of(&others);
+    let objects = with_copy(&rt, &message.get_root()?)?;
+    let message = message_of(&objects);
+    let root: Fields<'_, '_> = message.get_root()?;
     let numbers: primitive_list::Reader<'_, u32> = root.get_pointer(0).get_as()?;
-    assert_eq!(rt; numbers.len(), 3);
-    assert_eq!(rt; numbers.get(2), 3);
+    assert!(rt; numbers.len() == 3);
+    expect(&rt, "the third number", numbers.get(2), 3);
     Ok(())
 }

@@ -1,15 +1,16 @@
 //! Regions that come home from builders, and heaps whose growth is refused.
 use crate::building::{expect_segments, expect_zeros, set_canonical_text, set_text, text_of};
-use crate::fixtures::{expect, kind_of};
-use crate::hostile::shared_lists;
-use crate::hostile_messages::{is_null, reader_of, set, set_canonical};
+use crate::fixtures::expect;
+use crate::hostile_messages::{is_null, set, set_canonical};
 use capnp_build::allocator::Allocator;
 use capnp_frame::message::ReaderSegments;
-use capnp_frame::serialize::write_segments;
+use capnp_frame::serialize::{is_writable, write_segments};
 use capnp_frame::{ErrorKind, Result};
 use capnp_message::{Builder, HeapAllocator, ScratchSpaceHeapAllocator, SingleSegmentAllocator};
+use capnp_object_rows::arenas::kind_of;
+use capnp_object_rows::messages::reader_of;
+use capnp_object_rows::trees::shared_lists;
 use capnp_rows::limits::NO_LIMIT;
-use capnp_rows::messages::is_writable;
 use capnp_rows::retried;
 use std::alloc::Global;
 use std::process::Abort;

@@ -1,26 +1,17 @@
 //! Canonical words of hostile messages, and new messages whose root is set to theirs.
 use crate::building::expect_segments;
 use crate::fixtures::expect;
-use crate::hostile::{chain, doublings, shared_lists};
 use capnp_build::allocator::Allocator;
-use capnp_frame::message::{ReaderOptions, ReaderSegments, SegmentArray};
-use capnp_frame::{ErrorKind, Result, Word};
-use capnp_message::{Builder, HeapAllocator, Reader};
+use capnp_frame::message::{ReaderSegments, SegmentArray};
+use capnp_frame::{ErrorKind, Result};
+use capnp_message::{Builder, HeapAllocator};
+use capnp_object_rows::messages::{Source, canonical_bytes_of, reader_of};
+use capnp_object_rows::trees::{chain, doublings, shared_lists, trimmed_chain};
 use capnp_rows::limits::{DEFAULT_LIMIT, NO_LIMIT};
 use capnp_rows::messages::has_segments;
 use capnp_rows::retried;
 use capnp_wire::any_pointer;
-use std::alloc::Global;
 use std::process::Abort;
-
-pub type Source<'a> = Reader<SegmentArray<'a>>;
-
-/// A message that is read within a traversal limit.
-pub fn reader_of<'a>(segments: &'a [&'a [u8]], limit: Option<usize>) -> Source<'a> {
-    let mut options = ReaderOptions::new();
-    let _ = options.traversal_limit_in_words(limit);
-    Reader::new(SegmentArray::new(segments), options)
-}
 
 // The kind of a refusal. One for want of memory is handed back.
 fn refusal<T: Drop>(returned: Result<T>) -> Result<Option<ErrorKind>> {
@@ -103,20 +94,6 @@ fn refused_roots(rt: HostRuntime) -> Result<()> {
     Ok(())
 }
 
-/// The bytes of words.
-pub fn joined(alloc: Global, words: &[Word]) -> Result<Vec<u8>> {
-    let mut bytes = Vec::new(alloc);
-    for word in words {
-        bytes.extend_from_slice(word.bytes().as_slice())?;
-    }
-    Ok(bytes)
-}
-
-/// The bytes of the canonical words of a message.
-pub fn canonical_bytes_of(alloc: Global, reader: &Source<'_>) -> Result<Vec<u8>> {
-    joined(alloc, &reader.canonicalize(alloc)?)
-}
-
 const NOTHINGS: &[u8] = b"\x01\0\0\0\xf8\xff\xff\xff";
 
 const EMPTY_STRUCTS: &[u8] = b"\x01\0\0\0\x07\0\0\0\0\0\0\x04\0\0\0\0";
@@ -158,16 +135,6 @@ fn follow_chains(rt: &(impl Abort + AllocGlobal)) -> Result<()> {
     assert!(rt; !reader.is_canonical()?);
     let bytes = chain(alloc, 65)?;
     refuse(rt, &[bytes.as_slice()], DEFAULT_LIMIT, [DEEP; 3])
-}
-
-/// 63 structs of one pointer, each to the next, and an empty one: the canonical form of 64.
-pub fn trimmed_chain(alloc: Global) -> Result<Vec<u8>> {
-    let mut bytes = Vec::new(alloc);
-    for _ in 0..63 {
-        bytes.extend_from_slice(b"\0\0\0\0\0\0\x01\0")?;
-    }
-    bytes.extend_from_slice(b"\xfc\xff\xff\xff\0\0\0\0")?;
-    Ok(bytes)
 }
 
 // A tree of 2^40 - 1 structs in 81 words ends at the limit. At the default one, of 8,388,608 words, it

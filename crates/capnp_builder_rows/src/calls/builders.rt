@@ -3,7 +3,7 @@ use crate::building::{
     expect_segments, expect_zeros, far_message, init_refusal, is_null_word, set_canonical_text,
     set_text, text_of,
 };
-use crate::fixtures::{expect, kind_of};
+use crate::fixtures::expect;
 use capnp_build::allocator::Allocator;
 use capnp_build::{any_struct, data, primitive_list, text};
 use capnp_frame::message::ReaderSegments;
@@ -14,6 +14,7 @@ use capnp_message::scratch_space::ScratchSpaceHeapAllocator;
 use capnp_message::single_segment::SingleSegmentAllocator;
 use capnp_message::typed_builder::TypedBuilder;
 use capnp_message::typed_reader::TypedReader;
+use capnp_object_rows::arenas::kind_of;
 use capnp_rows::refusals::{allocation_refusal, refusal};
 
 const HELLO: &[u8] = b"\x01\0\0\0\x72\0\0\0Hello, World!\0\0\0";

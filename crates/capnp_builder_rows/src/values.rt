@@ -1,11 +1,12 @@
 //! Composed values that are set at the root of a message, by bytes worked from the encoding document,
 //! "Structs", "Lists" and "Canonicalization".
 use crate::building::{expect_segments, far_message};
-use crate::fixtures::{Walked, expect};
+use crate::fixtures::expect;
 use capnp_build::allocator::Allocator;
 use capnp_frame::message::ReaderSegments;
 use capnp_frame::{ErrorKind, Result};
 use capnp_message::{Builder, HeapAllocator, ScratchSpaceHeapAllocator, SingleSegmentAllocator};
+use capnp_object_rows::arenas::Walked;
 use capnp_rows::retried;
 use capnp_values::{Borrowed, Field, NoFields, Null, PointerList, StructValue};
 use capnp_wire::traits::SetterInput;

@@ -1,10 +1,11 @@
 //! Lists that were read from one message and are set in another, by worked bytes: what no contract says,
 //! above all that they succeed.
-use crate::fixtures::{Walked, arena_of, expect, plain_arena, root_as};
+use crate::fixtures::expect;
 use crate::value_lists::{LISTS, NARROW, NO_STRUCTS, PHONES, WIDE};
 use crate::values::{GROUP, NAMES, NO_POINTERS, compare_by_each, compare_canonical, measured};
 use capnp_frame::message::{ReaderSegments, SegmentArray};
 use capnp_frame::{ErrorKind, Result};
+use capnp_object_rows::arenas::{Walked, arena_of, plain_arena, root_as};
 use capnp_values::{Field, NoFields, StructValue};
 use capnp_wire::arena::ReaderArena;
 use capnp_wire::primitive_element::PrimitiveElement;

@@ -1,0 +1,9 @@
+//! The calls of builders and of allocators by worked bytes: what no contract says, above all that they
+//! succeed. Where a growth is refused, these tests may fail.
+mod allocators;
+mod any_roots;
+mod arenas;
+mod asked;
+mod builders;
+mod given_back;
+mod views;

@@ -1,0 +1,71 @@
+//! Segments of many objects in few words, by which walks are led far.
+use capnp_frame::Result;
+use std::alloc::Global;
+
+// A struct of one pointer.
+const ONE: u64 = 1 << 48;
+
+// A struct of two pointers.
+const TWO: u64 = 2 << 48;
+
+fn append(bytes: &mut Vec<u8>, word: u64) -> Result<()> {
+    bytes.extend_from_slice(&word.to_le_bytes())?;
+    Ok(())
+}
+
+/// A given number of structs, each after its one pointer.
+pub fn chain(alloc: Global, length: usize) -> Result<Vec<u8>> {
+    let mut bytes: Vec<u8> = Vec::new(alloc);
+    for _ in 0..length {
+        append(&mut bytes, ONE)?;
+    }
+    append(&mut bytes, 0)?;
+    Ok(bytes)
+}
+
+/// Structs of a given number of data words and two pointers, each of which leads to the next struct:
+/// a tree of 2^40 - 1 structs.
+pub fn doublings(alloc: Global, data_words: u16) -> Result<Vec<u8>> {
+    let next = TWO + ((data_words as u64) << 32);
+    let mut bytes: Vec<u8> = Vec::new(alloc);
+    append(&mut bytes, next)?;
+    for _ in 0..39 {
+        append_zeros(&mut bytes, data_words)?;
+        append(&mut bytes, next + 4)?;
+        append(&mut bytes, next)?;
+    }
+    append_zeros(&mut bytes, data_words)?;
+    append(&mut bytes, 0)?;
+    append(&mut bytes, 0)?;
+    Ok(bytes)
+}
+
+fn append_zeros(bytes: &mut Vec<u8>, words: u16) -> Result<()> {
+    for _ in 0..words {
+        append(bytes, 0)?;
+    }
+    Ok(())
+}
+
+/// A list of 65,536 pointers, each of which leads to the same list of 8,192 zero words.
+pub fn shared_lists(alloc: Global) -> Result<Vec<u8>> {
+    let mut bytes: Vec<u8> = Vec::new(alloc);
+    append(&mut bytes, 0x0008_0006_0000_0001)?;
+    for left in (0..65536).rev() {
+        append(&mut bytes, 0x0001_0005_0000_0001 + 4 * left)?;
+    }
+    for _ in 0..8192 {
+        append(&mut bytes, 0)?;
+    }
+    Ok(bytes)
+}
+
+/// 63 structs of one pointer, each to the next, and an empty one: the canonical form of 64.
+pub fn trimmed_chain(alloc: Global) -> Result<Vec<u8>> {
+    let mut bytes = Vec::new(alloc);
+    for _ in 0..63 {
+        bytes.extend_from_slice(b"\0\0\0\0\0\0\x01\0")?;
+    }
+    bytes.extend_from_slice(b"\xfc\xff\xff\xff\0\0\0\0")?;
+    Ok(bytes)
+}

@@ -1,0 +1,47 @@
+//! What these tests share: messages of an orphanage, and what is expected at a row.
+use capnp::any_struct::StructReader;
+use capnp::message::{DEFAULT_READER_OPTIONS, Reader};
+use capnp_frame::Result;
+use capnp_orphans::Orphanage;
+use capnp_wire::{any_pointer, text};
+use std::fmt::Debug;
+use std::process::Abort;
+
+/// The message of an orphanage.
+pub type Message<'a> = Reader<&'a Orphanage>;
+
+/// A struct of such a message.
+pub type Fields<'a, 'b> = StructReader<'a, &'b Orphanage>;
+
+/// A pointer of such a message.
+pub type Pointer<'a, 'b> = any_pointer::Reader<'a, &'b Orphanage>;
+
+/// What is found at a row is what is wanted there.
+pub fn expect<R: Debug + Drop, T: PartialEq + Debug + Drop>(
+    rt: &impl Abort,
+    row: R,
+    found: T,
+    wanted: T,
+) {
+    assert!(rt; found == wanted, "at {row:?}: {found:?} is not {wanted:?}");
+}
+
+/// An orphanage that holds nothing.
+pub fn empty(rt: &impl AllocGlobal) -> Result<Orphanage> {
+    Orphanage::new(rt.alloc())
+}
+
+pub fn message_of(objects: &Orphanage) -> Message<'_> {
+    Reader::new(objects, DEFAULT_READER_OPTIONS)
+}
+
+/// The struct at a pointer.
+pub fn fields_at<'a, 'b>(pointer: &Pointer<'a, 'b>) -> Result<Fields<'a, 'b>> {
+    pointer.get_as()
+}
+
+/// The text at a pointer.
+pub fn text_at<'a, 'b>(pointer: &Pointer<'a, 'b>) -> Result<&'a [u8]> {
+    let text: text::Reader<'a> = pointer.get_as()?;
+    Ok(text.as_bytes())
+}
