@@ -1,10 +1,11 @@
 //! What builders ask of their allocators: a call that needs a segment asks for it before it fails.
 use crate::building::{init_words, is_null_word};
-use crate::fixtures::{expect, kind_of};
+use crate::fixtures::expect;
 use capnp_build::allocator::Allocator;
 use capnp_frame::{Error, ErrorKind, Result};
 use capnp_message::builder::Builder;
 use capnp_message::heap_allocator::{AllocationStrategy, HeapAllocator};
+use capnp_object_rows::arenas::kind_of;
 use std::alloc::Global;
 
 /// A heap that grants a given number of requests, counts them all, and notes the words of the last one.
