@@ -1,7 +1,7 @@
 """Says how long it takes to prove and build crates, and those that they stand on: build_time.py ROOT CRATE..
 
-The seconds of processor time of each crate's proof are those of the table in docs/MEASURED.md. What a crate
-below has in its folder `out` already is left out.
+The seconds of processor time of each crate's proof are those of the table in docs/PERF.md, "The gate". What a
+crate below has in its folder `out` already is left out.
 """
 import os
 import re
@@ -21,8 +21,9 @@ root, *names = sys.argv[1:]
 with open(os.path.join(root, "crates.txt")) as file:
     lines = [line.split(":") for line in file if ":" in line and not line.startswith("#")]
 stands_on = {left.split()[0]: right.split() for left, right in lines}
-with open(os.path.join(root, "docs/MEASURED.md")) as file:
-    seconds = dict(re.findall(r"^\| `(\w+)` \| (\d+) \|", file.read(), re.MULTILINE))
+with open(os.path.join(root, "docs/PERF.md")) as file:
+    gate = file.read().partition("\n## The gate\n")[2].partition("\n## ")[0]
+seconds = dict(re.findall(r"^\| `(\w+)` \| (\d+) \|", gate, re.MULTILINE))
 wanted = set().union(*(below(name, stands_on, set()) for name in names))
 wanted = {name for name in wanted
           if name in names or not os.path.exists(os.path.join(root, "crates", name, "out/rlib", name + ".rlib"))}

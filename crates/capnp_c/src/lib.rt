@@ -2,7 +2,7 @@
 //! words.
 //!
 //! Each export works over caller-provided buffers, and takes no memory. It returns 0, or the number
-//! of an error (docs/REFUSALS.md). `capnp_c.h` declares them.
+//! of an error (docs/FORMAT.md). `capnp_c.h` declares them.
 #![tactic(auto)]
 
 mod canonical;

@@ -1,4 +1,5 @@
--- Which refusal a reader of a slice or a buffer returns: the lines of its table in their order (docs/REFUSALS.md).
+-- Which refusal a reader of a slice or a buffer returns: the lines of its table in their order
+-- (docs/FORMAT.md, "Readers of slices and buffers").
 use Rattle.std.specs.Prelude.{◌≡◌, ℕ, ◌+◌, ◌-◌, ◌*◌, ◌/◌, ◌%◌, ◌^◌, ◌<◌, ◌≤◌, List, [], length, sum, Option}
 use Rattle.capnp_frame.specs.declared.error.ErrorKind.{ErrorKind}
 use Rattle.capnp_frame.specs.declared.error.ErrorKind.TheVariants.{FailedToFillTheWholeBuffer, InvalidNumberOfSegments, MessageEndsPrematurely, MessageTooLarge, NonZeroPadding}

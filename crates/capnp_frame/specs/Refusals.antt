@@ -1,4 +1,4 @@
--- Which refusal a stream reader returns: the lines of its table in their order (docs/REFUSALS.md).
+-- Which refusal a stream reader returns: the lines of its table in their order (docs/FORMAT.md, "Readers of streams").
 use Rattle.std.specs.Prelude.{◌≡◌, ◌≢◌, ℕ, ◌+◌, ◌-◌, ◌*◌, ◌/◌, ◌%◌, ◌^◌, ◌<◌, ◌≤◌, ◌⊎◌, List, [], ◌++◌, length, take, sum, Option, IsSomeAnd}
 use Rattle.capnp_frame.specs.declared.error.ErrorKind.{ErrorKind}
 use Rattle.capnp_frame.specs.declared.error.ErrorKind.TheVariants.{DeviceFailed, OutOfMemory, BufferNotLargeEnough, InvalidNumberOfSegments, MessageTooLarge, NonZeroPadding}

@@ -95,7 +95,7 @@ pub enum ErrorKind {
 }
 
 impl ErrorKind {
-    /// The number of this kind, from 1 to 26, under which it is listed in docs/REFUSALS.md.
+    /// The number of this kind, from 1 to 26, under which it is listed in docs/FORMAT.md.
     pub fn number(&self) -> u8
         ensures { result ≡ kind_number self.now }
     {

@@ -86,7 +86,7 @@ pub record LeavesOverrun (n : ℕ) (raw left : List ℕ) : Type 0 where
 abbrev pub Overran : {X : Type 0} → Result X Error → Option (List ℕ) → Option (List ℕ) → (List ℕ → List ℕ → Type 0) → Type 0
 Overran result old new leaves = IfErr result (λ error. error.kind ≡ PackedInputDidNotEndCleanlyOnASegmentBoundary → IfKnown old new leaves)
 
--- a packed request is refused: the lines of the table of a chunk (docs/REFUSALS.md)
+-- a packed request is refused: the lines of the table of a chunk (docs/FORMAT.md, "Packed requests")
 abbrev pub RefusesChunk : Refusing
 RefusesChunk raw n kind =
     Unless (n % 8 ≢ 0) (kind ≡ NotWholeWords) (
