@@ -37,7 +37,7 @@ pub fn try_read_text_into<R: Read>(
     };
     let segments_count = info.segments_count;
     let segment_table_length_bytes = table_len(segments_count);
-    // Any padding is accepted here, and zeros take its place.
+    // For the prover: the padding was read as zero, and this says so of the buffer.
     buffer[4 * (segments_count + 1)..segment_table_length_bytes].fill(0);
     Ok(Some(NoAllocSegmentTableInfo {
         segments_count,
