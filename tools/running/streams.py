@@ -1,5 +1,6 @@
 """What `list`, `pack` and `unpack` print of streams, and where they stop."""
 from messages import EMPTY, LINES, PADDED, PADDED_PACKED, STREAM, TWO_SEGMENTS, TWO_SEGMENTS_PACKED
+from oracle import pack
 from runs import stopped, usage, whole
 
 LINE = LINES[0]
@@ -110,27 +111,10 @@ def of_segments(count):
             + b"\x01\0\0\0\x6a\0\0\0hello world!\0\0\0\0")
 
 
-def packed_words(words):
-    """The packing of whole words, of which no literal run has a second word."""
-    text, at = b"", 0
-    while at < len(words):
-        word, at = words[at : at + 8], at + 8
-        text += bytes([sum(1 << i for i in range(8) if word[i])]) + word.replace(b"\0", b"")
-        if not any(word):
-            run = 0
-            while run < 255 and at < len(words) and not any(words[at : at + 8]):
-                run, at = run + 1, at + 8
-            text += bytes([run])
-        elif all(word):
-            text += b"\0"
-    return text
-
-
-def packed_of(framed):
-    """The packed text of such a message: its table's first word, the other words, and each segment by itself."""
-    end = len(framed) - 32
-    parts = framed[:8], framed[8:end], framed[end : end + 8], framed[end + 8 :]
-    return b"".join(packed_words(part) for part in parts)
+def packed_of(framed, count):
+    """The packed text of such a message."""
+    first, last = framed[-32:-24], framed[-24:]
+    return pack([first, *((count - 2) * [b""]), last])
 
 
 def try_many_segments(program):
@@ -138,7 +122,7 @@ def try_many_segments(program):
     for count in 9, 10, 511:
         framed = of_segments(count)
         program.expect(whole(form), "canon", framed)
-        packed = packed_of(framed)
+        packed = packed_of(framed, count)
         program.expect(whole(packed), "pack", framed)
         program.expect(whole(framed), "unpack", packed)
         program.expect(whole(form), "canon --packed", packed)
