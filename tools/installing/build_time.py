@@ -28,5 +28,7 @@ wanted = set().union(*(below(name, stands_on, set()) for name in names))
 wanted = {name for name in wanted
           if name in names or not os.path.exists(os.path.join(root, "crates", name, "out/rlib", name + ".rlib"))}
 minutes = sum(int(seconds.get(name, 0)) for name in wanted) / 60
-print("install: first proves and builds %s, %d crates in all: some %d minutes of processor time"
-      % (", ".join(names), len(wanted), max(1, round(minutes))), flush=True)
+unknown = sorted(wanted - set(seconds))
+print("install: first proves and builds %s, %d crates in all: some %d minutes of processor time%s"
+      % (", ".join(names), len(wanted), max(1, round(minutes)),
+         ", beside %s, of which no time is known" % ", ".join(unknown) if unknown else ""), flush=True)

@@ -71,7 +71,7 @@ def try_diagnostics(program):
 
 def try_growths(program):
     """One growth of memory is refused, and each in turn: the run stops at its message by 12, or lists them all."""
-    counted, number, growths = program.file("counted"), 0, 1
+    counted, number, growths, stops = program.file("counted"), 0, 1, 0
     while number < growths:
         number += 1
         ended = program.run(["list"], STREAM, LD_PRELOAD=program.refusing, REFUSED=str(number), COUNTED=counted)
@@ -79,8 +79,12 @@ def try_growths(program):
         message = next((count for count in range(4) if ended.printed == b"".join(LINES[:count])), 0)
         wanted = whole(b"".join(LINES), None)
         if ended.status != 0:
+            stops += 1
             wanted = stopped(min(message, 2), "12 OutOfMemory", b"".join(LINES[:min(message, 2)]), None)
         program.compare(wanted, ended, "list, growth %d refused" % number)
+    if not stops:
+        program.wrong += 1
+        print("try-program: of %d growths that were refused none stops the program" % growths)
 
 
 def try_faults(program):

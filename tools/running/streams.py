@@ -1,5 +1,6 @@
 """What `list`, `pack` and `unpack` print of streams, and where they stop."""
 from messages import EMPTY, LINES, PADDED, PADDED_PACKED, STREAM, TWO_SEGMENTS, TWO_SEGMENTS_PACKED
+from oracle import pack
 from runs import stopped, usage, whole
 
 LINE = LINES[0]
@@ -110,12 +111,18 @@ def of_segments(count):
             + b"\x01\0\0\0\x6a\0\0\0hello world!\0\0\0\0")
 
 
+def packed_of(framed, count):
+    """The packed text of such a message."""
+    first, last = framed[-32:-24], framed[-24:]
+    return pack([first, *((count - 2) * [b""]), last])
+
+
 def try_many_segments(program):
     form = b"\0\0\0\0\x03\0\0\0\x01\0\0\0\x6a\0\0\0hello world!\0\0\0\0"
     for count in 9, 10, 511:
         framed = of_segments(count)
         program.expect(whole(form), "canon", framed)
-        packed = program.run(["pack"], framed).printed
+        packed = packed_of(framed, count)
         program.expect(whole(packed), "pack", framed)
         program.expect(whole(framed), "unpack", packed)
         program.expect(whole(form), "canon --packed", packed)

@@ -78,6 +78,8 @@ def try_without_size():
     os.mkfifo("log")
     feeder = subprocess.Popen(["sh", "-c", "cat three > log"])
     expect("lengths: a named pipe", run(["--count", "--progress", "log"]), 0, "3\n", "capnp_show: log: 64 MB, 3 messages\n")
+    # A run that does not open the pipe leaves the feeder waiting for it.
+    feeder.kill()
     feeder.wait()
     os.remove("log")
 

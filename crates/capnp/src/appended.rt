@@ -59,8 +59,8 @@ pub fn write_and_read_back<S: ReaderSegments>(
 /// Writes messages one after the other.
 ///
 /// Fails as the writer of one of them does: with `InvalidNumberOfSegments` for more than 511
-/// segments, with `OutOfMemory`, from four segments on, or as the sink does. Then the messages before
-/// it are written, and of its own text a front.
+/// segments, with `OutOfMemory`, from four segments on, or as the sink does. The first messages are
+/// then written, and of the next one what the sink leaves of its chunks.
 pub fn write_messages<W: Write, S: ReaderSegments>(
     alloc: Global,
     format: Format,

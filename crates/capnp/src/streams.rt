@@ -53,8 +53,8 @@ pub trait MessageWriter {
     /// The message has 1 to 511 segments, each of whole words and fewer than 2^32 of them. `memory`
     /// is caller-provided scratch space, whose content doesn't matter, before and after.
     ///
-    /// Fails with a kind that `declines` names, with `OutOfMemory`, or with `DeviceFailed`, only
-    /// where the sink's device failed.
+    /// Fails with a kind that `declines` names, with `OutOfMemory` only where `declines` says that
+    /// memory is taken, and with `DeviceFailed` only where the sink's device failed.
     fn write_message<W: Write>(
         &self,
         alloc: Global,

@@ -81,8 +81,9 @@ impl<'a, M: Building> View<'a, M, Owned> {
 
     /// The root as a view of a type. Nothing changes.
     ///
-    /// Fails with `WrongPointerKind` or `TextNotTerminated`, as the reading view of that type does,
-    /// where the type doesn't take the object.
+    /// Fails with a kind that `declines` of the type names, where it doesn't take the object: for
+    /// the types of this crate with `WrongPointerKind` or `TextNotTerminated`, as their reading
+    /// views do.
     pub fn get_as<K: OwnedBuilder>(self) -> Result<View<'a, M, K>>
         ensures same { IfOk result (λ view. view.message.ghost_name ≡ self.entry.message.ghost_name) }
         ensures looked { IfOk result (λ view. view.message.now ≡ self.entry.message.now) }

@@ -20,11 +20,10 @@ use capnp_wire::traits::SetterInput;
 use std::alloc::Global;
 use std::marker::Model;
 
-// Where a segment of a message is kept: in place, or in the vector of the others.
+// Where a segment of a message is kept: in place, or at an index of the vector of the others.
 #[derive(Clone, Copy)]
 enum SegmentPlace {
     First,
-    // In the vector of the others, after this many of them.
     Further(usize),
 }
 
@@ -232,7 +231,7 @@ impl<A: Allocator> Segments<A> {
         }
     }
 
-    /// Adds an unused segment of this many words or more. Fails as the allocator does.
+    /// Adds an unused segment of this many words or more. Fails as `LacksSegment` says.
     pub fn add(&mut self, words: u32) -> Result<()>
         ensures added { OnOk result ((space : Space) × (self.new.spaces ≡ self.old.spaces ++ space ∷ []) × (space.used ≡ []) × (words ≤ space.size / 8)) }
         ensures refused { OnErr result (self.new.spaces ≡ self.old.spaces) }

@@ -63,7 +63,9 @@ impl<A: Allocator> Builder<A> {
     ///
     /// Fails with the first of these: as the allocator does to hand out the first segment
     /// (`OutOfMemory`, `AllocationTooLarge` or `SegmentTaken`), as `measure` of the value does, and
-    /// as the allocator does to hand out a further segment. The root is then null.
+    /// where no segment has room with `AllocationTooLarge` at 2^32 - 1 segments, with `OutOfMemory`
+    /// where the list of segments can't grow, and as the allocator does to hand out a further one.
+    /// The root is then null.
     pub fn set_root<T, V: SetterInput<T> + Drop>(&mut self, value: V) -> Result<()>
         ensures { SetsRoot A.Allocator (V.has_tree value) (V.refuses value)
             self.old self.new result }
@@ -112,8 +114,7 @@ impl<A: Allocator> Builder<A> {
     }
 
     /// The message as one that is read, without a traversal limit and with objects nested up to
-    /// 2^31
-    /// - 1 deep.
+    /// 2^31 - 1 deep.
     pub fn into_reader(self) -> Reader<Builder<A>>
         ensures { IsReadUnlimited self result }
     {

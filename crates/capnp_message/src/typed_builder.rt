@@ -84,8 +84,7 @@ impl<T, A: Allocator> TypedBuilder<T, A> {
     }
 
     /// The message as one that is read, without a traversal limit and with objects nested up to
-    /// 2^31
-    /// - 1 deep.
+    /// 2^31 - 1 deep.
     pub fn into_reader(self) -> TypedReader<Builder<A>, T>
         ensures { IsReadUnlimited self result }
     {

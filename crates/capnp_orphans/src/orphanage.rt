@@ -27,13 +27,13 @@ use std::marker::Model;
 
 /// A message of one segment, whose objects are written one after the other, each once. Its first
 /// word is the root's, which is null until it is set.
+///
 /// A call that writes an object returns its orphan, or fails and changes nothing. All orphans hold
 /// what they held, whatever is written later.
 ///
-/// A segment has fewer than 2^29 words, so no far pointer is needed, and in a region no more than
-/// fit. A call whose object does not fit fails with `AllocationTooLarge` of the object's words. On
-/// the heap it fails with `OutOfMemory` where the memory that is there has no room, and no more is
-/// to be had.
+/// A segment has fewer than 2^29 words, so it needs no far pointer. A call whose object does not
+/// fit, there or in the region, fails with `AllocationTooLarge` of the object's words, and on the
+/// heap with `OutOfMemory` where the memory has no room and no more is to be had.
 ///
 /// The message is read in place, and written framed or packed by `write_message`, which takes the
 /// orphanage as it is. Once it is cleared it serves for the next message, and no call fails for want
@@ -66,8 +66,7 @@ impl<S: GrowingSegment> Model for Orphanage<S> {
 }
 
 impl Orphanage<Vec<u8>> {
-    /// An orphanage that takes memory as it grows. The root is null. Fails with `OutOfMemory`
-    /// alone.
+    /// An orphanage on the heap. The root is null. Fails with `OutOfMemory` alone.
     pub fn new(alloc: Global) -> Result<Orphanage<Vec<u8>>>
         ensures { MatchResult result
             (λ objects. (objects.bytes ≡ replicate 8 0) × (objects.most ≡ None))
@@ -102,8 +101,8 @@ impl<'a> Orphanage<Region<'a>> {
 }
 
 impl<S: GrowingSegment> Orphanage<S> {
-    /// Lets all objects go, and keeps the memory. The root is null, and from now on an earlier
-    /// orphan is one of another orphanage.
+    /// Lets all objects go, and keeps the memory. The root is null, and each orphan that was made
+    /// before is one of another orphanage.
     pub fn clear(&mut self)
         ensures { self.new ≡ with_root_alone self.old }
     {
@@ -138,9 +137,8 @@ impl<S: GrowingSegment> Orphanage<S> {
     /// a view of another message shows. What a pointer leads to there, a list too, is copied as the
     /// view `any_pointer::Reader` of it.
     ///
-    /// A value of 2^29 words and more fails with `AllocationTooLarge` of its words, at most 2^32 -
-    /// 1; one that can't be read, as its view does; and one for which there is no room, as
-    /// `Orphanage` says.
+    /// Fails for 2^29 words and more with `AllocationTooLarge` of the value's words, at most
+    /// 2^32 - 1; as its view does for what can't be read; and for want of room as `Orphanage` says.
     #[inline(always)]
     pub fn set<T, V: SetterInput<T>>(&mut self, value: &V) -> Result<Orphan<T>>
         ensures adds { Adds (HoldsValue (V.has_tree value.now)) self.old self.new word_of result }
@@ -178,8 +176,8 @@ impl<S: GrowingSegment> Orphanage<S> {
 
     /// Writes a list of numbers of any width, or of bools ("Lists").
     ///
-    /// Fails for 2^29 numbers and more with `AllocationTooLarge` of how many they are, at most 2^32
-    /// - 1, and for want of room as `Orphanage` says.
+    /// Fails for 2^29 numbers and more with `AllocationTooLarge` of how many they are, at most
+    /// 2^32 - 1, and for want of room as `Orphanage` says.
     pub fn numbers<N: PrimitiveElement + Copy>(
         &mut self,
         items: &[N],
@@ -194,8 +192,7 @@ impl<S: GrowingSegment> Orphanage<S> {
         self.set::<primitive_list::Owned<N>, NumberList<'_, N>>(&list)
     }
 
-    /// Writes a struct ("Structs"). An orphan of another orphanage is adopted like one of this: its
-    /// pointer is written, and leads to whatever is there.
+    /// Writes a struct ("Structs"). Of an orphan of another orphanage the pointer is written, too.
     ///
     /// Fails for 2^16 data words or pointers and more with `AllocationTooLarge(65536)`, and for
     /// want of room as `Orphanage` says.
@@ -213,8 +210,8 @@ impl<S: GrowingSegment> Orphanage<S> {
     /// Writes a list of the pointers to some orphans ("Lists"): of texts, of data, of lists, or of
     /// structs that are written each for itself.
     ///
-    /// Fails for 2^29 orphans and more with `AllocationTooLarge` of how many they are, at most 2^32
-    /// - 1, and for want of room as `Orphanage` says.
+    /// Fails for 2^29 orphans and more with `AllocationTooLarge` of how many they are, at most
+    /// 2^32 - 1, and for want of room as `Orphanage` says.
     pub fn pointer_list<T>(&mut self, items: &[Orphan<T>]) -> Result<Orphan<list_list::Owned<T>>>
         ensures adds { Adds (HoldsPointers (body_of self.old) (map word_of items.now))
             self.old self.new word_of result }
@@ -261,8 +258,7 @@ impl<S: GrowingSegment> Orphanage<S> {
         self.segment.set_root_word(link(root.word, 0));
     }
 
-    /// Writes a struct and makes it the root. It fails as `add` does, and the root is then as it
-    /// was.
+    /// Writes a struct and makes it the root. Fails as `add` does, and the root then stays.
     pub fn add_root<T, const D: usize, const P: usize>(
         &mut self,
         draft: &StructDraft<T, D, P>,
@@ -298,6 +294,7 @@ impl<S: GrowingSegment> BuiltMessage for Orphanage<S> {
 
     #[inline(always)]
     fn can_be_written(&self) {
+        // For the prover: a look at a field brings in the invariant, which says this.
         let _segment = &self.segment;
     }
 }

@@ -41,9 +41,9 @@ pub fn look_at(front: &[u8], limits: ReaderOptions) -> Look
     }
 }
 
-/// Reads bytes of a device into `front` until they say how its messages stand, or it ends. Framed is
-/// what begins a framed message within the limit of words, also where it ends too early, and packed
-/// only what begins none.
+/// Reads bytes of a device into `front` until they say how its messages stand, or it ends or fails.
+/// Framed is what begins a framed message within the limit of words, also where it ends too early,
+/// and packed only what begins none.
 pub fn detect<D: Read>(
     device: &mut D,
     front: &mut Vec<u8>,

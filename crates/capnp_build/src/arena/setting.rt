@@ -20,8 +20,9 @@ impl<A: Allocator> BuilderArena<A> {
     /// Sets the root to a value.
     ///
     /// Fails as the allocator does to hand out the first segment, as `measure` of the value does,
-    /// and as the allocator does to hand out a further segment, where none has room. The root is
-    /// then null.
+    /// and where no segment has room: with `AllocationTooLarge` at 2^32 - 1 segments, with
+    /// `OutOfMemory` where the list of segments can't grow, and as the allocator does to hand out a
+    /// further one. The root is then null.
     pub fn set_root<T, V: SetterInput<T>>(&mut self, value: &V) -> Result<()>
         ensures { SetsRoot A.Allocator (V.has_tree value.now) (V.refuses value.now)
             self.old self.new result }
@@ -34,8 +35,7 @@ impl<A: Allocator> BuilderArena<A> {
     /// Makes the root a new object of length `n`, or null where the type has none of this length.
     ///
     /// Fails as the allocator does to hand out the first segment, with a kind that `refuses` of the
-    /// type names for `n`, and as the allocator does to hand out a further segment, where none has
-    /// room. The root is then null.
+    /// type names for `n`, and where no segment has room as `set_root` does. The root is then null.
     pub fn init_object<K: OwnedBuilder>(&mut self, n: u32) -> Result<()>
         ensures { InitsRoot A.Allocator K.OwnedBuilder n self.old self.new result }
     {

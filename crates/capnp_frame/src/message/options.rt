@@ -7,8 +7,8 @@ ghost use Rattle.capnp_frame.specs.declared.message.options.TheConstants.{DEFAUL
 #[derive(Clone, Copy, Debug)]
 pub struct ReaderOptions {
     /// A message of more words than this is refused, and a reader may visit no more words. Pointers
-    /// may lead to the same words again and again, so a limit of the size would not do. `None` sets
-    /// no limit.
+    /// may lead to the same words again and again, so a limit on a message's size alone would not
+    /// do. `None` sets no limit.
     pub traversal_limit_in_words: Option<usize>,
 
     /// How deep objects may be nested. The limit keeps a message from using up the machine's stack.

@@ -41,8 +41,8 @@ pub(crate) fn field_at(table: &[u8], at: usize) -> u32
     u32::from_le_bytes([table[at], table[at + 1], table[at + 2], table[at + 3]])
 }
 
-/// The number of segments by the first word of a table, one more than its field holds: 0 by `ff ff
-/// ff ff`. Fails with `InvalidNumberOfSegments` where it isn't from 1 to 511.
+/// The number of segments by the first word of a table: one more than its field holds, so that
+/// `ff ff ff ff` stands for 0. Fails with `InvalidNumberOfSegments` where it isn't from 1 to 511.
 pub(crate) fn accepted_count(first: &[u8; 8]) -> Result<usize>
     ensures accepted { IfOk result (TellsAccepted first.now) }
     ensures refused { IfErr result (λ error. (count : ℕ) × Tells first.now count
