@@ -7,7 +7,7 @@ use Rattle.std.specs.Option.{option_map}
 use Rattle.capnp_frame.specs.declared.serialize.segment_table.Padding.{Padding}
 use Rattle.capnp_frame.specs.declared.error.ErrorKind.{ErrorKind}
 use Rattle.capnp_frame.specs.declared.error.ErrorKind.TheVariants.{DeviceFailed, OutOfMemory}
-use Rattle.capnp_frame.specs.Sink.{Declining, Adds, ByKind}
+use Rattle.capnp_frame.specs.Sink.{Adds, ByKind}
 use Rattle.capnp_frame.specs.Frame.{IsFrame}
 use Rattle.capnp_frame.specs.Limits.{KeepsLimit}
 use Rattle.capnp_frame.specs.Message.{lengths}
@@ -24,7 +24,7 @@ use Rattle.capnp.specs.declared.streams.Format.{Format}
 use Rattle.capnp.specs.declared.streams.Format.TheVariants.{Framed, Packed}
 use Rattle.capnp.specs.Streams.{grammar_of, StandsNext, IsStream}
 use Rattle.capnp.specs.Headline.{IsFault}
-use Rattle.capnp.specs.Written.{IsTextOf, DeclinesAs, AppendsEach, LeavesEach, RefusesWriter, RefusesManyOf, RefusesOneOf}
+use Rattle.capnp.specs.Written.{IsTextOf, DeclinesAs, AppendsEach, RefusesManyOf, RefusesOneOf}
 use Rattle.capnp.proofs.ChunkLemmas.{format_memory}
 use Rattle.capnp.proofs.RunLemmas.{format_lawful, format_requested, format_parts}
 use Rattle.capnp.proofs.ReaderLemmas.{nothing_begins_known}
@@ -146,31 +146,6 @@ pub few_next : {S : Type 0} (segments : S → List (List ℕ)) (xs : List S) (in
     → AllByRecursion HasFew (map segments (take index xs)) → HasFew (segments x) → AllByRecursion HasFew (map segments (take (index + 1) xs))
 few_next segments xs index x here is before few = subst (AllByRecursion HasFew) (sym (map-next segments xs index x here is))
     (AllByRecursion-append HasFew (map segments (take index xs)) (segments x ∷ []) before (few, tt))
-
--- the one that isn't written is one of them
-pub refused_at : {S : Type 0} (segments : S → List (List ℕ)) (refuses : Declining) (xs : List S) (index : ℕ) (x : S) (kind : ErrorKind) → index < length xs
-    → x ≡ get_or xs index x → RefusesWriter refuses (segments x) kind → RefusesOneOf refuses (map segments xs) kind
-refused_at segments refuses [] index x kind here is refused = absurd (omega arith)
-refused_at segments refuses (y ∷ ys) zero x kind here is refused = inl (subst (λ z. RefusesWriter refuses (segments z) kind) is refused)
-refused_at segments refuses (y ∷ ys) (suc index) x kind here is refused = inr (refused_at segments refuses ys index x kind (omega arith) is refused)
-
--- what is left of it follows the messages before it
-LeavesEach-at : {S : Type 0} (segments : S → List (List ℕ)) (Writes Leaves : List (List ℕ) → List ℕ → Type 0) (xs : List S) (index : ℕ) (x : S)
-    (text more : List ℕ) → index < length xs → x ≡ get_or xs index x → AppendsEach Writes (map segments (take index xs)) text → Leaves (segments x) more
-    → LeavesEach Writes Leaves (map segments xs) (text ++ more)
-LeavesEach-at segments Writes Leaves [] index x text more here is all left = absurd (omega arith)
-LeavesEach-at segments Writes Leaves (y ∷ ys) zero x text more here is all left =
-    inl (subst (λ z. Leaves (segments z) (text ++ more)) is (subst (λ l. Leaves (segments x) (l ++ more)) (sym all) left))
-LeavesEach-at segments Writes Leaves (y ∷ ys) (suc index) x text more here is (first, others, this, all, e) left =
-    inr (first, others ++ more, this, LeavesEach-at segments Writes Leaves ys index x others more (omega arith) is all left, ap (λ l. l ++ more) e ∙ append_assoc first others more)
-
-pub left_at : {S : Type 0} (segments : S → List (List ℕ)) (Writes Leaves : List (List ℕ) → List ℕ → Type 0)
-    (xs : List S) (index : ℕ) (x : S) (old mid new : Option (List ℕ)) → index < length xs → x ≡ get_or xs index x
-    → IfKnown old mid (Adds (AppendsEach Writes (map segments (take index xs)))) → IfKnown mid new (Adds (Leaves (segments x)))
-    → IfKnown old new (Adds (LeavesEach Writes Leaves (map segments xs)))
-left_at segments Writes Leaves xs index x old mid new here is before next = IfKnown-join old mid new
-    (λ a b c (text, all, e) (more, left, f). (text ++ more, LeavesEach-at segments Writes Leaves xs index x text more here is all left, f ∙ ap (λ l. l ++ more) e ∙ append_assoc a text more))
-    before next
 
 -- what was appended to nothing is what was written
 pub appended_alone : (P : List ℕ → Type 0) (start new : List ℕ) → start ≡ [] → Adds P start new → P new

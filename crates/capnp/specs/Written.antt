@@ -98,12 +98,19 @@ abbrev pub AppendsEach : (List (List ℕ) → List ℕ → Type 0) → List (Lis
 AppendsEach Writes [] text = text ≡ []
 AppendsEach Writes (m ∷ ms) text = (first others : List ℕ) × Writes m first × AppendsEach Writes ms others × (text ≡ first ++ others)
 
--- Of messages that are written one after the other the first ones are added, and of the next one what is left where its writer
--- fails.
-abbrev pub LeavesEach : (List (List ℕ) → List ℕ → Type 0) → (List (List ℕ) → List ℕ → Type 0) → List (List (List ℕ)) → List ℕ → Type 0
-LeavesEach Writes Leaves [] text = text ≡ []
-LeavesEach Writes Leaves (m ∷ ms) text = Leaves m text
-    ⊎ ((first others : List ℕ) × Writes m first × LeavesEach Writes Leaves ms others × (text ≡ first ++ others))
+-- A writer fails at this message by this kind, and leaves this text of it: nothing, unless the device failed or the sink refused a
+-- chunk.
+pub record StopsMessage (format : Format) (appends : Appending) (leaves : Leaving) (refuses : Declining) (message : List (List ℕ)) (kind : ErrorKind)
+    (text : List ℕ) : Type 0 where
+  pub refused : RefusesWriter (DeclinesAs format refuses) message kind
+  pub left : LeavesMessage format appends leaves message text
+  pub untouched : (kind ≡ DeviceFailed) ⊎ DeclinesSome (DeclinesAs format refuses) (chunks message) kind ⊎ (text ≡ [])
+
+-- Of messages that are written one after the other the first ones are added, and the writer of the next one fails so.
+abbrev pub StopsEach : (List (List ℕ) → List ℕ → Type 0) → (List (List ℕ) → ErrorKind → List ℕ → Type 0) → List (List (List ℕ)) → ErrorKind → List ℕ → Type 0
+StopsEach Writes Stops [] kind text = ⊥
+StopsEach Writes Stops (m ∷ ms) kind text = Stops m kind text
+    ⊎ ((first others : List ℕ) × Writes m first × StopsEach Writes Stops ms kind others × (text ≡ first ++ others))
 
 -- What writing messages one after the other does to a sink, in this format. `sink` is what is seen of the sink (the members of
 -- the trait Write), `old` and `new` are the sink before the call and after it.
@@ -113,9 +120,9 @@ pub record WritesMessages {S X : Type 0} (format : Format) (sink : Ghosts S) (ol
   pub text : IsPlainSink sink.appends → OnOk result (IfKnown (sink.written old) (sink.written new) (Adds (AppendsEach (IsTextOf format) messages)))
   -- to every sink is added what the messages' chunks add
   pub written : OnOk result (IfKnown (sink.written old) (sink.written new) (Adds (AppendsEach (AppendsMessage format sink.appends) messages)))
-  -- where it fails, the first messages are written, and of the next one what its writer leaves; nothing stands after a hole
-  pub left : OnErr result (IfKnown (sink.written old) (sink.written new)
-      (Adds (LeavesEach (AppendsMessage format sink.appends) (LeavesMessage format sink.appends sink.leaves) messages)))
+  -- where it fails, the first messages are written, and it is the writer of the next one that fails so; nothing stands after a hole
+  pub stops : IfErr result (λ error. IfKnown (sink.written old) (sink.written new)
+      (Adds (StopsEach (AppendsMessage format sink.appends) (StopsMessage format sink.appends sink.leaves sink.refuses) messages error.kind)))
   -- what is written has no more segments than a reader accepts
   pub few : OnOk result (AllByRecursion HasFew messages)
   -- it fails as the writer of one of them does

@@ -1,10 +1,11 @@
 -- Each turn writes one more message.
-use Rattle.std.proofs.Common.{arith}
+use Rattle.std.proofs.Common.{inl, inr, ap, arith}
 use Rattle.std.proofs.lemmas.List.{take_all}
 use Rattle.std.proofs.lemmas.Result.{err_from_is_err_and}
 use Rattle.capnp_frame.proofs.SourceLemmas.{Grows-join}
-use Rattle.capnp.specs.Written.{IsTextOf, AppendsMessage, LeavesMessage, DeclinesAs}
-use Rattle.capnp.proofs.AppendedLemmas.{appended_next, writable_at, few_next, refused_at, left_at}
+use Rattle.capnp.specs.Written.{IsTextOf, AppendsMessage, StopsMessage, DeclinesAs}
+use Rattle.capnp.proofs.AppendedLemmas.{appended_next, writable_at, few_next}
+use Rattle.capnp.proofs.StoppedLemmas.{refused_at, stops_message, stops_at}
 use Rattle.capnp.proofs.appended.write_messages.Goals as goal
 
 pub write_message-requires : goal.write_message-requires
@@ -19,8 +20,13 @@ returns-in_err-write_message g c =
     rw (p.1, p.2) (record {
       text = λ plain. tt;
       written = tt;
-      left = left_at segments (AppendsMessage c.args.format W.appends) (LeavesMessage c.args.format W.appends W.leaves) c.args.messages.now
-          c.loop-message.message-index c.message-item.result _ _ _ c.loop-message-test.true c.message-item.is c.loop-message.invariant.written told.left;
+      stops = stops_at segments (AppendsMessage c.args.format W.appends) (StopsMessage c.args.format W.appends W.leaves W.refuses) c.args.messages.now
+          c.loop-message.message-index c.message-item.result _ _ _ _ c.loop-message-test.true c.message-item.is c.loop-message.invariant.written
+          (stops_message c.args.format W.appends W.leaves W.refuses (segments c.message-item.result) _ _ _ told.refused told.left (elim told.untouched [
+            | inl device ↦ inl device
+            | inr (inl declined) ↦ inr (inl declined)
+            | inr (inr same) ↦ inr (inr (ap W.written same))
+          ]));
       few = tt;
       refused = refused_at segments (DeclinesAs c.args.format W.refuses) c.args.messages.now c.loop-message.message-index c.message-item.result _
           c.loop-message-test.true c.message-item.is told.refused;
@@ -50,7 +56,7 @@ returns g c =
     record {
       text = λ plain. rw all at (kept.text plain);
       written = rw all at kept.written;
-      left = tt;
+      stops = tt;
       few = rw all at kept.few;
       refused = tt;
       failed = tt;

@@ -26,10 +26,11 @@ returns-in_err-set_root-clause-refused g c =
     let p = err_from_is_err_and c.from_residual.result c.from_residual.ensures.1 in
     let told = c.in_err-set_root.ensures in
     let own = c.new-message.ensures.allocator in
+    let kind = c.in_err-set_root.field-0.0.kind in
     rw (p.1, p.2) (elim told.kind [
       | inl lacks ↦ inl lacks
-      | inr (inl first) ↦ inr (inl (first_refused c.new.result.region c.new.result.size _ _ c.new.ensures.home c.new.ensures.size
-          (subst (λ (a : SingleSegmentAllocator). RefusesRegion a.region a.size 1 _) own first.1.1.0)))
+      | inr (inl first) ↦ inr (inl (first_refused c.new.result.region c.new.result.size (length c.args.region.now) kind c.new.ensures.home c.new.ensures.size
+          (subst (λ (a : SingleSegmentAllocator). RefusesRegion a.region a.size 1 kind) own first.1.1.0)))
       | inr (inr no_room) ↦ (
           let words = no_room.words in
           let full : length c.args.region.now / 8 ≤ words = elim (cases_lt words (length c.args.region.now / 8)) [
@@ -44,8 +45,12 @@ returns-in_err-set_root-clause-refused g c =
             words,
             no_room.words_are,
             full,
-            further_refused _ _ no_room.asked.region no_room.asked.size (length c.args.region.now) words _
-                (no_room.same ∙ ap (λ (a : SingleSegmentAllocator). a.size) own ∙ c.new.ensures.size) full (λ refused. refused) no_room.lacks,
+            elim no_room.lacks [
+              | inl many ↦ inl many.1
+              | inr (few, inl memory) ↦ inr memory.1
+              | inr (few, inr refused) ↦ inl (further_refused no_room.asked.region no_room.asked.size (length c.args.region.now) words kind
+                    (no_room.same ∙ ap (λ (a : SingleSegmentAllocator). a.size) own ∙ c.new.ensures.size) full refused.0)
+            ],
           )))
     ])
 
