@@ -27,7 +27,8 @@ Options:
 
 Exit status:
   0  Each message was read, and what the command prints is written
-  1  A message is refused, or a device fails: standard error has its index and the reason
+  1  A message is refused, a device fails, or memory runs out: standard error has the message's
+     index and the reason
   2  The words are no command
 ";
 

@@ -36,6 +36,7 @@ impl<D> Watched<D> {
 
     fn note(&mut self, error: io::Error)
         ensures noted { error_kind error ≢ ErrorKind.Interrupted → self.new.fault ≡ Some error }
+        ensures kept { error_kind error ≡ ErrorKind.Interrupted → self.new.fault ≡ self.old.fault }
         ensures device { self.new.device ≡ self.old.device }
     {
         if error.kind() != ErrorKind::Interrupted {
@@ -54,6 +55,8 @@ impl<R: Read> Read for Watched<R> {
         ensures noted { IfErr result (λ error. error_kind error ≢ ErrorKind.Interrupted →
             self.new.fault ≡ Some error) }
         ensures kept { OnOk result (self.new.fault ≡ self.old.fault) }
+        ensures interrupted { IfErr result (λ error. error_kind error ≡ ErrorKind.Interrupted →
+            self.new.fault ≡ self.old.fault) }
     {
         match self.device.read(buffer) {
             Ok(count) => Ok(count),
@@ -75,6 +78,8 @@ impl<W: Write> Write for Watched<W> {
         ensures noted { IfErr result (λ error. error_kind error ≢ ErrorKind.Interrupted →
             self.new.fault ≡ Some error) }
         ensures kept { OnOk result (self.new.fault ≡ self.old.fault) }
+        ensures interrupted { IfErr result (λ error. error_kind error ≡ ErrorKind.Interrupted →
+            self.new.fault ≡ self.old.fault) }
     {
         match self.device.write(bytes) {
             Ok(count) => Ok(count),
@@ -90,6 +95,8 @@ impl<W: Write> Write for Watched<W> {
         ensures noted { IfErr result (λ error. error_kind error ≢ ErrorKind.Interrupted →
             self.new.fault ≡ Some error) }
         ensures kept { OnOk result (self.new.fault ≡ self.old.fault) }
+        ensures interrupted { IfErr result (λ error. error_kind error ≡ ErrorKind.Interrupted →
+            self.new.fault ≡ self.old.fault) }
     {
         match self.device.flush() {
             Ok(()) => Ok(()),
