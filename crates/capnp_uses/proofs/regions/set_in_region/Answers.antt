@@ -49,7 +49,7 @@ returns-in_err-set_root-clause-refused g c =
               | inl many ↦ inl many.1
               | inr (few, inl memory) ↦ inr memory.1
               | inr (few, inr refused) ↦ inl (further_refused no_room.asked.region no_room.asked.size (length c.args.region.now) words kind
-                    (no_room.same ∙ ap (λ (a : SingleSegmentAllocator). a.size) own ∙ c.new.ensures.size) full refused.0)
+                  (no_room.same ∙ ap (λ (a : SingleSegmentAllocator). a.size) own ∙ c.new.ensures.size) full refused.0)
             ],
           )))
     ])
