@@ -51,13 +51,13 @@ nothing_added old new text added same =
     let kept : new ≡ old = cc in
     nil_from_length text (omega (arith, ap length kept, ap length added, length-append old text))
 
-pub stops_message : (format : Format) (appends : Appending) (leaves : Leaving) (refuses : Declining) (message : List (List ℕ)) (kind : ErrorKind)
+stops_known : (format : Format) (appends : Appending) (leaves : Leaving) (refuses : Declining) (message : List (List ℕ)) (kind : ErrorKind)
     (old new : Option (List ℕ)) → RefusesWriter (DeclinesAs format refuses) message kind → IfKnown old new (Adds (LeavesMessage format appends leaves message))
     → (kind ≡ DeviceFailed) ⊎ DeclinesSome (DeclinesAs format refuses) (chunks message) kind ⊎ (new ≡ old)
     → IfKnown old new (Adds (StopsMessage format appends leaves refuses message kind))
-stops_message format appends leaves refuses message kind None new refused left untouched = tt
-stops_message format appends leaves refuses message kind (Some old) None refused left untouched = absurd left
-stops_message format appends leaves refuses message kind (Some old) (Some new) refused (text, of_it, added) untouched = (
+stops_known format appends leaves refuses message kind None new refused left untouched = tt
+stops_known format appends leaves refuses message kind (Some old) None refused left untouched = absurd left
+stops_known format appends leaves refuses message kind (Some old) (Some new) refused (text, of_it, added) untouched = (
   text,
   record {
     refused = refused;
@@ -70,3 +70,15 @@ stops_message format appends leaves refuses message kind (Some old) (Some new) r
   },
   added,
 )
+
+pub stops_message : {S : Type 0} (written : S → Option (List ℕ)) (format : Format) (appends : Appending) (leaves : Leaving) (refuses : Declining)
+    (message : List (List ℕ)) (kind : ErrorKind) (old new : S) → RefusesWriter (DeclinesAs format refuses) message kind
+    → IfKnown (written old) (written new) (Adds (LeavesMessage format appends leaves message))
+    → (kind ≡ DeviceFailed) ⊎ DeclinesSome (DeclinesAs format refuses) (chunks message) kind ⊎ (new ≡ old)
+    → IfKnown (written old) (written new) (Adds (StopsMessage format appends leaves refuses message kind))
+stops_message written format appends leaves refuses message kind old new refused left untouched =
+    stops_known format appends leaves refuses message kind (written old) (written new) refused left (elim untouched [
+      | inl device ↦ inl device
+      | inr (inl declined) ↦ inr (inl declined)
+      | inr (inr same) ↦ inr (inr (ap written same))
+    ])

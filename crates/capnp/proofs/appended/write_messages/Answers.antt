@@ -1,5 +1,5 @@
 -- Each turn writes one more message.
-use Rattle.std.proofs.Common.{inl, inr, ap, arith}
+use Rattle.std.proofs.Common.{arith}
 use Rattle.std.proofs.lemmas.List.{take_all}
 use Rattle.std.proofs.lemmas.Result.{err_from_is_err_and}
 use Rattle.capnp_frame.proofs.SourceLemmas.{Grows-join}
@@ -22,11 +22,7 @@ returns-in_err-write_message g c =
       written = tt;
       stops = stops_at segments (AppendsMessage c.args.format W.appends) (StopsMessage c.args.format W.appends W.leaves W.refuses) c.args.messages.now
           c.loop-message.message-index c.message-item.result _ _ _ _ c.loop-message-test.true c.message-item.is c.loop-message.invariant.written
-          (stops_message c.args.format W.appends W.leaves W.refuses (segments c.message-item.result) _ _ _ told.refused told.left (elim told.untouched [
-            | inl device ↦ inl device
-            | inr (inl declined) ↦ inr (inl declined)
-            | inr (inr same) ↦ inr (inr (ap W.written same))
-          ]));
+          (stops_message W.written c.args.format W.appends W.leaves W.refuses (segments c.message-item.result) _ _ _ told.refused told.left told.untouched);
       few = tt;
       refused = refused_at segments (DeclinesAs c.args.format W.refuses) c.args.messages.now c.loop-message.message-index c.message-item.result _
           c.loop-message-test.true c.message-item.is told.refused;
