@@ -13,6 +13,7 @@ pub mod Views
 pub mod Parts
 pub mod Readers
 pub mod ListViews
+pub mod Lists
 pub mod Fields
 pub mod NumberViews
 pub mod ObjectViews

@@ -19,6 +19,7 @@ pub mod data_list;
 mod entered;
 pub mod laws;
 mod layout;
+mod list_iter;
 pub mod list_list;
 mod message_size;
 pub mod pointer_word;

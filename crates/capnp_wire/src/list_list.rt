@@ -1,6 +1,7 @@
 //! Lists of pointers to views of one type: lists of lists, and of text and data, whose modules name
 //! theirs.
 mod reader;
+pub(crate) mod view_iter;
 
 use crate::any_pointer_list;
 use crate::layout::copy::Copied;
@@ -9,6 +10,7 @@ use capnp_frame::Result;
 use capnp_frame::message::ReaderSegments;
 pub use reader::Reader;
 use std::marker::PhantomData;
+pub use view_iter::ViewIter;
 
 /// A list of pointers to what one type of a schema shows, as a type of a schema.
 pub struct Owned<T> {

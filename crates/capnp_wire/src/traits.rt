@@ -13,6 +13,7 @@ ghost use Rattle.capnp_wire.specs.declared.traits.PartWords.{PartWords};
 
 use crate::any_pointer;
 pub use crate::layout::copy::Copied;
+pub use crate::list_iter::{IndexMove, ListIter};
 use capnp_frame::Result;
 use capnp_frame::message::ReaderSegments;
 

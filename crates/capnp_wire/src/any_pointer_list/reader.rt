@@ -6,7 +6,7 @@ use crate::entered::wrong_kind;
 use crate::layout::object::words_fit;
 use crate::layout::place::Place;
 use crate::read_limiter::ReadLimiter;
-use crate::traits::FromPointerReader;
+use crate::traits::{FromPointerReader, IndexMove, ListIter};
 use capnp_frame::Result;
 use capnp_frame::message::ReaderSegments;
 
@@ -24,6 +24,7 @@ pub struct Reader<'a, S> {
 }
 
 impl<'a, S: ReaderSegments> Reader<'a, S> {
+    ghost use Rattle.capnp_wire.specs.Lists.{FindsElement, IsIterator};
     ghost use Rattle.capnp_wire.specs.Readers.{pointer_of};
     ghost use Rattle.capnp_wire.specs.Views.{Refuses};
     ghost use Rattle.capnp_wire.specs.ListViews.{pointer_list_of, pointer_at, IsPointerList, DeclinesPointers};
@@ -54,6 +55,22 @@ impl<'a, S: ReaderSegments> Reader<'a, S> {
             }),
             nesting: self.nesting,
         }
+    }
+
+    /// The element of this index, or `None` where there are no more elements than it.
+    pub fn try_get(&self, index: u32) -> Option<any_pointer::Reader<'a, S>>
+        ensures { FindsElement (length (pointer_list_of S.segments self.now).held) index
+            (λ item. pointer_of S.segments item
+            ≡ pointer_at (pointer_list_of S.segments self.now) index) result }
+    {
+        self.try_index_move(index)
+    }
+
+    /// An iterator over the elements.
+    pub fn iter(&self) -> ListIter<'_, Self>
+        ensures { IsIterator self.now result }
+    {
+        ListIter::new(self)
     }
 
     // The list of pointers that a pointer leads to.
@@ -89,6 +106,30 @@ impl<'a, S: ReaderSegments> Reader<'a, S> {
             count,
             nesting,
         })
+    }
+}
+
+impl<'a, S: ReaderSegments> IndexMove for Reader<'a, S> {
+    ghost use Rattle.capnp_wire.specs.Views.{Pointer};
+    ghost use Rattle.capnp_wire.specs.Readers.{pointer_of};
+    ghost use Rattle.capnp_wire.specs.ListViews.{pointer_list_of, pointer_at};
+
+    type Item = any_pointer::Reader<'a, S>;
+
+    ghost Element = { Pointer };
+
+    ghost seen = { pointer_of S.segments };
+
+    ghost size = { λ list. length (pointer_list_of S.segments list).held };
+
+    ghost element = { λ list index. pointer_at (pointer_list_of S.segments list) index };
+
+    fn len(&self) -> u32 {
+        self.len()
+    }
+
+    fn index_move(&self, index: u32) -> any_pointer::Reader<'a, S> {
+        self.get(index)
     }
 }
 

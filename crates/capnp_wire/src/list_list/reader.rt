@@ -1,6 +1,7 @@
 //! Lists of pointers to views of one type, which are read.
 ghost use Rattle.std.specs.Prelude.{◌≡◌, ◌<◌, length};
 
+use crate::list_list::view_iter::ViewIter;
 use crate::traits::FromPointerReader;
 use crate::{any_pointer, any_pointer_list};
 use capnp_frame::Result;
@@ -15,6 +16,7 @@ pub struct Reader<'a, S, T> {
 }
 
 impl<'a, S: ReaderSegments, T: FromPointerReader<'a, S>> Reader<'a, S, T> {
+    ghost use Rattle.capnp_wire.specs.Lists.{FindsElement, IsIterator};
     ghost use Rattle.capnp_wire.specs.Views.{IsViewOf};
     ghost use Rattle.capnp_wire.specs.ListViews.{pointer_list_of, pointer_at};
 
@@ -36,6 +38,28 @@ impl<'a, S: ReaderSegments, T: FromPointerReader<'a, S>> Reader<'a, S, T> {
             (T.declines pointer) result }
     {
         T::get_from_pointer(self.pointers.get(index))
+    }
+
+    /// The element of this index, or `None` where there are no more elements than it.
+    ///
+    /// The element fails as `get` does.
+    pub fn try_get(&self, index: u32) -> Option<Result<T>>
+        ensures { FindsElement (length (pointer_list_of S.segments self.now.pointers).held) index
+            (let pointer = pointer_at (pointer_list_of S.segments self.now.pointers) index in
+            IsViewOf pointer (T.shows pointer) (T.accepts pointer)
+            (T.refuses pointer) (T.declines pointer)) result }
+    {
+        match self.pointers.try_get(index) {
+            Some(pointer) => Some(T::get_from_pointer(pointer)),
+            None => None,
+        }
+    }
+
+    /// An iterator over the elements.
+    pub fn iter(&self) -> ViewIter<'_, any_pointer_list::Reader<'a, S>, T>
+        ensures { IsIterator self.now.pointers result.pointers }
+    {
+        ViewIter::new(&self.pointers)
     }
 }
 

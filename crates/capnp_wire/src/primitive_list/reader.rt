@@ -9,7 +9,7 @@ use crate::layout::number_list::NumberList;
 use crate::layout::object::{Object, words_fit};
 use crate::layout::place::{Place, word};
 use crate::primitive_element::PrimitiveElement;
-use crate::traits::FromPointerReader;
+use crate::traits::{FromPointerReader, IndexMove, ListIter};
 use capnp_frame::Result;
 use capnp_frame::message::ReaderSegments;
 use std::marker::PhantomData;
@@ -25,6 +25,7 @@ pub struct Reader<'a, T: PrimitiveElement> {
 }
 
 impl<'a, T: PrimitiveElement> Reader<'a, T> {
+    ghost use Rattle.capnp_wire.specs.Lists.{FindsElement, IsIterator};
     ghost use Rattle.capnp_wire.specs.NumberViews.{numbers_of, IsNumbers};
     ghost use Rattle.capnp_wire.specs.Views.{Reads, Refuses, DeclinesNumbers};
     ghost use Rattle.capnp_wire.specs.Readers.{pointer_of, form_of};
@@ -49,6 +50,21 @@ impl<'a, T: PrimitiveElement> Reader<'a, T> {
         let size = T::size();
         let word = word(self.bytes, size.word_of(index) as usize).unwrap_or(0);
         T::from_bits(size.in_word(word, index))
+    }
+
+    /// The element of this index, or `None` where there are no more elements than it.
+    pub fn try_get(&self, index: u32) -> Option<T>
+        ensures { FindsElement (length (numbers_of T.code self.now)) index
+            (λ item. item ≡ T.value_of (slice_index (numbers_of T.code self.now) index)) result }
+    {
+        self.try_index_move(index)
+    }
+
+    /// An iterator over the elements.
+    pub fn iter(&self) -> ListIter<'_, Self>
+        ensures { IsIterator self.now result }
+    {
+        ListIter::new(self)
     }
 
     /// The list as what is copied.
@@ -117,6 +133,28 @@ impl<'a, T: PrimitiveElement> Reader<'a, T> {
             count: list.count,
             element: PhantomData,
         })
+    }
+}
+
+impl<'a, T: PrimitiveElement> IndexMove for Reader<'a, T> {
+    ghost use Rattle.capnp_wire.specs.NumberViews.{numbers_of};
+
+    type Item = T;
+
+    ghost Element = { T };
+
+    ghost seen = { λ item. item };
+
+    ghost size = { λ list. length (numbers_of T.code list) };
+
+    ghost element = { λ list index. T.value_of (slice_index (numbers_of T.code list) index) };
+
+    fn len(&self) -> u32 {
+        self.len()
+    }
+
+    fn index_move(&self, index: u32) -> T {
+        self.get(index)
     }
 }
 

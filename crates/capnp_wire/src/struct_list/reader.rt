@@ -11,7 +11,7 @@ use crate::layout::object::{Object, words_fit};
 use crate::layout::place::Place;
 use crate::layout::pointer::{Elements, StructSize};
 use crate::read_limiter::ReadLimiter;
-use crate::traits::FromPointerReader;
+use crate::traits::{FromPointerReader, IndexMove, ListIter};
 use capnp_frame::Result;
 use capnp_frame::message::ReaderSegments;
 
@@ -35,6 +35,7 @@ pub struct Reader<'a, S: ReaderSegments> {
 }
 
 impl<'a, S: ReaderSegments> Reader<'a, S> {
+    ghost use Rattle.capnp_wire.specs.Lists.{FindsElement, IsIterator};
     ghost use Rattle.capnp_wire.specs.Readers.{struct_of, pointer_of, IsEntered};
     ghost use Rattle.capnp_wire.specs.Views.{Refuses};
     ghost use Rattle.capnp_wire.specs.ListViews.{struct_list_of, element_of, no_structs, structs_in, IsStructList, DeclinesStructs};
@@ -69,6 +70,22 @@ impl<'a, S: ReaderSegments> Reader<'a, S> {
             nesting: self.nesting,
             part: None,
         }
+    }
+
+    /// The element of this index, or `None` where there are no more elements than it.
+    pub fn try_get(&self, index: u32) -> Option<StructReader<'a, S>>
+        ensures { FindsElement (length (struct_list_of S.segments self.now).rows) index
+            (λ item. struct_of S.segments item
+            ≡ element_of (struct_list_of S.segments self.now) index) result }
+    {
+        self.try_index_move(index)
+    }
+
+    /// An iterator over the elements.
+    pub fn iter(&self) -> ListIter<'_, Self>
+        ensures { IsIterator self.now result }
+    {
+        ListIter::new(self)
     }
 
     // The list of structs that a pointer leads to.
@@ -139,6 +156,30 @@ impl<'a, S: ReaderSegments> Reader<'a, S> {
             elements,
             nesting: reader.nesting.saturating_sub(1),
         }
+    }
+}
+
+impl<'a, S: ReaderSegments> IndexMove for Reader<'a, S> {
+    ghost use Rattle.capnp_wire.specs.Views.{Struct};
+    ghost use Rattle.capnp_wire.specs.Readers.{struct_of};
+    ghost use Rattle.capnp_wire.specs.ListViews.{struct_list_of, element_of};
+
+    type Item = StructReader<'a, S>;
+
+    ghost Element = { Struct };
+
+    ghost seen = { struct_of S.segments };
+
+    ghost size = { λ list. length (struct_list_of S.segments list).rows };
+
+    ghost element = { λ list index. element_of (struct_list_of S.segments list) index };
+
+    fn len(&self) -> u32 {
+        self.len()
+    }
+
+    fn index_move(&self, index: u32) -> StructReader<'a, S> {
+        self.get(index)
     }
 }
 

@@ -2,6 +2,7 @@
 ghost use Rattle.std.specs.Prelude.{◌≡◌, ◌<◌, length};
 
 use crate::any_pointer;
+use crate::list_list::view_iter::ViewIter;
 use crate::traits::FromPointerReader;
 use crate::upgraded::pointer_list::PointerList;
 use capnp_frame::Result;
@@ -17,6 +18,7 @@ pub struct ListList<'a, S, T> {
 }
 
 impl<'a, S: ReaderSegments, T: FromPointerReader<'a, S>> ListList<'a, S, T> {
+    ghost use Rattle.capnp_wire.specs.Lists.{FindsElement, IsIterator};
     ghost use Rattle.capnp_wire.specs.Views.{IsViewOf};
     ghost use Rattle.capnp_wire.specs.ListViews.{pointer_at};
     ghost use Rattle.capnp_wire.specs.UpgradedReaders.{upgraded_pointers_of};
@@ -38,6 +40,29 @@ impl<'a, S: ReaderSegments, T: FromPointerReader<'a, S>> ListList<'a, S, T> {
             (T.declines pointer) result }
     {
         T::get_from_pointer(self.pointers.get(index))
+    }
+
+    /// The element of this index, or `None` where there are no more elements than it.
+    ///
+    /// The element fails as `get` does.
+    pub fn try_get(&self, index: u32) -> Option<Result<T>>
+        ensures { FindsElement
+            (length (upgraded_pointers_of S.segments self.now.pointers).held) index
+            (let pointer = pointer_at (upgraded_pointers_of S.segments self.now.pointers) index in
+            IsViewOf pointer (T.shows pointer) (T.accepts pointer)
+            (T.refuses pointer) (T.declines pointer)) result }
+    {
+        match self.pointers.try_get(index) {
+            Some(pointer) => Some(T::get_from_pointer(pointer)),
+            None => None,
+        }
+    }
+
+    /// An iterator over the elements.
+    pub fn iter(&self) -> ViewIter<'_, PointerList<'a, S>, T>
+        ensures { IsIterator self.now.pointers result.pointers }
+    {
+        ViewIter::new(&self.pointers)
     }
 }
 

@@ -10,7 +10,7 @@ use crate::layout::object::{Object, words_fit};
 use crate::layout::place::word;
 use crate::layout::pointer::StructSize;
 use crate::primitive_element::PrimitiveElement;
-use crate::traits::FromPointerReader;
+use crate::traits::{FromPointerReader, IndexMove, ListIter};
 use crate::{any_pointer, primitive_list};
 use capnp_frame::Result;
 use capnp_frame::message::ReaderSegments;
@@ -60,6 +60,7 @@ impl<'a, T: PrimitiveElement> FirstFields<'a, T> {
 }
 
 impl<'a, T: PrimitiveElement> NumberList<'a, T> {
+    ghost use Rattle.capnp_wire.specs.Lists.{FindsElement, IsIterator};
     ghost use Rattle.capnp_wire.specs.Readers.{pointer_of, form_of};
     ghost use Rattle.capnp_wire.specs.Views.{Reads, Refuses};
     ghost use Rattle.capnp_wire.specs.UpgradedViews.{ReadsAsNumbers, DeclinesFields};
@@ -84,6 +85,21 @@ impl<'a, T: PrimitiveElement> NumberList<'a, T> {
             Numbers::InPlace(list) => list.get(index),
             Numbers::OfStructs(list) => list.get(index),
         }
+    }
+
+    /// The element of this index, or `None` where there are no more elements than it.
+    pub fn try_get(&self, index: u32) -> Option<T>
+        ensures { FindsElement (length (upgraded_numbers_of T.code self.now)) index
+            (λ item. item ≡ T.value_of (slice_index (upgraded_numbers_of T.code self.now) index)) result }
+    {
+        self.try_index_move(index)
+    }
+
+    /// An iterator over the elements.
+    pub fn iter(&self) -> ListIter<'_, Self>
+        ensures { IsIterator self.now result }
+    {
+        ListIter::new(self)
     }
 
     // The list that a pointer leads to.
@@ -147,6 +163,28 @@ fn is_first_field(size: ElementSize, data_words: u16) -> bool
     ensures { IsTrue result ↔ IsFirstField (code_of size) data_words }
 {
     size != ElementSize::Bit && size.bits() <= 64 * data_words as u64
+}
+
+impl<'a, T: PrimitiveElement> IndexMove for NumberList<'a, T> {
+    ghost use Rattle.capnp_wire.specs.UpgradedReaders.{upgraded_numbers_of};
+
+    type Item = T;
+
+    ghost Element = { T };
+
+    ghost seen = { λ item. item };
+
+    ghost size = { λ list. length (upgraded_numbers_of T.code list) };
+
+    ghost element = { λ list index. T.value_of (slice_index (upgraded_numbers_of T.code list) index) };
+
+    fn len(&self) -> u32 {
+        self.len()
+    }
+
+    fn index_move(&self, index: u32) -> T {
+        self.get(index)
+    }
 }
 
 // Null is empty; else it shows the numbers of a list of this size, or the first fields of structs

@@ -6,7 +6,7 @@ use crate::entered::wrong_kind;
 use crate::layout::object::{Object, words_fit};
 use crate::layout::place::Place;
 use crate::read_limiter::ReadLimiter;
-use crate::traits::FromPointerReader;
+use crate::traits::{FromPointerReader, IndexMove, ListIter};
 use capnp_frame::Result;
 use capnp_frame::message::ReaderSegments;
 
@@ -25,6 +25,7 @@ pub struct PointerList<'a, S> {
 }
 
 impl<'a, S: ReaderSegments> PointerList<'a, S> {
+    ghost use Rattle.capnp_wire.specs.Lists.{FindsElement, IsIterator};
     ghost use Rattle.capnp_wire.specs.Readers.{pointer_of, IsEntered};
     ghost use Rattle.capnp_wire.specs.Views.{Refuses};
     ghost use Rattle.capnp_wire.specs.ListViews.{pointer_at};
@@ -58,6 +59,22 @@ impl<'a, S: ReaderSegments> PointerList<'a, S> {
             }),
             nesting: self.nesting,
         }
+    }
+
+    /// The element of this index, or `None` where there are no more elements than it.
+    pub fn try_get(&self, index: u32) -> Option<any_pointer::Reader<'a, S>>
+        ensures { FindsElement (length (upgraded_pointers_of S.segments self.now).held) index
+            (λ item. pointer_of S.segments item
+            ≡ pointer_at (upgraded_pointers_of S.segments self.now) index) result }
+    {
+        self.try_index_move(index)
+    }
+
+    /// An iterator over the elements.
+    pub fn iter(&self) -> ListIter<'_, Self>
+        ensures { IsIterator self.now result }
+    {
+        ListIter::new(self)
     }
 
     // The list that a pointer leads to.
@@ -121,6 +138,31 @@ impl<'a, S: ReaderSegments> PointerList<'a, S> {
             count,
             nesting: reader.nesting.saturating_sub(1),
         }
+    }
+}
+
+impl<'a, S: ReaderSegments> IndexMove for PointerList<'a, S> {
+    ghost use Rattle.capnp_wire.specs.Views.{Pointer};
+    ghost use Rattle.capnp_wire.specs.Readers.{pointer_of};
+    ghost use Rattle.capnp_wire.specs.ListViews.{pointer_at};
+    ghost use Rattle.capnp_wire.specs.UpgradedReaders.{upgraded_pointers_of};
+
+    type Item = any_pointer::Reader<'a, S>;
+
+    ghost Element = { Pointer };
+
+    ghost seen = { pointer_of S.segments };
+
+    ghost size = { λ list. length (upgraded_pointers_of S.segments list).held };
+
+    ghost element = { λ list index. pointer_at (upgraded_pointers_of S.segments list) index };
+
+    fn len(&self) -> u32 {
+        self.len()
+    }
+
+    fn index_move(&self, index: u32) -> any_pointer::Reader<'a, S> {
+        self.get(index)
     }
 }
 

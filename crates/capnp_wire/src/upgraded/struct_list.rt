@@ -12,7 +12,7 @@ use crate::layout::object::{Body, Object, words_fit};
 use crate::layout::place::Place;
 use crate::layout::pointer::{Elements, StructSize};
 use crate::read_limiter::ReadLimiter;
-use crate::traits::FromPointerReader;
+use crate::traits::{FromPointerReader, IndexMove, ListIter};
 use crate::{any_pointer, struct_list};
 use capnp_frame::Result;
 use capnp_frame::message::ReaderSegments;
@@ -81,6 +81,7 @@ impl<'a, S: ReaderSegments> NumberRows<'a, S> {
 }
 
 impl<'a, S: ReaderSegments> StructList<'a, S> {
+    ghost use Rattle.capnp_wire.specs.Lists.{FindsElement, IsIterator};
     ghost use Rattle.capnp_wire.specs.Readers.{struct_of, pointer_of, IsEntered};
     ghost use Rattle.capnp_wire.specs.Views.{Refuses};
     ghost use Rattle.capnp_wire.specs.ListViews.{element_of, structs_in};
@@ -108,6 +109,22 @@ impl<'a, S: ReaderSegments> StructList<'a, S> {
             Rows::InPlace(list) => list.get(index),
             Rows::Numbers(numbers) => numbers.get(index),
         }
+    }
+
+    /// The element of this index, or `None` where there are no more elements than it.
+    pub fn try_get(&self, index: u32) -> Option<StructReader<'a, S>>
+        ensures { FindsElement (length (upgraded_structs_of S.segments self.now).rows) index
+            (λ item. struct_of S.segments item
+            ≡ element_of (upgraded_structs_of S.segments self.now) index) result }
+    {
+        self.try_index_move(index)
+    }
+
+    /// An iterator over the elements.
+    pub fn iter(&self) -> ListIter<'_, Self>
+        ensures { IsIterator self.now result }
+    {
+        ListIter::new(self)
     }
 
     // The list that a pointer leads to.
@@ -194,6 +211,31 @@ impl<'a, S: ReaderSegments> StructList<'a, S> {
         StructList {
             rows: Rows::InPlace(struct_list::Reader::within(reader, object, skipped, elements)),
         }
+    }
+}
+
+impl<'a, S: ReaderSegments> IndexMove for StructList<'a, S> {
+    ghost use Rattle.capnp_wire.specs.Views.{Struct};
+    ghost use Rattle.capnp_wire.specs.Readers.{struct_of};
+    ghost use Rattle.capnp_wire.specs.ListViews.{element_of};
+    ghost use Rattle.capnp_wire.specs.UpgradedReaders.{upgraded_structs_of};
+
+    type Item = StructReader<'a, S>;
+
+    ghost Element = { Struct };
+
+    ghost seen = { struct_of S.segments };
+
+    ghost size = { λ list. length (upgraded_structs_of S.segments list).rows };
+
+    ghost element = { λ list index. element_of (upgraded_structs_of S.segments list) index };
+
+    fn len(&self) -> u32 {
+        self.len()
+    }
+
+    fn index_move(&self, index: u32) -> StructReader<'a, S> {
+        self.get(index)
     }
 }
 

@@ -1,0 +1,89 @@
+//! Lists that are read element by element, and iterators over them.
+ghost use Rattle.std.specs.Prelude.{◌≡◌, ℕ, ◌<◌};
+ghost use Rattle.std.specs.Iterator.{YieldsFirstBy, item_count};
+ghost use Rattle.capnp_wire.specs.Lists.{FindsElement, elements_left, IsIterator};
+
+/// A list whose elements are read by their index.
+pub trait IndexMove {
+    /// What an element is read as.
+    type Item;
+
+    /// What a contract sees of an element.
+    ghost Element: { Type 0 };
+
+    /// What a contract sees of what an element is read as.
+    ghost seen: { Self.Item → Element };
+
+    /// The number of elements.
+    ghost size: { Self → ℕ };
+
+    /// The element of an index below the number of elements.
+    ghost element: { Self → ℕ → Element };
+
+    /// The number of elements.
+    fn len(&self) -> u32
+        ensures { result ≡ size self.now };
+
+    /// The element of this index.
+    fn index_move(&self, index: u32) -> Self::Item
+        requires { index < size self.now }
+        ensures { seen result ≡ element self.now index };
+
+    /// The element of this index, or `None` where there are no more elements than it.
+    fn try_index_move(&self, index: u32) -> Option<Self::Item>
+        ensures { FindsElement (size self.now) index
+            (λ item. seen item ≡ element self.now index) result }
+    {
+        if index < self.len() {
+            Some(self.index_move(index))
+        } else {
+            None
+        }
+    }
+}
+
+/// The elements of a list that is read, from the first to the last.
+#[derive(Drop)]
+pub struct ListIter<'l, L> {
+    list: &'l L,
+    /// The index of the next element.
+    index: u32,
+}
+
+impl<'l, L: IndexMove> ListIter<'l, L> {
+    /// The elements of this list.
+    pub fn new(list: &'l L) -> ListIter<'l, L>
+        ensures { IsIterator list.now result }
+    {
+        ListIter { list, index: 0 }
+    }
+}
+
+// Each call gives the element of the next index, and `None` from the end on.
+impl<'l, L: IndexMove> Iterator for ListIter<'l, L> {
+    type Item = L::Item;
+
+    ghost next_gives = { YieldsFirstBy L.seen (elements_left L.size L.element) };
+
+    ghost remaining = { item_count (elements_left L.size L.element) };
+
+    fn next(&mut self) -> Option<L::Item> {
+        if self.index >= self.list.len() {
+            return None;
+        }
+        let element = self.list.index_move(self.index);
+        self.index += 1;
+        Some(element)
+    }
+
+    fn size_hint(&self) -> (usize, Option<usize>) {
+        let left = self.len();
+        (left, Some(left))
+    }
+}
+
+impl<'l, L: IndexMove> ExactSizeIterator for ListIter<'l, L> {
+    fn len(&self) -> usize {
+        self.list.len().saturating_sub(self.index) as usize
+    }
+}

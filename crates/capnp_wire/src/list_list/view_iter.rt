@@ -1,0 +1,71 @@
+//! Iterators over lists of pointers to views of one type.
+ghost use Rattle.std.specs.Prelude.{◌≡◌};
+ghost use Rattle.std.specs.Iterator.{item_count};
+ghost use Rattle.capnp_wire.specs.Views.{IsViewOf};
+ghost use Rattle.capnp_wire.specs.Readers.{pointer_of};
+ghost use Rattle.capnp_wire.specs.Lists.{elements_left, IsIterator, YieldsView};
+
+use crate::any_pointer;
+use crate::list_iter::{IndexMove, ListIter};
+use crate::traits::FromPointerReader;
+use capnp_frame::Result;
+use capnp_frame::message::ReaderSegments;
+use std::marker::PhantomData;
+
+/// The elements of a list of pointers, each read as a view of one type, from the first to the last.
+#[derive(Drop)]
+pub struct ViewIter<'l, L, T> {
+    pointers: ListIter<'l, L>,
+    element: PhantomData<T>,
+}
+
+impl<'l, L: IndexMove, T> ViewIter<'l, L, T> {
+    /// The elements that these pointers lead to.
+    pub fn new(pointers: &'l L) -> ViewIter<'l, L, T>
+        ensures { IsIterator pointers.now result.pointers }
+    {
+        ViewIter {
+            pointers: ListIter::new(pointers),
+            element: PhantomData,
+        }
+    }
+}
+
+// Each call follows the pointer of the next index, as `get` of the list does.
+impl<'l, 'a, S, L, T> Iterator for ViewIter<'l, L, T>
+where
+    S: ReaderSegments + 'a,
+    L: IndexMove<Item = any_pointer::Reader<'a, S>>,
+    T: FromPointerReader<'a, S>,
+{
+    type Item = Result<T>;
+
+    ghost next_gives = { YieldsView (L.seen) (elements_left L.size L.element)
+        (λ reader view. let pointer = pointer_of S.segments reader in
+        IsViewOf pointer (T.shows pointer) (T.accepts pointer) (T.refuses pointer)
+        (T.declines pointer) view) };
+
+    ghost remaining = { λ views. item_count (elements_left L.size L.element) views.pointers };
+
+    fn next(&mut self) -> Option<Result<T>> {
+        match self.pointers.next() {
+            Some(pointer) => Some(T::get_from_pointer(pointer)),
+            None => None,
+        }
+    }
+
+    fn size_hint(&self) -> (usize, Option<usize>) {
+        self.pointers.size_hint()
+    }
+}
+
+impl<'l, 'a, S, L, T> ExactSizeIterator for ViewIter<'l, L, T>
+where
+    S: ReaderSegments + 'a,
+    L: IndexMove<Item = any_pointer::Reader<'a, S>>,
+    T: FromPointerReader<'a, S>,
+{
+    fn len(&self) -> usize {
+        self.pointers.len()
+    }
+}
