@@ -5,7 +5,7 @@ use crate::fixtures::{Arena, Numbered, arena_of, expect, has_text, root_as, root
 use capnp_frame::Result;
 use capnp_frame::message::SegmentArray;
 use capnp_rows::refusals::refusal;
-use capnp_wire::traits::{FromPointerReader, Owned};
+use capnp_wire::traits::{FromPointerReader, ListIter, Owned};
 use capnp_wire::{
     any_pointer, any_pointer_list, any_struct, data_list, list_list, primitive_list, struct_list,
     text_list,
@@ -252,5 +252,70 @@ fn data_below_the_nesting_limit(rt: HostRuntime) -> Result<()> {
     let found = [is_data(&data, 1, b"a\0"), is_data(&data, 0, b"")];
     let wanted = [Some(Err(19)), Some(Ok(true))];
     expect(&rt, "data", (data.len(), found), (3, wanted));
+    Ok(())
+}
+
+// The first data words of the elements, in a row of three digits each.
+fn first_words<'a>(elements: ListIter<'_, Structs<'a>>) -> u64 {
+    let mut row: u64 = 0;
+    for element in elements {
+        row = row.wrapping_mul(1000).wrapping_add(element.get_word(0));
+    }
+    row
+}
+
+#[test]
+fn structs_one_by_one(rt: HostRuntime) -> Result<()> {
+    let segments = [CONTACTS];
+    let arena = arena_of(&segments, None, 64);
+    let list: Structs<'_> = typed_root::<struct_list::Owned>(&arena)?;
+    expect(
+        &rt,
+        "all",
+        (list.iter().len(), first_words(list.iter())),
+        (2, 10020),
+    );
+    let mut after_one = list.iter();
+    let _first = after_one.next();
+    expect(
+        &rt,
+        "after one",
+        (after_one.len(), first_words(after_one)),
+        (1, 20),
+    );
+    let found = [list.try_get(1).is_some(), list.try_get(2).is_some()];
+    expect(&rt, "by index", found, [true, false]);
+    Ok(())
+}
+
+#[test]
+fn pointers_one_by_one(rt: HostRuntime) -> Result<()> {
+    let segments = [POINTERS];
+    let arena = arena_of(&segments, None, 64);
+    let list: Pointers<'_> = typed_root::<any_pointer_list::Owned>(&arena)?;
+    let nulls = list.iter().filter(|pointer| pointer.is_null()).count();
+    let found = [list.try_get(2).is_some(), list.try_get(3).is_some()];
+    expect(
+        &rt,
+        POINTERS,
+        (list.iter().len(), nulls, found),
+        (3, 1, [true, false]),
+    );
+    Ok(())
+}
+
+#[test]
+fn lists_one_by_one(rt: HostRuntime) -> Result<()> {
+    let segments = [NUMBERS];
+    let arena = arena_of(&segments, None, 64);
+    let lists = typed_root::<Numbers>(&arena)?;
+    let mut count = 0;
+    let mut largest = None;
+    for list in lists.iter() {
+        count += 1;
+        largest = list?.iter().max();
+    }
+    expect(&rt, NUMBERS, (count, largest), (1, Some(7)));
+    expect(&rt, "past the end", lists.try_get(1).is_some(), false);
     Ok(())
 }

@@ -217,3 +217,31 @@ fn first_pointers_below_the_nesting_limit(rt: HostRuntime) -> Result<()> {
     expect(&rt, POINTERS, text_at(&below), Err(19));
     Ok(())
 }
+
+#[test]
+fn upgraded_elements_one_by_one(rt: HostRuntime) -> Result<()> {
+    let segments = [BOTH];
+    let arena = arena_of(&segments, None, 64);
+    let structs: Structs<'_> = root_as(&arena)?;
+    let numbers: NumberList<'_, u8> = root_as(&arena)?;
+    let pointers: Pointers<'_> = root_as(&arena)?;
+    let texts: Texts<'_> = root_as(&arena)?;
+    let words = structs.iter().map(|element| element.get_word(0)).max();
+    let nulls = pointers.iter().filter(|pointer| pointer.is_null()).count();
+    let read = texts.iter().filter(|text| text.is_ok()).count();
+    let elements = (words, numbers.iter().max(), nulls, read);
+    expect(&rt, "one by one", elements, (Some(9), Some(9), 2, 3));
+    let found = [
+        structs.try_get(2).is_some(),
+        numbers.try_get(2).is_some(),
+        pointers.try_get(2).is_some(),
+        texts.try_get(2).is_some(),
+        structs.try_get(3).is_some(),
+        numbers.try_get(3).is_some(),
+        pointers.try_get(3).is_some(),
+        texts.try_get(3).is_some(),
+    ];
+    let wanted = [true, true, true, true, false, false, false, false];
+    expect(&rt, "by index", found, wanted);
+    Ok(())
+}
