@@ -42,9 +42,9 @@ fn push_has_set(
     offset: u32,
 ) -> Result<(), AllocError> {
     let holes = Holes::new(alloc)
-        .with("field", field.name.as_str())?
-        .with("name", name)?
-        .holding("offset", format!(in alloc; "{offset}")?)?;
+        .with("field", field.name.as_str())
+        .with("name", name)
+        .holding("offset", format!(in alloc; "{offset}"));
     code.add(HAS_SET, &holes)
 }
 
@@ -62,28 +62,19 @@ fn push_getter(
         "name",
         field.name.as_str(),
     )?;
-    let signature = signature(alloc, code.depth, name, "&self", shown.type_name.as_str())?;
+    let signature = signature(alloc, code.depth, name, "&self", shown.type_name.as_str());
     let holes = Holes::new(alloc)
-        .holding("signature", signature)?
+        .holding("signature", signature)
         .holding(
             "fact",
-            fill_with(alloc, shown.fact.as_str(), "value", "result")?,
-        )?
-        .with("fields", "self.now.draft")?
-        .holding("body", of_draft(alloc, shown.body.as_str())?)?;
+            fill_with(alloc, shown.fact.as_str(), "value", "result"),
+        )
+        .with("fields", "self.now.draft")
+        .holding("body", of_draft(alloc, shown.body.as_str()));
     code.add(GETTER, &holes)
 }
 
 // The code of a reader's getter, as that of a builder, which has a draft in place of the fields.
 fn of_draft(alloc: Global, body: &str) -> Result<String, AllocError> {
-    let mut text = String::new(alloc);
-    let mut is_first = true;
-    for part in body.split("self.fields.") {
-        if !is_first {
-            text.push_str("self.draft.")?;
-        }
-        is_first = false;
-        text.push_str(part)?;
-    }
-    Ok(text)
+    body.replace(alloc, "self.fields.", "self.draft.")
 }

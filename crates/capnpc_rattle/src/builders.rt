@@ -23,8 +23,8 @@ pub fn push_builder(
     };
     if !body.is_group {
         let holes = Holes::new(alloc)
-            .holding("words", format!(in alloc; "{}", body.data_words)?)?
-            .holding("pointers", format!(in alloc; "{}", body.pointers)?)?;
+            .holding("words", format!(in alloc; "{}", body.data_words))
+            .holding("pointers", format!(in alloc; "{}", body.pointers));
         code.add(BUILDER, &holes)?;
     }
     push_accessors(alloc, code, site, body, &owner)

@@ -2,12 +2,12 @@
 //! two names of one scope become one.
 use crate::cleared::{group_name, group_of};
 use crate::names::{constant, default_name, enum_type, module, snake, variant};
-use crate::owners::{is_member, owner_of};
-use crate::schema::{Base, Body, Node, Place, Request, Slot, Struct};
+use crate::owners::{Owner, is_member, owner_of};
+use crate::schema::{Base, Body, Field, Node, Place, Request, Slot, Struct};
 use crate::setters::{field_name, has_setter};
 use crate::shown::Site;
 use anyhow::{Result, bail};
-use std::alloc::Global;
+use std::alloc::{AllocError, Global};
 
 /// Says what is wrong with a file of a request, where something is.
 pub fn check_file(alloc: Global, request: &Request, file: u64) -> Result<()> {
@@ -20,20 +20,31 @@ pub fn check_file(alloc: Global, request: &Request, file: u64) -> Result<()> {
         let Some(node) = request.find(id) else {
             bail!("the request has no node {id:#x}");
         };
-        left.extend_from_slice(node.nested.as_slice())?;
-        if let Body::Struct(body) = &node.body {
-            check_fields(request, node, body)?;
-            if request.has_builders && !body.is_group {
-                check_setters(alloc, request, id)?;
-            }
-            for field in body.fields.as_slice() {
-                if let Slot::Group(group) = field.slot {
-                    left.push(group)?;
-                }
-            }
+        check_node(alloc, request, node, &mut left)?;
+    }
+    Ok(())
+}
+
+// Says what is wrong with a node, and adds to what is left what is declared in it, and its groups.
+fn check_node(alloc: Global, request: &Request, node: &Node, left: &mut Vec<u64>) -> Result<()> {
+    left.extend_from_slice(node.nested.as_slice())?;
+    if let Body::Struct(body) = &node.body {
+        check_fields(request, node, body)?;
+        if request.has_builders && !body.is_group {
+            check_setters(alloc, request, node.id)?;
         }
-        check_scope(alloc, request, node)?;
-        check_variants(alloc, node)?;
+        push_groups(left, body)?;
+    }
+    check_scope(alloc, request, node)?;
+    check_variants(alloc, node)
+}
+
+// Adds the groups of a struct to what is left.
+fn push_groups(left: &mut Vec<u64>, body: &Struct) -> Result<()> {
+    for field in body.fields.as_slice() {
+        if let Slot::Group(group) = field.slot {
+            left.push(group)?;
+        }
     }
     Ok(())
 }
@@ -84,14 +95,21 @@ impl Names {
     }
 
     // Adds a name of what has another in the schema; names that differ only in capitals are one.
-    fn add(&mut self, alloc: Global, name: String, of: &str) -> Result<()> {
+    fn add(&mut self, alloc: Global, name: Result<String, AllocError>, of: &str) -> Result<()> {
+        let name = name?;
+        self.expect_new(name.as_str(), of)?;
+        let of = String::from_str(alloc, of)?;
+        self.taken.push((name, of))?;
+        Ok(())
+    }
+
+    // Refuses a name that another has already.
+    fn expect_new(&self, name: &str, of: &str) -> Result<()> {
         for (other, one) in self.taken.as_slice() {
-            if other.as_str().eq_ignore_ascii_case(name.as_str()) {
+            if other.as_str().eq_ignore_ascii_case(name) {
                 bail!("`{one}` and `{of}` would both be named `{name}`");
             }
         }
-        let of = String::from_str(alloc, of)?;
-        self.taken.push((name, of))?;
         Ok(())
     }
 }
@@ -101,28 +119,45 @@ fn check_scope(alloc: Global, request: &Request, node: &Node) -> Result<()> {
     let mut items = Names::new(alloc);
     let mut constants = Names::new(alloc);
     for id in node.nested.as_slice() {
-        let Some(nested) = request.find(*id) else {
-            continue;
-        };
-        let name = nested.name.as_str();
-        match &nested.body {
-            Body::Struct(_) => items.add(alloc, module(alloc, name)?, name)?,
-            Body::Interface if !nested.nested.is_empty() => {
-                items.add(alloc, module(alloc, name)?, name)?
-            }
-            Body::Enum(_) => items.add(alloc, enum_type(alloc, name)?, name)?,
-            Body::Constant(_, _) => constants.add(alloc, constant(alloc, name)?, name)?,
-            _ => {}
+        if let Some(nested) = request.find(*id) {
+            add_declared(alloc, &mut items, &mut constants, nested)?;
         }
     }
-    let Body::Struct(body) = &node.body else {
-        return Ok(());
-    };
+    if let Body::Struct(body) = &node.body {
+        add_fields(alloc, &mut items, &mut constants, body)?;
+    }
+    Ok(())
+}
+
+// Adds the name of what a node declares.
+fn add_declared(
+    alloc: Global,
+    items: &mut Names,
+    constants: &mut Names,
+    node: &Node,
+) -> Result<()> {
+    let name = node.name.as_str();
+    match &node.body {
+        Body::Struct(_) => items.add(alloc, module(alloc, name), name),
+        Body::Interface if !node.nested.is_empty() => items.add(alloc, module(alloc, name), name),
+        Body::Enum(_) => items.add(alloc, enum_type(alloc, name), name),
+        Body::Constant(_, _) => constants.add(alloc, constant(alloc, name), name),
+        _ => Ok(()),
+    }
+}
+
+// Adds the names of a struct's groups, and of the defaults of its fields.
+fn add_fields(
+    alloc: Global,
+    items: &mut Names,
+    constants: &mut Names,
+    body: &Struct,
+) -> Result<()> {
     for field in body.fields.as_slice() {
         let name = field.name.as_str();
         match field.slot {
-            Slot::Group(_) => items.add(alloc, module(alloc, name)?, name)?,
-            _ => constants.add(alloc, default_name(alloc, name)?, name)?,
+            Slot::Group(_) => items.add(alloc, module(alloc, name), name)?,
+            _ => constants.add(alloc, default_name(alloc, name), name)?,
         }
     }
     Ok(())
@@ -135,13 +170,13 @@ fn check_variants(alloc: Global, node: &Node) -> Result<()> {
         Body::Enum(enumerants) => {
             for name in enumerants.as_slice() {
                 let name = name.as_str();
-                names.add(alloc, variant(alloc, name)?, name)?;
+                names.add(alloc, variant(alloc, name), name)?;
             }
         }
         Body::Struct(body) => {
             for field in body.fields.as_slice() {
                 let name = field.name.as_str();
-                names.add(alloc, snake(alloc, name)?, name)?;
+                names.add(alloc, snake(alloc, name), name)?;
             }
         }
         _ => {}
@@ -165,11 +200,7 @@ fn check_setters(alloc: Global, request: &Request, id: u64) -> Result<()> {
             continue;
         };
         add_setters(alloc, &mut setters, Site { request, node }, body)?;
-        for field in body.fields.as_slice() {
-            if let Slot::Group(group) = field.slot {
-                left.push(group)?;
-            }
-        }
+        push_groups(&mut left, body)?;
     }
     Ok(())
 }
@@ -180,18 +211,31 @@ fn add_setters(alloc: Global, setters: &mut Names, site: Site<'_>, body: &Struct
         return Ok(());
     };
     if is_member(site) {
-        let mut name = String::from_str(alloc, "init_")?;
-        name.push_str(group_name(alloc, &owner)?.as_str())?;
-        setters.add(alloc, name, group_of(&owner))?;
+        setters.add(alloc, init_name(alloc, &owner), group_of(&owner))?;
     }
     for field in body.fields.as_slice() {
         if has_setter(&owner, site, field) {
-            let mut of = String::from_str(alloc, owner.groups.as_str())?;
-            of.push_str(field.name.as_str())?;
-            let mut name = String::from_str(alloc, "set_")?;
-            name.push_str(field_name(alloc, &owner, field)?.as_str())?;
-            setters.add(alloc, name, of.as_str())?;
+            add_setter(alloc, setters, &owner, field)?;
         }
     }
     Ok(())
+}
+
+// Adds the name of a field's setter.
+fn add_setter(alloc: Global, setters: &mut Names, owner: &Owner<'_>, field: &Field) -> Result<()> {
+    let mut of = String::from_str(alloc, owner.groups.as_str())?;
+    of.push_str(field.name.as_str())?;
+    setters.add(alloc, setter_name(alloc, owner, field), of.as_str())
+}
+
+// The name of the setter that selects a group.
+fn init_name(alloc: Global, owner: &Owner<'_>) -> Result<String, AllocError> {
+    let group = group_name(alloc, owner)?;
+    format!(in alloc; "init_{group}")
+}
+
+// The name of a field's setter.
+fn setter_name(alloc: Global, owner: &Owner<'_>, field: &Field) -> Result<String, AllocError> {
+    let field = field_name(alloc, owner, field)?;
+    format!(in alloc; "set_{field}")
 }

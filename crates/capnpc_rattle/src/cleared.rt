@@ -78,6 +78,13 @@ impl Cleared {
         Ok(words)
     }
 
+    // What a clause says of the words in which these numbers of unions are set, and the fields are zero.
+    fn clause(&self, alloc: Global, tags: &[(u32, u16)]) -> Result<String, AllocError> {
+        let words = words_with(alloc, tags)?;
+        let words = self.words(alloc, words)?;
+        words_clause(alloc, words.as_str())
+    }
+
     // The words of the orphans in which the pointers are null, as a clause names them.
     fn orphans(&self, alloc: Global) -> Result<String, AllocError> {
         let mut words = String::from_str(alloc, OLD_POINTERS)?;
@@ -104,6 +111,12 @@ impl Cleared {
             write!(text, "self.draft.clear_pointer({index});")?;
         }
         Ok(text)
+    }
+
+    // The code that sets these numbers of unions, and then clears all.
+    fn setting(&self, alloc: Global, tags: &[(u32, u16)]) -> Result<String, AllocError> {
+        let clearing = self.code(alloc)?;
+        code_of(alloc, tags, clearing.as_str())
     }
 }
 
@@ -159,17 +172,12 @@ pub fn push_init(
         return Ok(());
     }
     let cleared = cleared_by(alloc, site)?;
-    let words = words_with(alloc, owner.tags.as_slice())?;
-    let words = cleared.words(alloc, words)?;
-    let clearing = cleared.code(alloc)?;
+    let tags = owner.tags.as_slice();
     let holes = Holes::new(alloc)
-        .with("group", group_of(owner))?
-        .holding("name", group_name(alloc, owner)?)?
-        .holding("words", words_clause(alloc, words.as_str())?)?
-        .holding("pointers", cleared.orphans(alloc)?)?
-        .holding(
-            "code",
-            code_of(alloc, owner.tags.as_slice(), clearing.as_str())?,
-        )?;
+        .with("group", group_of(owner))
+        .holding("name", group_name(alloc, owner))
+        .holding("words", cleared.clause(alloc, tags))
+        .holding("pointers", cleared.orphans(alloc))
+        .holding("code", cleared.setting(alloc, tags));
     code.add(GROUP_INIT, &holes)
 }

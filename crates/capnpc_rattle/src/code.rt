@@ -4,15 +4,18 @@ use std::alloc::{AllocError, Global};
 /// A name in a template, and the text that stands for it.
 #[derive(Drop)]
 struct Hole {
-    name: String,
+    name: &'static str,
     text: String,
 }
 
-/// The texts that stand for names in a template.
+/// The texts that stand for names in a template. Where memory lacks for one of them, a template that is
+/// filled with these fails, so that no call that adds one has to be asked.
 #[derive(Drop)]
 pub struct Holes {
     alloc: Global,
     holes: Vec<Hole>,
+    /// Whether memory lacked for none of them.
+    is_whole: bool,
 }
 
 impl Holes {
@@ -21,26 +24,30 @@ impl Holes {
         Holes {
             alloc,
             holes: Vec::new(alloc),
+            is_whole: true,
         }
     }
 
     /// With one more text, which stands for this name.
-    pub fn with(self, name: &str, text: &str) -> Result<Holes, AllocError> {
-        let text = String::from_str(self.alloc, text)?;
+    pub fn with(self, name: &'static str, text: &str) -> Holes {
+        let text = String::from_str(self.alloc, text);
         self.holding(name, text)
     }
 
-    /// With one more text, which it keeps.
-    pub fn holding(mut self, name: &str, text: String) -> Result<Holes, AllocError> {
-        let name = String::from_str(self.alloc, name)?;
-        self.holes.push(Hole { name, text })?;
-        Ok(self)
+    /// With one more text, which it keeps, if there is one.
+    pub fn holding(mut self, name: &'static str, text: Result<String, AllocError>) -> Holes {
+        let is_kept = match text {
+            Ok(text) => self.holes.push(Hole { name, text }).is_ok(),
+            Err(_) => false,
+        };
+        self.is_whole = self.is_whole && is_kept;
+        self
     }
 
     // What stands for a name.
     fn text_of(&self, name: &str) -> Option<&str> {
         for hole in self.holes.as_slice() {
-            if hole.name.as_str() == name {
+            if hole.name == name {
                 return Some(hole.text.as_str());
             }
         }
@@ -70,6 +77,9 @@ impl Code {
     /// Adds the lines of a template, in which `@name@` stands for the text of that hole. Where this text
     /// has some lines, each begins where the line of the hole does.
     pub fn add(&mut self, template: &str, holes: &Holes) -> Result<(), AllocError> {
+        if !holes.is_whole {
+            return Err(AllocError);
+        }
         for line in template.lines() {
             self.add_line(line, holes)?;
         }
@@ -77,15 +87,18 @@ impl Code {
     }
 
     /// Adds the lines of a template with one name, for which this text stands.
-    pub fn add_with(&mut self, template: &str, name: &str, text: &str) -> Result<(), AllocError> {
-        let holes = Holes::new(self.alloc).with(name, text)?;
-        self.add(template, &holes)
+    pub fn add_with(
+        &mut self,
+        template: &str,
+        name: &'static str,
+        text: &str,
+    ) -> Result<(), AllocError> {
+        self.add(template, &Holes::new(self.alloc).with(name, text))
     }
 
     /// Adds lines as they are.
     pub fn add_lines(&mut self, lines: &str) -> Result<(), AllocError> {
-        let holes = Holes::new(self.alloc);
-        self.add(lines, &holes)
+        self.add(lines, &Holes::new(self.alloc))
     }
 
     /// Adds an empty line.
@@ -167,8 +180,8 @@ pub fn fill(alloc: Global, template: &str, holes: &Holes) -> Result<String, Allo
 pub fn fill_with(
     alloc: Global,
     template: &str,
-    name: &str,
+    name: &'static str,
     text: &str,
 ) -> Result<String, AllocError> {
-    fill(alloc, template, &Holes::new(alloc).with(name, text)?)
+    fill(alloc, template, &Holes::new(alloc).with(name, text))
 }

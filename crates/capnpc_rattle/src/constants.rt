@@ -60,7 +60,7 @@ fn push_constant(
             let value = byte_string(alloc, bytes.as_slice())?;
             push_line(alloc, code, name, "&[u8]", value.as_str())
         }
-        Value::Object(words) => push_object(alloc, code, request, node, of, words.as_slice()),
+        Value::Object(words) => push_object(alloc, code, request, node, name, of, words.as_slice()),
         _ => code.add_with(LEFT_OUT, "name", name),
     }
 }
@@ -71,45 +71,51 @@ fn push_object(
     code: &mut Code,
     request: &Request,
     node: &Node,
+    name: &str,
     of: Type,
     words: &[u8],
 ) -> Result<(), AllocError> {
-    let name = constant(alloc, node.name.as_str())?;
     let Some(view) = view_of(alloc, request, node.scope, of, CONSTANT)? else {
-        return code.add_with(LEFT_OUT, "name", name.as_str());
+        return code.add_with(LEFT_OUT, "name", name);
     };
-    let title = format!(in alloc; "The constant `{}`.", node.name)?;
-    let getter = snake(alloc, node.name.as_str())?;
-    push_view(
-        alloc,
-        code,
-        title.as_str(),
-        name.as_str(),
-        getter.as_str(),
-        &view,
-        words,
-    )
+    let title = format!(in alloc; "The constant `{}`.", node.name);
+    let getter = snake(alloc, node.name.as_str());
+    push_view(alloc, code, title, name, getter, &view, words)
 }
 
 /// Adds words as a `static` of this name, and the getter that returns a view of them.
 pub fn push_view(
     alloc: Global,
     code: &mut Code,
-    title: &str,
+    title: Result<String, AllocError>,
     name: &str,
-    getter: &str,
+    getter: Result<String, AllocError>,
     view: &View,
     words: &[u8],
 ) -> Result<(), AllocError> {
-    push_words(alloc, code, name, words)?;
-    let type_name = view_type(alloc, view, words.len())?;
-    let signature = signature(alloc, code.depth, getter, "", type_name.as_str())?;
     let holes = Holes::new(alloc)
-        .holding("signature", signature)?
-        .with("title", title)?
-        .with("name", name)?
-        .holding("fact", view.fact(alloc, "result")?)?;
+        .holding(
+            "signature",
+            head_of(alloc, code.depth, getter, view, words.len()),
+        )
+        .holding("title", title)
+        .with("name", name)
+        .holding("fact", view.fact(alloc, "result"));
+    push_words(alloc, code, name, words)?;
     code.add(GET_WORDS, &holes)
+}
+
+// The head of the getter of this name, of a view of a given number of bytes.
+fn head_of(
+    alloc: Global,
+    depth: usize,
+    getter: Result<String, AllocError>,
+    view: &View,
+    bytes: usize,
+) -> Result<String, AllocError> {
+    let getter = getter?;
+    let type_name = view_type(alloc, view, bytes)?;
+    signature(alloc, depth, getter.as_str(), "", type_name.as_str())
 }
 
 // The type of what the getter of a view of a given number of bytes returns.
@@ -133,9 +139,9 @@ fn push_line(
         return code.add_with("@line@", "line", line.as_str());
     }
     let holes = Holes::new(alloc)
-        .with("name", name)?
-        .with("type", type_name)?
-        .with("value", value)?;
+        .with("name", name)
+        .with("type", type_name)
+        .with("value", value);
     code.add("pub const @name@: @type@ =\n    @value@;", &holes)
 }
 

@@ -37,9 +37,9 @@ pub fn shown_default(
         return Ok(None);
     };
     if is_plain(place.of) {
-        Ok(Some(shown_plain(alloc, field, place, &stored, &default)?))
+        shown_plain(alloc, field, place, &stored, &default)
     } else {
-        Ok(Some(shown_either(alloc, field, place, &stored, &default)?))
+        shown_either(alloc, field, place, &stored, &default)
     }
 }
 
@@ -50,13 +50,13 @@ fn shown_plain(
     place: &Place,
     stored: &View,
     default: &View,
-) -> Result<Shown, AllocError> {
-    let holes = holes_of(alloc, field, place, "@value@", stored, default)?;
-    Ok(Shown {
-        type_name: fill_with(alloc, "Result<@view@>", "view", stored.type_name.as_str())?,
-        fact: fill(alloc, DEFAULT_FACT, &holes)?,
-        body: fill(alloc, DEFAULT_BODY, &holes)?,
-    })
+) -> Result<Option<Shown>, AllocError> {
+    let holes = holes_of(alloc, field, place, "@value@", stored, default);
+    Shown::new(
+        fill_with(alloc, "Result<@view@>", "view", stored.type_name.as_str()),
+        fill(alloc, DEFAULT_FACT, &holes),
+        fill(alloc, DEFAULT_BODY, &holes),
+    )
 }
 
 // What is returned where they have two.
@@ -66,13 +66,13 @@ fn shown_either(
     place: &Place,
     stored: &View,
     default: &View,
-) -> Result<Shown, AllocError> {
-    let holes = holes_of(alloc, field, place, "view", stored, default)?;
-    Ok(Shown {
-        type_name: either_type(alloc, place, stored, default)?,
-        fact: fill(alloc, OR_DEFAULT_FACT, &holes)?,
-        body: fill(alloc, OR_DEFAULT_BODY, &holes)?,
-    })
+) -> Result<Option<Shown>, AllocError> {
+    let holes = holes_of(alloc, field, place, "view", stored, default);
+    Shown::new(
+        either_type(alloc, place, stored, default),
+        fill(alloc, OR_DEFAULT_FACT, &holes),
+        fill(alloc, OR_DEFAULT_BODY, &holes),
+    )
 }
 
 // What stands in the clause and the code of the getter, which returns a view by this name.
@@ -83,17 +83,13 @@ fn holes_of(
     view: &str,
     stored: &View,
     default: &View,
-) -> Result<Holes, AllocError> {
-    let offset = format!(in alloc; "{}", place.offset)?;
-    let holes = Holes::new(alloc).holding("offset", offset)?;
-    let words = default_name(alloc, field.name.as_str())?;
-    let holes = holes.holding("default", words)?;
-    let name = snake(alloc, field.name.as_str())?;
-    let holes = holes.holding("name", name)?;
-    let fact = stored.fact(alloc, view)?;
-    let holes = holes.holding("stored", fact)?;
-    let fact = default.fact(alloc, view)?;
-    holes.holding("fact", fact)
+) -> Holes {
+    Holes::new(alloc)
+        .holding("offset", format!(in alloc; "{}", place.offset))
+        .holding("default", default_name(alloc, field.name.as_str()))
+        .holding("name", snake(alloc, field.name.as_str()))
+        .holding("stored", stored.fact(alloc, view))
+        .holding("fact", default.fact(alloc, view))
 }
 
 // The type of what is a view of the message, or of the default.
@@ -143,19 +139,23 @@ fn push_default(
     let Some(view) = view_of(alloc, site.request, site.node.id, place.of, CONSTANT)? else {
         return Ok(());
     };
-    let title = format!(in alloc; "The default of the field `{}`.", field.name)?;
     let name = default_name(alloc, field.name.as_str())?;
-    let mut getter = snake(alloc, field.name.as_str())?;
-    getter.push_str("_default")?;
     let words = words_of(alloc, &place.default)?;
     code.add_gap()?;
     push_view(
         alloc,
         code,
-        title.as_str(),
+        format!(in alloc; "The default of the field `{}`.", field.name),
         name.as_str(),
-        getter.as_str(),
+        getter_name(alloc, field),
         &view,
         words.as_slice(),
     )
+}
+
+// The name of what reads the default of a field, without its `get_`.
+fn getter_name(alloc: Global, field: &Field) -> Result<String, AllocError> {
+    let mut name = snake(alloc, field.name.as_str())?;
+    name.push_str("_default")?;
+    Ok(name)
 }

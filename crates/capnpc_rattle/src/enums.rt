@@ -7,7 +7,6 @@ use crate::schema::{Base, Body, Field, Node, Request, Slot};
 use crate::shown::Site;
 use crate::templates::{ENUM_END, ENUM_HEAD};
 use std::alloc::{AllocError, Global};
-use std::fmt::Write;
 
 /// The cases of a clause over an enum of this name: which number each enumerant has, and that any other
 /// is kept.
@@ -17,18 +16,40 @@ pub fn cases_of(
     id: u64,
     type_name: &str,
 ) -> Result<String, AllocError> {
-    let mut text = String::new(alloc);
+    rows_of(
+        alloc,
+        type_name,
+        enumerants_of(request, id),
+        "  | @type@.@variant@ ↦ number ≡ @count@",
+        "  | @type@.NotInSchema unknown ↦ (unknown ≡ number) × (@count@ ≤ number)",
+    )
+}
+
+/// A row for each enumerant, and then the last one, with no end of a line after it. In their templates `@type@`
+/// stands for the enum, `@variant@` for the variant, and `@count@` for its number, or for how many there are.
+pub fn rows_of(
+    alloc: Global,
+    type_name: &str,
+    names: &[String],
+    row: &str,
+    last: &str,
+) -> Result<String, AllocError> {
+    let mut rows = Code::new(alloc, 0);
     let mut count: u32 = 0;
-    for name in enumerants_of(request, id) {
-        let variant = variant(alloc, name.as_str())?;
-        write!(text, "  | {type_name}.{variant} ↦ number ≡ {count}\n")?;
+    for name in names {
+        let holes = Holes::new(alloc)
+            .with("type", type_name)
+            .holding("variant", variant(alloc, name.as_str()))
+            .holding("count", format!(in alloc; "{count}"));
+        rows.add(row, &holes)?;
         count = count.saturating_add(1);
     }
-    write!(
-        text,
-        "  | {type_name}.NotInSchema unknown ↦ (unknown ≡ number) × ({count} ≤ number)"
-    )?;
-    Ok(text)
+    let holes = Holes::new(alloc)
+        .with("type", type_name)
+        .holding("count", format!(in alloc; "{count}"));
+    rows.add(last, &holes)?;
+    let _ = rows.text.pop();
+    Ok(rows.text)
 }
 
 /// The names of the enumerants of a node.
@@ -52,11 +73,21 @@ pub fn enum_name(alloc: Global, site: Site<'_>, id: u64) -> Result<String, Alloc
     if !is_other(alloc, site, node, name.as_str())? {
         return Ok(name);
     }
-    let mut longer = match site.request.find(node.scope) {
+    scoped_name(alloc, site.request, node, name.as_str())
+}
+
+// The name of an enum with that of what it is declared in before it.
+fn scoped_name(
+    alloc: Global,
+    request: &Request,
+    node: &Node,
+    name: &str,
+) -> Result<String, AllocError> {
+    let mut longer = match request.find(node.scope) {
         Some(scope) => scope_name(alloc, scope.name.as_str())?,
         None => String::new(alloc),
     };
-    longer.push_str(name.as_str())?;
+    longer.push_str(name)?;
     Ok(longer)
 }
 
@@ -131,8 +162,7 @@ pub fn enum_uses(alloc: Global, site: Site<'_>) -> Result<Vec<String>, AllocErro
             continue;
         }
         let path = path_to(alloc, site.request, site.node.id, *id)?;
-        let line = enum_use(alloc, site, node, path.as_str())?;
-        lines.push((order_of(alloc, path.as_str())?, line))?;
+        push_use(alloc, &mut lines, site, node, path.as_str())?;
     }
     lines.sort()?;
     let mut sorted = Vec::new(alloc);
@@ -140,6 +170,20 @@ pub fn enum_uses(alloc: Global, site: Site<'_>) -> Result<Vec<String>, AllocErro
         sorted.push(line)?;
     }
     Ok(sorted)
+}
+
+// Adds the line that brings an enum of this path into the module of a struct, with its place in the order.
+fn push_use(
+    alloc: Global,
+    lines: &mut Vec<(String, String)>,
+    site: Site<'_>,
+    node: &Node,
+    path: &str,
+) -> Result<(), AllocError> {
+    let order = order_of(alloc, path)?;
+    let line = enum_use(alloc, site, node, path)?;
+    lines.push((order, line))?;
+    Ok(())
 }
 
 // The line that brings an enum of this path into the module of a struct.
@@ -178,9 +222,9 @@ pub fn push_enum(
     push_variants(alloc, code, node, names)?;
     code.depth = code.depth.saturating_sub(1);
     let holes = Holes::new(alloc)
-        .with("type", type_name)?
-        .holding("cases", cases_of(alloc, request, node.id, type_name)?)?
-        .holding("arms", variant_arms(alloc, type_name, names)?)?;
+        .with("type", type_name)
+        .holding("cases", cases_of(alloc, request, node.id, type_name))
+        .holding("arms", variant_arms(alloc, type_name, names));
     code.add(ENUM_END, &holes)?;
     if request.has_builders {
         push_to_number(alloc, code, type_name, names)?;
@@ -209,15 +253,9 @@ fn push_variants(
 
 // The arms that return a variant by its number.
 fn variant_arms(alloc: Global, type_name: &str, names: &[String]) -> Result<String, AllocError> {
-    let mut arms = String::new(alloc);
-    let mut index: usize = 0;
-    for name in names {
-        let variant = variant(alloc, name.as_str())?;
-        write!(arms, "{index} => {type_name}::{variant},\n")?;
-        index = index.saturating_add(1);
-    }
-    write!(arms, "unknown => {type_name}::NotInSchema(unknown),")?;
-    Ok(arms)
+    let row = "@count@ => @type@::@variant@,";
+    let last = "unknown => @type@::NotInSchema(unknown),";
+    rows_of(alloc, type_name, names, row, last)
 }
 
 // Adds the number of an enumerant.
@@ -228,37 +266,22 @@ fn push_to_number(
     names: &[String],
 ) -> Result<(), AllocError> {
     let holes = Holes::new(alloc)
-        .with("type", type_name)?
-        .holding("cases", number_cases(alloc, type_name, names)?)?
-        .holding("arms", number_arms(alloc, type_name, names)?)?;
+        .with("type", type_name)
+        .holding("cases", number_cases(alloc, type_name, names))
+        .holding("arms", number_arms(alloc, type_name, names));
     code.add(ENUM_NUMBER, &holes)
 }
 
 // The cases of a clause that says which number each variant has.
 fn number_cases(alloc: Global, type_name: &str, names: &[String]) -> Result<String, AllocError> {
-    let mut cases = String::new(alloc);
-    let mut count: u32 = 0;
-    for name in names {
-        let variant = variant(alloc, name.as_str())?;
-        write!(cases, "  | {type_name}.{variant} ↦ result ≡ {count}\n")?;
-        count = count.saturating_add(1);
-    }
-    write!(
-        cases,
-        "  | {type_name}.NotInSchema unknown ↦ result ≡ unknown"
-    )?;
-    Ok(cases)
+    let row = "  | @type@.@variant@ ↦ result ≡ @count@";
+    let last = "  | @type@.NotInSchema unknown ↦ result ≡ unknown";
+    rows_of(alloc, type_name, names, row, last)
 }
 
 // The arms that return the number of a variant.
 fn number_arms(alloc: Global, type_name: &str, names: &[String]) -> Result<String, AllocError> {
-    let mut arms = String::new(alloc);
-    let mut count: u32 = 0;
-    for name in names {
-        let variant = variant(alloc, name.as_str())?;
-        write!(arms, "{type_name}::{variant} => {count},\n")?;
-        count = count.saturating_add(1);
-    }
-    write!(arms, "{type_name}::NotInSchema(unknown) => unknown,")?;
-    Ok(arms)
+    let row = "@type@::@variant@ => @count@,";
+    let last = "@type@::NotInSchema(unknown) => unknown,";
+    rows_of(alloc, type_name, names, row, last)
 }

@@ -28,13 +28,15 @@ pub fn push_field(
     };
     push_comment(code, field, comment)?;
     let type_name = fill_with(alloc, shown.type_name.as_str(), "borrow", site.borrow())?;
-    let signature = signature(alloc, code.depth, name, "&self", type_name.as_str())?;
-    let holes = Holes::new(alloc).holding("signature", signature)?;
-    let fact = fill_with(alloc, shown.fact.as_str(), "value", "result")?;
-    let holes = holes
-        .holding("fact", fact)?
-        .with("fields", site.fields())?
-        .with("body", shown.body.as_str())?;
+    let signature = signature(alloc, code.depth, name, "&self", type_name.as_str());
+    let holes = Holes::new(alloc)
+        .holding("signature", signature)
+        .holding(
+            "fact",
+            fill_with(alloc, shown.fact.as_str(), "value", "result"),
+        )
+        .with("fields", site.fields())
+        .with("body", shown.body.as_str());
     code.add(GETTER, &holes)?;
     push_has(alloc, code, site, field, name)
 }
@@ -62,12 +64,11 @@ fn push_has(
     if !is_pointer(place) {
         return Ok(());
     }
-    let offset = format!(in alloc; "{}", place.offset)?;
     let holes = Holes::new(alloc)
-        .with("name", name)?
-        .with("field", field.name.as_str())?
-        .with("fields", site.fields())?
-        .holding("offset", offset)?;
+        .with("name", name)
+        .with("field", field.name.as_str())
+        .with("fields", site.fields())
+        .holding("offset", format!(in alloc; "{}", place.offset));
     code.add(HAS, &holes)
 }
 

@@ -103,6 +103,16 @@ const DEFINITIONS: &[(&str, &[&str])] = &[
     ),
 ];
 
+const PRIMITIVE_ELEMENT: &str = "capnp_wire::primitive_element::PrimitiveElement";
+
+/// What is imported where code has some text.
+const ITEMS: &[(&str, &str)] = &[
+    (" Result<", "capnp_frame::Result"),
+    ("ReaderSegments", "capnp_frame::message::ReaderSegments"),
+    ("StructReader", "capnp_wire::any_struct::StructReader"),
+    ("PrimitiveElement::", PRIMITIVE_ELEMENT),
+];
+
 /// The modules of views, of which a module of a struct imports those that it names, with how they are named.
 const VIEWS: &[(&str, &str)] = &[
     ("any_pointer", "any_pointer::"),
@@ -139,20 +149,32 @@ pub fn is_definition(name: &str) -> bool {
 /// Adds the lines that import what the clauses of some code cite.
 pub fn push_definitions(alloc: Global, code: &mut Code, text: &str) -> Result<(), AllocError> {
     for (module, names) in DEFINITIONS {
-        let mut found = String::new(alloc);
-        for name in *names {
-            if cites(text, word_of(name)) {
-                push_name(&mut found, name)?;
-            }
-        }
-        if !found.is_empty() {
-            let holes = Holes::new(alloc)
-                .with("module", module)?
-                .with("names", found.as_str())?;
-            code.add("ghost use Rattle.@module@.{@names@};", &holes)?;
-        }
+        push_cited(alloc, code, module, names, text)?;
     }
     Ok(())
+}
+
+// Adds the line that imports from a module those of some names that are cited.
+fn push_cited(
+    alloc: Global,
+    code: &mut Code,
+    module: &str,
+    names: &[&str],
+    text: &str,
+) -> Result<(), AllocError> {
+    let mut found = String::new(alloc);
+    for name in names {
+        if cites(text, word_of(name)) {
+            push_name(&mut found, name)?;
+        }
+    }
+    if found.is_empty() {
+        return Ok(());
+    }
+    let holes = Holes::new(alloc)
+        .with("module", module)
+        .with("names", found.as_str());
+    code.add("ghost use Rattle.@module@.{@names@};", &holes)
 }
 
 // The word by which a name is cited.
@@ -206,23 +228,7 @@ pub fn push_imports(
         code.add_lines(line.as_str())?;
     }
     let mut lines: Vec<String> = Vec::new(alloc);
-    if text.contains(" Result<") {
-        push_line(alloc, &mut lines, "capnp_frame::Result")?;
-    }
-    push_words(alloc, &mut lines, text)?;
-    if text.contains("ReaderSegments") {
-        push_line(alloc, &mut lines, "capnp_frame::message::ReaderSegments")?;
-    }
-    if text.contains("StructReader") {
-        push_line(alloc, &mut lines, "capnp_wire::any_struct::StructReader")?;
-    }
-    if text.contains("PrimitiveElement::") {
-        push_line(
-            alloc,
-            &mut lines,
-            "capnp_wire::primitive_element::PrimitiveElement",
-        )?;
-    }
+    push_items(alloc, &mut lines, text)?;
     push_group(alloc, &mut lines, "capnp_orphans", ORPHANS, text)?;
     push_group(alloc, &mut lines, "capnp_wire::traits", TRAITS, text)?;
     push_group(alloc, &mut lines, "capnp_wire", VIEWS, text)?;
@@ -231,6 +237,16 @@ pub fn push_imports(
         code.add_lines(line.as_str())?;
     }
     Ok(())
+}
+
+// Adds the lines that import one item each.
+fn push_items(alloc: Global, lines: &mut Vec<String>, text: &str) -> Result<(), AllocError> {
+    for (word, path) in ITEMS {
+        if text.contains(*word) {
+            push_line(alloc, lines, path)?;
+        }
+    }
+    push_words(alloc, lines, text)
 }
 
 // Adds a line that imports something.

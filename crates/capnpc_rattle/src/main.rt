@@ -83,6 +83,12 @@ fn request_from(alloc: Global, rt: &HostRuntime, has_builders: bool) -> Result<R
     )
 }
 
+// Reads the request, and makes what it asks for.
+fn outputs_from(alloc: Global, rt: &HostRuntime, has_builders: bool) -> Result<Vec<Output>> {
+    let request = request_from(alloc, rt, has_builders)?;
+    outputs_of(alloc, &request)
+}
+
 // Prints what is asked for.
 fn print_outputs(rt: &HostRuntime, outputs: &[Output]) -> Result<()> {
     for output in outputs {
@@ -100,9 +106,7 @@ fn run(rt: HostRuntime) -> Result<()> {
         Some(folder) => folder.as_str(),
         None => ".",
     };
-    let has_builders = !is_for_readers(&rt, words.as_slice());
-    let request = request_from(alloc, &rt, has_builders)?;
-    let outputs = outputs_of(alloc, &request)?;
+    let outputs = outputs_from(alloc, &rt, !is_for_readers(&rt, words.as_slice()))?;
     if folder == "-" {
         print_outputs(&rt, outputs.as_slice())
     } else {

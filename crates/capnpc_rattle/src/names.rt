@@ -56,10 +56,7 @@ pub fn variant(alloc: Global, name: &str) -> Result<String, AllocError> {
 
 /// The name of a constant: `DEEP_BLUE` of `deepBlue`.
 pub fn constant(alloc: Global, name: &str) -> Result<String, AllocError> {
-    let mut text = String::new(alloc);
-    for letter in snake(alloc, name)?.chars() {
-        text.push(letter.to_ascii_uppercase())?;
-    }
+    let mut text = snake(alloc, name)?.to_ascii_uppercase(alloc)?;
     if is_taken_constant(text.as_str()) {
         text.push('_')?;
     }

@@ -97,18 +97,16 @@ impl Stored {
 
     // The code that reads a float that has a default, by its bits, since a default may be no number.
     fn float_call(&self, alloc: Global) -> Result<String, AllocError> {
-        let offset = format!(in alloc; "{}", self.offset)?;
-        let default = format!(in alloc; "{}", self.default)?;
         let (bits, all) = if self.number.width == 32 {
             ("u32", "bits as u64")
         } else {
             ("u64", "bits")
         };
         let holes = Holes::new(alloc)
-            .with("bits", bits)?
-            .with("offset", offset.as_str())?
-            .with("default", default.as_str())?
-            .with("all", all)?;
+            .with("bits", bits)
+            .holding("offset", format!(in alloc; "{}", self.offset))
+            .holding("default", format!(in alloc; "{}", self.default))
+            .with("all", all);
         fill(alloc, FLOAT_BODY, &holes)
     }
 }

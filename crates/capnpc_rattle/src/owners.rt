@@ -114,9 +114,5 @@ fn prefix_of(alloc: Global, names: &[String]) -> Result<String, AllocError> {
 
 // The way out of the modules of as many groups.
 fn path_out(alloc: Global, count: usize) -> Result<String, AllocError> {
-    let mut path = String::new(alloc);
-    for _ in 0..count {
-        path.push_str("super::")?;
-    }
-    Ok(path)
+    "super::".repeat(alloc, count)
 }

@@ -11,18 +11,34 @@ const MAX_DEPTH: u32 = 64;
 pub fn path_to(alloc: Global, request: &Request, site: u64, id: u64) -> Result<String, AllocError> {
     let from = chain_of(alloc, request, site)?;
     let to = chain_of(alloc, request, id)?;
-    let mut text = String::new(alloc);
     if from.file != to.file {
-        push_supers(&mut text, from.names.len().saturating_add(1))?;
         let file = file_module(alloc, request.file_name(to.file).unwrap_or(""))?;
-        text.push_str(file.as_str())?;
-        text.push_str("::")?;
-        push_names(&mut text, to.names.as_slice())?;
-        return Ok(text);
+        return path_into(alloc, from.names.len(), file.as_str(), to.names.as_slice());
     }
-    let shared = shared_len(from.names.as_slice(), to.names.as_slice());
-    push_supers(&mut text, from.names.len().saturating_sub(shared))?;
-    push_names(&mut text, to.names.get(shared..).unwrap_or(&[]))?;
+    path_within(alloc, from.names.as_slice(), to.names.as_slice())
+}
+
+// The path out of as many modules, and out of their file, into another file.
+fn path_into(
+    alloc: Global,
+    depth: usize,
+    file: &str,
+    names: &[String],
+) -> Result<String, AllocError> {
+    let mut text = String::new(alloc);
+    push_supers(&mut text, depth.saturating_add(1))?;
+    text.push_str(file)?;
+    text.push_str("::")?;
+    push_names(&mut text, names)?;
+    Ok(text)
+}
+
+// The path from one module of a file to another.
+fn path_within(alloc: Global, from: &[String], to: &[String]) -> Result<String, AllocError> {
+    let shared = shared_len(from, to);
+    let mut text = String::new(alloc);
+    push_supers(&mut text, from.len().saturating_sub(shared))?;
+    push_names(&mut text, to.get(shared..).unwrap_or(&[]))?;
     Ok(text)
 }
 

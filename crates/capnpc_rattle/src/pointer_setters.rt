@@ -30,18 +30,19 @@ pub fn push_pointer_setter(
     let tags = tags_of(alloc, owner, site, field)?;
     let words = words_with(alloc, tags.as_slice())?;
     let holes = Holes::new(alloc)
-        .holding("name", field_name(alloc, owner, field)?)?
-        .holding("offset", format!(in alloc; "{offset}")?)?
-        .holding("clause", words_clause(alloc, words.as_str())?)?
-        .holding("code", code_of(alloc, tags.as_slice(), call.as_str())?)?;
-    code.add(POINTER_SETTER, &with_type(alloc, holes, site, place.of)?)
+        .holding("name", field_name(alloc, owner, field))
+        .holding("offset", format!(in alloc; "{offset}"))
+        .holding("clause", words_clause(alloc, words.as_str()))
+        .holding("code", code_of(alloc, tags.as_slice(), call.as_str()));
+    code.add(POINTER_SETTER, &with_type(alloc, holes, site, place.of))
 }
 
 // With the type of what a pointer is set to. Where it may be any, it is a parameter of the setter.
-fn with_type(alloc: Global, holes: Holes, site: Site<'_>, of: Type) -> Result<Holes, AllocError> {
+fn with_type(alloc: Global, holes: Holes, site: Site<'_>, of: Type) -> Holes {
     if of.lists == 0 && of.base == Base::AnyPointer {
-        return holes.with("generic", "<T>")?.with("owned", "T");
+        return holes.with("generic", "<T>").with("owned", "T");
     }
-    let owned = owned_type(alloc, site, of)?;
-    holes.with("generic", "")?.holding("owned", owned)
+    holes
+        .with("generic", "")
+        .holding("owned", owned_type(alloc, site, of))
 }

@@ -15,11 +15,35 @@ pub fn read_request<S: ReaderSegments>(
     root: &code_generator_request::Reader<'_, S>,
     has_builders: bool,
 ) -> Result<Request> {
+    let nodes = read_nodes(alloc, root)?;
+    let files = read_files(alloc, root)?;
+    let mut request = Request {
+        nodes,
+        files,
+        has_builders,
+    };
+    add_comments(alloc, root, &mut request)?;
+    Ok(request)
+}
+
+// The nodes of a request.
+fn read_nodes<S: ReaderSegments>(
+    alloc: Global,
+    root: &code_generator_request::Reader<'_, S>,
+) -> Result<Vec<Node>> {
     let mut nodes = Vec::new(alloc);
     let list = root.get_nodes()?;
     for index in 0..list.len() {
         nodes.push(read_node(alloc, &list.get(index))?)?;
     }
+    Ok(nodes)
+}
+
+// The files that code is asked for.
+fn read_files<S: ReaderSegments>(
+    alloc: Global,
+    root: &code_generator_request::Reader<'_, S>,
+) -> Result<Vec<RequestedFile>> {
     let mut files = Vec::new(alloc);
     let list = root.get_requested_files()?;
     for index in 0..list.len() {
@@ -29,13 +53,7 @@ pub fn read_request<S: ReaderSegments>(
             name: read_text(alloc, file.get_filename()?)?,
         })?;
     }
-    let mut request = Request {
-        nodes,
-        files,
-        has_builders,
-    };
-    add_comments(alloc, root, &mut request)?;
-    Ok(request)
+    Ok(files)
 }
 
 /// A text that is UTF-8.
@@ -48,23 +66,37 @@ pub fn read_text(alloc: Global, text: text::Reader<'_>) -> Result<String> {
 
 // A node, without the comments, which stand elsewhere in the request.
 fn read_node<S: ReaderSegments>(alloc: Global, read: &node::Reader<'_, S>) -> Result<Node> {
+    let name = read_name(alloc, read)?;
+    let nested = read_nested(alloc, read)?;
+    let body = read_body(alloc, read)?;
+    Ok(Node {
+        id: read.get_id(),
+        scope: read.get_scope_id(),
+        name,
+        comment: String::new(alloc),
+        member_comments: Vec::new(alloc),
+        nested,
+        body,
+    })
+}
+
+// The name of a node in what it is declared in.
+fn read_name<S: ReaderSegments>(alloc: Global, read: &node::Reader<'_, S>) -> Result<String> {
     let shown = read_text(alloc, read.get_display_name()?)?;
     let shown = shown.as_str();
     let prefix = read.get_display_name_prefix_length() as usize;
+    let name = shown.get(prefix..).unwrap_or(shown);
+    Ok(String::from_str(alloc, name)?)
+}
+
+// The nodes that are declared in a node.
+fn read_nested<S: ReaderSegments>(alloc: Global, read: &node::Reader<'_, S>) -> Result<Vec<u64>> {
     let mut nested = Vec::new(alloc);
     let list = read.get_nested_nodes()?;
     for index in 0..list.len() {
         nested.push(list.get(index).get_id())?;
     }
-    Ok(Node {
-        id: read.get_id(),
-        scope: read.get_scope_id(),
-        name: String::from_str(alloc, shown.get(prefix..).unwrap_or(shown))?,
-        comment: String::new(alloc),
-        member_comments: Vec::new(alloc),
-        nested,
-        body: read_body(alloc, read)?,
-    })
+    Ok(nested)
 }
 
 // What a node declares.
@@ -72,14 +104,7 @@ fn read_body<S: ReaderSegments>(alloc: Global, read: &node::Reader<'_, S>) -> Re
     match read.which() {
         node::Which::File => Ok(Body::File),
         node::Which::Struct(group) => Ok(Body::Struct(read_struct(alloc, &group)?)),
-        node::Which::Enum(group) => {
-            let mut names = Vec::new(alloc);
-            let list = group.get_enumerants()?;
-            for index in 0..list.len() {
-                names.push(read_text(alloc, list.get(index).get_name()?)?)?;
-            }
-            Ok(Body::Enum(names))
-        }
+        node::Which::Enum(group) => Ok(Body::Enum(read_enumerants(alloc, &group)?)),
         node::Which::Interface(_) => Ok(Body::Interface),
         node::Which::Const(group) => Ok(Body::Constant(
             read_type(&group.get_type()?)?,
@@ -87,6 +112,19 @@ fn read_body<S: ReaderSegments>(alloc: Global, read: &node::Reader<'_, S>) -> Re
         )),
         node::Which::Annotation(_) | node::Which::NotInSchema(_) => Ok(Body::Other),
     }
+}
+
+// The names of the enumerants of an enum.
+fn read_enumerants<S: ReaderSegments>(
+    alloc: Global,
+    group: &node::enum_::Reader<'_, '_, S>,
+) -> Result<Vec<String>> {
+    let mut names = Vec::new(alloc);
+    let list = group.get_enumerants()?;
+    for index in 0..list.len() {
+        names.push(read_text(alloc, list.get(index).get_name()?)?)?;
+    }
+    Ok(names)
 }
 
 // What a node says of a struct.
@@ -115,23 +153,30 @@ fn read_struct<S: ReaderSegments>(
 // A field.
 fn read_field<S: ReaderSegments>(alloc: Global, read: &field::Reader<'_, S>) -> Result<Field> {
     let member = read.get_discriminant_value();
+    let name = read_text(alloc, read.get_name()?)?;
+    let slot = read_slot(alloc, read)?;
     Ok(Field {
-        name: read_text(alloc, read.get_name()?)?,
+        name,
         member: if member == field::NO_DISCRIMINANT {
             None
         } else {
             Some(member)
         },
-        slot: match read.which() {
-            field::Which::Slot(slot) => Slot::At(Place {
-                offset: slot.get_offset(),
-                of: read_type(&slot.get_type()?)?,
-                default: read_value(alloc, &slot.get_default_value()?)?,
-            }),
-            field::Which::Group(group) => Slot::Group(group.get_type_id()),
-            field::Which::NotInSchema(_) => Slot::Unknown,
-        },
+        slot,
     })
+}
+
+// Where a field stands.
+fn read_slot<S: ReaderSegments>(alloc: Global, read: &field::Reader<'_, S>) -> Result<Slot> {
+    match read.which() {
+        field::Which::Slot(slot) => Ok(Slot::At(Place {
+            offset: slot.get_offset(),
+            of: read_type(&slot.get_type()?)?,
+            default: read_value(alloc, &slot.get_default_value()?)?,
+        })),
+        field::Which::Group(group) => Ok(Slot::Group(group.get_type_id())),
+        field::Which::NotInSchema(_) => Ok(Slot::Unknown),
+    }
 }
 
 // Adds the comments to the nodes that they stand at.

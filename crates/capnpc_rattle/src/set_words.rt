@@ -1,13 +1,11 @@
 //! What clauses say of the data words in which a field is set.
 use crate::builder_templates::{ENUM_CLAUSE, OLD_WORDS, WORDS_CLAUSE, WORDS_STAY};
 use crate::code::{Holes, fill, fill_with};
-use crate::enums::{enum_name, enumerants_of};
-use crate::names::variant;
+use crate::enums::{enum_name, enumerants_of, rows_of};
 use crate::numbers::{Number, NumberKind, default_bits};
 use crate::schema::{Base, Place};
 use crate::shown::Site;
 use std::alloc::{AllocError, Global};
-use std::fmt::Write;
 
 /// The words in which these numbers of unions are set, as a clause names them.
 pub fn words_with(alloc: Global, tags: &[(u32, u16)]) -> Result<String, AllocError> {
@@ -37,8 +35,8 @@ pub fn number_clause(
 ) -> Result<String, AllocError> {
     if let Base::Enum(id) = place.of.base {
         let holes = Holes::new(alloc)
-            .with("words", words)?
-            .holding("cases", enum_cases(alloc, site, id, number, place)?)?;
+            .with("words", words)
+            .holding("cases", enum_cases(alloc, site, id, number, place));
         return fill(alloc, ENUM_CLAUSE, &holes);
     }
     let (width, offset) = (number.width, place.offset);
@@ -73,35 +71,24 @@ fn enum_cases(
     place: &Place,
 ) -> Result<String, AllocError> {
     let name = enum_name(alloc, site, id)?;
-    let name = name.as_str();
-    let mut cases = String::new(alloc);
-    let mut count: u32 = 0;
-    for enumerant in enumerants_of(site.request, id) {
-        let variant = variant(alloc, enumerant.as_str())?;
-        let value = format!(in alloc; "{count}")?;
-        write!(cases, "  | {name}.{variant} ↦ ")?;
-        push_set(alloc, &mut cases, number, place, value.as_str())?;
-        cases.push('\n')?;
-        count = count.saturating_add(1);
-    }
-    write!(cases, "  | {name}.NotInSchema unknown ↦ ")?;
-    push_set(alloc, &mut cases, number, place, "unknown")?;
-    Ok(cases)
+    let row = enum_case(alloc, number, place, "@variant@", "@count@")?;
+    let last = enum_case(alloc, number, place, "NotInSchema unknown", "unknown")?;
+    let names = enumerants_of(site.request, id);
+    rows_of(alloc, name.as_str(), names, row.as_str(), last.as_str())
 }
 
-// Adds that the field has the bits of a value, in a clause where `words` has the numbers of unions.
-fn push_set(
+// The case of a variant: that the field has the bits of a value, where `words` has the numbers of unions.
+fn enum_case(
     alloc: Global,
-    text: &mut String,
     number: Number,
     place: &Place,
+    variant: &str,
     value: &str,
-) -> Result<(), AllocError> {
+) -> Result<String, AllocError> {
     let offset = place.offset;
     let bits = bits_of(alloc, number, value, default_bits(&place.default))?;
     let bits = bits.as_str();
-    write!(
-        text,
-        "self.new.draft.words ≡ with_field words 16 {offset} {bits}"
+    format!(in alloc;
+        "  | @type@.{variant} ↦ self.new.draft.words ≡ with_field words 16 {offset} {bits}"
     )
 }

@@ -129,9 +129,9 @@ fn push_void_setter(
 ) -> Result<(), AllocError> {
     let words = words_with(alloc, tags)?;
     let holes = Holes::new(alloc)
-        .with("name", name)?
-        .holding("clause", words_clause(alloc, words.as_str())?)?
-        .holding("code", code_of(alloc, tags, "")?)?;
+        .with("name", name)
+        .holding("clause", words_clause(alloc, words.as_str()))
+        .holding("code", code_of(alloc, tags, ""));
     code.add(VOID_SETTER, &holes)
 }
 
@@ -148,13 +148,13 @@ fn push_number_setter(
     let words = words_with(alloc, tags)?;
     let call = call_of(alloc, number, place)?;
     let holes = Holes::new(alloc)
-        .with("name", name)?
-        .holding("type", type_of(alloc, site, number, place)?)?
+        .with("name", name)
+        .holding("type", type_of(alloc, site, number, place))
         .holding(
             "clause",
-            number_clause(alloc, site, number, place, words.as_str())?,
-        )?
-        .holding("code", code_of(alloc, tags, call.as_str())?)?;
+            number_clause(alloc, site, number, place, words.as_str()),
+        )
+        .holding("code", code_of(alloc, tags, call.as_str()));
     code.add(NUMBER_SETTER, &holes)
 }
 

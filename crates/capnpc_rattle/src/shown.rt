@@ -61,11 +61,26 @@ pub struct Shown {
     pub body: String,
 }
 
+impl Shown {
+    /// What is so returned, unless memory lacks for a part of it.
+    pub fn new(
+        type_name: Result<String, AllocError>,
+        fact: Result<String, AllocError>,
+        body: Result<String, AllocError>,
+    ) -> Result<Option<Shown>, AllocError> {
+        Ok(Some(Shown {
+            type_name: type_name?,
+            fact: fact?,
+            body: body?,
+        }))
+    }
+}
+
 /// What the getter of a field returns; `None` for nothing, and for what is left out.
 pub fn shown_of(alloc: Global, site: Site<'_>, field: &Field) -> Result<Option<Shown>, AllocError> {
     match &field.slot {
         Slot::Group(id) => match site.request.find(*id) {
-            Some(group) => Ok(Some(shown_group(alloc, site, group)?)),
+            Some(group) => shown_group(alloc, site, group),
             None => Ok(None),
         },
         Slot::At(place) => match number_of(place.of.base) {
@@ -75,7 +90,7 @@ pub fn shown_of(alloc: Global, site: Site<'_>, field: &Field) -> Result<Option<S
                     offset: place.offset,
                     default: default_bits(&place.default),
                 };
-                Ok(Some(shown_number(alloc, site, &stored, place.of.base)?))
+                shown_number(alloc, site, &stored, place.of.base)
             }
             _ => shown_pointer(alloc, site, field, place),
         },
@@ -84,7 +99,7 @@ pub fn shown_of(alloc: Global, site: Site<'_>, field: &Field) -> Result<Option<S
 }
 
 // A group, whose reader borrows the struct.
-fn shown_group(alloc: Global, site: Site<'_>, group: &Node) -> Result<Shown, AllocError> {
+fn shown_group(alloc: Global, site: Site<'_>, group: &Node) -> Result<Option<Shown>, AllocError> {
     let name = module(alloc, group.name.as_str())?;
     let name = name.as_str();
     let fields = if site.is_group() {
@@ -92,14 +107,12 @@ fn shown_group(alloc: Global, site: Site<'_>, group: &Node) -> Result<Shown, All
     } else {
         "&self.fields"
     };
-    let holes = Holes::new(alloc)
-        .with("name", name)?
-        .with("fields", fields)?;
-    Ok(Shown {
-        type_name: fill_with(alloc, "@name@::Reader<@borrow@, 'a, S>", "name", name)?,
-        fact: String::from_str(alloc, "struct_of S.segments @value@.fields.now ≡ fields")?,
-        body: fill(alloc, GROUP_BODY, &holes)?,
-    })
+    let holes = Holes::new(alloc).with("name", name).with("fields", fields);
+    Shown::new(
+        fill_with(alloc, "@name@::Reader<@borrow@, 'a, S>", "name", name),
+        String::from_str(alloc, "struct_of S.segments @value@.fields.now ≡ fields"),
+        fill(alloc, GROUP_BODY, &holes),
+    )
 }
 
 // A number, a bool or an enum.
@@ -108,16 +121,16 @@ fn shown_number(
     site: Site<'_>,
     stored: &Stored,
     base: Base,
-) -> Result<Shown, AllocError> {
+) -> Result<Option<Shown>, AllocError> {
     let value = stored.clause(alloc)?;
     if let Base::Enum(id) = base {
         return shown_enum(alloc, site, stored, id, value);
     }
-    Ok(Shown {
-        type_name: String::from_str(alloc, stored.number.type_name)?,
-        fact: fill_with(alloc, "@value@ ≡ @bits@", "bits", value.as_str())?,
-        body: stored.call(alloc)?,
-    })
+    Shown::new(
+        String::from_str(alloc, stored.number.type_name),
+        fill_with(alloc, "@value@ ≡ @bits@", "bits", value.as_str()),
+        stored.call(alloc),
+    )
 }
 
 // An enum, whose number a clause names so.
@@ -127,17 +140,14 @@ fn shown_enum(
     stored: &Stored,
     id: u64,
     bits: String,
-) -> Result<Shown, AllocError> {
+) -> Result<Option<Shown>, AllocError> {
     let name = enum_name(alloc, site, id)?;
-    let holes = Holes::new(alloc).holding("bits", bits)?;
-    let cases = cases_of(alloc, site.request, id, name.as_str())?;
-    let fact = fill(alloc, ENUM_FACT, &holes.holding("cases", cases)?)?;
-    let body = enum_body(alloc, stored, name.as_str())?;
-    Ok(Shown {
-        type_name: name,
-        fact,
-        body,
-    })
+    let holes = Holes::new(alloc)
+        .holding("bits", Ok(bits))
+        .holding("cases", cases_of(alloc, site.request, id, name.as_str()));
+    let fact = fill(alloc, ENUM_FACT, &holes);
+    let body = enum_body(alloc, stored, name.as_str());
+    Shown::new(Ok(name), fact, body)
 }
 
 // The code that returns an enum of this name.
@@ -155,38 +165,41 @@ fn shown_pointer(
     place: &Place,
 ) -> Result<Option<Shown>, AllocError> {
     if place.of.lists == 0 && place.of.base == Base::AnyPointer {
-        return Ok(Some(shown_any_pointer(alloc, place.offset)?));
+        return shown_any_pointer(alloc, place.offset);
     }
     if has_default(place) {
         return shown_default(alloc, site, field, place);
     }
+    shown_stored(alloc, site, place)
+}
+
+// A pointer that has no default.
+fn shown_stored(alloc: Global, site: Site<'_>, place: &Place) -> Result<Option<Shown>, AllocError> {
     match view_of(alloc, site.request, site.node.id, place.of, MESSAGE)? {
-        Some(view) => Ok(Some(shown_view(alloc, place.offset, &view)?)),
+        Some(view) => shown_view(alloc, place.offset, &view),
         None => Ok(None),
     }
 }
 
 // A pointer that may lead to anything, by its number among the pointers.
-fn shown_any_pointer(alloc: Global, offset: u32) -> Result<Shown, AllocError> {
+fn shown_any_pointer(alloc: Global, offset: u32) -> Result<Option<Shown>, AllocError> {
     let offset = format!(in alloc; "{offset}")?;
     let offset = offset.as_str();
-    Ok(Shown {
-        type_name: String::from_str(alloc, "any_pointer::Reader<'a, S>")?,
-        fact: fill_with(alloc, ANY_POINTER_FACT, "offset", offset)?,
-        body: fill_with(alloc, ANY_POINTER_BODY, "offset", offset)?,
-    })
+    Shown::new(
+        String::from_str(alloc, "any_pointer::Reader<'a, S>"),
+        fill_with(alloc, ANY_POINTER_FACT, "offset", offset),
+        fill_with(alloc, ANY_POINTER_BODY, "offset", offset),
+    )
 }
 
 // A view of what a pointer leads to.
-fn shown_view(alloc: Global, offset: u32, view: &View) -> Result<Shown, AllocError> {
-    let offset = format!(in alloc; "{offset}")?;
-    let fact = view.fact(alloc, "@value@")?;
+fn shown_view(alloc: Global, offset: u32, view: &View) -> Result<Option<Shown>, AllocError> {
     let holes = Holes::new(alloc)
-        .holding("offset", offset)?
-        .holding("fact", fact)?;
-    Ok(Shown {
-        type_name: fill_with(alloc, "Result<@view@>", "view", view.type_name.as_str())?,
-        fact: fill(alloc, POINTER_FACT, &holes)?,
-        body: fill(alloc, VIEW_BODY, &holes)?,
-    })
+        .holding("offset", format!(in alloc; "{offset}"))
+        .holding("fact", view.fact(alloc, "@value@"));
+    Shown::new(
+        fill_with(alloc, "Result<@view@>", "view", view.type_name.as_str()),
+        fill(alloc, POINTER_FACT, &holes),
+        fill(alloc, VIEW_BODY, &holes),
+    )
 }

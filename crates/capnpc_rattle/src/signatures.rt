@@ -1,5 +1,6 @@
 //! Heads of getters.
 use std::alloc::{AllocError, Global};
+use std::fmt::Write;
 
 /// As wide as a line may be, where it can be broken.
 pub const WIDTH: usize = 100;
@@ -14,28 +15,35 @@ pub fn signature(
     type_name: &str,
 ) -> Result<String, AllocError> {
     let line = format!(in alloc; "pub fn get_{name}({parameter}) -> {type_name}")?;
-    if fits(depth, line.as_str()) {
+    if fits(depth, line.len()) {
         return Ok(line);
     }
     let mut head = format!(in alloc; "pub fn get_{name}(")?;
-    if !parameter.is_empty() {
-        head.push_str("\n    ")?;
-        head.push_str(parameter)?;
-        head.push_str(",\n")?;
-    }
-    head.push_str(") -> ")?;
-    let last = format!(in alloc; ") -> {type_name}")?;
-    if !parameter.is_empty() && fits(depth, last.as_str()) {
-        head.push_str(type_name)?;
-    } else {
-        push_broken(&mut head, type_name)?;
-    }
+    push_rest(&mut head, depth, parameter, type_name)?;
     Ok(head)
 }
 
-// Whether a line is narrow enough at some depth.
-fn fits(depth: usize, line: &str) -> bool {
-    depth.saturating_mul(4).saturating_add(line.len()) <= WIDTH
+// Whether a line of this width is narrow enough at some depth.
+fn fits(depth: usize, width: usize) -> bool {
+    depth.saturating_mul(4).saturating_add(width) <= WIDTH
+}
+
+// Adds what follows the name, a parameter on a line of its own; a type that is too wide then is broken.
+fn push_rest(
+    head: &mut String,
+    depth: usize,
+    parameter: &str,
+    type_name: &str,
+) -> Result<(), AllocError> {
+    if parameter.is_empty() {
+        head.push_str(") -> ")?;
+        return push_broken(head, type_name);
+    }
+    write!(head, "\n    {parameter},\n) -> ")?;
+    if fits(depth, type_name.len().saturating_add(") -> ".len())) {
+        return head.push_str(type_name);
+    }
+    push_broken(head, type_name)
 }
 
 // Adds a type, each of its arguments on a line of its own.

@@ -7,8 +7,8 @@ use crate::enums::enum_uses;
 use crate::fields::push_field;
 use crate::imports::push_imports;
 use crate::names::module;
-use crate::schema::{Node, Request, Struct};
-use crate::shown::{Site, shown_of};
+use crate::schema::{Field, Node, Request, Struct};
+use crate::shown::{Shown, Site, shown_of};
 use crate::templates::{FROM_POINTER, GROUP_IMPL, GROUP_READER, READER, READER_IMPL};
 use crate::unions::{Members, push_members, push_which};
 use std::alloc::{AllocError, Global};
@@ -62,7 +62,8 @@ fn push_reader(
             READER_IMPL
         })?;
         code.depth = code.depth.saturating_add(1);
-        let members = push_getters(alloc, code, site, body)?;
+        let mut members = Members::new(alloc);
+        push_getters(alloc, code, site, body, &mut members)?;
         close_module(code)?;
         if body.discriminant.is_some() {
             push_members(alloc, code, &members)?;
@@ -77,14 +78,14 @@ fn push_reader(
     push_defaults(alloc, code, site, body)
 }
 
-// Adds the getters, and returns the members of the union, where there is one.
+// Adds the getters, and to the members those of the union, where there is one.
 fn push_getters(
     alloc: Global,
     code: &mut Code,
     site: Site<'_>,
     body: &Struct,
-) -> Result<Members, AllocError> {
-    let mut members = Members::new(alloc);
+    members: &mut Members,
+) -> Result<(), AllocError> {
     let mut index: usize = 0;
     for field in body.fields.as_slice() {
         let comment = match site.node.member_comments.get(index) {
@@ -95,14 +96,40 @@ fn push_getters(
             code.add_gap()?;
         }
         index = index.saturating_add(1);
-        let shown = shown_of(alloc, site, field)?;
-        push_field(alloc, code, site, field, comment, shown.as_ref())?;
-        if let Some(number) = field.member {
-            members.push(alloc, field, number, shown.as_ref())?;
-        }
+        push_getter(alloc, code, site, field, comment, members)?;
     }
-    if let Some(offset) = body.discriminant {
-        push_which(alloc, code, site, offset, &members)?;
+    match body.discriminant {
+        Some(offset) => push_which(alloc, code, site, offset, members),
+        None => Ok(()),
     }
-    Ok(members)
+}
+
+// Adds the getter of a field, and the field to the members where it is one.
+fn push_getter(
+    alloc: Global,
+    code: &mut Code,
+    site: Site<'_>,
+    field: &Field,
+    comment: &str,
+    members: &mut Members,
+) -> Result<(), AllocError> {
+    let shown = shown_of(alloc, site, field)?;
+    push_shown(alloc, code, site, field, comment, shown.as_ref(), members)
+}
+
+// Adds the getter of a field that returns this, and the field to the members where it is one.
+fn push_shown(
+    alloc: Global,
+    code: &mut Code,
+    site: Site<'_>,
+    field: &Field,
+    comment: &str,
+    shown: Option<&Shown>,
+    members: &mut Members,
+) -> Result<(), AllocError> {
+    push_field(alloc, code, site, field, comment, shown)?;
+    match field.member {
+        Some(number) => members.push(alloc, field, number, shown),
+        None => Ok(()),
+    }
 }

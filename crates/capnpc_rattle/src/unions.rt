@@ -40,24 +40,39 @@ impl Members {
         shown: Option<&Shown>,
     ) -> Result<(), AllocError> {
         let variant = variant(alloc, field.name.as_str())?;
+        let variant = variant.as_str();
         self.count = self.count.saturating_add(1);
         match shown {
-            None => {
-                write!(self.cases, "  | Which.{variant} ↦ number ≡ {number}\n")?;
-                write!(self.arms, "{number} => Which::{variant},\n")?;
-                write!(self.variants, "{variant},\n")
-            }
+            None => self.push_nothing(variant, number),
             Some(shown) => {
-                let name = snake(alloc, field.name.as_str())?;
-                self.push_case(alloc, variant.as_str(), number, shown)?;
-                write!(
-                    self.arms,
-                    "{number} => Which::{variant}(self.get_{name}()),\n"
-                )?;
+                self.push_case(alloc, variant, number, shown)?;
+                self.push_arm(alloc, variant, number, field)?;
                 let payload = fill_with(alloc, shown.type_name.as_str(), "borrow", "'b")?;
                 write!(self.variants, "{variant}({payload}),\n")
             }
         }
+    }
+
+    // Adds a member that has no value.
+    fn push_nothing(&mut self, variant: &str, number: u16) -> Result<(), AllocError> {
+        write!(self.cases, "  | Which.{variant} ↦ number ≡ {number}\n")?;
+        write!(self.arms, "{number} => Which::{variant},\n")?;
+        write!(self.variants, "{variant},\n")
+    }
+
+    // Adds the arm of a member that has a value.
+    fn push_arm(
+        &mut self,
+        alloc: Global,
+        variant: &str,
+        number: u16,
+        field: &Field,
+    ) -> Result<(), AllocError> {
+        let name = snake(alloc, field.name.as_str())?;
+        write!(
+            self.arms,
+            "{number} => Which::{variant}(self.get_{name}()),\n"
+        )
     }
 
     // Adds the case of a member that has a value.
@@ -68,10 +83,9 @@ impl Members {
         number: u16,
         shown: &Shown,
     ) -> Result<(), AllocError> {
-        let number = format!(in alloc; "{number}")?;
         let holes = Holes::new(alloc)
-            .with("variant", variant)?
-            .holding("number", number)?;
+            .with("variant", variant)
+            .holding("number", format!(in alloc; "{number}"));
         let fact = fill_with(alloc, shown.fact.as_str(), "value", "value")?;
         let template = if fact.as_str().contains("\n") {
             LONG_CASE
@@ -79,7 +93,7 @@ impl Members {
             CASE
         };
         let mut case = Code::new(alloc, 0);
-        case.add(template, &holes.holding("fact", fact)?)?;
+        case.add(template, &holes.holding("fact", Ok(fact)))?;
         self.cases.push_str(case.text.as_str())
     }
 
@@ -126,25 +140,23 @@ pub fn push_which(
     let before = members.cases.as_str();
     let cases = format!(in alloc;
         "{before}  | Which.NotInSchema unknown ↦ (unknown ≡ number) × ({count} ≤ number)"
-    )?;
-    let holes = Holes::new(alloc).holding("cases", cases)?;
+    );
     let before = members.arms.as_str();
-    let arms = format!(in alloc; "{before}unknown => Which::NotInSchema(unknown),")?;
-    let holes = holes.holding("arms", arms)?;
-    let offset = format!(in alloc; "{offset}")?;
-    let holes = holes.holding("offset", offset)?;
-    let arguments = members.parameters(alloc, site.borrow(), "S")?;
-    let holes = holes
-        .holding("arguments", arguments)?
-        .with("fields", site.fields())?;
+    let arms = format!(in alloc; "{before}unknown => Which::NotInSchema(unknown),");
+    let holes = Holes::new(alloc)
+        .holding("cases", cases)
+        .holding("arms", arms)
+        .holding("offset", format!(in alloc; "{offset}"))
+        .holding("arguments", members.parameters(alloc, site.borrow(), "S"))
+        .with("fields", site.fields());
     code.add(WHICH, &holes)
 }
 
 /// Adds the enum of the members.
 pub fn push_members(alloc: Global, code: &mut Code, members: &Members) -> Result<(), AllocError> {
-    let parameters = members.parameters(alloc, "'b", "S: ReaderSegments")?;
+    let parameters = members.parameters(alloc, "'b", "S: ReaderSegments");
     let holes = Holes::new(alloc)
-        .with("parameters", parameters.as_str())?
-        .with("variants", members.variants.as_str().trim_end())?;
+        .holding("parameters", parameters)
+        .with("variants", members.variants.as_str().trim_end());
     code.add(MEMBERS, &holes)
 }

@@ -44,13 +44,28 @@ pub struct View {
 }
 
 impl View {
+    // A view by its parts, unless memory lacks for one of them.
+    fn new(
+        type_name: Result<String, AllocError>,
+        shows: Result<String, AllocError>,
+        takes: Result<String, AllocError>,
+        declines: Result<String, AllocError>,
+    ) -> Result<Option<View>, AllocError> {
+        Ok(Some(View {
+            type_name: type_name?,
+            shows: shows?,
+            takes: takes?,
+            declines: declines?,
+        }))
+    }
+
     /// What a clause says of a view by this name, of what the pointer `pointer` leads to.
     pub fn fact(&self, alloc: Global, name: &str) -> Result<String, AllocError> {
         let holes = Holes::new(alloc)
-            .with("shows", self.shows.as_str())?
-            .with("takes", self.takes.as_str())?
-            .with("declines", self.declines.as_str())?
-            .with("result", name)?;
+            .with("shows", self.shows.as_str())
+            .with("takes", self.takes.as_str())
+            .with("declines", self.declines.as_str())
+            .with("result", name);
         fill(alloc, VIEW_FACT, &holes)
     }
 }
@@ -73,15 +88,15 @@ pub fn view_of(
         return Ok(None);
     };
     let holes = Holes::new(alloc)
-        .with("lifetime", lender.lifetime)?
-        .with("segments", lender.segments)?
-        .with("segments_of", lender.segments_of)?;
-    Ok(Some(View {
-        type_name: fill(alloc, view.type_name.as_str(), &holes)?,
-        shows: fill(alloc, view.shows.as_str(), &holes)?,
-        takes: view.takes,
-        declines: view.declines,
-    }))
+        .with("lifetime", lender.lifetime)
+        .with("segments", lender.segments)
+        .with("segments_of", lender.segments_of);
+    View::new(
+        fill(alloc, view.type_name.as_str(), &holes),
+        fill(alloc, view.shows.as_str(), &holes),
+        Ok(view.takes),
+        Ok(view.declines),
+    )
 }
 
 /// Whether the views of a type are of one type, whatever segments they read.
@@ -101,12 +116,12 @@ fn view_from(
     takes: &str,
     declines: &str,
 ) -> Result<Option<View>, AllocError> {
-    Ok(Some(View {
-        type_name: String::from_str(alloc, type_name)?,
-        shows: String::from_str(alloc, shows)?,
-        takes: String::from_str(alloc, takes)?,
-        declines: String::from_str(alloc, declines)?,
-    }))
+    View::new(
+        String::from_str(alloc, type_name),
+        String::from_str(alloc, shows),
+        String::from_str(alloc, takes),
+        String::from_str(alloc, declines),
+    )
 }
 
 // The view of a type that is no list.
@@ -195,18 +210,13 @@ fn list_of_lists(
 
 // The view of a list of numbers.
 fn list_of_numbers(alloc: Global, element: &str, code: u32) -> Result<Option<View>, AllocError> {
-    let name = format!(in alloc; "upgraded::NumberList<@lifetime@, {element}>")?;
-    let shows = format!(in alloc;
-        "Reads pointer (λ form. ReadsAsNumbers {code} form (upgraded_numbers_of {code} view))"
-    )?;
-    let takes = format!(in alloc; "(TakesFields {code})")?;
-    let declines = format!(in alloc; "(DeclinesFields {code})")?;
-    view_from(
-        alloc,
-        name.as_str(),
-        shows.as_str(),
-        takes.as_str(),
-        declines.as_str(),
+    View::new(
+        format!(in alloc; "upgraded::NumberList<@lifetime@, {element}>"),
+        format!(in alloc;
+            "Reads pointer (λ form. ReadsAsNumbers {code} form (upgraded_numbers_of {code} view))"
+        ),
+        format!(in alloc; "(TakesFields {code})"),
+        format!(in alloc; "(DeclinesFields {code})"),
     )
 }
 

@@ -43,12 +43,10 @@ pub fn push_words(
     name: &str,
     words: &[u8],
 ) -> Result<(), AllocError> {
-    let rows = rows_of(alloc, words)?;
-    let size = format!(in alloc; "{}", words.len())?;
     let holes = Holes::new(alloc)
-        .with("name", name)?
-        .holding("size", size)?
-        .holding("rows", rows)?;
+        .with("name", name)
+        .holding("size", format!(in alloc; "{}", words.len()))
+        .holding("rows", rows_of(alloc, words));
     code.add(WORDS, &holes)
 }
 
