@@ -134,13 +134,23 @@ fn what_is_too_large_changes_nothing(rt: HostRuntime) -> Result<()> {
     expect_alice(&rt, &objects)
 }
 
-// Lists of 2^29 elements that take no memory: of numbers of no bits, and of null pointers.
+// Lists of 2^29 elements: of numbers of no bits, and of null pointers.
 fn refusals_of_lists(objects: &mut Orphanage) -> [Option<ErrorKind>; 2] {
-    let nulls: Nulls<'_> = PointerList::new(&[Null; 1 << 29]);
     [
-        refusal(objects.numbers(&[(); 1 << 29])),
-        refusal(objects.set::<text_list::Owned, Nulls<'_>>(&nulls)),
+        refusal_of_numbers::<536_870_912>(objects),
+        refusal_of_nulls::<536_870_912>(objects),
     ]
+}
+
+fn refusal_of_numbers<const N: usize>(objects: &mut Orphanage) -> Option<ErrorKind> {
+    let numbers = [(); N];
+    refusal(objects.numbers(&numbers))
+}
+
+fn refusal_of_nulls<const N: usize>(objects: &mut Orphanage) -> Option<ErrorKind> {
+    let nulls = [Null; N];
+    let list: Nulls<'_> = PointerList::new(&nulls);
+    refusal(objects.set::<text_list::Owned, Nulls<'_>>(&list))
 }
 
 type Nulls<'a> = PointerList<'a, text::Owned, Null>;
