@@ -112,8 +112,8 @@ fn refusal_of_words(objects: &mut Orphanage, count: usize) -> Option<ErrorKind> 
 // Structs of no words, how many, and the number that is told.
 const TOO_MANY: [(usize, u32); 3] = [(1 << 29, 1 << 29), (1 << 30, 1 << 30), (1 << 32, u32::MAX)];
 
-// Structs of a word, and the words that are told: with the tag 2^29, and one more than the segment has
-// room for after its two words.
+// Structs of a word, and the words that are told: with the tag 2^29, and one more than the segment
+// has room for after its two words.
 const TOO_LONG: [(usize, u32); 2] = [((1 << 29) - 1, 1 << 29), ((1 << 29) - 3, (1 << 29) - 2)];
 
 #[test]
@@ -200,7 +200,7 @@ fn orphans_of_others_do_no_harm(rt: HostRuntime) -> Result<()> {
     Ok(())
 }
 
-// As the root it is refused where it is read, and the root may be set again to the orphan of before.
+// As the root it is refused where it is read, and the root may be set again to its own orphan.
 #[test]
 fn roots_of_others_do_no_harm(rt: HostRuntime) -> Result<()> {
     let strange: Orphan<text::Owned> = retried!(strange_orphan(&rt))?;

@@ -27,8 +27,8 @@ pub struct StructDraft<T, const D: usize, const P: usize> {
     /// The words of its data section.
     pub words: [u64; D],
 
-    /// The words of the orphans that it has adopted, 0 for null. A word that no call returned does as
-    /// little harm as that of an orphan of another orphanage.
+    /// The words of the orphans that it has adopted, 0 for null. A word that no call returned does
+    /// as little harm as that of an orphan of another orphanage.
     pub pointers: [u64; P],
 
     /// Its type in a schema.
