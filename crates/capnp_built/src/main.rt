@@ -2,9 +2,10 @@
 //! segments.
 //!
 //! Its words are the job, the seed, how many records, rows, nodes or texts are made, and how many
-//! times they are, in the memory of the first time: `capnp_built table 1 100000 20`. Once is meant where
-//! the last is left out, and the digest is of the last time. `all` runs each job in turn. With one word
-//! more, `write`, it writes the messages framed to standard output instead.
+//! times they are, in the memory of the first time: `capnp_built table 1 100000 20`. Once is meant
+//! where the last is left out, and the digest is of the last time. `all` runs each job in turn, and
+//! a job that there isn't is an error. With one word more, `write`, it writes the messages framed to
+//! standard output instead.
 #![tactic(auto)]
 
 mod digest;
@@ -16,7 +17,7 @@ mod table;
 mod texts;
 mod tree;
 
-use anyhow::Result;
+use anyhow::{Result, bail};
 use job::Job;
 use output::Output;
 use std::alloc::Global;
@@ -32,8 +33,10 @@ fn main(rt: HostRuntime) -> Result<()> {
     };
     let writes = env::args(&rt)?.nth(5).is_some();
     let name = name.as_deref().unwrap_or("all");
+    let mut is_known = false;
     for each in ["records", "table", "tree", "texts"] {
         if name == each || name == "all" {
+            is_known = true;
             match output_of(rt.alloc(), each, job, writes)? {
                 Output::Digest(digest) => {
                     let value = digest.value();
@@ -44,6 +47,9 @@ fn main(rt: HostRuntime) -> Result<()> {
                 }
             }
         }
+    }
+    if !is_known {
+        bail!("there is no job `{name}`");
     }
     Ok(())
 }

@@ -5,7 +5,8 @@ use capnp_frame::{ErrorKind, Result};
 use capnp_orphans::{DraftSource, Orphan, Orphanage, StructDraft};
 use capnp_rows::growths::lacks_memory;
 use capnp_rows::retried;
-use capnp_wire::{any_pointer, any_struct, text};
+use capnp_values::{Null, PointerList};
+use capnp_wire::{any_pointer, any_struct, text, text_list};
 use std::marker::PhantomData;
 use std::process::Abort;
 
@@ -111,6 +112,10 @@ fn refusal_of_words(objects: &mut Orphanage, count: usize) -> Option<ErrorKind> 
 // Structs of no words, how many, and the number that is told.
 const TOO_MANY: [(usize, u32); 3] = [(1 << 29, 1 << 29), (1 << 30, 1 << 30), (1 << 32, u32::MAX)];
 
+// Structs of a word, and the words that are told: with the tag 2^29, and one more than the segment
+// has room for after its two words.
+const TOO_LONG: [(usize, u32); 2] = [((1 << 29) - 1, 1 << 29), ((1 << 29) - 3, (1 << 29) - 2)];
+
 #[test]
 fn what_is_too_large_changes_nothing(rt: HostRuntime) -> Result<()> {
     let mut objects = alice(&rt)?;
@@ -118,24 +123,47 @@ fn what_is_too_large_changes_nothing(rt: HostRuntime) -> Result<()> {
         let found = refusal_of_empty(&mut objects, *count);
         expect(&rt, *count, found, too_large(*number));
     }
-    // With the tag they have 2^29 words, which is told, and not how many they are.
-    let found = refusal_of_words(&mut objects, (1 << 29) - 1);
-    expect(&rt, "with the tag", found, too_large(1 << 29));
+    for (count, words) in &TOO_LONG {
+        let found = refusal_of_words(&mut objects, *count);
+        expect(&rt, *count, found, too_large(*words));
+    }
+    let found = refusals_of_lists(&mut objects);
+    expect(&rt, "lists", found, [too_large(1 << 29); 2]);
     let found = refusals_of_wide(&mut objects);
-    expect(
-        &rt,
-        "wide structs",
-        found,
-        [too_large(1 << 16), too_large(1 << 16)],
-    );
+    expect(&rt, "wide structs", found, [too_large(1 << 16); 4]);
     expect_alice(&rt, &objects)
 }
 
-// A struct of 2^16 words, and a root of as many pointers.
-fn refusals_of_wide(objects: &mut Orphanage) -> [Option<ErrorKind>; 2] {
+// Lists of 2^29 elements: of numbers of no bits, and of null pointers.
+fn refusals_of_lists(objects: &mut Orphanage) -> [Option<ErrorKind>; 2] {
+    [
+        refusal_of_numbers::<536_870_912>(objects),
+        refusal_of_nulls::<536_870_912>(objects),
+    ]
+}
+
+fn refusal_of_numbers<const N: usize>(objects: &mut Orphanage) -> Option<ErrorKind> {
+    let numbers = [(); N];
+    refusal(objects.numbers(&numbers))
+}
+
+fn refusal_of_nulls<const N: usize>(objects: &mut Orphanage) -> Option<ErrorKind> {
+    let nulls = [Null; N];
+    let list: Nulls<'_> = PointerList::new(&nulls);
+    refusal(objects.set::<text_list::Owned, Nulls<'_>>(&list))
+}
+
+type Nulls<'a> = PointerList<'a, text::Owned, Null>;
+
+// A struct of 2^16 words, a root of as many pointers, and lists of no such structs.
+fn refusals_of_wide(objects: &mut Orphanage) -> [Option<ErrorKind>; 4] {
+    let words: [StructDraft<any_struct::Owned, 65536, 0>; 0] = [];
+    let pointers: [StructDraft<any_struct::Owned, 0, 65536>; 0] = [];
     [
         refusal(objects.add(&StructDraft::<any_struct::Owned, 65536, 0>::new())),
         refusal(objects.add_root(&StructDraft::<any_struct::Owned, 0, 65536>::new())),
+        refusal(objects.struct_list(&words)),
+        refusal(objects.struct_list(&pointers)),
     ]
 }
 
@@ -170,6 +198,24 @@ fn orphans_of_others_do_no_harm(rt: HostRuntime) -> Result<()> {
     let bob = refusal(text_at(&root.get_pointer(1)));
     expect(&rt, "the other's", bob, Some(ErrorKind::PointerOutOfBounds));
     Ok(())
+}
+
+// As the root it is refused where it is read, and the root may be set again to its own orphan.
+#[test]
+fn roots_of_others_do_no_harm(rt: HostRuntime) -> Result<()> {
+    let strange: Orphan<text::Owned> = retried!(strange_orphan(&rt))?;
+    let mut objects = retried!(empty(&rt))?;
+    let alice = retried!(objects.text("Alice"))?;
+    objects.set_root(strange);
+    let found = refusal(shows(&rt, &objects, ""));
+    expect(
+        &rt,
+        "the other's",
+        found,
+        Some(ErrorKind::PointerOutOfBounds),
+    );
+    objects.set_root(alice);
+    expect_alice(&rt, &objects)
 }
 
 fn refusal_of_view(objects: &mut Orphanage, view: &Pointer<'_, '_>) -> Option<ErrorKind> {

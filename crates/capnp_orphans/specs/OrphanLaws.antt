@@ -57,10 +57,10 @@ one_value_more has_tree old new values words value word keeps are is =
     one_more has_tree (body_of new) values words value word (kept_values has_tree old new values words keeps are) is
 
 -- The next value of a list, whose orphan is pushed: of a loop the step.
-pub next_value : {A B : Type 0} (has_tree : A → Trees → Type 0) (old new : Segment) (values : List A) (i : ℕ) (d : A) (word : B → ℕ) (items pushed : List B) (object : B) → i < length values
+pub pushed_value : {A B : Type 0} (has_tree : A → Trees → Type 0) (old new : Segment) (values : List A) (i : ℕ) (d : A) (word : B → ℕ) (items pushed : List B) (object : B) → i < length values
     → Keeps old new → pushed ≡ items ++ object ∷ [] → AreValues has_tree (body_of old) (take i values) (map word items) → HoldsValue (has_tree (slice_index_or values i d)) (body_of new) (word object)
     → AreValues has_tree (body_of new) (take (i + 1) values) (map word pushed)
-next_value {A} {B} has_tree old new values i d word items pushed object within keeps is are one =
+pushed_value {A} {B} has_tree old new values i d word items pushed object within keeps is are one =
     let words_are : map word pushed ≡ map word items ++ word object ∷ [] = ap (λ (l : List B). map word l) is ∙ map-append word items (object ∷ []) in
     let more : AreValues has_tree (body_of new) (take i values ++ slice_index_or values i d ∷ []) (map word items ++ word object ∷ []) =
     one_more has_tree (body_of new) (take i values) (map word items) (slice_index_or values i d) (word object) (kept_values has_tree old new (take i values) (map word items) keeps are) one in

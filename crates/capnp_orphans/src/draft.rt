@@ -27,7 +27,8 @@ pub struct StructDraft<T, const D: usize, const P: usize> {
     /// The words of its data section.
     pub words: [u64; D],
 
-    /// The words of the orphans that it has adopted, 0 for null.
+    /// The words of the orphans that it has adopted, 0 for null. A word that no call returned does
+    /// as little harm as that of an orphan of another orphanage.
     pub pointers: [u64; P],
 
     /// Its type in a schema.
@@ -108,13 +109,12 @@ impl<T, const D: usize, const P: usize> StructDraft<T, D, P> {
         N::from_bits(field_bits(&self.words, N::size().bits(), offset) ^ default_bits)
     }
 
-    /// Whether the pointer at an index is set, and not to null.
+    /// Whether the pointer at an index is set, and not to null. Past the last one none is.
     #[inline(always)]
     pub fn has_pointer(&self, index: usize) -> bool
-        requires { index < P }
         ensures { IsTrue result ↔ (slice_index_or self.now.pointers index 0 ≢ 0) }
     {
-        self.pointers[index] != 0
+        word_at(&self.pointers, index as u64) != 0
     }
 
     /// Makes the pointer at an index lead to an orphan, or null.

@@ -12,7 +12,8 @@ use std::marker::PhantomData;
 /// and a reader shows that or fails.
 #[derive_where(Clone, Copy)]
 pub struct Orphan<T> {
-    /// The pointer to it, with the word of the segment where it begins in place of the offset.
+    /// The pointer to it, with the word of the segment where it begins in place of the offset. A
+    /// word that no call returned does as little harm as that of an orphan of another orphanage.
     pub word: u64,
 
     /// Its type in a schema.

@@ -3,7 +3,7 @@ use Rattle.std.proofs.lemmas.List.{take_all}
 use Rattle.std.proofs.Common.{◌≡◌, ℕ, ◌+◌, length, List, [], ◌∷◌, take, map, refl, sym, subst, arith, Bor}
 use Rattle.capnp_orphans.specs.Segments.{body_of}
 use Rattle.capnp_orphans.specs.Held.{AreValues, word_of}
-use Rattle.capnp_orphans.specs.OrphanLaws.{keeps_on, next_value, their_trees, pointers_value}
+use Rattle.capnp_orphans.specs.OrphanLaws.{keeps_on, pushed_value, their_trees, pointers_value}
 use Rattle.capnp_orphan_rows.specs.Uses.{IsTextList, IsText}
 use Rattle.capnp_orphan_rows.proofs.uses.list_of_texts.Goals as goal
 
@@ -12,7 +12,7 @@ items-preserved c =
     let keeps = c.in_ok-text.ensures.adds.keeps in
     record {
       keeps = keeps_on c.args.objects.now c.items.objects c.text.new.self c.items.invariant.keeps keeps;
-      are = next_value IsText c.items.objects c.text.new.self c.args.texts.now c.items.index _ word_of c.items.items.items c.push.new.self.items c.in_ok-text.field-0 c.items-test.true keeps
+      are = pushed_value IsText c.items.objects c.text.new.self c.args.texts.now c.items.index _ word_of c.items.items.items c.push.new.self.items c.in_ok-text.field-0 c.items-test.true keeps
           c.in_ok-push.ensures.items c.items.invariant.are c.in_ok-text.ensures.adds.orphan;
     }
 
