@@ -24,7 +24,7 @@ impl<'a, T> PointerList<'a, T> {
 
 // 2^29 pointers and more fail with `AllocationTooLarge` of their number.
 impl<'a, T> Object for PointerList<'a, T> {
-    ghost use Rattle.std.specs.Prelude.{length, map};
+    ghost use Rattle.std.specs.Prelude.{false, length, map};
     ghost use Rattle.capnp_orphans.specs.Held.{HoldsPointers, TakesPointers, ManyPointers, word_of};
 
     ghost holds = { λ list old new word. HoldsPointers old (map word_of list.items.now) new word };
@@ -33,12 +33,19 @@ impl<'a, T> Object for PointerList<'a, T> {
 
     ghost refuses = { λ list kind. ManyPointers (length list.items.now) kind };
 
+    ghost wants_zeros = { λ object. false };
+
     fn measure(&self) -> Result<u32> {
         let count = self.items.len();
         if count >= 1 << 29 {
             return Err(too_many(count));
         }
         Ok(count as u32)
+    }
+
+    #[inline(always)]
+    fn wants_zeros(&self) -> bool {
+        false
     }
 
     fn write(&self, start: u32, block: &mut [u8]) -> u64 {
