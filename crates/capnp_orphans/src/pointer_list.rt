@@ -48,6 +48,8 @@ impl<'a, T> Object for PointerList<'a, T> {
         false
     }
 
+    // Speed: a call, so that the loop that makes its orphans has the registers (`texts`).
+    #[inline(never)]
     fn write(&self, start: u32, block: &mut [u8]) -> u64 {
         put_links(self.items, start, block);
         list_word(start as u64, 6, self.items.len() as u64)
