@@ -115,6 +115,7 @@ def main():
         if alone:
             cells = ["%.2f" % took[-1] if name == "C++" else "" for name in names]
             print("| %s, numbers and copies alone, ms | %s | |" % (job, " | ".join(cells)), flush=True)
+            row(job, "the builders' own part, ms", [value - took[-1] for value in took[:len(programs)]], "%.2f")
         if shutil.which("valgrind"):
             row(job, "instructions", [instructions(program, job) for program in programs], "%.0f")
             asked = [by_times([], program, job, r"heap usage: ([\d,]+) allocs") for program in programs]

@@ -1,14 +1,13 @@
 -- What is said of a segment once an object is written, or the root is set.
-use Rattle.std.proofs.Common.{◌≡◌, ℕ, ◌+◌, ◌-◌, ◌*◌, ◌/◌, ◌^◌, ◌<◌, ◌≤◌, List, [], ◌∷◌, ◌++◌, length, take, drop, Some, None, Ok, refl, sym, ◌∙◌, ap, subst, arith, length-append, length-take, length-drop}
-use Rattle.std.specs.Prelude.{replicate}
+use Rattle.std.proofs.Common.{◌≡◌, ℕ, ◌+◌, ◌*◌, ◌/◌, ◌^◌, ◌<◌, ◌≤◌, List, [], ◌∷◌, ◌++◌, length, take, drop, Some, None, Ok, refl, sym, ◌∙◌, ap, subst, arith, length-append, length-take, length-drop}
 use Rattle.std.proofs.Math.Seq.{take-append_seam}
-use Rattle.std.proofs.lemmas.List.{append-nil, take_all, take-take, length-replicate}
+use Rattle.std.proofs.lemmas.List.{append-nil}
 use Rattle.capnp_wire.specs.Pointer.{words_of}
 use Rattle.capnp_wire.specs.Reached.{Root}
 use Rattle.capnp_wire.proofs.words.WordLemmas.{length-words_of}
 use Rattle.capnp_wire.proofs.words.PutLemmas.{words_split}
 use Rattle.capnp_orphans.specs.Orphans.{link, IsOrphan}
-use Rattle.capnp_orphans.specs.Segments.{Segment, IsSegment, body_of, Appends, AppendsObject, ExceedsMost, PutsRoot, IsWrittenAfter}
+use Rattle.capnp_orphans.specs.Segments.{Segment, IsSegment, body_of, Appends, AppendsObject, ExceedsMost, PutsRoot, IsWrittenOver}
 use Rattle.capnp_orphans.specs.Adding.{Keeps, Adds, SetsRoot, AddsRoot}
 use Rattle.capnp_orphans.specs.OrphanLaws.{still_orphan}
 
@@ -78,68 +77,47 @@ appended holds words old new block word is bytes_are len most room memory held h
   held = held;
 }
 
--- to the bytes of a vector, which has grown
-pub vector_appended : (holds : List ℕ → List ℕ → ℕ → Type 0) (words from size cap more : ℕ) (old grown seen new : List ℕ) (word : ℕ) → IsSegment (record { bytes = old; most = None; capacity = cap })
-    → cap ≤ more → length grown ≤ more → from ≡ length old → grown ≡ old ++ replicate (8 * words) 0 → seen ≡ grown → size ≡ length seen → IsWrittenAfter from holds word seen new
-    → AppendsObject holds words (record { bytes = old; most = None; capacity = cap }) (record { bytes = take size (new ++ drop (length new) grown); most = None; capacity = more }) (Ok word)
-vector_appended holds words from size cap more old grown seen new word is grows room from_is grown_is seen_is size_is written =
-    let seen_long : length seen ≡ length grown = ap (λ (l : List ℕ). length l) seen_is in
-    let grown_long : length grown ≡ length old + 8 * words = ap (λ (l : List ℕ). length l) grown_is ∙ omega (arith, length-append old (replicate (8 * words) 0), length-replicate {A = ℕ} (8 * words) 0) in
-    let new_long : length new ≡ size = written.len ∙ sym size_is in
-    let front : take from seen ≡ old =
-    ap (λ (l : List ℕ). take from l) (seen_is ∙ grown_is) ∙ ap (λ (k : ℕ). take k (old ++ replicate (8 * words) 0)) from_is ∙ take-append_seam old (replicate (8 * words) 0) in
-    let whole : new ≡ old ++ written.block = written.bytes_are ∙ ap (λ (l : List ℕ). l ++ written.block) front in
-    let kept : take size (new ++ drop (length new) grown) ≡ new = ap (λ (k : ℕ). take k (new ++ drop (length new) grown)) (sym new_long) ∙ take-append_seam new (drop (length new) grown) in
-    let len : length written.block ≡ 8 * words = omega (arith, ap (λ (l : List ℕ). length l) whole, length-append old written.block, written.len, seen_long, grown_long) in
-    appended holds words (record { bytes = old; most = None; capacity = cap }) (record { bytes = take size (new ++ drop (length new) grown); most = None; capacity = more }) written.block word is (kept ∙ whole) len refl
-    (λ no. no) grows (omega (arith, ap (λ (l : List ℕ). length l) kept, new_long, size_is, seen_long, room))
-    (λ body start. written.holds_is body (ap (λ (k : ℕ). k / 8) from_is ∙ start))
+-- over the bytes after the used ones
+pub over_appended : (holds : List ℕ → List ℕ → ℕ → Type 0) (words used : ℕ) (old new : Segment) (bytes over : List ℕ) (word : ℕ) → IsSegment old → take used bytes ≡ old.bytes → used ≤ length bytes
+    → IsWrittenOver used words holds word bytes over → new.bytes ≡ take (used + 8 * words) over → new.most ≡ old.most → ¬ (ExceedsMost words old) → old.capacity ≤ new.capacity
+    → length bytes ≤ new.capacity → AppendsObject holds words old new (Ok word)
+over_appended holds words used old new bytes over word is old_is within written new_is most room memory held =
+    let used_long : length old.bytes ≡ used = omega (arith, ap (λ (l : List ℕ). length l) old_is, length-take used bytes, within) in
+    let whole : new.bytes ≡ old.bytes ++ written.block = new_is ∙ written.bytes_are ∙ ap (λ (l : List ℕ). l ++ written.block) old_is in
+    let short : length new.bytes ≤ length bytes = omega (arith, ap (λ (l : List ℕ). length l) new_is, length-take (used + 8 * words) over, written.len) in
+    appended holds words old new written.block word is whole written.block_long most room memory (omega (arith, short, held))
+    (λ body start. written.holds_is body (ap (λ (n : ℕ). n / 8) (sym used_long) ∙ start))
 
 -- a region of which the first bytes are used
 abbrev pub grown_region : ℕ → List ℕ → Segment
 grown_region used region = record { bytes = take used region; most = Some (length region); capacity = length region }
 
 -- to the used bytes of a region
-pub region_appended : (holds : List ℕ → List ℕ → ℕ → Type 0) (words used k : ℕ) (old : Segment) (region zeros new : List ℕ) (word : ℕ) → IsSegment old
-    → record { bytes = take used region; most = Some (length region); capacity = length region } ≡ old → used + 8 * words ≤ length region → length zeros ≡ k → k ≡ 8 * words
-    → IsWrittenAfter used holds word (take used (take (used + 8 * words) region) ++ (zeros ++ drop k (drop used (take (used + 8 * words) region)))) new
-    → AppendsObject holds words old (grown_region (used + 8 * words) (new ++ drop (used + 8 * words) region)) (Ok word)
-region_appended holds words used k old region zeros new word is old_is within zeros_long k_is written =
-    let end : ℕ = used + 8 * words in
-    let part : List ℕ = take (used + 8 * words) region in
-    let part_long : length (take (used + 8 * words) region) ≡ used + 8 * words = omega (arith, length-take (used + 8 * words) region, within) in
-    let front_long : length (take used (take (used + 8 * words) region)) ≡ used = omega (arith, length-take used (take (used + 8 * words) region), part_long) in
-    let rest : List ℕ = zeros ++ drop k (drop used (take (used + 8 * words) region)) in
-    let cleared_long : length (take used (take (used + 8 * words) region) ++ (zeros ++ drop k (drop used (take (used + 8 * words) region)))) ≡ used + 8 * words =
-    omega (
-      arith,
-      length-append (take used (take (used + 8 * words) region)) (zeros ++ drop k (drop used (take (used + 8 * words) region))),
-      length-append zeros (drop k (drop used (take (used + 8 * words) region))),
-      length-drop k (drop used (take (used + 8 * words) region)),
-      length-drop used (take (used + 8 * words) region),
-      front_long,
-      part_long,
-      zeros_long,
-      k_is,
-    ) in
-    let new_long : length new ≡ used + 8 * words = written.len ∙ cleared_long in
-    let front : take used (take used (take (used + 8 * words) region) ++ rest) ≡ take used region =
-    ap (λ (n : ℕ). take n (take used (take (used + 8 * words) region) ++ rest)) (sym front_long) ∙ take-append_seam (take used (take (used + 8 * words) region)) rest
-    ∙ take-take used (used + 8 * words) region (omega arith) in
-    let bytes_are : take used region ≡ old.bytes = ap (λ (s : Segment). s.bytes) old_is in
-    let whole : new ≡ old.bytes ++ written.block = written.bytes_are ∙ ap (λ (l : List ℕ). l ++ written.block) (front ∙ bytes_are) in
-    let kept : take (used + 8 * words) (new ++ drop (used + 8 * words) region) ≡ new =
-    ap (λ (n : ℕ). take n (new ++ drop (used + 8 * words) region)) (sym new_long) ∙ take-append_seam new (drop (used + 8 * words) region) in
-    let used_long : length old.bytes ≡ used = ap (λ (l : List ℕ). length l) (sym bytes_are) ∙ omega (arith, length-take used region, within) in
-    let len : length written.block ≡ 8 * words = omega (arith, ap (λ (l : List ℕ). length l) whole, length-append old.bytes written.block, new_long, used_long) in
-    let all_long : length (new ++ drop (used + 8 * words) region) ≡ length region =
-    omega (arith, length-append new (drop (used + 8 * words) region), length-drop (used + 8 * words) region, new_long, within) in
+pub region_appended : (holds : List ℕ → List ℕ → ℕ → Type 0) (words used : ℕ) (old : Segment) (region new : List ℕ) (word : ℕ) → IsSegment old → grown_region used region ≡ old
+    → used + 8 * words ≤ length region → IsWrittenOver used words holds word region new → AppendsObject holds words old (grown_region (used + 8 * words) new) (Ok word)
+region_appended holds words used old region new word is old_is within written =
     let capacity_is : old.capacity ≡ length region = sym (ap (λ (s : Segment). s.capacity) old_is) in
     let room : ¬ (ExceedsMost words old) = subst (λ (s : Segment). ¬ (ExceedsMost words s)) old_is (λ no. absurd (omega (arith, no, within, length-take used region))) in
-    appended holds words old (grown_region (used + 8 * words) (new ++ drop (used + 8 * words) region)) written.block word is (kept ∙ whole) len
-    (ap (λ (n : ℕ). Some n) all_long ∙ ap (λ (s : Segment). s.most) old_is) room (omega (arith, capacity_is, all_long))
-    (omega (arith, ap (λ (l : List ℕ). length l) kept, new_long, all_long, within))
-    (λ body start. written.holds_is body (ap (λ (n : ℕ). n / 8) (sym used_long) ∙ start))
+    over_appended holds words used old (grown_region (used + 8 * words) new) region new word is (ap (λ (s : Segment). s.bytes) old_is) (omega (arith, within)) written refl
+    (ap (λ (n : ℕ). Some n) written.len ∙ ap (λ (s : Segment). s.most) old_is) room (omega (arith, capacity_is, written.len)) (omega (arith, written.len))
+
+-- a vector of which the first bytes are used
+abbrev pub grown_heap : ℕ → List ℕ → ℕ → Segment
+grown_heap used bytes capacity = record { bytes = take used bytes; most = None; capacity = capacity }
+
+-- to the used bytes of a vector, to which zeros were added
+pub heap_appended : (holds : List ℕ → List ℕ → ℕ → Type 0) (words used size capacity more : ℕ) (old : Segment) (bytes longer seen new : List ℕ) (word : ℕ) → IsSegment old
+    → grown_heap used bytes capacity ≡ old → take used longer ≡ take used bytes → used ≤ length longer → length longer ≤ more → capacity ≤ more → seen ≡ longer → size ≡ length seen
+    → IsWrittenOver used words holds word seen new → AppendsObject holds words old (grown_heap (used + 8 * words) (take size (new ++ drop (length new) longer)) more) (Ok word)
+heap_appended holds words used size capacity more old bytes longer seen new word is old_is front within room grows seen_is size_is written =
+    let capacity_is : old.capacity ≡ capacity = sym (ap (λ (s : Segment). s.capacity) old_is) in
+    let seen_long : length seen ≡ length longer = ap (λ (l : List ℕ). length l) seen_is in
+    let free : ¬ (ExceedsMost words old) = subst (λ (s : Segment). ¬ (ExceedsMost words s)) old_is (λ no. no) in
+    let kept : take size (new ++ drop (length new) longer) ≡ new =
+    ap (λ (k : ℕ). take k (new ++ drop (length new) longer)) (size_is ∙ sym written.len) ∙ take-append_seam new (drop (length new) longer) in
+    subst (λ (l : List ℕ). AppendsObject holds words old (grown_heap (used + 8 * words) l more) (Ok word)) (sym kept)
+    (over_appended holds words used old (grown_heap (used + 8 * words) new more) seen new word is (ap (λ (l : List ℕ). take used l) seen_is ∙ front ∙ ap (λ (s : Segment). s.bytes) old_is)
+    (omega (arith, within, seen_long)) written refl (ap (λ (s : Segment). s.most) old_is) free (omega (arith, capacity_is, grows)) (omega (arith, room, seen_long)))
 
 -- what is added becomes the root
 pub adds_root : (takes : ℕ → Type 0) (holds : List ℕ → ℕ → Type 0) (old between new : Segment) (word : ℕ) → Keeps old between → holds (body_of between) word

@@ -1,8 +1,8 @@
 -- Objects that are written over a block at the end of a segment.
 use Rattle.std.proofs.Common.{◌≡◌, ℕ, ◌+◌, ◌-◌, ◌*◌, ◌^◌, ◌<◌, ◌≤◌, ◌==◌, if◌then◌else◌, false, List, [], ◌∷◌, ◌++◌, length, take, drop, refl, sym, ◌∙◌, ap, subst, arith, length-append, length-take, length-drop}
-use Rattle.std.specs.Prelude.{All}
-use Rattle.std.proofs.Math.Seq.{take-append_seam}
-use Rattle.std.proofs.lemmas.List.{append-nil}
+use Rattle.std.specs.Prelude.{All, replicate}
+use Rattle.std.proofs.Math.Seq.{take-append_seam, drop-append_seam}
+use Rattle.std.proofs.lemmas.List.{append-nil, append_assoc, length-replicate, take-append-le, take-replicate}
 use Rattle.capnp_wire.specs.Pointer.{words_of}
 use Rattle.capnp_wire.specs.Tree.{Form, struct, structs, pointers, Trees, none, tree, count, total_words}
 use Rattle.capnp_wire.specs.Layout.{pointer, struct_pointer, list_pointer, minus_one, layout, body, HasRoom, AllHaveRoom}
@@ -28,9 +28,32 @@ last_part m xs w =
     let end : drop (length xs - m) (drop m xs) ≡ [] = empty (drop (length xs - m) (drop m xs)) (omega (arith, length-drop (length xs - m) (drop m xs), length-drop m xs)) in
     ap (λ (l : List ℕ). take m xs ++ (w ++ l)) end ∙ ap (λ (l : List ℕ). take m xs ++ l) (append-nil w)
 
-pub last_long : (m n : ℕ) (xs w : List ℕ) → m ≤ length xs → length w ≡ n → n ≡ length xs - m → length (take m xs ++ (w ++ drop n (drop m xs))) ≡ length xs
-last_long m n xs w within long n_is =
-    omega (arith, length-append (take m xs) (w ++ drop n (drop m xs)), length-append w (drop n (drop m xs)), length-take m xs, length-drop n (drop m xs), length-drop m xs, within, long, n_is)
+-- a part in the middle is written over
+pub middle_long : (m n : ℕ) (xs w : List ℕ) → m + n ≤ length xs → length w ≡ n → length (take m xs ++ (w ++ drop n (drop m xs))) ≡ length xs
+middle_long m n xs w within long =
+    omega (arith, length-append (take m xs) (w ++ drop n (drop m xs)), length-append w (drop n (drop m xs)), length-take m xs, length-drop n (drop m xs), length-drop m xs, within, long)
+
+pub middle_front : (m n : ℕ) (xs w : List ℕ) → m ≤ length xs → take m (take m xs ++ (w ++ drop n (drop m xs))) ≡ take m xs
+middle_front m n xs w within =
+    let long : m ≡ length (take m xs) = omega (arith, length-take m xs, within) in
+    ap (λ (k : ℕ). take k (take m xs ++ (w ++ drop n (drop m xs)))) long ∙ take-append_seam (take m xs) (w ++ drop n (drop m xs))
+
+pub middle_part : (m n : ℕ) (xs w : List ℕ) → m ≤ length xs → length w ≡ n → take (m + n) (take m xs ++ (w ++ drop n (drop m xs))) ≡ take m xs ++ w
+middle_part m n xs w within long =
+    let rest : List ℕ = drop n (drop m xs) in
+    let all_long : m + n ≡ length (take m xs ++ w) = omega (arith, length-append (take m xs) w, length-take m xs, within, long) in
+    ap (λ (l : List ℕ). take (m + n) l) (sym (append_assoc (take m xs) w (drop n (drop m xs)))) ∙ ap (λ (k : ℕ). take k ((take m xs ++ w) ++ drop n (drop m xs))) all_long
+    ∙ take-append_seam (take m xs ++ w) (drop n (drop m xs))
+
+-- with zeros, of which the first are zero
+pub middle_zero : (m n k : ℕ) (xs w : List ℕ) → m ≤ length xs → n ≤ k → w ≡ replicate k 0 → take n (drop m (take m xs ++ (w ++ drop k (drop m xs)))) ≡ replicate n 0
+middle_zero m n k xs w within fits zero =
+    let rest : List ℕ = drop k (drop m xs) in
+    let long : m ≡ length (take m xs) = omega (arith, length-take m xs, within) in
+    let after : drop m (take m xs ++ (w ++ drop k (drop m xs))) ≡ w ++ drop k (drop m xs) =
+    ap (λ (i : ℕ). drop i (take m xs ++ (w ++ drop k (drop m xs)))) long ∙ drop-append_seam (take m xs) (w ++ drop k (drop m xs)) in
+    let w_long : n ≤ length w = omega (arith, ap (λ (l : List ℕ). length l) zero, length-replicate {A = ℕ} k 0, fits) in
+    ap (λ (l : List ℕ). take n l) after ∙ take-append-le n w (drop k (drop m xs)) w_long ∙ ap (λ (l : List ℕ). take n l) zero ∙ take-replicate n k 0 fits
 
 after_front : (m : ℕ) (front rest w : List ℕ) → length front ≡ m
     → take m (front ++ rest) ++ (w ++ drop (length (front ++ rest) - m) (drop m (front ++ rest))) ≡ front ++ w

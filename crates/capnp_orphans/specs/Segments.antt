@@ -65,9 +65,10 @@ pub record PutsRoot (word : ℕ) (old new : Segment) : Type 0 where
   pub most : new.most ≡ old.most
   pub memory : new.capacity ≡ old.capacity
 
--- a block over the bytes after some, which are just it, and what holds of it once it follows a body
-pub record IsWrittenAfter (from : ℕ) (holds : List ℕ → List ℕ → ℕ → Type 0) (word : ℕ) (old new : List ℕ) : Type 0 where
+-- a block of a given number of words over the bytes from one on, and what holds of it once it follows a body
+pub record IsWrittenOver (from words : ℕ) (holds : List ℕ → List ℕ → ℕ → Type 0) (word : ℕ) (old new : List ℕ) : Type 0 where
   pub block : List ℕ
-  pub bytes_are : new ≡ take from old ++ block
+  pub block_long : length block ≡ 8 * words
+  pub bytes_are : take (from + 8 * words) new ≡ take from old ++ block
   pub len : length new ≡ length old
   pub holds_is : (body : List ℕ) → from / 8 ≡ 1 + length body → holds body (body ++ words_of block) word

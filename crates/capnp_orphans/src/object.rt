@@ -1,5 +1,5 @@
 //! Objects that an orphanage writes.
-ghost use Rattle.std.specs.Prelude.{◌≡◌, ℕ, ◌+◌, ◌-◌, ◌/◌, ◌%◌, ◌^◌, ◌<◌, List, ◌++◌, min, length, replicate, Ok, MatchResult};
+ghost use Rattle.std.specs.Prelude.{◌≡◌, ℕ, Bool, IsTrue, ◌+◌, ◌-◌, ◌/◌, ◌%◌, ◌^◌, ◌<◌, List, ◌++◌, min, length, replicate, Ok, MatchResult};
 ghost use Rattle.std.specs.Result.{IsErrAnd};
 ghost use Rattle.capnp_frame.specs.declared.error.ErrorKind.{ErrorKind};
 ghost use Rattle.capnp_frame.specs.declared.error.ErrorKind.TheVariants.{AllocationTooLarge};
@@ -19,6 +19,9 @@ pub trait Object {
     /// It can't be written, and this is the error.
     ghost refuses: { Self → ErrorKind → Type 0 };
 
+    /// It is written over zeros alone, and not over whatever stands there.
+    ghost wants_zeros: { Self → Bool };
+
     /// How many words it has. Fails with a kind that `refuses` names.
     fn measure(&self) -> Result<u32>
         ensures returned { MatchResult result (takes self.now)
@@ -27,18 +30,16 @@ pub trait Object {
         ensures exact { (kind : ErrorKind) → refuses self.now kind →
             IsErrAnd result (λ error. error.kind ≡ kind) };
 
-    /// Whether its type alone tells how many words it has. Only how fast it is written depends on it.
-    #[inline(always)]
-    fn is_of_known_size(&self) -> bool {
-        false
-    }
+    /// Whether it is written over zeros alone. One that fills its words is not.
+    fn wants_zeros(&self) -> bool
+        ensures { result ≡ wants_zeros self.now };
 
-    /// Writes it over a block of just its words, which are zero and begin at a word of the segment.
-    /// Returns its word as an orphan.
+    /// Writes it over a block of just its words, which begins at a word of the segment. Returns its
+    /// word as an orphan.
     fn write(&self, start: u32, block: &mut [u8]) -> u64
         requires whole { length block.old % 8 ≡ 0 }
         requires takes { takes self.now (length block.old / 8) }
-        requires zero { block.old ≡ replicate (length block.old) 0 }
+        requires zero { IsTrue (wants_zeros self.now) → block.old ≡ replicate (length block.old) 0 }
         requires few { start + length block.old / 8 < 2 ^ 29 }
         ensures { (body : List ℕ) → start ≡ 1 + length body →
             holds self.now body (body ++ words_of block.new) result };

@@ -86,7 +86,7 @@ pub(crate) fn link(word: u64, place: u32) -> u64
 {
     let low = word % (1 << 32);
     let high = word / (1 << 32);
-    if word % 4 + high == 0 {
+    if word % 4 == 0 && word < 1 << 32 {
         return word;
     }
     high * (1 << 32) + (low + (1 << 32) - 4 * (place as u64 + 1)) % (1 << 32)

@@ -9,6 +9,7 @@ ghost use Rattle.capnp_orphans.specs.Adding.{Adds, Writes, Fails, SetsRoot, Adds
 
 use crate::draft::StructDraft;
 use crate::draft_source::DraftSource;
+use crate::heap::Heap;
 use crate::object::Object;
 use crate::orphan::{Orphan, link};
 use crate::pointer_list::PointerList;
@@ -50,7 +51,7 @@ use std::marker::Model;
 /// serialize::write_message(alloc, &mut stream, &objects)?;
 /// ```
 #[derive(Drop)]
-pub struct Orphanage<S: GrowingSegment = Vec<u8>> {
+pub struct Orphanage<S: GrowingSegment = Heap> {
     segment: S,
 }
 
@@ -65,15 +66,14 @@ impl<S: GrowingSegment> Model for Orphanage<S> {
     ghost invariant = { λ objects. IsSegment (S.state objects.segment) };
 }
 
-impl Orphanage<Vec<u8>> {
+impl Orphanage<Heap> {
     /// An orphanage on the heap. The root is null. Fails with `OutOfMemory` alone.
-    pub fn new(alloc: Global) -> Result<Orphanage<Vec<u8>>>
+    pub fn new(alloc: Global) -> Result<Orphanage<Heap>>
         ensures { MatchResult result
             (λ objects. (objects.bytes ≡ replicate 8 0) × (objects.most ≡ None))
             (λ error. error.kind ≡ OutOfMemory) }
     {
-        let mut segment = Vec::new(alloc);
-        segment.resize(8, 0)?;
+        let segment = Heap::new(alloc)?;
         Ok(Orphanage { segment })
     }
 }

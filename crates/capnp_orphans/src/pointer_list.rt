@@ -24,7 +24,7 @@ impl<'a, T> PointerList<'a, T> {
 
 // 2^29 pointers and more fail with `AllocationTooLarge` of their number.
 impl<'a, T> Object for PointerList<'a, T> {
-    ghost use Rattle.std.specs.Prelude.{length, map};
+    ghost use Rattle.std.specs.Prelude.{false, length, map};
     ghost use Rattle.capnp_orphans.specs.Held.{HoldsPointers, TakesPointers, ManyPointers, word_of};
 
     ghost holds = { λ list old new word. HoldsPointers old (map word_of list.items.now) new word };
@@ -32,6 +32,8 @@ impl<'a, T> Object for PointerList<'a, T> {
     ghost takes = { λ list words. TakesPointers (length list.items.now) words };
 
     ghost refuses = { λ list kind. ManyPointers (length list.items.now) kind };
+
+    ghost wants_zeros = { λ object. false };
 
     fn measure(&self) -> Result<u32> {
         let count = self.items.len();
@@ -41,6 +43,13 @@ impl<'a, T> Object for PointerList<'a, T> {
         Ok(count as u32)
     }
 
+    #[inline(always)]
+    fn wants_zeros(&self) -> bool {
+        false
+    }
+
+    // Speed: a call, so that the loop that makes its orphans has the registers (`texts`).
+    #[inline(never)]
     fn write(&self, start: u32, block: &mut [u8]) -> u64 {
         put_links(self.items, start, block);
         list_word(start as u64, 6, self.items.len() as u64)

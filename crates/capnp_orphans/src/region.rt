@@ -3,7 +3,7 @@ ghost use Rattle.std.specs.Prelude.{◌≡◌, ◌<◌, ◌≤◌, take, length,
 ghost use Rattle.capnp_frame.specs.declared.error.ErrorKind.TheVariants.{AllocationTooLarge};
 
 use crate::object::Object;
-use crate::segment::{GrowingSegment, put_root, write_after, zero_first};
+use crate::segment::{GrowingSegment, put_first, write_over, zero_first};
 use capnp_frame::{Error, ErrorKind, Result};
 use std::marker::Model;
 
@@ -54,20 +54,20 @@ impl<'a> GrowingSegment for Region<'a> {
         &self.bytes[..self.used]
     }
 
+    #[inline(always)]
     fn append<O: Object>(&mut self, object: &O, words: u32) -> Result<u64> {
-        let end = self.used + 8 * words as usize;
+        let from = self.used;
+        let end = from + 8 * words as usize;
         if end > self.bytes.len() {
             return Err(Error::from_kind(ErrorKind::AllocationTooLarge(words)));
         }
-        let part = &mut self.bytes[..end];
-        part[self.used..].fill(0);
-        let word = write_after(part, self.used, object);
+        let word = write_over(self.bytes, from, words, object);
         self.used = end;
         Ok(word)
     }
 
     fn set_root_word(&mut self, word: u64) {
-        put_root(&mut self.bytes[..self.used], word);
+        put_first(self.bytes, self.used, word);
     }
 
     fn clear(&mut self) {

@@ -1,8 +1,7 @@
 //! Segments that grow at their end.
-ghost use Rattle.std.specs.Prelude.{◌≡◌, ◌+◌, ◌-◌, ◌*◌, ◌/◌, ◌%◌, ◌^◌, ◌<◌, ◌≤◌, ◌++◌, if◌then◌else◌, is_ok, None, length, take, drop, replicate, ◌∷◌, OnOk, OnErr, IfErr};
-ghost use Rattle.capnp_frame.specs.declared.error.ErrorKind.TheVariants.{OutOfMemory};
+ghost use Rattle.std.specs.Prelude.{◌≡◌, ◌+◌, ◌*◌, ◌/◌, ◌%◌, ◌^◌, ◌<◌, ◌≤◌, IsTrue, length, take, drop, replicate, ◌∷◌};
 ghost use Rattle.capnp_wire.specs.Pointer.{words_of};
-ghost use Rattle.capnp_orphans.specs.Segments.{Segment, IsSegment, AppendsObject, PutsRoot, IsWrittenAfter, with_root_alone};
+ghost use Rattle.capnp_orphans.specs.Segments.{Segment, IsSegment, AppendsObject, PutsRoot, IsWrittenOver, with_root_alone};
 
 use crate::object::Object;
 use capnp_frame::Result;
@@ -39,91 +38,62 @@ pub trait GrowingSegment: Drop {
         ensures { state self.new ≡ with_root_alone (state self.old) };
 }
 
-impl GrowingSegment for Vec<u8> {
-    ghost use Rattle.std.specs.Prelude.{None};
-
-    ghost state = { λ vector. record {
-      bytes = vector.items;
-      most = None;
-      capacity = vector.cap;
-    } };
-
-    fn bytes(&self) -> &[u8] {
-        self.as_slice()
-    }
-
-    // Speed: of a text that is known when it is compiled, as in a table, a few stores are left.
-    #[inline(always)]
-    fn append<O: Object>(&mut self, object: &O, words: u32) -> Result<u64> {
-        let from = self.len();
-        add_zeros(self, 8 * words as usize, object.is_of_known_size())?;
-        Ok(write_after(self, from, object))
-    }
-
-    fn set_root_word(&mut self, word: u64) {
-        put_root(self, word);
-    }
-
-    // Speed: one store, for each record of a message of its own.
-    #[tactic(auto, using(std::proofs::lemmas::List::take_all))]
-    fn clear(&mut self) {
-        self.truncate(8);
-        zero_first(self);
-    }
-}
-
-// Adds zeros to a vector. Fails with `OutOfMemory`, and changes nothing, where it has no room for
-// them and no more memory is to be had.
-//
-// Speed: up to 64 are made by stores of a constant size, so a short object needs no call whose
-// branches depend on the size. Of a number that is known when it is compiled, as for the nodes of a
-// tree, just as many are made (`tools/time-building built`).
+/// Writes an object over the bytes of a segment from one on, which may be any. Returns its word as
+/// an orphan.
 #[inline(always)]
-fn add_zeros(bytes: &mut Vec<u8>, added: usize, known: bool) -> Result<()>
-    ensures items { bytes.new.items ≡ (if is_ok result
-        then bytes.old.items ++ replicate added 0 else bytes.old.items) }
-    ensures capacity { bytes.old.cap ≤ bytes.new.cap }
-    ensures room { OnOk result (length bytes.new.items ≤ bytes.new.cap) }
-    ensures full { OnErr result (bytes.old.cap < length bytes.old.items + added) }
-    ensures kept { OnErr result (bytes.new.cap ≡ bytes.old.cap) }
-    ensures kind { IfErr result (λ error. error.kind ≡ OutOfMemory) }
-{
-    let from = bytes.len();
-    if !known && added <= 64 && bytes.capacity() - from >= 64 {
-        bytes.resize(from + 64, 0)?;
-        bytes.truncate(from + added);
-        return Ok(());
-    }
-    bytes.reserve(added)?;
-    let from = bytes.len();
-    bytes.resize(from + added, 0)?;
-    Ok(())
-}
-
-/// Writes an object over the last bytes, which are zero and just its words. Returns its word as an
-/// orphan.
-#[inline(always)]
-pub(crate) fn write_after<O: Object>(bytes: &mut [u8], from: usize, object: &O) -> u64
-    requires within { from ≤ length bytes.old }
+pub(crate) fn write_over<O: Object>(bytes: &mut [u8], from: usize, words: u32, object: &O) -> u64
+    requires within { from + 8 * words ≤ length bytes.old }
     requires from { from % 8 ≡ 0 }
-    requires whole { length bytes.old % 8 ≡ 0 }
-    requires few { length bytes.old < 2 ^ 32 }
-    requires takes { O.takes object.now ((length bytes.old - from) / 8) }
-    requires zero { drop from bytes.old ≡ replicate (length bytes.old - from) 0 }
-    ensures { IsWrittenAfter from (O.holds object.now) result bytes.old bytes.new }
+    requires few { from / 8 + words < 2 ^ 29 }
+    requires takes { O.takes object.now words }
+    ensures { IsWrittenOver from words (O.holds object.now) result bytes.old bytes.new }
 {
-    let start = (from / 8) as u32;
-    object.write(start, &mut bytes[from..])
+    let added = 8 * words as usize;
+    prepare(bytes, from, added, object.wants_zeros());
+    object.write((from / 8) as u32, &mut bytes[from..from + added])
+}
+
+// Makes some bytes zero, if that is wanted.
+//
+// Speed: for up to 64 just as many are made, by stores of a constant size, so a short object needs
+// no call whose branches depend on the size (`tools/time-building built`, `texts`).
+#[inline(always)]
+fn prepare(bytes: &mut [u8], from: usize, added: usize, zeros: bool)
+    requires { from + added ≤ length bytes.old }
+    ensures front { take from bytes.new ≡ take from bytes.old }
+    ensures zero { IsTrue zeros → take added (drop from bytes.new) ≡ replicate added 0 }
+    ensures len { length bytes.new ≡ length bytes.old }
+{
+    if !zeros {
+        return;
+    }
+    if added <= 64 && bytes.len() - from >= 64 {
+        bytes[from..from + 64].fill(0);
+        return;
+    }
+    bytes[from..from + added].fill(0);
 }
 
 /// Puts a word at the start of a segment.
 #[inline(always)]
-pub(crate) fn put_root(bytes: &mut [u8], word: u64)
+fn put_root(bytes: &mut [u8], word: u64)
     requires { 8 ≤ length bytes.old }
     ensures words { words_of bytes.new ≡ word ∷ drop 1 (words_of bytes.old) }
     ensures len { length bytes.new ≡ length bytes.old }
 {
     put_word(bytes, 0, word);
+}
+
+/// Puts a word at the start of a segment, which is the first of these bytes.
+#[inline(always)]
+pub(crate) fn put_first(bytes: &mut [u8], used: usize, word: u64)
+    requires rooted { 8 ≤ used }
+    requires within { used ≤ length bytes.old }
+    ensures words { words_of (take used bytes.new)
+        ≡ word ∷ drop 1 (words_of (take used bytes.old)) }
+    ensures len { length bytes.new ≡ length bytes.old }
+{
+    put_root(&mut bytes[..used], word);
 }
 
 /// Makes the first word zero.

@@ -35,7 +35,7 @@ impl<'a, T, const D: usize, const P: usize, S: DraftSource<T, D, P>> StructList<
 // large for a pointer with `AllocationTooLarge(65536)`.
 impl<'a, T, const D: usize, const P: usize, S: DraftSource<T, D, P>> Object
     for StructList<'a, T, D, P, S> {
-    ghost use Rattle.std.specs.Prelude.{length};
+    ghost use Rattle.std.specs.Prelude.{false, length};
     ghost use Rattle.capnp_orphans.specs.Held.{HoldsStructs, TakesStructs, ManyStructs};
 
     ghost holds = { λ list old new word. HoldsStructs old (S.drafts list.source.now) new word };
@@ -43,6 +43,8 @@ impl<'a, T, const D: usize, const P: usize, S: DraftSource<T, D, P>> Object
     ghost takes = { λ list words. TakesStructs D P (length (S.drafts list.source.now)) words };
 
     ghost refuses = { λ list kind. ManyStructs D P (length (S.drafts list.source.now)) kind };
+
+    ghost wants_zeros = { λ object. false };
 
     fn measure(&self) -> Result<u32> {
         if D >= 1 << 16 || P >= 1 << 16 {
@@ -57,6 +59,11 @@ impl<'a, T, const D: usize, const P: usize, S: DraftSource<T, D, P>> Object
             return Err(too_many(words));
         }
         Ok(words as u32)
+    }
+
+    #[inline(always)]
+    fn wants_zeros(&self) -> bool {
+        false
     }
 
     fn write(&self, start: u32, block: &mut [u8]) -> u64 {

@@ -27,7 +27,7 @@ impl<'a, T, V> Value<'a, T, V> {
 }
 
 impl<'a, T, V: SetterInput<T>> Object for Value<'a, T, V> {
-    ghost use Rattle.std.specs.Prelude.{false};
+    ghost use Rattle.std.specs.Prelude.{false, true};
     ghost use Rattle.capnp_wire.specs.Values.{HasWords, LacksWords};
     ghost use Rattle.capnp_orphans.specs.Held.{HoldsValue};
 
@@ -38,9 +38,16 @@ impl<'a, T, V: SetterInput<T>> Object for Value<'a, T, V> {
     ghost refuses = { λ object kind.
         LacksWords (V.has_tree object.value.now) (V.refuses object.value.now) false kind };
 
+    ghost wants_zeros = { λ object. true };
+
     #[inline(always)]
     fn measure(&self) -> Result<u32> {
         self.value.measure(false)
+    }
+
+    #[inline(always)]
+    fn wants_zeros(&self) -> bool {
+        true
     }
 
     #[inline(always)]

@@ -11,6 +11,7 @@ use capnp_wire::pointer_word::struct_word;
 
 // The data words, and then the pointers. 2^16 of either and more fail with `AllocationTooLarge`.
 impl<T, const D: usize, const P: usize> Object for StructDraft<T, D, P> {
+    ghost use Rattle.std.specs.Prelude.{false};
     ghost use Rattle.capnp_orphans.specs.Held.{HoldsStruct, TakesStruct, ExceedsPointer};
 
     ghost holds = { λ draft old new word. HoldsStruct old draft.words draft.pointers new word };
@@ -18,6 +19,8 @@ impl<T, const D: usize, const P: usize> Object for StructDraft<T, D, P> {
     ghost takes = { λ draft words. TakesStruct D P words };
 
     ghost refuses = { λ draft kind. ExceedsPointer D P kind };
+
+    ghost wants_zeros = { λ object. false };
 
     #[inline(always)]
     fn measure(&self) -> Result<u32> {
@@ -28,8 +31,8 @@ impl<T, const D: usize, const P: usize> Object for StructDraft<T, D, P> {
     }
 
     #[inline(always)]
-    fn is_of_known_size(&self) -> bool {
-        true
+    fn wants_zeros(&self) -> bool {
+        false
     }
 
     #[inline(always)]

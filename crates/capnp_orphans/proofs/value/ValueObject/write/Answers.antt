@@ -1,5 +1,5 @@
 -- A value is written at its start.
-use Rattle.std.proofs.Common.{◌/◌, length, arith}
+use Rattle.std.proofs.Common.{◌/◌, length, refl, arith}
 use Rattle.capnp_wire.specs.Tree.{count}
 use Rattle.capnp_wire.proofs.words.WordLemmas.{length-words_of}
 use Rattle.capnp_wire.proofs.layouts.FreeLemmas.{free_block, has_room}
@@ -12,7 +12,7 @@ write-copied-requires-clause-value g c =
 
 pub write-copied-requires-clause-free : goal.write-copied-requires-clause-free
 write-copied-requires-clause-free g c =
-    free_block c.args.block.now c.requires.whole (omega (arith, length-words_of c.args.block.now, c.requires.few)) c.requires.zero
+    free_block c.args.block.now c.requires.whole (omega (arith, length-words_of c.args.block.now, c.requires.few)) (c.requires.zero refl)
 
 pub moved-requires-clause-pointer : goal.moved-requires-clause-pointer
 moved-requires-clause-pointer g c =
