@@ -71,7 +71,7 @@ impl<R: io::Read + Drop> Input<R> {
     }
 }
 
-// The device behind an empty buffer.
+// The device, with an empty buffer before it.
 fn buffered<R: io::Read + Drop>(alloc: Global, device: R) -> Result<BufReader<Retried<R>>>
     ensures remaining { IfOk result (λ buffered. Keeps (R.remaining device)
         (reader_remaining (λ retried. R.remaining retried.device) buffered)) }
