@@ -1,7 +1,7 @@
 /* Packs, unpacks, lists or canonicalizes the messages on standard input, by crates/capnp_c.
  *
  * `list` prints a line a message: its index, how many segments it has, how many words in all, and the
- * words of each segment. `canonical` takes one message. The status is the number of the refusal, whose
+ * words of each segment. `canonical` takes one message, and `words` packs words that are no message. The status is the number of the refusal, whose
  * name stands on standard error, and 0 without one. */
 #include "capnp_c.h"
 
@@ -13,6 +13,10 @@ enum { MOST = 1 << 24 };
 
 static uint8_t input[MOST];
 static uint8_t output[2 * MOST];
+static uint8_t words[MOST];
+
+/* Two calls disagree. */
+enum { DIFFERS = 253 };
 
 static int write_out(const uint8_t *bytes, size_t len) {
     return fwrite(bytes, 1, len, stdout) == len && fflush(stdout) == 0 ? 0 : 255;
@@ -57,10 +61,10 @@ static uint8_t list_message(const uint8_t *bytes, size_t len, size_t index) {
         return refusal;
     printf("%zu %zu %zu", index, message.segments, (message.end - message.start) / 8);
     for (uint32_t id = 0; refusal == 0 && id < message.segments; id++) {
-        size_t words;
-        refusal = linsjoar_segment(bytes, len, id, &words);
+        size_t length;
+        refusal = linsjoar_segment(bytes, len, id, &length);
         if (refusal == 0)
-            printf(" %zu", words);
+            printf(" %zu", length);
     }
     putchar('\n');
     return refusal;
@@ -81,9 +85,29 @@ static int list(size_t len) {
 }
 
 static int canonical(size_t len) {
-    size_t words;
-    uint8_t refusal = linsjoar_canonical(input, len, output, sizeof output, &words);
-    return refusal ? refusal : write_out(output, 8 * words);
+    size_t wanted, size;
+    uint8_t refusal = linsjoar_canonical_size(input, len, &wanted);
+    if (refusal == 0)
+        refusal = linsjoar_canonical(input, len, output, sizeof output, &size);
+    if (refusal)
+        return refusal;
+    return size == wanted ? write_out(output, 8 * size) : DIFFERS;
+}
+
+/* Packs words by themselves, in as much room as they take and no less, and unpacks them again. */
+static int pack_words(size_t len) {
+    size_t written, read;
+    uint8_t refusal = linsjoar_pack(input, len, output, sizeof output, &written);
+    if (refusal)
+        return refusal;
+    if (linsjoar_pack(input, len, words, written, &read) || read != written || memcmp(words, output, written))
+        return DIFFERS;
+    if (written > 0 && linsjoar_pack(input, len, words, written - 1, &read) != 2)
+        return DIFFERS;
+    refusal = linsjoar_unpack(output, written, words, len, &read);
+    if (refusal)
+        return refusal;
+    return read == written && memcmp(words, input, len) == 0 ? write_out(output, written) : DIFFERS;
 }
 
 static int run(const char *command, size_t len) {
@@ -95,7 +119,9 @@ static int run(const char *command, size_t len) {
         return list(len);
     if (strcmp(command, "canonical") == 0)
         return canonical(len);
-    fputs("usage: example pack | unpack | list | canonical\n", stderr);
+    if (strcmp(command, "words") == 0)
+        return pack_words(len);
+    fputs("usage: example pack | unpack | list | canonical | words\n", stderr);
     return 254;
 }
 

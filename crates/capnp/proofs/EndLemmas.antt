@@ -1,14 +1,15 @@
 -- How the stream of a run ends, by what the run returns.
-use Rattle.std.proofs.Common.{◌≡◌, ◌⊎◌, inl, inr, ℕ, ◌<◌, Option, Some, None, IfSome, Result, Ok, Err, List, length, sym, ap, ◌∙◌, subst, arith}
+use Rattle.std.proofs.Common.{◌≡◌, ◌⊎◌, inl, inr, ℕ, ◌<◌, Option, Some, None, IfSome, Result, Ok, Err, List, [], ◌∷◌, ◌++◌, ◌≤◌, length, sym, ap, ◌∙◌, subst, arith}
 use Rattle.capnp_frame.specs.declared.serialize.segment_table.Padding.{Padding}
 use Rattle.capnp_frame.specs.declared.error.ErrorKind.{ErrorKind}
 use Rattle.capnp_frame.specs.Source.{IfKnown}
+use Rattle.capnp_frame.specs.Texts.{AreTexts}
 use Rattle.capnp_frame.proofs.TextLemmas.{AreTexts-once, AreTexts-most, EndsTexts-once}
 use Rattle.capnp.specs.declared.streams.Format.{Format}
 use Rattle.capnp.specs.declared.streams.StoppedAt.{StoppedAt}
-use Rattle.capnp.specs.Streams.{RefusesNext, EndsBy, IsStream}
-use Rattle.capnp.specs.Runs.{Writing, DecliningWriting, IsRunFault, most_messages, RanOut, StoppedReading, HasStopped, HasRun, IsResultOf, IsFaulted}
-use Rattle.capnp.proofs.RunLemmas.{format_lawful, format_parts, writing_faulted}
+use Rattle.capnp.specs.Streams.{grammar_of, StandsNext, RefusesNext, EndsBy, IsStream}
+use Rattle.capnp.specs.Runs.{Writing, DecliningWriting, most_messages, RanOut, HasWritten, StoppedReading, StoppedWriting, HasStopped, HasRun, IsResultOf, FaultsAt, StopsByFault, IsFaulted}
+use Rattle.capnp.proofs.RunLemmas.{format_lawful, format_parts}
 
 pub ran_out_ends : (rule : Padding) (format : Format) (limit : Option ℕ) (Writes : Writing) (left before after : Option (List ℕ))
     (raw : List ℕ) (ran : RanOut rule format limit Writes left before after raw) (messages : List (List (List ℕ)))
@@ -43,23 +44,72 @@ stopped_ends rule format limit Writes count kind left before after raw stopped e
     let moved : EndsBy rule format limit (Some kind) stream.rest = subst (λ l. EndsBy rule format limit (Some kind) l) one.1 ends in
     (sym (EndsTexts-once rule (format_lawful format) limit (Some kind) ending stream.rest moved stream.ends), sym written.counted ∙ ap length one.0)
 
+-- no more messages are written than the stream has
+few_written : (rule : Padding) (format : Format) (limit : Option ℕ) (Writes : Writing) (count : ℕ) (before after : Option (List ℕ)) (raw rest : List ℕ)
+    → HasWritten rule format limit Writes count before after raw rest → (messages : List (List (List ℕ))) (ending : Option ErrorKind)
+    → IsStream rule format limit messages ending raw → count ≤ length messages
+few_written rule format limit Writes count before after raw rest written messages ending stream =
+    let bound = AreTexts-most (format_parts rule format limit) ending messages written.messages raw stream.rest rest stream.texts stream.ends written.texts in
+    omega (arith, bound, written.counted)
+
+-- the message that stands after some of a stream's messages is the next of them
+next_listed : (rule : Padding) (format : Format) (limit : Option ℕ) (ending : Option ErrorKind) (ms messages : List (List (List ℕ))) (message : List (List ℕ))
+    (raw between left rest : List ℕ) → AreTexts (grammar_of rule format) limit ms raw between → StandsNext rule format limit message between left
+    → AreTexts (grammar_of rule format) limit messages raw rest → EndsBy rule format limit ending rest
+    → (others : List (List (List ℕ))) × (messages ≡ ms ++ message ∷ others)
+next_listed rule format limit ending [] [] message raw between left rest texts stands all ends =
+    absurd ((format_parts rule format limit).ends_apart ending message raw left (subst (λ l. EndsBy rule format limit ending l) all ends)
+    (subst (λ l. StandsNext rule format limit message l left) texts stands))
+next_listed rule format limit ending [] (n ∷ ns) message raw between left rest texts stands all ends =
+    let here : StandsNext rule format limit message raw left = subst (λ l. StandsNext rule format limit message l left) texts stands in
+    let same = (format_parts rule format limit).begins_once message n raw left all.0 here all.1 in
+    (ns, ap (λ x. x ∷ ns) (sym same.0))
+next_listed rule format limit ending (m ∷ ms) [] message raw between left rest texts stands all ends =
+    absurd ((format_parts rule format limit).ends_apart ending m raw texts.0 (subst (λ l. EndsBy rule format limit ending l) all ends) texts.1)
+next_listed rule format limit ending (m ∷ ms) (n ∷ ns) message raw between left rest texts stands all ends =
+    let same = (format_parts rule format limit).begins_once m n raw texts.0 all.0 texts.1 all.1 in
+    let moved = subst (λ l. AreTexts (grammar_of rule format) limit ms l between) same.1 texts.2 in
+    let inner = next_listed rule format limit ending ms ns message all.0 between left rest moved stands all.2 ends in
+    (inner.0, ap (λ x. x ∷ ns) (sym same.0) ∙ ap (λ l. m ∷ l) inner.1)
+
+-- a message at which a run stopped is the stream's of that index
+faults_at : (rule : Padding) (format : Format) (limit : Option ℕ) (Writes : Writing) (Declines : DecliningWriting) (count : ℕ) (kind : ErrorKind)
+    (left before after : Option (List ℕ)) (raw : List ℕ) (stopped : StoppedWriting rule format limit Writes Declines count kind left before after raw)
+    → IfKnown (Some stopped.rest) left (StandsNext rule format limit stopped.message) → (messages : List (List (List ℕ))) (ending : Option ErrorKind)
+    → IsStream rule format limit messages ending raw → FaultsAt Declines messages count kind
+faults_at rule format limit Writes Declines count kind None before after raw stopped stands messages ending stream = absurd stands
+faults_at rule format limit Writes Declines count kind (Some left) before after raw stopped stands messages ending stream =
+    let written = stopped.written in
+    let next = next_listed rule format limit ending written.messages messages stopped.message raw stopped.rest left stream.rest written.texts stands stream.texts stream.ends in
+    record {
+      before = written.messages;
+      message = stopped.message;
+      others = next.0;
+      listed = next.1;
+      counted = written.counted;
+      fault = stopped.fault;
+    }
+
 pub stopped_returns : (rule : Padding) (format : Format) (limit : Option ℕ) (Writes : Writing) (Declines : DecliningWriting) (count : ℕ)
     (kind : ErrorKind) (left before after : Option (List ℕ)) (raw : List ℕ)
     → HasStopped rule format limit Writes Declines count kind left before after raw
     → (messages : List (List (List ℕ))) (ending : Option ErrorKind) → IsStream rule format limit messages ending raw
-    → ((ending ≡ Some kind) × (count ≡ length messages)) ⊎ IsRunFault Declines count kind
-stopped_returns rule format limit Writes Declines count kind left before after raw (inl stopped) messages ending stream = elim (stopped.fault) [
-  | inl device ↦ inr (inl device)
-  | inr (inl memory) ↦ inr (inr (inl memory.0))
-  | inr (inr line) ↦ inl (stopped_ends rule format limit Writes count kind left before after raw stopped (refused_ends rule format limit kind stopped.rest left line) messages ending stream)
-]
-stopped_returns rule format limit Writes Declines count kind left before after raw (inr stopped) messages ending stream = inr (writing_faulted Declines count stopped.message kind stopped.writable stopped.fault)
+    → ((ending ≡ Some kind) × (count ≡ length messages)) ⊎ StopsByFault Declines messages count kind
+stopped_returns rule format limit Writes Declines count kind left before after raw (inl stopped) messages ending stream =
+    let few = few_written rule format limit Writes count before after raw stopped.rest stopped.written messages ending stream in
+    elim (stopped.fault) [
+      | inl device ↦ inr (inl (inl device, few))
+      | inr (inl memory) ↦ inr (inl (inr memory.0, few))
+      | inr (inr line) ↦ inl (stopped_ends rule format limit Writes count kind left before after raw stopped (refused_ends rule format limit kind stopped.rest left line) messages ending stream)
+    ]
+stopped_returns rule format limit Writes Declines count kind left before after raw (inr stopped) messages ending stream =
+    inr (inr (faults_at rule format limit Writes Declines count kind left before after raw stopped stopped.stands messages ending stream))
 
 returned : (rule : Padding) (format : Format) (limit : Option ℕ) (Writes : Writing) (Declines : DecliningWriting)
     (result : Result (Unit {0}) StoppedAt) (left before after : Option (List ℕ)) (raw : List ℕ)
     → HasRun rule format limit Writes Declines result left before after raw
     → (messages : List (List (List ℕ))) (ending : Option ErrorKind) → IsStream rule format limit messages ending raw
-    → length messages < most_messages → IsResultOf result messages ending ⊎ IsFaulted Declines result
+    → length messages < most_messages → IsResultOf result messages ending ⊎ IsFaulted Declines result messages
 returned rule format limit Writes Declines (Ok done) left before after raw ran messages ending stream few = inl (ran_out_ends rule format limit Writes left before after raw ran messages ending stream few)
 returned rule format limit Writes Declines (Err stop) left before after raw ran messages ending stream few =
     stopped_returns rule format limit Writes Declines stop.message stop.error.kind left before after raw ran messages ending stream
@@ -69,7 +119,7 @@ pub returned_known : (rule : Padding) (format : Format) (limit : Option ℕ) (Wr
     → IfSome old (HasRun rule format limit Writes Declines result left before after)
     → IfSome old (λ raw. (messages : List (List (List ℕ))) (ending : Option ErrorKind)
     → IsStream rule format limit messages ending raw → length messages < most_messages
-    → IsResultOf result messages ending ⊎ IsFaulted Declines result)
+    → IsResultOf result messages ending ⊎ IsFaulted Declines result messages)
 returned_known rule format limit Writes Declines result None left before after ran = tt
 returned_known rule format limit Writes Declines result (Some raw) left before after ran = returned rule format limit Writes Declines result left before after raw ran
 

@@ -9,7 +9,6 @@ use Rattle.capnp_frame.specs.Message.{IsWholeWords}
 use Rattle.capnp_frame.specs.Source.{IsSource, IfKnown, IsTail}
 use Rattle.capnp_frame.specs.Sink.{Adds}
 use Rattle.capnp_frame.specs.SplittingLaws.{splitting}
-use Rattle.capnp_frame.specs.Writing.{IsWritable}
 use Rattle.capnp_frame.proofs.SourceLemmas.{IfKnown-join, IfKnown-refl, IfKnown-weaker}
 use Rattle.capnp_frame.proofs.FrameLemmas.{plain_requests}
 use Rattle.capnp_frame.proofs.TextLemmas.{AreRequested, PartsStreams, parts_streams, AreTexts-push}
@@ -91,18 +90,11 @@ written_next rule format limit Writes index message old new before after within 
     IfKnown-weaker old new (λ raw rest begins. record { message = message; stands = begins; written = written })
     (stands_next rule format limit message old new within stands)
 
--- why a message was not written is a fault
-pub writing_faulted : (Declines : DecliningWriting) (index : ℕ) (message : List (List ℕ)) (kind : ErrorKind) → IsWritable message → IsWritingFault Declines index message kind → IsRunFault Declines index kind
-writing_faulted Declines index message kind writable (inl device) = inl device
-writing_faulted Declines index message kind writable (inr (inl memory)) = inr (inl memory.0)
-writing_faulted Declines index message kind writable (inr (inr declined)) = inr (inr (message, writable, declined))
-
 -- a run stops by a fault of writing also where a reader accepts the message
 pub message_faulted : (limit : Option ℕ) (Declines : DecliningWriting) (index : ℕ) (message : List (List ℕ))
     (kind : ErrorKind) → IsWithin message limit → AllByRecursion IsWholeWords message
     → IsWritingFault Declines index message kind → IsRunFault Declines index kind
-message_faulted limit Declines index message kind within whole fault =
-    writing_faulted Declines index message kind (IsWritable-within message limit within whole) fault
+message_faulted limit Declines index message kind within whole fault = inr (message, IsWritable-within message limit within whole, fault)
 
 -- What a run comes to, by what its source had and has.
 

@@ -1,6 +1,7 @@
 -- What is known of the bytes past a device's buffer.
-use Rattle.std.specs.Prelude.{◌≡◌, ℕ, List, Option}
+use Rattle.std.specs.Prelude.{◌≡◌, ℕ, Bool, true, false, List, Option, None}
 use Rattle.std.specs.IoError.{error_kind}
+use Rattle.std.specs.declared.io.traits.Read.{Ghosts}
 use Rattle.std.specs.declared.io.Error.{Error as Fault}
 use Rattle.std.specs.declared.io.ErrorKind.TheVariants.{OutOfMemory}
 use Rattle.std.specs.Io.Buffered.{reader_buffer, reader_remaining, writer_buffer, writer_contents}
@@ -8,12 +9,21 @@ use Rattle.capnp.specs.declared.devices.input.Input.{Input}
 use Rattle.capnp.specs.declared.devices.output.Output.{Output}
 
 -- the bytes that are read ahead and not yet consumed
-abbrev pub read_ahead : {R : Type 0} → Input R → List ℕ
+abbrev pub read_ahead : {R : Type 0} {read : Ghosts R} → Input R read → List ℕ
 read_ahead input = reader_buffer input.buffered
 
 -- these, and then the device's bytes, where those are known
-abbrev pub coming : {R : Type 0} → (R → Option (List ℕ)) → Input R → Option (List ℕ)
+abbrev pub coming : {R : Type 0} {read : Ghosts R} → (R → Option (List ℕ)) → Input R read → Option (List ℕ)
 coming remaining input = reader_remaining (λ retried. remaining retried.device) input.buffered
+
+-- bytes that are asked for only where they are said to be known
+abbrev pub if_known : Bool → Option (List ℕ) → Option (List ℕ)
+if_known true bytes = bytes
+if_known false bytes = None
+
+-- the unread bytes of a device: what comes of one that is made of known bytes
+abbrev pub unread_of : {R : Type 0} {read : Ghosts R} → (R → Option (List ℕ)) → Input R read → Option (List ℕ)
+unread_of remaining input = if_known input.known (coming remaining input)
 
 -- the bytes that were taken and not yet written
 abbrev pub pending : {W : Type 0} → Output W → List ℕ

@@ -9,7 +9,7 @@ pub use Rattle.capnp_frame.specs.Message.{IsWholeWords, word_count, lengths, siz
 pub use Rattle.capnp_frame.specs.Numbers.{kind_number}
 pub use Rattle.capnp_frame.specs.Refusals.{IsReaderKind}
 pub use Rattle.capnp_frame.specs.SegmentTable.{FitsField}
-pub use Rattle.capnp_frame.specs.Source.{Giving, Refusing, Splits, RunsShort, IsSource, IsPreorder, IfKnown, IsFront, IsRefused, Advances, Fails, Fills}
+pub use Rattle.capnp_frame.specs.Source.{Giving, Refusing, Splits, RunsShort, IsSource, IsPreorder, IfKnown, IsFront, IsRefused, ReturnsPart, Advances, Fails, Fills}
 pub use Rattle.capnp_frame.specs.SplittingLaws.{splitting, always}
 pub use Rattle.capnp_frame.specs.Skipping.{SkipsMessage}
 pub use Rattle.capnp_frame.specs.Streams.{ReadsStream}

@@ -1,5 +1,5 @@
 -- What a run over the messages of a stream reads, writes and returns (src/streams.rt).
-use Rattle.std.specs.Prelude.{◌≡◌, ◌<◌, ◌⊎◌, ◌+◌, ◌-◌, ◌^◌, ℕ, List, [], ◌∷◌, ◌++◌, length, Option, Some, None, IfSome, Result, Ok, Err, IfErr}
+use Rattle.std.specs.Prelude.{◌≡◌, ◌<◌, ◌≤◌, ◌⊎◌, ◌+◌, ◌-◌, ◌^◌, ℕ, List, [], ◌∷◌, ◌++◌, length, Option, Some, None, IfSome, Result, Ok, Err, IfErr}
 use Rattle.capnp_frame.specs.declared.error.Error.{Error}
 use Rattle.capnp_frame.specs.declared.error.ErrorKind.{ErrorKind}
 use Rattle.capnp_frame.specs.declared.error.ErrorKind.TheVariants.{DeviceFailed, OutOfMemory}
@@ -13,6 +13,7 @@ use Rattle.capnp_frame.specs.Texts.{AreTexts}
 use Rattle.capnp_frame.specs.Writing.{IsWritable}
 use Rattle.capnp.specs.declared.streams.Format.{Format}
 use Rattle.capnp.specs.declared.streams.StoppedAt.{StoppedAt}
+use Rattle.capnp.specs.Headline.{IsFault}
 use Rattle.capnp.specs.Streams.{grammar_of, refuses_of, rules_of, StandsNext, RefusesNext, IsStream}
 
 -- What is written of a message, by its index: Writes index message text.
@@ -72,10 +73,11 @@ IsWritingFault Declines index message kind = (kind ≡ DeviceFailed) ⊎ ((kind 
 abbrev pub BreaksOffOr : DecliningWriting → ℕ → List (List ℕ) → Type 0 → ErrorKind → Type 0
 BreaksOffOr Declines index message same kind = (kind ≡ DeviceFailed) ⊎ Declines.breaks index message kind ⊎ same
 
--- a refusal that the unread bytes give no cause for: the same, of some message that can be written
+-- a failure that the unread bytes give no cause for: the device's, or that some message that can be written is not, so want of memory
+-- only where memory is taken to write it
 abbrev pub IsRunFault : DecliningWriting → ℕ → ErrorKind → Type 0
-IsRunFault Declines index kind = (kind ≡ DeviceFailed) ⊎ (kind ≡ OutOfMemory)
-    ⊎ ((message : List (List ℕ)) × IsWritable message × Declined Declines index message kind)
+IsRunFault Declines index kind = (kind ≡ DeviceFailed)
+    ⊎ ((message : List (List ℕ)) × IsWritable message × IsWritingFault Declines index message kind)
 
 -- the most messages of one run
 abbrev pub most_messages : ℕ
@@ -126,10 +128,23 @@ abbrev pub IsResultOf : Result (Unit {0}) StoppedAt → List (List (List ℕ)) �
 IsResultOf (Ok done) messages ending = ending ≡ None
 IsResultOf (Err stop) messages ending = (ending ≡ Some stop.error.kind) × (stop.message ≡ length messages)
 
--- the result is a refusal by a fault
-abbrev pub IsFaulted : DecliningWriting → Result (Unit {0}) StoppedAt → Type 0
-IsFaulted Declines (Ok done) = ⊥
-IsFaulted Declines (Err stop) = IsRunFault Declines stop.message stop.error.kind
+-- one of these messages, the one of this index, is not written by this kind
+pub record FaultsAt (Declines : DecliningWriting) (messages : List (List (List ℕ))) (index : ℕ) (kind : ErrorKind) : Type 0 where
+  pub before : List (List (List ℕ))
+  pub message : List (List ℕ)
+  pub others : List (List (List ℕ))
+  pub listed : messages ≡ before ++ message ∷ others
+  pub counted : length before ≡ index
+  pub fault : IsWritingFault Declines index message kind
+
+-- a run over these messages stopped by a fault: no later than where the next one is read, or at one of them
+abbrev pub StopsByFault : DecliningWriting → List (List (List ℕ)) → ℕ → ErrorKind → Type 0
+StopsByFault Declines messages index kind = (IsFault kind × (index ≤ length messages)) ⊎ FaultsAt Declines messages index kind
+
+-- the result says so
+abbrev pub IsFaulted : DecliningWriting → Result (Unit {0}) StoppedAt → List (List (List ℕ)) → Type 0
+IsFaulted Declines (Ok done) messages = ⊥
+IsFaulted Declines (Err stop) messages = StopsByFault Declines messages stop.message stop.error.kind
 
 -- What a run over the messages of a stream reads, writes and returns. `source` is what is seen of the source (the members of
 -- the trait Read), which is `old` before the run and `new` after it; `sink` of the sink (those of Write), `before` and `after`.
@@ -142,7 +157,7 @@ pub record WritesEach {S T : Type 0} (source : Ghosts S) (old new : S) (sink : S
   -- what is returned says how the stream ends, and after how many messages, but for a fault
   pub exact : IfSome (source.unread old) (λ raw. (messages : List (List (List ℕ))) (ending : Option ErrorKind)
       → IsStream rule format limit messages ending raw → length messages < most_messages
-      → IsResultOf result messages ending ⊎ IsFaulted Declines result)
+      → IsResultOf result messages ending ⊎ IsFaulted Declines result messages)
   -- it fails with one of the reader's kinds, or with a fault at the message of that index
   pub kinds : IfErr result (λ stop. IsReaderKind rule (refuses_of format) stop.error.kind ⊎ IsRunFault Declines stop.message stop.error.kind)
   -- a device is blamed only where one of the two failed
