@@ -1,5 +1,5 @@
 -- A log that is cut within a record: by which kinds its reader fails.
-use Rattle.std.proofs.Common.{◌≡◌, ◌⊎◌, inl, inr, ℕ, ◌<◌, ◌*◌, ◌/◌, Option, Some, None, List, [], ◌++◌, length, sum, refl, sym, ap, ◌∙◌, arith, append_assoc, length-append}
+use Rattle.std.proofs.Common.{◌≡◌, ◌⊎◌, inl, inr, ℕ, ◌+◌, ◌<◌, ◌*◌, ◌/◌, Option, Some, None, List, [], ◌++◌, length, sum, refl, sym, ap, ◌∙◌, arith, append_assoc, length-append}
 use Rattle.std.proofs.lemmas.List.{append-nil, nil_from_length}
 use Rattle.capnp_frame.specs.declared.serialize.segment_table.Padding.TheVariants.{Zero}
 use Rattle.capnp_frame.specs.declared.error.ErrorKind.{ErrorKind}
@@ -39,7 +39,7 @@ overrun_after n left more over = record {
 
 refused_after : (raw more : List ℕ) (n : ℕ) (kind : ErrorKind) → RefusesChunk raw n kind → IsCutKind kind ⊎ RefusesChunk (raw ++ more) n kind
 refused_after raw more n kind (inl parted) = inr (inl parted)
-refused_after raw more n kind (inr (whole, inl (none, room, is))) = inl (inl is)
+refused_after raw more n kind (inr (whole, inl (none, (room, is)))) = inl (inl is)
 refused_after raw more n kind (inr (whole, inr (some, met))) = elim (met.fault) [
   | inl head ↦ inl (inr head.1)
   | inr (inl over) ↦ inr (inr (
@@ -76,8 +76,8 @@ Segments kind left ns following = Unless (LacksRoom None (table_size (length ns)
 limit_after : (limit : Option ℕ) (kind : ErrorKind) (left word others following more : List ℕ)
     → RefusesAtLimit Zero limit kind (Segments kind left) left word others following
     → IsCutKind kind ⊎ RefusesAtLimit Zero limit kind (Segments kind (left ++ more)) (left ++ more) word others (following ++ more)
-limit_after limit kind left word others following more (ns, table, inl (large, is, at)) = inr (ns, table, inl (large, is, ap (λ l. l ++ more) at))
-limit_after limit kind left word others following more (ns, table, inr (small, inl (broken, is, at))) = inr (ns, table, inr (small, inl (broken, is, ap (λ l. l ++ more) at)))
+limit_after limit kind left word others following more (ns, table, inl (large, (is, at))) = inr (ns, table, inl (large, (is, ap (λ l. l ++ more) at)))
+limit_after limit kind left word others following more (ns, table, inr (small, inl (broken, (is, at)))) = inr (ns, table, inr (small, inl (broken, (is, ap (λ l. l ++ more) at))))
 limit_after limit kind left word others following more (ns, table, inr (small, inr (padded, inl (room, stop)))) = absurd room
 limit_after limit kind left word others following more (ns, table, inr (small, inr (padded, inr (room, refused)))) = elim (refused_after following more (8 * sum ns) kind refused) [
   | inl cut ↦ inl cut
@@ -87,7 +87,7 @@ limit_after limit kind left word others following more (ns, table, inr (small, i
 count_after : (limit : Option ℕ) (kind : ErrorKind) (left word between more : List ℕ)
     → RefusesAtCount Zero Unpacks RefusesChunk limit None kind (Segments kind left) left word between
     → IsCutKind kind ⊎ RefusesAtCount Zero Unpacks RefusesChunk limit None kind (Segments kind (left ++ more)) (left ++ more) word (between ++ more)
-count_after limit kind left word between more (count, told, inl (out, is, at)) = inr (count, told, inl (out, is, ap (λ l. l ++ more) at))
+count_after limit kind left word between more (count, told, inl (out, (is, at))) = inr (count, told, inl (out, (is, ap (λ l. l ++ more) at)))
 count_after limit kind left word between more (count, told, inr (within, inl (room, stop))) = absurd room
 count_after limit kind left word between more (count, told, inr (within, inr (room, asks))) =
     elim (asks_after kind between more (8 * (count / 2)) (λ others following lines. limit_after limit kind left word others following more lines) asks) [
@@ -98,10 +98,10 @@ count_after limit kind left word between more (count, told, inr (within, inr (ro
 stream_after : (limit : Option ℕ) (kind : ErrorKind) (raw left more : List ℕ) → RefusesNext Zero Packed limit kind raw left
     → IsCutKind kind ⊎ RefusesNext Zero Packed limit kind (raw ++ more) (left ++ more)
 stream_after limit kind raw left more (inl (room, stop)) = absurd room
-stream_after limit kind raw left more (inr (room, some, asks)) =
+stream_after limit kind raw left more (inr (room, (some, asks))) =
     elim (asks_after kind raw more 8 (λ word between lines. count_after limit kind left word between more lines) asks) [
       | inl cut ↦ inl cut
-      | inr there ↦ inr (inr (room, none_before raw more some, there))
+      | inr there ↦ inr (inr (room, (none_before raw more some, there)))
     ]
 
 -- what refuses the front of a record that a reader takes says that it ends too early
