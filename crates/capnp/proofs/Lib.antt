@@ -13,3 +13,6 @@ pub mod BlameLemmas
 pub mod FormLemmas
 pub mod RootLemmas
 pub mod DeviceLemmas
+pub mod StreamLemmas
+pub mod LogLemmas
+pub mod CutLemmas

@@ -9,3 +9,6 @@ pub mod Passed
 pub mod Canonical
 pub mod Roots
 pub mod Devices
+pub mod Reading
+pub mod RecordLog
+pub mod MessageStreams

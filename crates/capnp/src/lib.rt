@@ -18,6 +18,7 @@ pub mod list_list;
 pub mod message;
 pub mod primitive_element;
 pub mod primitive_list;
+pub mod record_log;
 pub mod roots;
 pub mod serialize;
 pub mod serialize_packed;

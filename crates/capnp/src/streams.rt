@@ -1,4 +1,4 @@
-//! Streams of messages: what is done with each, until none is left.
+//! Streams of messages: the next one, all of them, as an iterator or at once, and what is done with each.
 ghost use Rattle.std.specs.Prelude.{◌≡◌, ◌⊎◌, None, IfSome, OnOk, OnErr, IfErr};
 ghost use Rattle.std.specs.List.{AllByRecursion};
 ghost use Rattle.capnp_frame.specs.declared.error.ErrorKind.{ErrorKind};
@@ -12,6 +12,9 @@ ghost use Rattle.capnp_pack.specs.PackedStreams.{packed_rules};
 ghost use Rattle.capnp.specs.Streams.{refuses_of, rules_of};
 ghost use Rattle.capnp.specs.Runs.{Writing, DecliningWriting, IsWritingFault, BreaksOffOr, IsRunFault, HasRun, WritesEach};
 
+mod message_stream;
+mod reading;
+
 use capnp_frame::io::{BufRead, Write};
 use capnp_frame::message::ReaderOptions;
 use capnp_frame::serialize::{
@@ -21,6 +24,8 @@ use capnp_frame::{Error, Result};
 use capnp_pack::stream::{
     try_read_packed_segments_reusing, try_read_packed_segments_reusing_lenient,
 };
+pub use message_stream::{MessageStream, open_file};
+pub use reading::{StreamRead, every_message, is_cut, next_message};
 use std::alloc::Global;
 
 /// The formats of a stream.

@@ -5,15 +5,16 @@ use capnp::Result;
 use capnp::message::{
     Builder, DEFAULT_READER_OPTIONS, Reader, ReaderOptions, ReaderSegments, SegmentArray,
 };
-use capnp::serialize::OwnedSegments;
-use capnp::streams::Format;
+use capnp::record_log::{append_segments, read_log};
+use capnp::serialize::{OwnedSegments, Padding};
+use capnp::streams::{Format, StreamRead, every_message};
 use capnp_uses::building::write_struct;
 use capnp_uses::canonical::canonical_words;
 use capnp_uses::packed_struct::{a_struct_is_read_packed, packed_text, read_packed_words};
 use capnp_uses::packing::{pack_words, unpack_words, words_are_unpacked};
 use capnp_uses::reading::{borrowed_message, first_message, root_text};
-use capnp_uses::record_log::{append, read_log, two_records_are_read_back};
-use capnp_uses::streaming::{StreamRead, every_message, next_message};
+use capnp_uses::record_log::two_records_are_read_back;
+use capnp_uses::streaming::next_message;
 use std::alloc::{AllocError, Global};
 
 // Segments [] and [1, 2, 3, 4, 5, 6, 7, 8], framed, and packed.
@@ -86,7 +87,7 @@ pub fn told_of(
     stream: &[u8],
     options: ReaderOptions,
 ) -> (usize, usize, u8) {
-    told(&every_message(alloc, format, stream, options))
+    told(&every_message(alloc, format, Padding::Zero, options, stream))
 }
 
 /// What is told of all records of a log.
@@ -144,8 +145,8 @@ fn log_of_two(alloc: Global) -> Result<Vec<u8>> {
     let slices = [[].as_slice(), &FRAMED[16..]];
     let record = SegmentArray::new(&slices);
     let mut log = Vec::new(alloc);
-    append(alloc, &mut log, &record)?;
-    append(alloc, &mut log, &record)?;
+    append_segments(alloc, &mut log, &record)?;
+    append_segments(alloc, &mut log, &record)?;
     Ok(log)
 }
 
@@ -157,8 +158,9 @@ fn a_log_that_is_cut(rt: HostRuntime) -> Result<()> {
     expect(&rt, "second", &log[14..], PACKED.as_slice());
     for end in 14..28usize {
         let options = DEFAULT_READER_OPTIONS;
-        let (messages, last, number) = told_of_log(rt.alloc(), &log[..end], options);
-        expect(&rt, end, (messages, last, number == 0), (1, 14, end == 14));
+        let read = read_log(rt.alloc(), &log[..end], options);
+        let found = (read.messages.len(), read.end, read.is_cut());
+        expect(&rt, end, found, (1, 14, end > 14));
     }
     Ok(())
 }

@@ -3,7 +3,9 @@ use capnp::io::{Read, Write};
 use capnp::message::{
     Builder, DEFAULT_READER_OPTIONS, HeapAllocator, SegmentArray, SingleSegmentAllocator,
 };
-use capnp::{Way, primitive_list, serialize, serialize_packed, text, transcode};
+use capnp::serialize::Padding;
+use capnp::streams::{Format, MessageStream};
+use capnp::{Way, primitive_list, record_log, serialize, serialize_packed, text, transcode};
 use capnp_pack::{PackedRead, PackedWrite};
 use std::test::Fail;
 
@@ -90,6 +92,32 @@ fn transcodes(rt: HostRuntime) -> Result<(), Fail> {
     let options = DEFAULT_READER_OPTIONS;
     transcode(alloc, Way::Pack, &mut source, &mut packed, options)?;
     assert_eq!(rt; packed.as_slice(), PACKED.as_slice());
+    Ok(())
+}
+
+#[test]
+fn reads_each_message_of_a_stream(rt: HostRuntime) -> Result<(), Fail> {
+    let alloc = rt.alloc();
+    let source = PACKED.as_slice();
+    let options = DEFAULT_READER_OPTIONS;
+    for message in MessageStream::new(alloc, Format::Packed, Padding::Zero, options, source) {
+        let message = message?;
+        let greeting: text::Reader<'_> = message.get_root()?;
+        assert_eq!(rt; greeting.as_bytes(), b"Hello, World!".as_slice());
+    }
+    Ok(())
+}
+
+#[test]
+fn appends_a_record_to_a_log(rt: HostRuntime) -> Result<(), Fail> {
+    let alloc = rt.alloc();
+    let mut message = Builder::new_default(alloc);
+    message.set_root::<text::Owned, &str>("Hello, World!")?;
+    let mut log = Vec::new(alloc);
+    record_log::append(alloc, &mut log, &message)?;
+    let read = record_log::read_log(alloc, &log, DEFAULT_READER_OPTIONS);
+    assert_eq!(rt; (read.messages.len(), read.end), (1, log.len()));
+    assert!(rt; !read.is_cut());
     Ok(())
 }
 

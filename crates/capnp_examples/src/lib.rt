@@ -27,6 +27,8 @@ mod large_messages;
 #[cfg(test)]
 mod long_inputs;
 #[cfg(test)]
+mod message_streams;
+#[cfg(test)]
 mod other_options;
 #[cfg(test)]
 mod regions;

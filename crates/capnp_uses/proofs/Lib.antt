@@ -4,7 +4,6 @@ pub mod AnyNumberLemmas
 pub mod BackLemmas
 pub mod ContactLemmas
 pub mod LargeLemmas
-pub mod LogLemmas
 pub mod PackedStructLemmas
 pub mod PackingLemmas
 pub mod ReadingLemmas
@@ -12,4 +11,3 @@ pub mod RegionLemmas
 pub mod RootLemmas
 pub mod SetLemmas
 pub mod SkipLemmas
-pub mod StreamLemmas

@@ -1,18 +1,16 @@
-//! Streams whose messages are all read.
-ghost use Rattle.std.specs.Prelude.{◌≡◌, ◌++◌, ◌∷◌, [], ◌⊎◌, ℕ, List, Some, map, IsTrue, IsFalse, IfSome, IfOk, IfErr, OnErr};
-ghost use Rattle.std.specs.List.{AllByRecursion};
+//! Streams that are read message by message.
+ghost use Rattle.std.specs.Prelude.{◌≡◌, IfSome, IfOk};
 ghost use Rattle.capnp_frame.specs.declared.serialize.segment_table.Padding.TheVariants.{Zero};
-ghost use Rattle.capnp_frame.specs.declared.error.ErrorKind.{ErrorKind};
 ghost use Rattle.capnp_frame.specs.Streams.{next_in, ReadsStream};
 ghost use Rattle.capnp.specs.Headline.{ReturnsTexts};
-ghost use Rattle.capnp.specs.Streams.{grammar_of, rules_of, StandsNext, EndsBy};
-ghost use Rattle.capnp_uses.specs.Streaming.{ReadsEach, SkipsMessage};
+ghost use Rattle.capnp.specs.Streams.{grammar_of, rules_of};
+ghost use Rattle.capnp_uses.specs.Streaming.{SkipsMessage};
 
 use capnp::io::BufRead;
 use capnp::message::{Reader, ReaderOptions};
 use capnp::serialize::{self, OwnedSegments};
 use capnp::streams::Format;
-use capnp::{Error, ErrorKind, Result, serialize_packed};
+use capnp::{Result, serialize_packed};
 use std::alloc::Global;
 
 /// The next message of a stream in either format, or `None` at its end.
@@ -51,85 +49,4 @@ pub fn skip_message<R: BufRead>(
 {
     let message = next_message(alloc, format, source, options)?;
     Ok(message.is_some())
-}
-
-/// What was read of a stream that lies in memory.
-#[derive(Drop)]
-pub struct StreamRead {
-    /// The messages, in order.
-    pub messages: Vec<Reader<OwnedSegments>>,
-    /// Where the last of them ends, in bytes.
-    pub end: usize,
-    /// Why no further one was read, or `None` at the end of the stream.
-    pub refusal: Option<Error>,
-}
-
-/// Reads every message of a stream, one after another, up to its end or the first refusal.
-pub fn every_message(
-    alloc: Global,
-    format: Format,
-    stream: &[u8],
-    options: ReaderOptions,
-) -> StreamRead
-    ensures read { ReadsEach format options.traversal_limit_in_words stream.now
-        (map (λ reader. reader.segments) result.messages.items) result.end result.refusal }
-    ensures options { AllByRecursion (λ reader. reader.options ≡ options) result.messages.items }
-{
-    let mut messages = Vec::new(alloc);
-    let mut rest = stream;
-    let mut end = 0;
-    for count in 0..u64::MAX {
-        match add_next(alloc, format, &mut rest, options, &mut messages) {
-            Ok(true) => end = stream.len() - rest.len(),
-            Ok(false) => {
-                return StreamRead {
-                    messages,
-                    end,
-                    refusal: None,
-                };
-            }
-            Err(error) => {
-                return StreamRead {
-                    messages,
-                    end,
-                    refusal: Some(error),
-                };
-            }
-        }
-    }
-    StreamRead {
-        messages,
-        end,
-        refusal: Some(Error::from_kind(ErrorKind::OutOfMemory)),
-    }
-}
-
-// Adds the next message to those before it, or tells that none is left.
-fn add_next(
-    alloc: Global,
-    format: Format,
-    rest: &mut &[u8],
-    options: ReaderOptions,
-    messages: &mut Vec<Reader<OwnedSegments>>,
-) -> Result<bool>
-    ensures added { IfOk result (λ more. IsTrue more → (message : List (List ℕ))
-        × StandsNext Zero format options.traversal_limit_in_words message rest.old.now rest.new.now
-        × (map (λ reader. reader.segments) messages.new.items
-        ≡ map (λ reader. reader.segments) messages.old.items ++ message ∷ [])) }
-    ensures ended { IfOk result (λ more. IsFalse more →
-        (rest.old.now ≡ []) × (messages.new.items ≡ messages.old.items)) }
-    ensures refused { IfErr result (λ error. (error.kind ≡ ErrorKind.OutOfMemory)
-        ⊎ EndsBy Zero format options.traversal_limit_in_words (Some error.kind) rest.old.now) }
-    ensures kept { OnErr result (messages.new.items ≡ messages.old.items) }
-    // Readers of these options stay such readers.
-    ensures options { AllByRecursion (λ reader. reader.options ≡ options) messages.old.items →
-        AllByRecursion (λ reader. reader.options ≡ options) messages.new.items }
-{
-    match next_message(alloc, format, rest, options)? {
-        Some(message) => {
-            messages.push(message)?;
-            Ok(true)
-        }
-        None => Ok(false),
-    }
 }

@@ -1,18 +1,17 @@
 -- Each turn reads one more message, and where the reading stops the stream ends, or memory does.
 use Rattle.std.proofs.Common.{refl, ap, map, inl, inr, None, Some}
 use Rattle.capnp.specs.Streams.{grammar_of}
-use Rattle.capnp_frame.specs.declared.serialize.segment_table.Padding.TheVariants.{Zero}
-use Rattle.capnp_uses.proofs.StreamLemmas.{texts_within, next_texts, refused_ends, stopped}
-use Rattle.capnp_uses.proofs.streaming.every_message.Goals as goal
+use Rattle.capnp.proofs.StreamLemmas.{texts_within, next_texts, refused_ends, stopped}
+use Rattle.capnp.proofs.streams.reading.every_message.Goals as goal
 
 pub overflow_sub-end : goal.overflow_sub-end
-overflow_sub-end c = texts_within (grammar_of Zero c.args.format) c.args.options.traversal_limit_in_words _ c.args.stream.now c.add_next.new.rest.now
-    (next_texts c.args.format c.args.options.traversal_limit_in_words _ _ c.args.stream.now c.loop-count.rest.now c.add_next.new.rest.now
+overflow_sub-end c = texts_within (grammar_of c.args.padding c.args.format) c.args.options.traversal_limit_in_words _ c.args.stream.now c.add_next.new.rest.now
+    (next_texts c.args.padding c.args.format c.args.options.traversal_limit_in_words _ _ c.args.stream.now c.loop-count.rest.now c.add_next.new.rest.now
     c.loop-count.invariant.texts (c.in-Ok-true.ensures.added c.in-Ok-true.field-0-test))
 
 pub loop-count-preserved : goal.loop-count-preserved
 loop-count-preserved c = record {
-  texts = next_texts c.args.format c.args.options.traversal_limit_in_words _ _ c.args.stream.now c.loop-count.rest.now c.add_next.new.rest.now
+  texts = next_texts c.args.padding c.args.format c.args.options.traversal_limit_in_words _ _ c.args.stream.now c.loop-count.rest.now c.add_next.new.rest.now
       c.loop-count.invariant.texts (c.in-Ok-true.ensures.added c.in-Ok-true.field-0-test);
   options = c.add_next.ensures.options c.loop-count.invariant.options;
   at = refl;
@@ -21,19 +20,19 @@ loop-count-preserved c = record {
 pub returns-in-Ok-false : goal.returns-in-Ok-false
 returns-in-Ok-false c =
     let ended = c.in-Ok-false.ensures.ended c.in-Ok-false.field-0-test in
-    let stop = stopped c.args.format c.args.options.traversal_limit_in_words _ _ None c.args.stream.now c.loop-count.rest.now c.loop-count.end
+    let stop = stopped c.args.padding c.args.format c.args.options.traversal_limit_in_words _ _ None c.args.stream.now c.loop-count.rest.now c.loop-count.end
     (ap (map (λ reader. reader.segments)) ended.1) c.loop-count.invariant.texts c.loop-count.invariant.at (inr ended.0) in
     record { read = record { within = stop.0; texts = stop.1; ends = stop.2; exact = stop.3 }; options = c.add_next.ensures.options c.loop-count.invariant.options }
 
 pub returns-in-Err : goal.returns-in-Err
 returns-in-Err c =
-    let stop = stopped c.args.format c.args.options.traversal_limit_in_words _ _ (Some c.in-Err.error) c.args.stream.now c.loop-count.rest.now c.loop-count.end
+    let stop = stopped c.args.padding c.args.format c.args.options.traversal_limit_in_words _ _ (Some c.in-Err.error) c.args.stream.now c.loop-count.rest.now c.loop-count.end
     (ap (map (λ reader. reader.segments)) c.in-Err.ensures.kept) c.loop-count.invariant.texts c.loop-count.invariant.at
     (refused_ends c.in-Err.error _ c.in-Err.ensures.refused) in
     record { read = record { within = stop.0; texts = stop.1; ends = stop.2; exact = stop.3 }; options = c.add_next.ensures.options c.loop-count.invariant.options }
 
 pub returns : goal.returns
 returns c =
-    let stop = stopped c.args.format c.args.options.traversal_limit_in_words _ _ (Some c.from_kind.result) c.args.stream.now c.loop-count.rest.now c.loop-count.end
+    let stop = stopped c.args.padding c.args.format c.args.options.traversal_limit_in_words _ _ (Some c.from_kind.result) c.args.stream.now c.loop-count.rest.now c.loop-count.end
     refl c.loop-count.invariant.texts c.loop-count.invariant.at (inl (ap Some c.from_kind.ensures)) in
     record { read = record { within = stop.0; texts = stop.1; ends = stop.2; exact = stop.3 }; options = c.loop-count.invariant.options }

@@ -1,7 +1,7 @@
 -- What is appended to a log is read back.
 use Rattle.std.proofs.Common.{◌≡◌, ◌⊎◌, inl, inr, ℕ, ◌<◌, ◌≤◌, Option, Some, None, List, [], ◌∷◌, ◌++◌, length, take, drop, refl, sym, ap, ◌∙◌, subst, arith, append_assoc, length-append, length-drop}
 use Rattle.std.proofs.Math.Seq.{take-append_seam}
-use Rattle.std.proofs.lemmas.List.{append-nil}
+use Rattle.std.proofs.lemmas.List.{append-nil, drop_at}
 use Rattle.capnp_frame.specs.declared.serialize.segment_table.Padding.TheVariants.{Zero}
 use Rattle.capnp_frame.specs.declared.error.Error.{Error}
 use Rattle.capnp_frame.specs.declared.error.ErrorKind.{ErrorKind}
@@ -22,7 +22,9 @@ use Rattle.capnp.specs.Streams.{EndsBy, IsStream}
 use Rattle.capnp.specs.Written.{IsTextOf, IsPackedTextOf, AppendsEach}
 use Rattle.capnp.proofs.AppendedLemmas.{AppendsEach-push, appended_stream}
 use Rattle.capnp.proofs.RunLemmas.{format_parts}
-use Rattle.capnp_uses.specs.Streaming.{kind_of, LacksMemory, IsLog}
+use Rattle.capnp.specs.Reading.{kind_of, LacksMemory, IsCut}
+use Rattle.capnp.specs.RecordLog.{IsCutLog, IsLog}
+use Rattle.capnp.proofs.CutLemmas.{front_is_cut}
 
 -- Appending
 
@@ -36,8 +38,8 @@ appended_log m old new writable few (text, packed, spelled) limit records log si
 }
 
 -- what stands at the front is kept by a cut to its length
-pub cut_back : (old new kept : List ℕ) (end : ℕ) → IfKnown (Some old) (Some new) IsFront → end ≡ length old → kept ≡ take end new → kept ≡ old
-cut_back old new kept end (tail, spelled) at is = is ∙ ap (λ k. take k new) at ∙ ap (λ l. take (length old) l) spelled ∙ take-append_seam old tail
+pub kept_back : (old new kept : List ℕ) (end : ℕ) → IfKnown (Some old) (Some new) IsFront → end ≡ length old → kept ≡ take end new → kept ≡ old
+kept_back old new kept end (tail, spelled) at is = is ∙ ap (λ k. take k new) at ∙ ap (λ l. take (length old) l) spelled ∙ take-append_seam old tail
 
 -- Reading
 
@@ -112,3 +114,21 @@ cut_is_told limit ms refusal log end within texts (inr ends) records whole part 
     subst (λ l. AreTexts (IsPackedFrame Zero) limit records l part) (sym spelled) (subst (λ l. AreTexts (IsPackedFrame Zero) limit records (whole ++ part) (l ++ part)) nothing following) in
     let same = cut_once limit (kind_of refusal) ms records log (drop end log) part texts ends there (λ other left. part_is_none limit next other part missing left writable packed some) in
     inr (same.0, cut_end log whole part end within spelled same.1)
+
+-- why it is read no further
+cut_by : (limit : Option ℕ) (refusal : Option Error) (next : List (List ℕ)) (part missing : List ℕ) → IsWritable next → HasFew next → KeepsLimit (lengths next) limit
+    → IsPackedTextOf next (part ++ missing) → 0 < length part → EndsBy Zero Packed limit (kind_of refusal) part → IsCut refusal
+cut_by limit None next part missing writable few size packed begun none = absurd (omega (arith, begun, ap length none))
+cut_by limit (Some error) next part missing writable few size packed begun (left, refused) = front_is_cut limit next part missing left error.kind writable few size packed refused
+
+pub cut_told : (limit : Option ℕ) (ms : List (List (List ℕ))) (refusal : Option Error) (log : List ℕ) (end : ℕ) → end ≤ length log
+    → AreTexts (IsPackedFrame Zero) limit ms log (drop end log) → LacksMemory refusal ⊎ EndsBy Zero Packed limit (kind_of refusal) (drop end log)
+    → (records : List (List (List ℕ))) (whole : List ℕ) → IsCutLog limit records whole log → LacksMemory refusal ⊎ IsCut refusal
+cut_told limit ms refusal log end within texts (inl memory) records whole cut = inl memory
+cut_told limit ms refusal log end within texts (inr ends) records whole cut =
+    elim (cut_is_told limit ms refusal log end within texts (inr ends) records whole cut.part cut.missing cut.next cut.before cut.writable cut.packed cut.some cut.spelled) [
+      | inl memory ↦ inl memory
+      | inr same ↦
+          let left : drop end log ≡ cut.part = ap (drop end) cut.spelled ∙ drop_at whole cut.part end (sym same.1) in
+          inr (cut_by limit refusal cut.next cut.part cut.missing cut.writable cut.few cut.size cut.packed cut.begun (subst (λ l. EndsBy Zero Packed limit (kind_of refusal) l) left ends))
+    ]

@@ -1,6 +1,6 @@
 -- What is read of a log is its records.
-use Rattle.capnp_uses.proofs.LogLemmas.{log_is_read, cut_is_told}
-use Rattle.capnp_uses.proofs.record_log.read_log.Goals as goal
+use Rattle.capnp.proofs.LogLemmas.{log_is_read, cut_is_told, cut_told}
+use Rattle.capnp.proofs.record_log.read_log.Goals as goal
 
 pub returns-clause-read : goal.returns-clause-read
 returns-clause-read c =
@@ -12,4 +12,6 @@ returns-clause-read c =
       within = read.within;
       back = log_is_read limit _ refusal c.args.log.now end read.within read.ends read.exact;
       cut = cut_is_told limit _ refusal c.args.log.now end read.within read.texts read.ends;
+      ends = read.ends;
+      told = cut_told limit _ refusal c.args.log.now end read.within read.texts read.ends;
     }

@@ -1,0 +1,40 @@
+-- What is read of a stream in memory, and which refusals say that it is cut (src/streams/reading.rt).
+use Rattle.std.specs.Prelude.{◌≡◌, ◌⊎◌, ◌≤◌, ◌↔◌, ℕ, List, length, drop, Option, Some, None, Bool, IsTrue, IsSomeAnd}
+use Rattle.capnp_frame.specs.declared.error.Error.{Error}
+use Rattle.capnp_frame.specs.declared.error.ErrorKind.{ErrorKind}
+use Rattle.capnp_frame.specs.declared.error.ErrorKind.TheVariants.{FailedToFillTheWholeBuffer, OutOfMemory, PrematureEndOfPackedInput}
+use Rattle.capnp_frame.specs.declared.serialize.segment_table.Padding.{Padding}
+use Rattle.capnp_frame.specs.Texts.{AreTexts}
+use Rattle.capnp.specs.declared.streams.Format.{Format}
+use Rattle.capnp.specs.Streams.{grammar_of, EndsBy, IsStream}
+
+-- the kind of a refusal, if there is one
+abbrev pub kind_of : Option Error → Option ErrorKind
+kind_of None = None
+kind_of (Some error) = Some error.kind
+
+abbrev pub LacksMemory : Option Error → Type 0
+LacksMemory refusal = kind_of refusal ≡ Some OutOfMemory
+
+-- a reader fails so where its source ends within a message
+abbrev pub IsCutKind : ErrorKind → Type 0
+IsCutKind kind = (kind ≡ FailedToFillTheWholeBuffer) ⊎ (kind ≡ PrematureEndOfPackedInput)
+
+abbrev pub IsCut : Option Error → Type 0
+IsCut refusal = IsSomeAnd refusal (λ error. IsCutKind error.kind)
+
+abbrev pub TellsCut : Option Error → Bool → Type 0
+TellsCut refusal told = IsTrue told ↔ IsCut refusal
+
+-- What is read of a stream in memory: messages, where the last of them ends, and why no further one was read, if the stream doesn't
+-- end there.
+pub record ReadsEach (rule : Padding) (format : Format) (limit : Option ℕ) (stream : List ℕ) (messages : List (List (List ℕ))) (end : ℕ)
+    (refusal : Option Error) : Type 0 where
+  -- the messages are the first `end` bytes
+  pub within : end ≤ length stream
+  pub texts : AreTexts (grammar_of rule format) limit messages stream (drop end stream)
+  -- and there the stream ends, or is refused so
+  pub ends : LacksMemory refusal ⊎ EndsBy rule format limit (kind_of refusal) (drop end stream)
+  -- so it is the one list of messages that the stream is, memory aside
+  pub exact : (listed : List (List (List ℕ))) (ending : Option ErrorKind) → IsStream rule format limit listed ending stream
+      → LacksMemory refusal ⊎ (messages ≡ listed) × (kind_of refusal ≡ ending)

@@ -1,0 +1,61 @@
+-- Logs of packed records (src/record_log.rt).
+use Rattle.std.specs.Prelude.{◌≡◌, ◌⊎◌, ◌≤◌, ◌<◌, ◌++◌, ◌∷◌, ℕ, List, [], length, drop, Option, None, Result, OnOk, OnErr, IfErr}
+use Rattle.std.specs.List.{AllByRecursion}
+use Rattle.capnp_frame.specs.declared.error.Error.{Error}
+use Rattle.capnp_frame.specs.declared.error.ErrorKind.TheVariants.{OutOfMemory}
+use Rattle.capnp_frame.specs.declared.serialize.segment_table.Padding.TheVariants.{Zero}
+use Rattle.capnp_frame.specs.Limits.{KeepsLimit}
+use Rattle.capnp_frame.specs.Message.{lengths}
+use Rattle.capnp_frame.specs.Writers.{KeepsCount}
+use Rattle.capnp_frame.specs.Writing.{IsWritable, HasFew, RefusesMany}
+use Rattle.capnp.specs.declared.streams.Format.TheVariants.{Packed}
+use Rattle.capnp.specs.Reading.{kind_of, LacksMemory, IsCut}
+use Rattle.capnp.specs.Streams.{EndsBy}
+use Rattle.capnp.specs.Written.{IsTextOf, IsPackedTextOf, AppendsEach}
+
+-- what was appended of these records, none of more segments than a writer takes, each within the limit of words
+pub record IsLog (limit : Option ℕ) (records : List (List (List ℕ))) (log : List ℕ) : Type 0 where
+  pub writable : AllByRecursion IsWritable records
+  pub few : AllByRecursion HasFew records
+  pub size : AllByRecursion (λ record_is. KeepsLimit (lengths record_is) limit) records
+  pub appended : AppendsEach (IsTextOf Packed) records log
+
+-- What appending a record does to a log, `old` before the call and `new` after it.
+pub record AppendsRecord {X : Type 0} (message : List (List ℕ)) (old new : List ℕ) (result : Result X Error) : Type 0 where
+  -- a log of records is one with this record after them
+  pub appended : (limit : Option ℕ) (records : List (List (List ℕ))) → IsLog limit records old → KeepsLimit (lengths message) limit
+      → OnOk result (IsLog limit (records ++ message ∷ []) new)
+  -- a call that fails leaves the log as it was
+  pub unchanged : OnErr result (new ≡ old)
+  -- it fails by the number of segments exactly where there are more than a reader accepts, and else for want of memory
+  pub count : KeepsCount message result
+  pub refused : IfErr result (λ error. RefusesMany message error.kind ⊎ (error.kind ≡ OutOfMemory))
+
+-- The log is cut within the record that follows these, one that a reader takes: `whole` is there of them, and of it some bytes, but not all.
+pub record IsCutLog (limit : Option ℕ) (records : List (List (List ℕ))) (whole log : List ℕ) : Type 0 where
+  pub before : IsLog limit records whole
+  pub next : List (List ℕ)
+  pub writable : IsWritable next
+  pub few : HasFew next
+  pub size : KeepsLimit (lengths next) limit
+  pub part : List ℕ
+  pub missing : List ℕ
+  pub packed : IsPackedTextOf next (part ++ missing)
+  pub begun : 0 < length part
+  pub some : 0 < length missing
+  pub spelled : log ≡ whole ++ part
+
+-- What is read of a log.
+pub record ReadsLog (limit : Option ℕ) (log : List ℕ) (messages : List (List (List ℕ))) (end : ℕ) (refusal : Option Error) : Type 0 where
+  pub within : end ≤ length log
+  -- what was appended is read back, in order, memory aside
+  pub back : (records : List (List (List ℕ))) → IsLog limit records log
+      → LacksMemory refusal ⊎ (messages ≡ records) × (refusal ≡ None) × (end ≡ length log)
+  -- where the log is cut within a record those before it are read, and where they end is told
+  pub cut : (records : List (List (List ℕ))) (whole part missing : List ℕ) (next : List (List ℕ)) → IsLog limit records whole
+      → IsWritable next → IsPackedTextOf next (part ++ missing) → 0 < length missing → log ≡ whole ++ part
+      → LacksMemory refusal ⊎ (messages ≡ records) × (end ≡ length whole)
+  -- why no further one was read is what stands there
+  pub ends : LacksMemory refusal ⊎ EndsBy Zero Packed limit (kind_of refusal) (drop end log)
+  -- and where a record is cut that a reader takes, it is a kind that says so
+  pub told : (records : List (List (List ℕ))) (whole : List ℕ) → IsCutLog limit records whole log → LacksMemory refusal ⊎ IsCut refusal

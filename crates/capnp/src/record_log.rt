@@ -1,0 +1,66 @@
+//! A log of packed records: one is appended, and all are read back, also where the log is cut.
+//!
+//! A log is a stream of packed messages whose padding is zero. What is appended to a file by
+//! `serialize_packed::write_message` is such a log, too.
+ghost use Rattle.std.specs.Prelude.{◌≡◌, map};
+ghost use Rattle.std.specs.List.{AllByRecursion};
+ghost use Rattle.capnp_frame.specs.Writing.{IsWritable};
+ghost use Rattle.capnp.specs.RecordLog.{AppendsRecord, ReadsLog};
+
+use crate::serialize_packed;
+use crate::streams::{Format, StreamRead, every_message};
+use capnp_frame::Result;
+use capnp_frame::message::{BuiltMessage, ReaderOptions, ReaderSegments};
+use capnp_frame::serialize::Padding;
+use std::alloc::Global;
+
+/// Appends a record, a message that was built, to a log.
+///
+/// Fails with `InvalidNumberOfSegments` where the record has more than 511 segments, and else with
+/// `OutOfMemory` alone. Then the log stays as it was.
+///
+/// ```
+/// let mut log = Vec::new(alloc);
+/// record_log::append(alloc, &mut log, &message)?;
+/// let read = record_log::read_log(alloc, &log, DEFAULT_READER_OPTIONS);
+/// assert_eq!(rt; (read.messages.len(), read.end), (1, log.len()));
+/// assert!(rt; !read.is_cut());
+/// ```
+pub fn append<M: BuiltMessage>(alloc: Global, log: &mut Vec<u8>, message: &M) -> Result<()>
+    requires { M.has_segment message.now }
+    ensures { AppendsRecord (M.segments message.now) log.old.items log.new.items result }
+{
+    message.can_be_written();
+    append_segments(alloc, log, message)
+}
+
+/// Appends a record of any segments to a log. It needs the segments that a writer needs, and fails as
+/// `append` does.
+pub fn append_segments<S: ReaderSegments>(
+    alloc: Global,
+    log: &mut Vec<u8>,
+    segments: &S,
+) -> Result<()>
+    requires { IsWritable (S.segments segments.now) }
+    ensures { AppendsRecord (S.segments segments.now) log.old.items log.new.items result }
+{
+    let end = log.len();
+    match serialize_packed::write_message_segments(alloc, log, segments) {
+        Ok(()) => Ok(()),
+        Err(error) => {
+            log.truncate(end);
+            Err(error)
+        }
+    }
+}
+
+/// Reads all records of a log, and tells where they end.
+///
+/// Where `is_cut` says so, the log is to be truncated to `end` before the next record is appended.
+pub fn read_log(alloc: Global, log: &[u8], options: ReaderOptions) -> StreamRead
+    ensures read { ReadsLog options.traversal_limit_in_words log.now
+        (map (λ reader. reader.segments) result.messages.items) result.end result.refusal }
+    ensures options { AllByRecursion (λ reader. reader.options ≡ options) result.messages.items }
+{
+    every_message(alloc, Format::Packed, Padding::Zero, options, log)
+}

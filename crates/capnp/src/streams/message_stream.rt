@@ -1,0 +1,119 @@
+//! The messages of a stream as an iterator: of a file, of another device, or of bytes in memory.
+ghost use Rattle.std.specs.Prelude.{◌≡◌, IfOk};
+ghost use Rattle.std.specs.Iterator.{at_most};
+ghost use Rattle.capnp.specs.MessageStreams.{HasSettings, GivesMessage};
+
+use crate::Result;
+use crate::devices::Input;
+use crate::streams::{Format, next_message};
+use capnp_frame::io::BufRead;
+use capnp_frame::message::ReaderOptions;
+use capnp_frame::serialize::{OwnedSegments, Padding};
+use capnp_message::Reader;
+use std::alloc::Global;
+use std::path::AsPath;
+use std::rt::Files;
+use std::{fs, io};
+
+/// The messages of a stream, in order, each as a result.
+///
+/// It ends where nothing is unread, and after an error, since nothing says where a further message would
+/// begin. Of more than 2^64 - 1 messages it gives the first ones.
+///
+/// ```
+/// let options = DEFAULT_READER_OPTIONS;
+/// for message in MessageStream::new(alloc, Format::Packed, Padding::Zero, options, source) {
+///     let message = message?;
+///     let greeting: text::Reader<'_> = message.get_root()?;
+///     assert_eq!(rt; greeting.as_bytes(), b"Hello, World!".as_slice());
+/// }
+/// ```
+#[derive(Drop)]
+pub struct MessageStream<R> {
+    source: R,
+    alloc: Global,
+    format: Format,
+    padding: Padding,
+    options: ReaderOptions,
+    left: u64,
+}
+
+impl<R: BufRead> MessageStream<R> {
+    /// The messages of a source, as a slice or an `Input` over a device, in this format, their padding by
+    /// the rule. Nothing is read yet.
+    pub fn new(
+        alloc: Global,
+        format: Format,
+        padding: Padding,
+        options: ReaderOptions,
+        source: R,
+    ) -> MessageStream<R>
+        ensures source { result.source ≡ source }
+        ensures settings { HasSettings result format padding options }
+    {
+        MessageStream {
+            source,
+            alloc,
+            format,
+            padding,
+            options,
+            left: u64::MAX,
+        }
+    }
+}
+
+impl<R: BufRead + Drop> Iterator for MessageStream<R> {
+    type Item = Result<Reader<OwnedSegments>>;
+
+    // Each is what the reader of the next message returns.
+    ghost next_gives = { GivesMessage R.Read (λ reader. reader.segments) (λ reader. reader.options) };
+
+    ghost remaining = { λ stream. at_most stream.left };
+
+    fn next(&mut self) -> Option<Result<Reader<OwnedSegments>>> {
+        if self.left == 0 {
+            return None;
+        }
+        match next_message(
+            self.alloc,
+            self.format,
+            self.padding,
+            self.options,
+            &mut self.source,
+        ) {
+            Ok(Some(message)) => {
+                self.left -= 1;
+                Some(Ok(message))
+            }
+            Ok(None) => {
+                self.left = 0;
+                None
+            }
+            Err(error) => {
+                self.left = 0;
+                Some(Err(error))
+            }
+        }
+    }
+}
+
+/// The messages of the file of this path, in this format, their padding by the rule.
+///
+/// Fails where the file can't be opened, with the system's reason, and with std's `OutOfMemory` for the
+/// buffer. The messages fail as those of `next_message` do; a read that fails is `DeviceFailed`.
+pub fn open_file<R: Files + AllocGlobal, P: AsPath>(
+    rt: &R,
+    path: P,
+    format: Format,
+    padding: Padding,
+    options: ReaderOptions,
+) -> io::Result<MessageStream<Input<R::File>>>
+    ensures { IfOk result (λ stream. HasSettings stream format padding options) }
+{
+    let alloc = rt.alloc();
+    let file = fs::open(rt, path)?;
+    match Input::new(alloc, file) {
+        Ok(source) => Ok(MessageStream::new(alloc, format, padding, options, source)),
+        Err(_) => Err(io::Error::from(io::ErrorKind::OutOfMemory)),
+    }
+}

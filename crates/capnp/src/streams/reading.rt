@@ -1,0 +1,155 @@
+//! The next message of a stream in either format, and all messages of a stream in memory.
+ghost use Rattle.std.specs.Prelude.{◌≡◌, ◌++◌, ◌∷◌, [], ◌⊎◌, ◌↔◌, List, ℕ, Some, map, IsTrue, IsFalse, IfSome, IfOk, IfErr, OnErr};
+ghost use Rattle.std.specs.List.{AllByRecursion};
+ghost use Rattle.capnp_frame.specs.declared.error.ErrorKind.{ErrorKind};
+ghost use Rattle.capnp_frame.specs.Streams.{next_in, ReadsStream};
+ghost use Rattle.capnp.specs.Streams.{rules_of, StandsNext, EndsBy};
+ghost use Rattle.capnp.specs.Reading.{IsCutKind, TellsCut, ReadsEach};
+
+use crate::streams::{Format, read_next};
+use capnp_frame::io::BufRead;
+use capnp_frame::message::ReaderOptions;
+use capnp_frame::serialize::{OwnedSegments, Padding};
+use capnp_frame::{Error, ErrorKind, Result};
+use capnp_message::Reader;
+use std::alloc::Global;
+
+/// Reads the next message of a stream in this format, its padding by the rule, or returns `None` where
+/// nothing is unread.
+///
+/// Fails as `try_read_message` of the format does, or its lenient form.
+pub fn next_message<R: BufRead>(
+    alloc: Global,
+    format: Format,
+    padding: Padding,
+    options: ReaderOptions,
+    source: &mut R,
+) -> Result<Option<Reader<OwnedSegments>>>
+    ensures reads { ReadsStream R.Read source.old source.new (rules_of padding format)
+        options.traversal_limit_in_words (next_in (λ reader. reader.segments) result) }
+    ensures options { IfOk result (λ found. IfSome found (λ reader.
+        reader.options ≡ options)) }
+{
+    match read_next(
+        format,
+        padding,
+        options,
+        source,
+        OwnedSegments::empty(alloc),
+    )? {
+        Some(segments) => Ok(Some(Reader::new(segments, options))),
+        None => Ok(None),
+    }
+}
+
+/// Whether a reader's error says that the stream ends within a message: one that is cut, or of which the
+/// rest is still to be written.
+///
+/// So say `FailedToFillTheWholeBuffer` and, of packed messages, `PrematureEndOfPackedInput`.
+pub fn is_cut(error: &Error) -> bool
+    ensures { IsTrue result ↔ IsCutKind error.now.kind }
+{
+    matches!(
+        error.kind,
+        ErrorKind::FailedToFillTheWholeBuffer | ErrorKind::PrematureEndOfPackedInput
+    )
+}
+
+/// What was read of a stream that lies in memory.
+#[derive(Drop)]
+pub struct StreamRead {
+    /// The messages, in order.
+    pub messages: Vec<Reader<OwnedSegments>>,
+    /// Where the last of them ends, in bytes.
+    pub end: usize,
+    /// Why no further one was read, or `None` at the end of the stream.
+    pub refusal: Option<Error>,
+}
+
+impl StreamRead {
+    /// Whether the stream ends within a message, by `is_cut`. Cut to `end` it is the messages that were
+    /// read, and more can be appended.
+    pub fn is_cut(&self) -> bool
+        ensures { TellsCut self.now.refusal result }
+    {
+        match &self.refusal {
+            Some(error) => is_cut(error),
+            None => false,
+        }
+    }
+}
+
+/// Reads every message of a stream, one after another, up to its end or the first refusal, their padding
+/// by the rule.
+///
+/// Where memory lacks, `refusal` is `OutOfMemory`, and what was read before is there.
+pub fn every_message(
+    alloc: Global,
+    format: Format,
+    padding: Padding,
+    options: ReaderOptions,
+    stream: &[u8],
+) -> StreamRead
+    ensures read { ReadsEach padding format options.traversal_limit_in_words stream.now
+        (map (λ reader. reader.segments) result.messages.items) result.end result.refusal }
+    ensures options { AllByRecursion (λ reader. reader.options ≡ options) result.messages.items }
+{
+    let mut messages = Vec::new(alloc);
+    let mut rest = stream;
+    let mut end = 0;
+    for count in 0..u64::MAX {
+        match add_next(alloc, format, padding, options, &mut rest, &mut messages) {
+            Ok(true) => end = stream.len() - rest.len(),
+            Ok(false) => {
+                return StreamRead {
+                    messages,
+                    end,
+                    refusal: None,
+                };
+            }
+            Err(error) => {
+                return StreamRead {
+                    messages,
+                    end,
+                    refusal: Some(error),
+                };
+            }
+        }
+    }
+    StreamRead {
+        messages,
+        end,
+        refusal: Some(Error::from_kind(ErrorKind::OutOfMemory)),
+    }
+}
+
+// Adds the next message to those before it, or tells that none is left.
+fn add_next(
+    alloc: Global,
+    format: Format,
+    padding: Padding,
+    options: ReaderOptions,
+    rest: &mut &[u8],
+    messages: &mut Vec<Reader<OwnedSegments>>,
+) -> Result<bool>
+    ensures added { IfOk result (λ more. IsTrue more → (message : List (List ℕ))
+        × StandsNext padding format options.traversal_limit_in_words message rest.old.now rest.new.now
+        × (map (λ reader. reader.segments) messages.new.items
+        ≡ map (λ reader. reader.segments) messages.old.items ++ message ∷ [])) }
+    ensures ended { IfOk result (λ more. IsFalse more →
+        (rest.old.now ≡ []) × (messages.new.items ≡ messages.old.items)) }
+    ensures refused { IfErr result (λ error. (error.kind ≡ ErrorKind.OutOfMemory)
+        ⊎ EndsBy padding format options.traversal_limit_in_words (Some error.kind) rest.old.now) }
+    ensures kept { OnErr result (messages.new.items ≡ messages.old.items) }
+    // Readers of these options stay such readers.
+    ensures options { AllByRecursion (λ reader. reader.options ≡ options) messages.old.items →
+        AllByRecursion (λ reader. reader.options ≡ options) messages.new.items }
+{
+    match next_message(alloc, format, padding, options, rest)? {
+        Some(message) => {
+            messages.push(message)?;
+            Ok(true)
+        }
+        None => Ok(false),
+    }
+}
