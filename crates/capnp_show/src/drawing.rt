@@ -7,7 +7,7 @@ use crate::html::{push_no_root, push_object, push_part};
 use crate::listing::push_node_text;
 use crate::owners::{MOST_NODES, Owners, Word};
 use crate::shown::write_full;
-use crate::tree::{Found, Walk};
+use crate::tree::{Found, Node, Walk};
 use crate::words::Place;
 use capnp::Result;
 use capnp::io::Write;
@@ -104,6 +104,21 @@ fn show_arrows_from<W: Write>(
     Ok(())
 }
 
+// Shows an object of this number. `line` is scratch space.
+fn show_object<S: ReaderSegments, W: Write>(
+    segments: &S,
+    node: &Node,
+    number: u64,
+    line: &mut String,
+    text: &mut String,
+    sink: &mut W,
+) -> Result<()> {
+    line.clear();
+    push_node_text(line, segments, node)?;
+    push_object(text, number, line.as_str())?;
+    write_full(text, sink)
+}
+
 // Shows the objects of a message, one by one.
 fn show_objects<S: ReaderSegments, W: Write>(
     alloc: Global,
@@ -122,11 +137,8 @@ fn show_objects<S: ReaderSegments, W: Write>(
             return Ok(());
         };
         if let Found::Object(_) = node.found {
-            line.clear();
-            push_node_text(&mut line, segments, &node)?;
-            push_object(text, objects, line.as_str())?;
+            show_object(segments, &node, objects, &mut line, text, sink)?;
             objects = objects.saturating_add(1);
-            write_full(text, sink)?;
         }
     }
     text.push_str("</ol>\n")?;

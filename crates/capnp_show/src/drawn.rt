@@ -138,7 +138,7 @@ fn push_null(text: &mut String, word: &Word) -> Result<(), AllocError>
     ensures { OnOk result (string_bytes text.new
         ≡ string_bytes text.old ++ null_class word.now.owner word.now.lead) }
 {
-    if word.is_pointer() && word.lead == Lead::Null {
+    if word.is_pointer() && matches!(word.lead, Lead::Null) {
         text.push_str(" null")?;
     }
     Ok(())

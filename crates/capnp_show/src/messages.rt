@@ -55,7 +55,7 @@ pub fn show_messages<R: BufRead + Drop, W: Write>(
             }
         }
     }
-    if showing.settings.form == Form::Count {
+    if matches!(showing.settings.form, Form::Count) {
         show_count(showing, count, &mut text, sink).map_err(Stop::Unwritten)?;
     }
     outcome

@@ -2,7 +2,7 @@
 use capnp::message::ReaderOptions;
 
 /// How the messages of a file stand.
-#[derive(Clone, Copy, Debug, PartialEq, Eq)]
+#[derive(Clone, Copy)]
 pub enum Reading {
     Framed,
     Packed,
@@ -11,7 +11,7 @@ pub enum Reading {
 }
 
 /// In which form messages are shown.
-#[derive(Clone, Copy, Debug, PartialEq, Eq)]
+#[derive(Clone, Copy)]
 pub enum Form {
     /// A line for each message, and what was asked for below it.
     Lines,
@@ -24,7 +24,7 @@ pub enum Form {
 }
 
 /// What a run reads and shows.
-#[derive(Clone, Copy, Debug)]
+#[derive(Clone, Copy)]
 pub struct Settings {
     pub reading: Reading,
     pub form: Form,
