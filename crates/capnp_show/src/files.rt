@@ -160,7 +160,8 @@ fn show_detected<D: Read + Drop, W: Write>(
 ) -> Result<bool> {
     let mut device = device;
     let mut front = Vec::new(rt.alloc());
-    let format = detect(&mut device, &mut front, showing.settings.limits)?;
+    let found = detect(&mut device, &mut front, showing.settings.limits)?;
+    let format = found.unwrap_or(Format::Framed);
     say_detected(rt, showing.name, format)?;
     let whole = front.as_slice().chain(device);
     show_input(rt, Showing { format, ..showing }, progress, whole, sink)

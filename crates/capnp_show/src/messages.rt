@@ -3,6 +3,7 @@ ghost use Rattle.std.specs.Prelude.{◌≡◌, IfOk, IfSome};
 ghost use Rattle.capnp_frame.specs.Streams.{ReadsStream, next_in};
 ghost use Rattle.capnp.specs.Passed.{Padding, Zero};
 ghost use Rattle.capnp.specs.Streams.{rules_of};
+ghost use Rattle.capnp_show.specs.Shown.{Lists};
 
 use crate::counted::Counted;
 use crate::listing::Listed;
@@ -95,7 +96,7 @@ fn next_message<R: BufRead>(
 
 // What is listed of a message.
 fn listed<S: ReaderSegments>(index: u64, offset: u64, bytes: u64, segments: &S) -> Listed
-    ensures { (result.index ≡ index) × (result.offset ≡ offset) × (result.bytes ≡ bytes) }
+    ensures { Lists index offset bytes (S.segments segments.now) result }
 {
     let mut count: u64 = 0;
     let mut words: u64 = 0;
