@@ -4,6 +4,7 @@ ghost use Rattle.clap.specs.Words.{found_of};
 ghost use Rattle.capnp_show.specs.Arguments.{AsksFlag, AsksFirst, AsksForm, AsksLimits, AsksReading};
 
 use crate::settings::{Form, Reading, Settings};
+use capnp::Way;
 use capnp::message::{DEFAULT_READER_OPTIONS, ReaderOptions};
 use clap::builder::ValueParser;
 use clap::{Arg, ArgAction, ArgMatches, Command};
@@ -19,7 +20,8 @@ const EXAMPLES: &str = "Examples:
   capnp_show --packed --tree < log   its objects, of packed messages
   capnp_show --hash a b              the SHA-256 of each canonical form
   capnp_show --json --first 1 log    the first message, as a JSON object
-  capnp_show --html log > log.html   a page with a drawing of each message";
+  capnp_show --html log > log.html   a page with a drawing of each message
+  capnp_show --pack --words 99999999 log > log.packed   messages of over 64 MiB, too, packed";
 
 // A flag: its name, what the help says of it, and the arguments that it can't be given with.
 struct FlagRow {
@@ -29,7 +31,7 @@ struct FlagRow {
 }
 
 // What is read, and in which form it is shown.
-const FLAGS: [FlagRow; 7] = [
+const FLAGS: [FlagRow; 9] = [
     FlagRow {
         name: "packed",
         help: "The messages are packed",
@@ -65,6 +67,18 @@ const FLAGS: [FlagRow; 7] = [
         help: "Draw the messages, as a page that stands alone",
         conflicts: &["tree", "json", "count"],
     },
+    FlagRow {
+        name: "pack",
+        help: "Write each framed message packed",
+        conflicts: &["packed", "detect", "hash", "tree", "json", "count", "html"],
+    },
+    FlagRow {
+        name: "unpack",
+        help: "Write each packed message framed",
+        conflicts: &[
+            "packed", "detect", "hash", "tree", "json", "count", "html", "pack",
+        ],
+    },
 ];
 
 // A number: its name, the most that it may be, and what the help says of it.
@@ -84,7 +98,7 @@ const NUMBERS: [NumberRow; 3] = [
     NumberRow {
         name: "words",
         most: u64::MAX,
-        help: "Refuse messages of more words [default: 8388608]",
+        help: "Refuse messages of more words [default: 8388608, 64 MiB]",
     },
     NumberRow {
         name: "nesting",
@@ -228,7 +242,7 @@ pub fn settings_of(matches: &ArgMatches<'_>) -> Settings
 fn reading_of(matches: &ArgMatches<'_>) -> Reading
     ensures { AsksReading (found_of matches.now) result }
 {
-    if matches.get_flag("packed") {
+    if matches.get_flag("packed") || matches.get_flag("unpack") {
         Reading::Packed
     } else if matches.get_flag("detect") {
         Reading::Detected
@@ -246,6 +260,10 @@ fn form_of(matches: &ArgMatches<'_>) -> Form
         Form::Json
     } else if matches.get_flag("html") {
         Form::Html
+    } else if matches.get_flag("pack") {
+        Form::Converted(Way::Pack)
+    } else if matches.get_flag("unpack") {
+        Form::Converted(Way::Unpack)
     } else {
         Form::Lines
     }

@@ -1,4 +1,5 @@
 //! What a run reads and shows.
+use capnp::Way;
 use capnp::message::ReaderOptions;
 
 /// How the messages of a file stand.
@@ -21,6 +22,8 @@ pub enum Form {
     Html,
     /// The number of messages alone.
     Count,
+    /// The messages themselves, in the other format.
+    Converted(Way),
 }
 
 /// What a run reads and shows.

@@ -40,7 +40,7 @@ impl<'a> Showing<'a> {
     }
 }
 
-/// Shows one message.
+/// Shows one message, where messages are shown, and not counted or converted.
 pub fn show_message<S: ReaderSegments, W: Write>(
     alloc: Global,
     showing: Showing<'_>,
@@ -51,7 +51,7 @@ pub fn show_message<S: ReaderSegments, W: Write>(
 ) -> Result<()> {
     text.clear();
     match showing.settings.form {
-        Form::Count => return Ok(()),
+        Form::Count | Form::Converted(_) => return Ok(()),
         Form::Lines => show_lines(alloc, showing, listed, message, text, sink)?,
         Form::Json => show_json(alloc, showing, listed, message, text, sink)?,
         Form::Html => show_section(alloc, showing, listed, message, text, sink)?,
