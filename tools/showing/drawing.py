@@ -7,7 +7,7 @@ from page import Element
 MOST_WORDS = 4096
 MOST_NODES = 65536
 WORDS_IN_A_ROW = 4
-COLOURS = 8
+COLOURS = 9
 TOO_LARGE = "A message of more than 4096 words is not drawn."
 TOO_MANY = "Only the first 65536 nodes are drawn."
 
@@ -74,7 +74,7 @@ class Drawing:
         at = place[1] * 8
         shown = self.segments[place[0]][at : at + 8].hex()
         if to := self.target(word):
-            shown = Element("a", {"href": "#" + self.anchor(to[1])}, [shown])
+            shown = Element("a", {"href": "#" + self.anchor(to[1])}, [shown, arrow(to[0])])
         drawn = word.classes + ["null"] * (word.is_pointer() and word.lead == "null") + ["refused"] * bool(word.why)
         return Element("td", {"id": self.anchor(place), "class": classes(drawn), "title": title(word, place)}, [shown])
 
@@ -88,12 +88,6 @@ class Drawing:
                 places = [(segment, word) for word in range(first, min(first + WORDS_IN_A_ROW, count))]
                 rows.append(Element("tr", {}, [Element("th", {}, [str(first)]), *map(self.cell, places)]))
             yield Element("table", {"class": "segment"}, rows)
-
-    def arrows(self):
-        """An arrow for each link, in the colour of what it leads to; where it runs is not compared."""
-        targets = [to for to in map(self.target, self.words.values()) if to]
-        paths = [Element("path", {"class": f"c{number % COLOURS}", "d": is_path}) for number, _ in targets]
-        return Element("svg", {"class": "arrows", "width": is_number, "height": is_number, "aria-hidden": "true"}, paths)
 
     def lists(self):
         """The list of the objects, and what is said of a walk that doesn't come to all."""
@@ -120,8 +114,10 @@ def kinds_of(found):
     return kinds + (found["words"] - len(kinds)) * ["data"]
 
 
-def is_number(said):
-    return bool(said) and said.isdigit()
+def arrow(number):
+    """The arrow of a link, in the colour of the object that it leads to; where it runs is not compared."""
+    path = Element("path", {"class": f"c{number % COLOURS}", "d": is_path})
+    return Element("svg", {}, [path])
 
 
 def is_path(said):
@@ -149,13 +145,14 @@ def message_of_page(name, row, segments, sha256, limits):
         inside.append(Element("p", {"class": "large"}, [TOO_LARGE]))
     else:
         drawing = Drawing(name, segments, **limits)
-        inside += [*drawing.tables(), drawing.arrows(), *drawing.lists()]
+        inside += [*drawing.tables(), *drawing.lists()]
     return Element("section", {"class": "message", "id": name}, inside)
 
 
 def page_of(inputs, limits):
     """The page of inputs, each a name and its messages: what is listed of one, its segments and its hash."""
-    inside = [Element("meta", {"charset": "utf-8"}), Element("title", {}, ["capnp_show"]), Element("style", {}, [any])]
+    inside = [Element("meta", {"charset": "utf-8"}), Element("meta", {"name": "viewport", "content": "width=device-width"})]
+    inside += [Element("title", {}, ["capnp_show"]), Element("style", {}, [any])]
     inside.append(Element("p", {"class": "legend"}, [any]))
     for number, (name, messages) in enumerate(inputs):
         inside.append(Element("h1", {}, [name]))

@@ -1,4 +1,5 @@
-"""The page of capnp_show in a browser without a window: what it reads, what it draws, and where the arrows lie."""
+"""The page of capnp_show in a browser without a window: what it reads, what it draws, where the arrows lie, and how it
+uses the window."""
 import os
 import shutil
 import subprocess
@@ -12,14 +13,11 @@ LOOK = """<script>
 let arrows = 0, astray = 0;
 const is_near = (one, other) => Math.abs(one - other) <= 3;
 for (const section of document.querySelectorAll("section")) {
-  const paths = [...section.querySelectorAll(".arrows path")];
-  const links = [...section.querySelectorAll("td a")];
-  astray += Math.abs(paths.length - links.length);
-  links.forEach((link, index) => {
-    const drawing = section.querySelector(".arrows").getBoundingClientRect();
+  for (const link of section.querySelectorAll("td a")) {
+    const drawing = section.querySelector(".drawing").getBoundingClientRect();
     const from = link.parentElement.getBoundingClientRect();
     const to = document.getElementById(link.hash.slice(1)).getBoundingClientRect();
-    const path = paths[index].getAttribute("d");
+    const path = link.querySelector("path").getAttribute("d");
     const [, left, top] = path.match(/^M([0-9]+) ([0-9]+)/).map(Number);
     const end = Number(path.match(/H([0-9]+)m/)[1]);
     const bottom = Number([...path.matchAll(/V([0-9]+)/g)].pop()?.[1] ?? top);
@@ -28,9 +26,17 @@ for (const section of document.querySelectorAll("section")) {
         || !is_near(to.left - drawing.left, end) || !is_near((to.top + to.bottom) / 2 - drawing.top, bottom)) {
       astray += 1;
     }
-  });
+  }
 }
-document.body.innerHTML = `${arrows} arrows, ${astray} of them astray`;
+let beside = 0, below = 0;
+for (const objects of document.querySelectorAll(".objects")) {
+  const drawing = objects.parentElement.querySelector(".drawing").getBoundingClientRect();
+  const list = objects.getBoundingClientRect();
+  beside += list.left >= drawing.right && list.right > 0.9 * innerWidth ? 1 : 0;
+  below += list.top >= drawing.bottom && drawing.right <= innerWidth ? 1 : 0;
+}
+const is_wide = document.documentElement.scrollWidth > innerWidth;
+document.body.innerHTML = `${arrows} arrows, ${astray} of them astray; lists: ${beside} beside, ${below} below; ${is_wide}`;
 </script>
 """
 
@@ -40,14 +46,15 @@ class Browser:
 
     def __init__(self, program):
         profile = os.path.abspath("browser")
-        self.words = [program, "--headless", "--no-sandbox", "--disable-gpu", f"--user-data-dir={profile}", "--window-size=1200,900"]
+        self.words = [program, "--headless", "--no-sandbox", "--disable-gpu", f"--user-data-dir={profile}"]
 
-    def open(self, name, text, *args):
-        """Opens a page, and returns what the browser writes."""
+    def open(self, name, text, *args, size="1280,800"):
+        """Opens a page in a window of a given size, and returns what the browser writes."""
         with open(name, "w", encoding="utf-8") as file:
             file.write(text)
         address = "file://" + os.path.abspath(name)
-        result = subprocess.run([*self.words, *args, address], capture_output=True, timeout=120)
+        words = [*self.words, f"--window-size={size}", *args, address]
+        result = subprocess.run(words, capture_output=True, timeout=120)
         return result.stdout.decode()
 
 
@@ -59,10 +66,13 @@ def try_browser(text, inputs):
         return
     browser = Browser(program)
     wrongs = wrongs_of(browser.open("page.html", text, "--dump-dom"), page_of(inputs, {}))
-    looked = browser.open("looked.html", text.replace("</body>", f"{LOOK}</body>"), "--dump-dom")
-    arrows = f"{text.count('<a href=')} arrows, 0 of them astray"
-    if arrows not in looked:
-        wrongs.append(f"its arrows: {looked[-300:]}\nwanted:\n{arrows}")
+    arrows, lists = text.count("<a href="), text.count('<ol class="objects"')
+    # the lists of objects stand beside the drawings in a wide window, and below them in a narrow one
+    for size, where in (("1280,800", f"{lists} beside, 0 below"), ("500,800", f"0 beside, {lists} below")):
+        looked = browser.open("looked.html", text.replace("</body>", f"{LOOK}</body>"), "--dump-dom", size=size)
+        wanted = f"{arrows} arrows, 0 of them astray; lists: {where}; false"
+        if wanted not in looked:
+            wrongs.append(f"in a window of {size}: {looked[-300:]}\nwanted:\n{wanted}")
     picture = os.path.abspath("page.png")
     browser.open("page.html", text, f"--screenshot={picture}")
     size = os.path.getsize(picture) if os.path.exists(picture) else 0

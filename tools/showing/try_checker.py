@@ -11,6 +11,7 @@ FRONT = """<!DOCTYPE html>
 <html lang="en">
 <head>
 <meta charset="utf-8">
+<meta name="viewport" content="width=device-width">
 <title>capnp_show</title>
 <style>td { font-family: monospace } .c0 { background: #fff }</style>
 </head>
@@ -23,11 +24,16 @@ STRUCTS = [words(0x17_00000001, 0x1_0001_00000004, 7, 3)]
 
 
 def cell(place, classes, shown, link=None, title=None):
-    shown = f'<a href="#{link}">{shown}</a>' if link else shown
+    shown = f'<a href="#{link}">{shown}{arrow(int(classes != "pointer root"))}</a>' if link else shown
     _, _, segment, word = place.split("-")
     of = classes.split()[1] if " o" in classes else ""
     title = title or f"word {segment}:{word}" + of.replace("o", ", of object ")
     return f'<td id="{place}" class="{classes}" title="{title}">{shown}</td>'
+
+
+def arrow(number):
+    """The arrow of a link: the root pointer leads to object 0, and the other links of these pages to object 1."""
+    return f'<svg><path class="c{number}" d="M216 61H254m-5 -3l5 3l-5 3"/></svg>'
 
 
 def table(segment, count, *rows):
@@ -42,13 +48,10 @@ def section(name, line, tables, objects):
     listed_objects = "".join(
         f'<li class="o{number} c{number}">{escape(line, quote=False)}</li>\n' for number, line in enumerate(objects)
     )
-    arrows = "".join(f'<path class="c{number}" d="M246 61H276m-5 -3l5 3l-5 3"/>\n' for number in range(len(objects)))
     return f"""<section class="message" id="{name}">
 <h2>{line}</h2>
 <div class="drawing">
-{tables}<svg class="arrows" width="792" height="88" aria-hidden="true">
-{arrows}</svg>
-</div>
+{tables}</div>
 <ol class="objects" start="0">
 {listed_objects}</ol>
 </section>
@@ -96,6 +99,7 @@ FAULTS = [
     ("<!DOCTYPE html>", ""),
     ('lang="en"', 'lang="de"'),
     ('<meta charset="utf-8">', ""),
+    ('<meta name="viewport" content="width=device-width">', ""),
     ("<title>capnp_show</title>", "<title>show</title>"),
     ('<p class="legend">', '<p>'),
     ("Each word is shown.</p>", "Each word is shown.</p><p></p>"),
@@ -123,7 +127,8 @@ FAULTS = [
     ("0300", "0003"),
     (REFUSED, "refused"),
     (REFUSED, REFUSED.replace("Capability", "Kind")),
-    ('<a href="#m0-0-0-4">0100000012000000</a>', "0100000012000000"),
+    (f'<a href="#m0-0-0-4">0100000012000000{arrow(1)}</a>', "0100000012000000"),
+    (arrow(1), ""),
     ('href="#m0-0-0-4"', 'href="#m0-0-0-3"'),
     ('href="#m0-0-0-4"', 'href="#m0-0-0-9"'),
     ('href="#m0-0-0-4"', 'href="page.html#m0-0-0-4"'),
@@ -148,8 +153,9 @@ FAULTS = [
     ('<li class="o0 c0"', "<li"),
     ('<path class="c1"', '<path class="c0"'),
     ('<path class="c1"', '<path class="c1" fill="red"'),
-    ('d="M246 61', 'd="'),
-    ('d="M246 61', 'd="url(x)'),
+    ('d="M216 61', 'd="'),
+    ('d="M216 61', 'd="url(x)'),
+    ("<svg>", '<svg width="9">'),
     ("</svg>", '<path class="c1" d="M0 0"/></svg>'),
     ("height: 88px", "background: red"),
     ("</div>\n<ol", "<ol"),

@@ -15,9 +15,11 @@ FAR_SECTION = """<section class="message" id="m0-0">
 <h3>segment 0, words 2</h3>
 <table class="segment">
 <tr><th>0</th><td id="m0-0-0-0" class="pointer root" title="word 0:0, the root pointer, to object 0">\
-<a href="#m0-0-0-1">0000000000000100</a></td>\
+<a href="#m0-0-0-1">0000000000000100\
+<svg><path class="c0" d="M216 61H254m-5 -3l5 3l-5 3"/></svg></a></td>\
 <td id="m0-0-0-1" class="pointer o0 c0" title="word 0:1, pointer of object 0, to object 1">\
-<a href="#m0-0-1-1">0200000001000000</a></td></tr>
+<a href="#m0-0-1-1">0200000001000000\
+<svg><path class="c1" d="M388 61H395V130H247V149H254m-5 -3l5 3l-5 3"/></svg></a></td></tr>
 </table>
 </div>
 <div style="height: 88px">
@@ -28,10 +30,6 @@ FAR_SECTION = """<section class="message" id="m0-0">
 6869000000000000</td></tr>
 </table>
 </div>
-<svg class="arrows" width="792" height="176" aria-hidden="true">
-<path class="c0" d="M246 61H274m-5 -3l5 3l-5 3"/>
-<path class="c1" d="M418 61H425V130H267V149H274m-5 -3l5 3l-5 3"/>
-</svg>
 </div>
 <ol class="objects" start="0">
 <li class="o0 c0">root: struct, data 0, pointers 1, at 0:1</li>
@@ -48,6 +46,7 @@ FRONT = """<!DOCTYPE html>
 <html lang="en">
 <head>
 <meta charset="utf-8">
+<meta name="viewport" content="width=device-width">
 <title>capnp_show</title>
 <style>
 """
@@ -62,8 +61,8 @@ PARTS = [
     ]),
     # what two pointers lead to is of the object that comes first
     ("two pointers to a text", SHARED, [
-        'to object 1"><a href="#m0-0-0-3">050000001a000000</a>',
-        'to object 2"><a href="#m0-0-0-3">010000001a000000</a>',
+        'to object 1"><a href="#m0-0-0-3">050000001a000000<svg><path class="c1"',
+        'to object 2"><a href="#m0-0-0-3">010000001a000000<svg><path class="c2"',
         '<td id="m0-0-0-3" class="data o1 c1"',
         '<li class="o2 c2">pointer 1: list, element byte, count 3, at 0:3, text &quot;hi&quot;</li>',
     ]),
@@ -74,7 +73,7 @@ PARTS = [
     ]),
     ("a cycle", CYCLE, [
         '<td id="m0-0-0-1" class="pointer o0 c0 refused" title="refused, since objects are '
-        'nested deeper than --nesting allows (NestingLimitExceeded)"><a href="#m0-0-0-1">fcffffff00000100</a>',
+        'nested deeper than --nesting allows (NestingLimitExceeded)"><a href="#m0-0-0-1">fcffffff00000100<svg',
     ]),
     ("too many voids", MOST_VOIDS, [
         'class="pointer root refused" title="refused, since the objects have more words than '
@@ -108,30 +107,30 @@ MARKED = [
 # Where the pointers stand that lead from one object to the next, of which the first is at the root; the last
 # object is the root's own word. A row has four words. So the arrows, each in the colour of the object that it
 # leads to, run two cells ahead, to the next cell of the row, to the rows above and below, to a cell of a row
-# before their own, and across the whole row. A cell is 142 wide and 26 high, 30 and 14 apart, and the first one
-# begins at 104 and 48.
+# before their own, and across the whole row. A cell is 132 wide and 26 high, 40 and 14 apart, and the first one
+# begins at 84 and 48.
 STEPS = [0, 2, 3, 4, 9, 6, 5, 8, 1, 10, 0]
-# Straight to the next cell of the row, and else by four turns; those side by side lie apart by the number. The one
-# in the colour 3, by hand: its cell begins at 104 and 88, so it begins at 104 + 142 = 246 and 88 + 13 = 101. It
-# turns at 246 + 4 + 3 * 3 = 259, at 128 - 3 - 3 * 3 = 116, at 276 - 9 = 267 and at 128 + 13 = 141, and ends at
-# 276 - 2 = 274. The arrows are in the order of the words where they begin.
-ARROWS = """<svg class="arrows" width="792" height="168" aria-hidden="true">
-<path class="c0" d="M246 61H250V45H439V61H446m-5 -3l5 3l-5 3"/>
-<path class="c0" d="M418 61H431V125H439V141H446m-5 -3l5 3l-5 3"/>
-<path class="c1" d="M590 61H618m-5 -3l5 3l-5 3"/>
-<path class="c2" d="M762 61H772V79H95V101H102m-5 -3l5 3l-5 3"/>
-<path class="c3" d="M246 101H259V116H267V141H274m-5 -3l5 3l-5 3"/>
-<path class="c6" d="M418 101H425V119H95V141H102m-5 -3l5 3l-5 3"/>
-<path class="c5" d="M590 101H594V82H267V101H274m-5 -3l5 3l-5 3"/>
-<path class="c7" d="M246 141H256V36H267V61H274m-5 -3l5 3l-5 3"/>
-<path class="c4" d="M418 141H434V85H439V101H446m-5 -3l5 3l-5 3"/>
-<path class="c1" d="M590 141H606V42H95V61H102m-5 -3l5 3l-5 3"/>
-</svg>
-"""
+# Straight to the next cell of the row, and else by four turns; those side by side lie 3 apart, by the row where they
+# begin and by the column where they end. The one in the colour 3, by hand: its cell begins at 84 and 88, so it begins
+# at 84 + 132 = 216 and 88 + 13 = 101. Its tops are 40 apart, so it turns in the lane 88 / 40 = 2, at 216 + 4 + 2 * 3 = 226;
+# at 128 - 3 - 1 * 3 = 122, since it ends in the column 1; at 256 - 9 = 247 and at 128 + 13 = 141, and ends at 256 - 2 = 254.
+ARROWS = [
+    '<path class="c0" d="M216 61H223V39H419V61H426m-5 -3l5 3l-5 3"/>',
+    '<path class="c8" d="M388 61H395V119H419V141H426m-5 -3l5 3l-5 3"/>',
+    '<path class="c1" d="M560 61H598m-5 -3l5 3l-5 3"/>',
+    '<path class="c2" d="M732 61H739V85H75V101H82m-5 -3l5 3l-5 3"/>',
+    '<path class="c3" d="M216 101H226V122H247V141H254m-5 -3l5 3l-5 3"/>',
+    '<path class="c6" d="M388 101H398V125H75V141H82m-5 -3l5 3l-5 3"/>',
+    '<path class="c5" d="M560 101H570V82H247V101H254m-5 -3l5 3l-5 3"/>',
+    '<path class="c7" d="M216 141H229V42H247V61H254m-5 -3l5 3l-5 3"/>',
+    '<path class="c4" d="M388 141H401V79H419V101H426m-5 -3l5 3l-5 3"/>',
+    '<path class="c0" d="M560 141H573V45H75V61H82m-5 -3l5 3l-5 3"/>',
+]
 # The row of a pointer to the last word of a segment of 16, which is a link, and to the word after it, which is none.
 LINKS = [
     (15, '<tr><th>4</th><td id="m0-1-0-4" class="pointer o7 c7" title="word 0:4, pointer of object 7, to object 8">'
-         '<a href="#m0-1-0-15">2900000028000000</a></td><td id="m0-1-0-5"'),
+         '<a href="#m0-1-0-15">2900000028000000<svg><path class="c8" '
+         'd="M216 101H226V156H591V181H598m-5 -3l5 3l-5 3"/></svg></a></td><td id="m0-1-0-5"'),
     (16, '<tr><th>4</th><td id="m0-1-0-4" class="pointer o7 c7" title="word 0:4, pointer of object 7, to object 8">'
          '2d00000028000000</td><td id="m0-1-0-5"'),
 ]
@@ -173,7 +172,7 @@ def try_drawn():
     for name, heading in MARKED:
         expect_heading(name, heading)
     arrows = chain(STEPS[:-1], struct_pointer(STEPS[-2], STEPS[-1], 1, 0), 11)
-    expect_parts("arrows", ["--html"], frame([arrows]), [ARROWS])
+    expect_parts("arrows", ["--html"], frame([arrows]), ARROWS)
     for start, row in LINKS:
         links = chain([0, 5, 6, 7, 8, 9, 10, 11, 4], list_pointer(4, start, 0, 5), 16)
         expect_parts(f"a link to the word {start}", ["--html"], HELLO + frame([links]), [row])

@@ -8,9 +8,11 @@ import time
 from oracle import Tree, frame, lines_of, pack, sentence, sha256_of
 from runs import Counts, expect, refused, run
 from samples import CANONICAL, CYCLE, DOUBLINGS, ESCAPES, FAR, HELLO, MESSAGES, listed, random_messages, words
+from try_converted import try_converted
 from try_detected import try_detected
 from try_devices import try_devices, try_gigabyte, try_growing_log
 from try_drawn import try_drawn
+from try_lanes import try_lanes
 from try_lengths import try_lengths
 from try_page import try_pages
 from try_progress import try_progress
@@ -92,6 +94,8 @@ def main():
     try_detected()
     try_pages()
     try_drawn()
+    try_lanes()
+    try_converted()
     try_progress()
     try_lengths()
     left_out = f", {Counts.left_out} left out" if Counts.left_out else ""

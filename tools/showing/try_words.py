@@ -27,6 +27,7 @@ def try_help():
         "capnp_show --hash a b": ("canonical", f"a: {hashed}b: {hashed}"),
         "capnp_show --json --first 1 log": ("framed", json.dumps({"file": "log", **rows[0]}, separators=(",", ":")) + "\n"),
         "capnp_show --html log > log.html": ("framed", ""),
+        "capnp_show --pack --words 99999999 log > log.packed": ("framed", ""),
     }
     folder = os.path.dirname(PROGRAM)
     for line in help_text.partition("Examples:\n")[2].splitlines():
@@ -40,13 +41,18 @@ def try_help():
         if example.endswith("> log.html"):
             with open("log.html") as page:
                 expect(f"{example}, its page", run(["--html", "log"]), 0, page.read(), "")
+        if example.endswith("> log.packed"):
+            with open("log.packed", "rb") as packed:
+                expect(f"{example}, its messages", run(["--packed", "--count"], packed.read()), 0, f"{len(both)}\n", "")
     for example in wanted:
         expect(f"the help has no {example}", run(["--help"]), 0, "", "")
 
 
 def try_words():
     pages = [["--html", other] for other in ("--tree", "--json", "--count")]
-    for args in (["--bogus"], ["--packed", "--detect"], ["--words", "x"], ["--nesting", "-1"], *pages):
+    others = ("--packed", "--detect", "--hash", "--tree", "--json", "--count", "--html")
+    ways = [[way, other] for way in ("--pack", "--unpack") for other in others] + [["--pack", "--unpack"]]
+    for args in (["--bogus"], ["--packed", "--detect"], ["--words", "x"], ["--nesting", "-1"], *pages, *ways):
         result = run(args)
         result.stderr = result.stderr[:7]
         expect(" ".join(args), result, 2, "", "error: ")

@@ -28,7 +28,8 @@ Options:
 Exit status:
   0  Each message was read, and what the command prints is written
   1  A message is refused, a device fails, or memory runs out: standard error has the message's
-     index and the reason
+     index and the reason. Error 8 is a message of more than 64 MiB: capnp_show --words N reads
+     it, and with --pack or --unpack converts it
   2  The words are no command
 ";
 

@@ -7,7 +7,8 @@ use Rattle.capnp_frame.specs.declared.message.options.TheConstants.{DEFAULT_READ
 use Rattle.capnp_show.specs.declared.settings.Reading.{Reading}
 use Rattle.capnp_show.specs.declared.settings.Reading.TheVariants.{Framed, Packed, Detected}
 use Rattle.capnp_show.specs.declared.settings.Form.{Form}
-use Rattle.capnp_show.specs.declared.settings.Form.TheVariants.{Lines, Json, Html, Count}
+use Rattle.capnp_show.specs.declared.settings.Form.TheVariants.{Lines, Json, Html, Count, Converted}
+use Rattle.capnp.specs.declared.transcoding.Way.TheVariants.{Pack, Unpack}
 use Rattle.clap.specs.Words.{one_text}
 use Rattle.clap.specs.declared.parser.matches.Found.{Found}
 
@@ -18,18 +19,27 @@ IsGiven found name = one_text found name ≡ Some (codes "true")
 abbrev pub IsAbsent : Found → List ℕ → Type 0
 IsAbsent found name = (one_text found name ≡ None) ⊎ (one_text found name ≡ Some (codes "false"))
 
--- how the messages stand: --packed before --detect, and framed where neither is given
+-- how the messages stand: packed by --packed and --unpack, which come before --detect, and framed where none is given
 pub record AsksReading (found : Found) (reading : Reading) : Type 0 where
   pub packed : IsGiven found (codes "packed") → reading ≡ Packed
-  pub detected : IsAbsent found (codes "packed") → IsGiven found (codes "detect") → reading ≡ Detected
-  pub framed : IsAbsent found (codes "packed") → IsAbsent found (codes "detect") → reading ≡ Framed
+  pub unpacked : IsGiven found (codes "unpack") → reading ≡ Packed
+  pub detected : IsAbsent found (codes "packed") → IsAbsent found (codes "unpack") → IsGiven found (codes "detect")
+      → reading ≡ Detected
+  pub framed : IsAbsent found (codes "packed") → IsAbsent found (codes "unpack") → IsAbsent found (codes "detect")
+      → reading ≡ Framed
 
--- in which form they are shown: --count before --json before --html, and as lines where none is given
+-- in which form they are shown: --count before --json before --html before --pack before --unpack, and as lines where none is
+-- given
 pub record AsksForm (found : Found) (form : Form) : Type 0 where
   pub count : IsGiven found (codes "count") → form ≡ Count
   pub json : IsAbsent found (codes "count") → IsGiven found (codes "json") → form ≡ Json
   pub html : IsAbsent found (codes "count") → IsAbsent found (codes "json") → IsGiven found (codes "html") → form ≡ Html
-  pub lines : IsAbsent found (codes "count") → IsAbsent found (codes "json") → IsAbsent found (codes "html") → form ≡ Lines
+  pub packed : IsAbsent found (codes "count") → IsAbsent found (codes "json") → IsAbsent found (codes "html")
+      → IsGiven found (codes "pack") → form ≡ Converted Pack
+  pub unpacked : IsAbsent found (codes "count") → IsAbsent found (codes "json") → IsAbsent found (codes "html")
+      → IsAbsent found (codes "pack") → IsGiven found (codes "unpack") → form ≡ Converted Unpack
+  pub lines : IsAbsent found (codes "count") → IsAbsent found (codes "json") → IsAbsent found (codes "html")
+      → IsAbsent found (codes "pack") → IsAbsent found (codes "unpack") → form ≡ Lines
 
 -- A number is given for an option: a numeral below 2 ^ 64, which may have a plus in front.
 pub record GivesNumber (found : Found) (name : List ℕ) (number : ℕ) : Type 0 where

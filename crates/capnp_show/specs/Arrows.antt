@@ -1,5 +1,5 @@
--- Where the cells of a drawing are, and the arrows between them, in pixels (src/arrows.rt): cells of 142 by 26 stand four in a
--- row, with gaps of 30 between columns and of 14 between rows, right of a number of the row.
+-- Where the cells of a drawing are, and the arrows between them, in pixels (src/arrows.rt): cells of 132 by 26 stand four in a
+-- row, with gaps of 40 between columns and of 14 between rows, right of a number of the row.
 use Rattle.std.specs.Prelude.{◌≡◌, ◌⊎◌, ◌==◌, if◌then◌else◌, ℕ, ◌+◌, ◌-◌, ◌*◌, ◌/◌, ◌%◌, ◌^◌, min, List, [], ◌∷◌, ◌++◌, length, Vec, Some, None, slice_get, codes}
 use Rattle.capnp_show.specs.declared.words.Place.{Place}
 use Rattle.capnp_show.specs.declared.arrows.Corner.{Corner}
@@ -29,31 +29,32 @@ pub record IsCorner (grid : Grid) (place : Place) (corner : Corner) : Type 0 whe
   pub first : ℕ
   -- the top of its segment's first row
   pub first_is : slice_get grid.tops.items place.segment ≡ Some first
-  pub left : corner.left ≡ 104 + place.word % 4 * 172
+  pub left : corner.left ≡ 84 + place.word % 4 * 172
   pub top : corner.top ≡ plus first (min (place.word / 4 * 40) (2 ^ 64 - 1))
 
 -- the words of the arrow from a cell, up to where it turns
 abbrev pub arrow_front : ℕ → Corner → List ℕ
-arrow_front number from = counted (codes "<path class=\"c") (number % 8) ++ (counted (codes "\" d=\"M") (plus from.left 142)
-    ++ counted (codes " ") (plus from.top 13))
+arrow_front number from = counted (codes "<path class=\"c") (number % 9)
+    ++ (counted (codes "\" d=\"M") (plus from.left 132) ++ counted (codes " ") (plus from.top 13))
 
--- its turns in the gaps: arrows side by side in a gap lie a few pixels apart
-abbrev pub turns_of : ℕ → Corner → Corner → List ℕ
-turns_of number from to = counted (codes "H") (plus (plus from.left 142) (4 + number % 5 * 3))
-    ++ (counted (codes "V") (to.top - (3 + number % 4 * 3)) ++ (counted (codes "H") (to.left - 9) ++ counted (codes "V") (plus to.top 13)))
+-- its turns in the gaps: arrows side by side in a gap lie three pixels apart, by the row where they begin in the gap after a
+-- column, of which there are eight lanes, and by the column where they end in the gap above a row
+abbrev pub turns_of : Corner → Corner → List ℕ
+turns_of from to = counted (codes "H") (plus (plus from.left 132) (4 + from.top / 40 % 8 * 3))
+    ++ (counted (codes "V") (to.top - (3 + to.left / 172 % 4 * 3)) ++ (counted (codes "H") (to.left - 9) ++ counted (codes "V") (plus to.top 13)))
 
 -- and its head
 abbrev pub arrow_head : Corner → List ℕ
-arrow_head to = counted (codes "H") (to.left - 2) ++ codes "m-5 -3l5 3l-5 3\"/>\n"
+arrow_head to = counted (codes "H") (to.left - 2) ++ codes "m-5 -3l5 3l-5 3\"/>"
 
 -- the turns of an arrow, of which one to the next cell of its row has none
-abbrev pub turns_between : ℕ → Corner → Corner → List ℕ
-turns_between number from to =
-    if from.top == to.top then (if to.left == plus (plus from.left 142) 30 then [] else turns_of number from to) else turns_of number from to
+abbrev pub turns_between : Corner → Corner → List ℕ
+turns_between from to =
+    if from.top == to.top then (if to.left == plus (plus from.left 132) 40 then [] else turns_of from to) else turns_of from to
 
 -- the arrow to the object of a number, from one cell to another
 abbrev pub arrow_of : ℕ → Corner → Corner → List ℕ
-arrow_of number from to = arrow_front number from ++ (turns_between number from to ++ arrow_head to)
+arrow_of number from to = arrow_front number from ++ (turns_between from to ++ arrow_head to)
 
 -- The arrow of a word that stands at a place is added.
 pub record AddsArrowOf (grid : Grid) (place : Place) (word : Word) (old new : List ℕ) : Type 0 where
@@ -73,7 +74,7 @@ HasNoArrow grid owners place word = (number : ℕ) (start : Place) → IsDrawnAs
 
 -- the sizes, as the style names them
 abbrev pub sizes_text : List ℕ
-sizes_text = counted (codes ":root { --number-width: ") 44 ++ (counted (codes "px; --cell-width: ") 142
-    ++ (counted (codes "px; --cell-height: ") 26 ++ (counted (codes "px; --column-gap: ") 30
+sizes_text = counted (codes ":root { --number-width: ") 44 ++ (counted (codes "px; --cell-width: ") 132
+    ++ (counted (codes "px; --cell-height: ") 26 ++ (counted (codes "px; --column-gap: ") 40
     ++ (counted (codes "px; --row-gap: ") 14 ++ (counted (codes "px; --heading-height: ") 34
-    ++ (counted (codes "px; --drawing-width: ") 792 ++ codes "px; }\n"))))))
+    ++ (counted (codes "px; --drawing-width: ") 772 ++ codes "px; }\n"))))))

@@ -1,5 +1,6 @@
 -- What the bytes at the front of an input say of its format (src/detected.rt).
-use Rattle.std.specs.Prelude.{◌≡◌, ◌⊎◌, ℕ, ◌<◌, ◌≤◌, List, length, Option}
+use Rattle.std.specs.Prelude.{◌≡◌, ◌⊎◌, ℕ, ◌<◌, ◌≤◌, List, ◌++◌, length, Option}
+use Rattle.std.specs.Io.KnownBytes.{Consumes, IsAtEnd}
 use Rattle.capnp.specs.Passed.{ErrorKind, Zero}
 use Rattle.capnp.specs.declared.streams.Format.{Format}
 use Rattle.capnp.specs.declared.streams.Format.TheVariants.{Framed, Packed}
@@ -38,15 +39,20 @@ pub record Differs (limit : Option ℕ) (front : List ℕ) : Type 0 where
 abbrev pub Begins : Option ℕ → List ℕ → Type 0
 Begins limit front = Stands limit front ⊎ Ends limit front
 
--- The format in which an input is read that has these bytes at its front: framed where they begin a framed message, also
--- where they end too early, and packed only where they begin none.
-abbrev pub IsReadAs : Option ℕ → List ℕ → Format → Type 0
-IsReadAs limit front Framed = Begins limit front
-IsReadAs limit front Packed = Differs limit front
-
 -- What some bytes say, of which `enough` are enough to tell: they are framed where a message stands there or may follow, packed where
 -- none begins so, and they say nothing yet where they are few and end within what may be one.
 abbrev pub Says : ℕ → Option ℕ → List ℕ → Look → Type 0
 Says enough limit front (Is Framed) = Stands limit front ⊎ (Ends limit front × (enough ≤ length front))
 Says enough limit front (Is Packed) = Differs limit front
 Says enough limit front More = Ends limit front × (length front < enough)
+
+-- The bytes that are added to a front, from `old` to `new`, are the next ones of an input, where it is known what that has.
+pub record Takes (old new : List ℕ) (before after : Option (List ℕ)) : Type 0 where
+  pub added : List ℕ
+  pub front_is : new ≡ old ++ added
+  pub taken : Consumes before after added
+
+-- The format in which an input is read that has these bytes at its front, and `after` follows them: what they say, or framed where
+-- they end, with the input, within what may be a framed message.
+abbrev pub Tells : ℕ → Option ℕ → List ℕ → Option (List ℕ) → Format → Type 0
+Tells enough limit front after format = Says enough limit front (Is format) ⊎ ((format ≡ Framed) × Ends limit front × IsAtEnd after)

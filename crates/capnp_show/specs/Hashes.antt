@@ -3,15 +3,17 @@ use Rattle.std.specs.Prelude.{◌≡◌, ⊤, ℕ, List, string_bytes}
 use Rattle.sha2.specs.Sha256.{sha256}
 use Rattle.hex.specs.Hex.{encode_lower}
 use Rattle.capnp.specs.Passed.{Pointer, LacksForm}
+use Rattle.capnp_frame.specs.Message.{IsWholeWords}
 use Rattle.capnp_wire.specs.Pointer.{words_of}
 use Rattle.capnp_wire.specs.Values.{IsCanonicalForm}
 use Rattle.capnp_show.specs.declared.hash.Hash.{Hash}
 use Rattle.capnp_show.specs.declared.hash.Hash.TheVariants.{Of, Lacking}
 
--- some bytes hash to this, and are the words of the canonical form
+-- some bytes hash to this, which are the words of the canonical form, and no more
 pub record IsHashOf (pointer : Pointer) (hash : List ℕ) : Type 0 where
   pub bytes : List ℕ
   pub form : IsCanonicalForm pointer (words_of bytes)
+  pub whole : IsWholeWords bytes
   pub hash_is : hash ≡ sha256 bytes
 
 -- the hash in hexadecimal digits, or the reason why there is no canonical form

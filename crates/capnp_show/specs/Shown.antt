@@ -1,7 +1,18 @@
--- When a text that grows is written on (src/shown.rt).
-use Rattle.std.specs.Prelude.{◌≡◌, ◌<◌, ◌≤◌, ℕ, List, [], Option, length}
+-- What is listed of a message, and when a text is written on (src/messages.rt, src/shown.rt).
+use Rattle.std.specs.Prelude.{◌≡◌, ◌<◌, ◌≤◌, ◌-◌, ◌^◌, ℕ, List, [], Option, length, min, take}
+use Rattle.capnp_frame.specs.Message.{size_in_words}
 use Rattle.capnp_frame.specs.Sink.{Appending, Adds}
 use Rattle.capnp_frame.specs.Source.{IfKnown}
+use Rattle.capnp_show.specs.declared.listing.Listed.{Listed}
+
+-- What is listed of a message whose segments are these: its place, and how many segments and words it has. A message
+-- that is read has no more than 511 segments; of others the first 512 are listed.
+pub record Lists (number start size : ℕ) (message : List (List ℕ)) (listed : Listed) : Type 0 where
+  pub index : listed.index ≡ number
+  pub offset : listed.offset ≡ start
+  pub bytes : listed.bytes ≡ size
+  pub segments : listed.segments ≡ min (length message) 512
+  pub words : listed.words ≡ min (size_in_words (take 512 message)) (2 ^ 64 - 1)
 
 -- A text that was `old` is `new`, and a sink was known to hold `before` and holds `after`: a text of `most` bytes or more
 -- is written as it stands and cleared, and a shorter one stays, and nothing is written.

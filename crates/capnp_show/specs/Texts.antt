@@ -121,7 +121,7 @@ word_name anchor place = message_name anchor ++ (counted (codes "-") place.segme
 
 -- the classes of an object
 abbrev pub object_classes : ℕ → List ℕ
-object_classes number = counted (codes "o") number ++ counted (codes " c") (number % 8)
+object_classes number = counted (codes "o") number ++ counted (codes " c") (number % 9)
 
 -- the classes of a word in a page, by whose it is
 abbrev pub role_class : Role → List ℕ
@@ -133,7 +133,7 @@ role_class Landing = codes "landing"
 abbrev pub owner_classes : Owner → List ℕ
 owner_classes Free = codes "free"
 owner_classes Root = codes "pointer root"
-owner_classes (Object number role) = role_class role ++ (counted (codes " o") number ++ counted (codes " c") (number % 8))
+owner_classes (Object number role) = role_class role ++ (counted (codes " o") number ++ counted (codes " c") (number % 9))
 
 -- and that of a null pointer, and of a pointer that is not followed
 abbrev pub null_class : Owner → Lead → List ℕ

@@ -4,6 +4,7 @@ ghost use Rattle.clap.specs.Words.{found_of};
 ghost use Rattle.capnp_show.specs.Arguments.{AsksFlag, AsksFirst, AsksForm, AsksLimits, AsksReading};
 
 use crate::settings::{Form, Reading, Settings};
+use capnp::Way;
 use capnp::message::{DEFAULT_READER_OPTIONS, ReaderOptions};
 use clap::builder::ValueParser;
 use clap::{Arg, ArgAction, ArgMatches, Command};
@@ -19,84 +20,169 @@ const EXAMPLES: &str = "Examples:
   capnp_show --packed --tree < log   its objects, of packed messages
   capnp_show --hash a b              the SHA-256 of each canonical form
   capnp_show --json --first 1 log    the first message, as a JSON object
-  capnp_show --html log > log.html   a page with a drawing of each message";
+  capnp_show --html log > log.html   a page with a drawing of each message
+  capnp_show --pack --words 99999999 log > log.packed   messages of over 64 MiB, too, packed";
+
+// A flag: its name, what the help says of it, and the arguments that it can't be given with.
+struct FlagRow {
+    name: &'static str,
+    help: &'static str,
+    conflicts: &'static [&'static str],
+}
+
+// What is read, and in which form it is shown.
+const FLAGS: [FlagRow; 9] = [
+    FlagRow {
+        name: "packed",
+        help: "The messages are packed",
+        conflicts: &[],
+    },
+    FlagRow {
+        name: "detect",
+        help: "Tell by the first bytes whether they are packed",
+        conflicts: &["packed"],
+    },
+    FlagRow {
+        name: "hash",
+        help: "Show the SHA-256 of each canonical form",
+        conflicts: &[],
+    },
+    FlagRow {
+        name: "tree",
+        help: "Show the objects of each message",
+        conflicts: &[],
+    },
+    FlagRow {
+        name: "json",
+        help: "Show each message as a JSON object, on a line",
+        conflicts: &[],
+    },
+    FlagRow {
+        name: "count",
+        help: "Show the number of messages alone",
+        conflicts: &[],
+    },
+    FlagRow {
+        name: "html",
+        help: "Draw the messages, as a page that stands alone",
+        conflicts: &["tree", "json", "count"],
+    },
+    FlagRow {
+        name: "pack",
+        help: "Write each framed message packed",
+        conflicts: &["packed", "detect", "hash", "tree", "json", "count", "html"],
+    },
+    FlagRow {
+        name: "unpack",
+        help: "Write each packed message framed",
+        conflicts: &[
+            "packed", "detect", "hash", "tree", "json", "count", "html", "pack",
+        ],
+    },
+];
+
+// A number: its name, the most that it may be, and what the help says of it.
+struct NumberRow {
+    name: &'static str,
+    most: u64,
+    help: &'static str,
+}
+
+// How much is read of it.
+const NUMBERS: [NumberRow; 3] = [
+    NumberRow {
+        name: "first",
+        most: u64::MAX,
+        help: "Stop after N messages of each file",
+    },
+    NumberRow {
+        name: "words",
+        most: u64::MAX,
+        help: "Refuse messages of more words [default: 8388608, 64 MiB]",
+    },
+    NumberRow {
+        name: "nesting",
+        most: i32::MAX as u64,
+        help: "Follow pointers so deep [default: 64]",
+    },
+];
+
+const PROGRESS: &str = "Tell how far the reading is, after each 64 MB";
 
 /// The program's command.
 pub fn command<'a>(alloc: Global) -> Result<Command<'a>, AllocError> {
-    let command = Command::new(alloc, "capnp_show")
+    let command = described(alloc).arg(files(alloc))?;
+    counted(alloc, flagged(alloc, command)?)
+}
+
+// The command, with no argument yet.
+fn described<'a>(alloc: Global) -> Command<'a> {
+    Command::new(alloc, "capnp_show")
         .version(VERSION)
         .about(ABOUT)
-        .after_help(EXAMPLES);
-    limited(alloc, formed(alloc, read(alloc, command)?)?)
+        .after_help(EXAMPLES)
 }
 
-// What is read.
-fn read<'a>(alloc: Global, command: Command<'a>) -> Result<Command<'a>, AllocError> {
-    let files = Arg::new(alloc, "FILE")
+// The files that are read.
+fn files<'a>(alloc: Global) -> Arg<'a> {
+    Arg::new(alloc, "FILE")
         .action(ArgAction::Append)
         .num_args(0..)
-        .help("Files to read; standard input where none is named, and for -");
-    let command = command.arg(files)?;
-    let command = with_flag(alloc, command, "packed", "The messages are packed")?;
-    command.arg(detect(alloc)?)
+        .help("Files to read; standard input where none is named, and for -")
 }
 
-// The flag that asks for the format that the first bytes tell.
-fn detect<'a>(alloc: Global) -> Result<Arg<'a>, AllocError> {
-    flag(
-        alloc,
-        "detect",
-        "Tell by the first bytes whether they are packed",
-    )
-    .conflicts_with("packed")
+// The command with the flags.
+fn flagged<'a>(alloc: Global, command: Command<'a>) -> Result<Command<'a>, AllocError> {
+    with_flags(alloc, command, &FLAGS)
 }
 
-// In which form it is shown.
-fn formed<'a>(alloc: Global, command: Command<'a>) -> Result<Command<'a>, AllocError> {
-    let hash = "Show the SHA-256 of each canonical form";
-    let command = with_flag(alloc, command, "hash", hash)?;
-    let tree = "Show the objects of each message";
-    let command = with_flag(alloc, command, "tree", tree)?;
-    let json = "Show each message as a JSON object, on a line";
-    let command = with_flag(alloc, command, "json", json)?;
-    let count = "Show the number of messages alone";
-    let command = with_flag(alloc, command, "count", count)?;
-    command.arg(html(alloc)?)
+// The command with these flags more. It is handed on at once, since each `?` drops what is made
+// already.
+fn with_flags<'a>(
+    alloc: Global,
+    command: Command<'a>,
+    rows: &[FlagRow],
+) -> Result<Command<'a>, AllocError> {
+    let mut command = command;
+    for row in rows {
+        command = with_flag(alloc, command, row.name, row.help, row.conflicts)?;
+    }
+    Ok(command)
 }
 
-// The flag that asks for a page.
-fn html<'a>(alloc: Global) -> Result<Arg<'a>, AllocError> {
-    flag(
-        alloc,
-        "html",
-        "Draw the messages, as a page that stands alone",
-    )
-    .conflicts_with("tree")?
-    .conflicts_with("json")?
-    .conflicts_with("count")
-}
-
-// How much of it.
-fn limited<'a>(alloc: Global, command: Command<'a>) -> Result<Command<'a>, AllocError> {
-    let first = "Stop after N messages of each file";
-    let command = with_number(alloc, command, "first", u64::MAX, first)?;
-    let words = "Refuse messages of more words [default: 8388608]";
-    let command = with_number(alloc, command, "words", u64::MAX, words)?;
-    let nesting = "Follow pointers so deep [default: 64]";
-    let command = with_number(alloc, command, "nesting", i32::MAX as u64, nesting)?;
-    let progress = "Tell how far the reading is, after each 64 MB";
-    with_flag(alloc, command, "progress", progress)
-}
-
-// The command with one flag more. A command is handed on at once, since each `?` drops the arguments
-// that are made and not yet its own.
+// The command with one flag more, which can't be given with these others.
 fn with_flag<'a>(
     alloc: Global,
     command: Command<'a>,
     name: &'a str,
     help: &'a str,
+    others: &[&'static str],
 ) -> Result<Command<'a>, AllocError> {
-    command.arg(flag(alloc, name, help))
+    command.arg(conflicting(flag(alloc, name, help), others)?)
+}
+
+// An argument that can't be given with these others.
+fn conflicting<'a>(arg: Arg<'a>, others: &[&'static str]) -> Result<Arg<'a>, AllocError> {
+    let mut arg = arg;
+    for other in others {
+        arg = arg.conflicts_with(*other)?;
+    }
+    Ok(arg)
+}
+
+// The command with the numbers, and the last flag.
+fn counted<'a>(alloc: Global, command: Command<'a>) -> Result<Command<'a>, AllocError> {
+    let command = with_numbers(alloc, command)?;
+    command.arg(flag(alloc, "progress", PROGRESS))
+}
+
+// The command with the numbers.
+fn with_numbers<'a>(alloc: Global, command: Command<'a>) -> Result<Command<'a>, AllocError> {
+    let mut command = command;
+    for row in &NUMBERS {
+        command = with_number(alloc, command, row.name, row.most, row.help)?;
+    }
+    Ok(command)
 }
 
 // The command with one number more.
@@ -156,7 +242,7 @@ pub fn settings_of(matches: &ArgMatches<'_>) -> Settings
 fn reading_of(matches: &ArgMatches<'_>) -> Reading
     ensures { AsksReading (found_of matches.now) result }
 {
-    if matches.get_flag("packed") {
+    if matches.get_flag("packed") || matches.get_flag("unpack") {
         Reading::Packed
     } else if matches.get_flag("detect") {
         Reading::Detected
@@ -174,6 +260,10 @@ fn form_of(matches: &ArgMatches<'_>) -> Form
         Form::Json
     } else if matches.get_flag("html") {
         Form::Html
+    } else if matches.get_flag("pack") {
+        Form::Converted(Way::Pack)
+    } else if matches.get_flag("unpack") {
+        Form::Converted(Way::Unpack)
     } else {
         Form::Lines
     }

@@ -2,8 +2,10 @@
 //!
 //! An arrow runs in the gaps between the cells alone: from the right of its pointer in the gap after
 //! that column, then in the gap above the object's row, and to the left of the cell where the object
-//! begins. Cells, gaps and headings have fixed sizes, so its corners are computed.
-ghost use Rattle.std.specs.Prelude.{◌≡◌, ◌⊎◌, ◌+◌, ◌*◌, ◌/◌, ◌^◌, ◌<◌, None, length, slice_get, MatchOption, ◌++◌, IfOk, OnOk, codes, string_bytes};
+//! begins. Cells, gaps and headings have fixed sizes, so its corners are computed. In a segment of up
+//! to eight rows no arrow lies over one to another object: in the gap after a column each row has a
+//! lane of its own, and in the gap above a row each column.
+ghost use Rattle.std.specs.Prelude.{◌≡◌, ◌⊎◌, ◌+◌, ◌*◌, ◌/◌, ◌^◌, ◌<◌, ℕ, None, length, slice_get, MatchOption, ◌++◌, IfOk, OnOk, codes, string_bytes};
 ghost use Rattle.capnp_show.specs.Arrows.{height_of, AreTops, IsCorner, AddsArrowOf, HasNoArrow, arrow_front, arrow_head, arrow_of, turns_between, sizes_text};
 ghost use Rattle.capnp_show.specs.Texts.{counted};
 
@@ -17,21 +19,31 @@ use std::fmt::Write;
 // Sizes in pixels.
 const NUMBER_WIDTH: u64 = 44;
 
-const CELL_WIDTH: u64 = 142;
+const CELL_WIDTH: u64 = 132;
 
 const CELL_HEIGHT: u64 = 26;
 
-const COLUMN_GAP: u64 = 30;
+const COLUMN_GAP: u64 = 40;
 
 const ROW_GAP: u64 = 14;
 
 const HEADING_HEIGHT: u64 = 34;
 
-// The left of the first cell of a row.
-const FIRST_LEFT: u64 = 2 * COLUMN_GAP + NUMBER_WIDTH;
+// The left of the first cell of a row, after the row's number and a gap.
+const FIRST_LEFT: u64 = NUMBER_WIDTH + COLUMN_GAP;
+
+// From where the cells of one column begin to where those of the next do, and of one row and the next.
+const COLUMN_STEP: u64 = CELL_WIDTH + COLUMN_GAP;
+
+const ROW_STEP: u64 = CELL_HEIGHT + ROW_GAP;
+
+// How many arrows run side by side in the gap after a column, and how far apart.
+const LANES: u64 = 8;
+
+const LANE_STEP: u64 = 3;
 
 // The width of a drawing.
-const WIDTH: u64 = FIRST_LEFT + 4 * (CELL_WIDTH + COLUMN_GAP);
+const WIDTH: u64 = FIRST_LEFT + 4 * COLUMN_STEP;
 
 /// Adds the sizes that the style names.
 pub fn push_sizes(text: &mut String) -> Result<(), AllocError>
@@ -51,8 +63,7 @@ pub fn part_height(words: usize) -> u64
 {
     let rows = words.div_ceil(ROW_WORDS) as u64;
     let gaps = HEADING_HEIGHT + ROW_GAP;
-    rows.saturating_mul(CELL_HEIGHT + ROW_GAP)
-        .saturating_add(gaps)
+    rows.saturating_mul(ROW_STEP).saturating_add(gaps)
 }
 
 /// The left and the top of a cell.
@@ -67,13 +78,13 @@ pub struct Corner {
 pub struct Grid {
     // The top of each segment's first row.
     tops: Vec<u64>,
-    height: u64,
 }
 
 impl Grid {
     /// Where the cells of these words are.
     pub fn new(alloc: Global, owners: &Owners) -> Result<Grid, AllocError>
-        ensures { IfOk result (λ grid. AreTops owners.now.segments.items grid.tops.items grid.height) }
+        ensures { IfOk result (λ grid. (height : ℕ)
+            × AreTops owners.now.segments.items grid.tops.items height) }
     {
         let mut tops = Vec::new(alloc);
         let mut height: u64 = 0;
@@ -81,19 +92,7 @@ impl Grid {
             tops.push(height.saturating_add(HEADING_HEIGHT + ROW_GAP))?;
             height = height.saturating_add(part_height(words.len()));
         }
-        Ok(Grid { tops, height })
-    }
-
-    /// Adds the front of the drawing's arrows.
-    pub fn push_front(&self, text: &mut String) -> Result<(), AllocError>
-        ensures { OnOk result (string_bytes text.new ≡ string_bytes text.old
-            ++ (counted (codes "<svg class=\"arrows\" width=\"") WIDTH
-            ++ (counted (codes "\" height=\"") self.now.height
-            ++ codes "\" aria-hidden=\"true\">\n"))) }
-    {
-        push_counted(text, "<svg class=\"arrows\" width=\"", WIDTH)?;
-        push_counted(text, "\" height=\"", self.height)?;
-        text.push_str("\" aria-hidden=\"true\">\n")
+        Ok(Grid { tops })
     }
 
     /// Adds the arrow of a word that stands at a place, where it leads to a word.
@@ -129,8 +128,8 @@ impl Grid {
         let row = place.word / ROW_WORDS as u64;
         let column = place.word % ROW_WORDS as u64;
         Some(Corner {
-            left: FIRST_LEFT + column * (CELL_WIDTH + COLUMN_GAP),
-            top: top.saturating_add(row.saturating_mul(CELL_HEIGHT + ROW_GAP)),
+            left: FIRST_LEFT + column * COLUMN_STEP,
+            top: top.saturating_add(row.saturating_mul(ROW_STEP)),
         })
     }
 }
@@ -140,7 +139,7 @@ fn push_path(text: &mut String, number: u64, from: Corner, to: Corner) -> Result
     ensures { OnOk result (string_bytes text.new ≡ string_bytes text.old ++ arrow_of number from to) }
 {
     push_arrow_front(text, number, from)?;
-    push_turns(text, number, from, to)?;
+    push_turns(text, from, to)?;
     push_arrow_head(text, to)
 }
 
@@ -162,20 +161,21 @@ fn push_arrow_head(text: &mut String, to: Corner) -> Result<(), AllocError>
 {
     let end = to.left.saturating_sub(2);
     push_counted(text, "H", end)?;
-    text.push_str("m-5 -3l5 3l-5 3\"/>\n")
+    text.push_str("m-5 -3l5 3l-5 3\"/>")
 }
 
 // Adds the turns of an arrow, where it does not lead to the next cell.
-fn push_turns(text: &mut String, number: u64, from: Corner, to: Corner) -> Result<(), AllocError>
-    ensures { OnOk result (string_bytes text.new ≡ string_bytes text.old ++ turns_between number from to) }
+fn push_turns(text: &mut String, from: Corner, to: Corner) -> Result<(), AllocError>
+    ensures { OnOk result (string_bytes text.new ≡ string_bytes text.old ++ turns_between from to) }
 {
     let right = from.left.saturating_add(CELL_WIDTH);
     if from.top == to.top && to.left == right.saturating_add(COLUMN_GAP) {
         return Ok(());
     }
-    // Arrows side by side in a gap lie a few pixels apart.
-    let channel = right.saturating_add(4 + number % 5 * 3);
-    let lane = to.top.saturating_sub(3 + number % 4 * 3);
+    let channel = right.saturating_add(4 + from.top / ROW_STEP % LANES * LANE_STEP);
+    let lane = to
+        .top
+        .saturating_sub(3 + to.left / COLUMN_STEP % ROW_WORDS as u64 * LANE_STEP);
     let entry = to.left.saturating_sub(9);
     let middle = to.top.saturating_add(CELL_HEIGHT / 2);
     push_counted(text, "H", channel)?;

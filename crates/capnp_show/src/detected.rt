@@ -1,6 +1,7 @@
 //! Whether the messages of an input are packed, by the bytes at its front.
-ghost use Rattle.std.specs.Prelude.{IfOk};
-ghost use Rattle.capnp_show.specs.Fronts.{IsReadAs, Says};
+ghost use Rattle.std.specs.Prelude.{◌≡◌, IfOk, MatchOption};
+ghost use Rattle.std.specs.Io.KnownBytes.{IsAtEnd};
+ghost use Rattle.capnp_show.specs.Fronts.{Ends, Says, Takes, Tells};
 
 use capnp::ErrorKind;
 use capnp::message::ReaderOptions;
@@ -41,33 +42,67 @@ pub fn look_at(front: &[u8], limits: ReaderOptions) -> Look
     }
 }
 
-/// Reads bytes of a device into `front` until they say how its messages stand, or it ends or fails.
-/// Framed is what begins a framed message within the limit of words, also where it ends too early,
-/// and packed only what begins none.
+/// Reads bytes of a device into `front` until they say how its messages stand, or it ends; `None`
+/// where it fails before. Framed is what begins a framed message within the limit of words, also
+/// where it ends too early, and packed only what begins none.
 pub fn detect<D: Read>(
     device: &mut D,
     front: &mut Vec<u8>,
     limits: ReaderOptions,
-) -> Result<Format, AllocError>
-    ensures { IfOk result (IsReadAs limits.traversal_limit_in_words front.new.items) }
+) -> Result<Option<Format>, AllocError>
+    ensures taken { IfOk result (λ _. Takes front.old.items front.new.items
+        (D.remaining device.old) (D.remaining device.new)) }
+    ensures told { IfOk result (λ found. MatchOption found
+        (Ends limits.traversal_limit_in_words front.new.items)
+        (Tells FRONT_BYTES limits.traversal_limit_in_words front.new.items
+        (D.remaining device.new))) }
 {
-    let mut part = [0; FRONT_BYTES];
     for _ in 0..u64::MAX {
-        if let Look::Is(_) = look_at(front.as_slice(), limits) {
-            break;
+        if let Look::Is(format) = look_at(front.as_slice(), limits) {
+            return Ok(Some(format));
         }
-        match device.read(&mut part) {
-            Ok(0) => break,
-            Ok(count) => front.extend_from_slice(&part[..count])?,
-            Err(error) => {
-                if error.kind() != io::ErrorKind::Interrupted {
-                    break;
-                }
-            }
+        match take_part(device, front)? {
+            Part::Bytes => {}
+            Part::End => return Ok(Some(Format::Framed)),
+            Part::Failure => return Ok(None),
         }
     }
     match look_at(front.as_slice(), limits) {
-        Look::Is(Format::Packed) => Ok(Format::Packed),
-        Look::Is(Format::Framed) | Look::More => Ok(Format::Framed),
+        Look::Is(format) => Ok(Some(format)),
+        Look::More => Ok(None),
+    }
+}
+
+// What a device gives at once.
+#[derive(Clone, Copy)]
+enum Part {
+    /// Some bytes, or none yet.
+    Bytes,
+    End,
+    Failure,
+}
+
+// Reads what a device gives at once into `front`.
+fn take_part<D: Read>(device: &mut D, front: &mut Vec<u8>) -> Result<Part, AllocError>
+    ensures taken { IfOk result (λ _. Takes front.old.items front.new.items
+        (D.remaining device.old) (D.remaining device.new)) }
+    ensures end { IfOk result (λ part. part ≡ Part.End →
+        (front.new.items ≡ front.old.items) × IsAtEnd (D.remaining device.new)) }
+    ensures failure { IfOk result (λ part. part ≡ Part.Failure → front.new.items ≡ front.old.items) }
+{
+    let mut part = [0; FRONT_BYTES];
+    match device.read(&mut part) {
+        Ok(0) => Ok(Part::End),
+        Ok(count) => {
+            front.extend_from_slice(&part[..count])?;
+            Ok(Part::Bytes)
+        }
+        Err(error) => {
+            if error.kind() == io::ErrorKind::Interrupted {
+                Ok(Part::Bytes)
+            } else {
+                Ok(Part::Failure)
+            }
+        }
     }
 }

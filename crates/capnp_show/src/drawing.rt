@@ -2,12 +2,12 @@
 ghost use Rattle.std.specs.Prelude.{◌↔◌, ◌≤◌, IsTrue};
 
 use crate::arrows::Grid;
-use crate::drawn::{Anchor, ROW_WORDS, push_row};
+use crate::drawn::{Anchor, Drawn, ROW_WORDS, push_row};
 use crate::html::{push_no_root, push_object, push_part};
 use crate::listing::push_node_text;
 use crate::owners::{MOST_NODES, Owners, Word};
 use crate::shown::write_full;
-use crate::tree::{Found, Walk};
+use crate::tree::{Found, Node, Walk};
 use crate::words::Place;
 use capnp::Result;
 use capnp::io::Write;
@@ -34,24 +34,40 @@ pub fn show_drawing<S: ReaderSegments, W: Write>(
     sink: &mut W,
 ) -> Result<()> {
     let owners = Owners::of_message(alloc, limits, segments)?;
-    text.push_str("<div class=\"drawing\">\n")?;
-    let mut segment: u32 = 0;
-    for words in owners.segments() {
-        show_segment(anchor, &owners, segment, words.as_slice(), text, sink)?;
-        segment = segment.saturating_add(1);
-    }
-    show_arrows(alloc, &owners, text, sink)?;
-    text.push_str("</div>\n")?;
+    show_words(alloc, anchor, &owners, text, sink)?;
     if let Some(kind) = owners.no_root() {
         push_no_root(text, kind)?;
     }
     show_objects(alloc, limits, segments, text, sink)
 }
 
-// Shows the words of a segment.
-fn show_segment<W: Write>(
+// Shows the words of a message, segment by segment.
+fn show_words<W: Write>(
+    alloc: Global,
     anchor: Anchor,
     owners: &Owners,
+    text: &mut String,
+    sink: &mut W,
+) -> Result<()> {
+    let grid = Grid::new(alloc, owners)?;
+    let drawn = Drawn {
+        anchor,
+        owners,
+        grid: &grid,
+    };
+    text.push_str("<div class=\"drawing\">\n")?;
+    let mut segment: u32 = 0;
+    for words in owners.segments() {
+        show_segment(drawn, segment, words.as_slice(), text, sink)?;
+        segment = segment.saturating_add(1);
+    }
+    text.push_str("</div>\n")?;
+    Ok(())
+}
+
+// Shows the words of a segment.
+fn show_segment<W: Write>(
+    drawn: Drawn<'_>,
     segment: u32,
     words: &[Word],
     text: &mut String,
@@ -60,7 +76,7 @@ fn show_segment<W: Write>(
     push_part(text, segment, words.len())?;
     let mut first = Place { segment, word: 0 };
     for row in words.chunks(ROW_WORDS) {
-        push_row(text, anchor, owners, first, row)?;
+        push_row(text, drawn, first, row)?;
         first = first.moved(ROW_WORDS as u64);
         write_full(text, sink)?;
     }
@@ -68,40 +84,19 @@ fn show_segment<W: Write>(
     Ok(())
 }
 
-// Shows the arrows of a drawing.
-fn show_arrows<W: Write>(
-    alloc: Global,
-    owners: &Owners,
+// Shows an object of this number. `line` is scratch space.
+fn show_object<S: ReaderSegments, W: Write>(
+    segments: &S,
+    node: &Node,
+    number: u64,
+    line: &mut String,
     text: &mut String,
     sink: &mut W,
 ) -> Result<()> {
-    let grid = Grid::new(alloc, owners)?;
-    grid.push_front(text)?;
-    let mut segment: u32 = 0;
-    for words in owners.segments() {
-        show_arrows_from(&grid, owners, segment, words.as_slice(), text, sink)?;
-        segment = segment.saturating_add(1);
-    }
-    text.push_str("</svg>\n")?;
-    Ok(())
-}
-
-// Shows the arrows of a drawing that begin at the words of a segment.
-fn show_arrows_from<W: Write>(
-    grid: &Grid,
-    owners: &Owners,
-    segment: u32,
-    words: &[Word],
-    text: &mut String,
-    sink: &mut W,
-) -> Result<()> {
-    let mut place = Place { segment, word: 0 };
-    for word in words {
-        grid.push_arrow(text, owners, place, word)?;
-        place = place.moved(1);
-        write_full(text, sink)?;
-    }
-    Ok(())
+    line.clear();
+    push_node_text(line, segments, node)?;
+    push_object(text, number, line.as_str())?;
+    write_full(text, sink)
 }
 
 // Shows the objects of a message, one by one.
@@ -122,11 +117,8 @@ fn show_objects<S: ReaderSegments, W: Write>(
             return Ok(());
         };
         if let Found::Object(_) = node.found {
-            line.clear();
-            push_node_text(&mut line, segments, &node)?;
-            push_object(text, objects, line.as_str())?;
+            show_object(segments, &node, objects, &mut line, text, sink)?;
             objects = objects.saturating_add(1);
-            write_full(text, sink)?;
         }
     }
     text.push_str("</ol>\n")?;

@@ -2,6 +2,7 @@
 ghost use Rattle.std.specs.Prelude.{◌≡◌, ◌%◌, ◌++◌, None, OnOk, codes, string_bytes};
 ghost use Rattle.capnp_show.specs.Texts.{counted, message_name, word_name, null_class, owner_classes, refused_class, word_classes, where_of, owner_name, drawn_lead, title_of};
 
+use crate::arrows::Grid;
 use crate::numbers::{push_counted, push_hexadecimal};
 use crate::owners::{Lead, Owner, Owners, Role, Word};
 use crate::refusals::push_refusal;
@@ -12,7 +13,7 @@ use std::alloc::AllocError;
 pub const ROW_WORDS: usize = 4;
 
 // How many colours objects have, one after the other.
-const COLOURS: u64 = 8;
+const COLOURS: u64 = 9;
 
 /// The name of a message in a page: its input's number and its own.
 #[derive(Clone, Copy)]
@@ -40,6 +41,14 @@ impl Anchor {
     }
 }
 
+/// What is drawn of a message: its name, its words, and where their cells are.
+#[derive(Clone, Copy)]
+pub struct Drawn<'a> {
+    pub anchor: Anchor,
+    pub owners: &'a Owners,
+    pub grid: &'a Grid,
+}
+
 /// Adds the classes of an object.
 pub fn push_object_classes(text: &mut String, number: u64) -> Result<(), AllocError>
     ensures { OnOk result (string_bytes text.new ≡ string_bytes text.old
@@ -60,8 +69,7 @@ pub fn colour_of(number: u64) -> u64
 /// Adds a row of words, of which the first stands at a place.
 pub fn push_row(
     text: &mut String,
-    anchor: Anchor,
-    owners: &Owners,
+    drawn: Drawn<'_>,
     first: Place,
     words: &[Word],
 ) -> Result<(), AllocError> {
@@ -69,7 +77,7 @@ pub fn push_row(
     text.push_str("</th>")?;
     let mut place = first;
     for word in words {
-        push_cell(text, anchor, owners, place, word)?;
+        push_cell(text, drawn, place, word)?;
         place = place.moved(1);
     }
     text.push_str("</tr>\n")
@@ -78,29 +86,42 @@ pub fn push_row(
 // Adds the cell of a word.
 fn push_cell(
     text: &mut String,
-    anchor: Anchor,
-    owners: &Owners,
+    drawn: Drawn<'_>,
     place: Place,
     word: &Word,
 ) -> Result<(), AllocError> {
     text.push_str("<td id=\"")?;
-    anchor.push_word(text, place)?;
+    drawn.anchor.push_word(text, place)?;
     text.push_str("\" class=\"")?;
     push_classes(text, word)?;
     text.push_str("\" title=\"")?;
     push_title(text, place, word)?;
     text.push_str("\">")?;
     match word.target() {
-        Some((_, start)) if owners.word(start).is_some() => {
-            text.push_str("<a href=\"#")?;
-            anchor.push_word(text, start)?;
-            text.push_str("\">")?;
-            push_hexadecimal(text, word.bytes)?;
-            text.push_str("</a>")?;
+        Some((_, start)) if drawn.owners.word(start).is_some() => {
+            push_link(text, drawn, place, word, start)?;
         }
         _ => push_hexadecimal(text, word.bytes)?,
     }
     text.push_str("</td>")
+}
+
+// Adds the link of a word that leads to the word at a start, with its arrow: so a mouse on either is
+// on both.
+fn push_link(
+    text: &mut String,
+    drawn: Drawn<'_>,
+    place: Place,
+    word: &Word,
+    start: Place,
+) -> Result<(), AllocError> {
+    text.push_str("<a href=\"#")?;
+    drawn.anchor.push_word(text, start)?;
+    text.push_str("\">")?;
+    push_hexadecimal(text, word.bytes)?;
+    text.push_str("<svg>")?;
+    drawn.grid.push_arrow(text, drawn.owners, place, word)?;
+    text.push_str("</svg></a>")
 }
 
 // Adds the classes of a word: what it is to whom it belongs, and how a pointer fares.
@@ -138,7 +159,7 @@ fn push_null(text: &mut String, word: &Word) -> Result<(), AllocError>
     ensures { OnOk result (string_bytes text.new
         ≡ string_bytes text.old ++ null_class word.now.owner word.now.lead) }
 {
-    if word.is_pointer() && word.lead == Lead::Null {
+    if word.is_pointer() && matches!(word.lead, Lead::Null) {
         text.push_str(" null")?;
     }
     Ok(())

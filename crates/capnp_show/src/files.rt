@@ -25,7 +25,7 @@ pub fn show_files<W: Write>(
     names: &[&str],
     sink: &mut W,
 ) -> Result<bool> {
-    if settings.form != Form::Html {
+    if !matches!(settings.form, Form::Html) {
         return show_each(rt, settings, names, sink);
     }
     let mut text = String::new(rt.alloc());
@@ -116,7 +116,7 @@ fn say_unopened(rt: HostRuntime, name: &str, error: &io::Error) -> Result<()> {
 
 // Shows the name of an input where a page is shown.
 fn show_name<W: Write>(rt: HostRuntime, showing: Showing<'_>, sink: &mut W) -> Result<()> {
-    if showing.settings.form != Form::Html {
+    if !matches!(showing.settings.form, Form::Html) {
         return Ok(());
     }
     let mut text = String::new(rt.alloc());
@@ -160,7 +160,8 @@ fn show_detected<D: Read + Drop, W: Write>(
 ) -> Result<bool> {
     let mut device = device;
     let mut front = Vec::new(rt.alloc());
-    let format = detect(&mut device, &mut front, showing.settings.limits)?;
+    let found = detect(&mut device, &mut front, showing.settings.limits)?;
+    let format = found.unwrap_or(Format::Framed);
     say_detected(rt, showing.name, format)?;
     let whole = front.as_slice().chain(device);
     show_input(rt, Showing { format, ..showing }, progress, whole, sink)

@@ -16,6 +16,7 @@ use std::fmt::Write;
 pub fn push_page(text: &mut String) -> Result<(), AllocError> {
     text.push_str(
         "<!DOCTYPE html>\n<html lang=\"en\">\n<head>\n<meta charset=\"utf-8\">\n\
+<meta name=\"viewport\" content=\"width=device-width\">\n\
 <title>capnp_show</title>\n<style>\n",
     )?;
     push_sizes(text)?;

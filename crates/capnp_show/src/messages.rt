@@ -1,8 +1,15 @@
 //! The messages of an input, shown one by one.
-ghost use Rattle.std.specs.Prelude.{◌≡◌, IfOk, IfSome};
+ghost use Rattle.std.specs.Prelude.{◌≡◌, None, IfOk, IfSome, OnOk};
+ghost use Rattle.std.specs.List.{AllByRecursion};
+ghost use Rattle.capnp_frame.specs.Limits.{IsWithin};
+ghost use Rattle.capnp_frame.specs.Message.{IsWholeWords};
+ghost use Rattle.capnp_frame.specs.Sink.{Adds};
+ghost use Rattle.capnp_frame.specs.Source.{IfKnown};
 ghost use Rattle.capnp_frame.specs.Streams.{ReadsStream, next_in};
 ghost use Rattle.capnp.specs.Passed.{Padding, Zero};
 ghost use Rattle.capnp.specs.Streams.{rules_of};
+ghost use Rattle.capnp.specs.Transcoding.{Transcodes};
+ghost use Rattle.capnp_show.specs.Shown.{Lists};
 
 use crate::counted::Counted;
 use crate::listing::Listed;
@@ -13,11 +20,11 @@ use crate::shown::{Showing, show_count, show_message};
 use capnp::io::{BufRead, Write};
 use capnp::message::{Reader, ReaderOptions, ReaderSegments};
 use capnp::serialize::OwnedSegments;
-use capnp::streams::Format;
-use capnp::{Result, serialize, serialize_packed};
+use capnp::streams::{Format, MessageWriter};
+use capnp::{Result, Way, serialize, serialize_packed};
 use std::alloc::Global;
 
-/// Shows the messages of a source, each as soon as it is read.
+/// Shows the messages of a source, each as soon as it is read, or writes them in the other format.
 ///
 /// What is shown of the messages before a refusal stays written.
 pub fn show_messages<R: BufRead + Drop, W: Write>(
@@ -40,7 +47,7 @@ pub fn show_messages<R: BufRead + Drop, W: Write>(
                 count = index + 1;
                 let bytes = taken.saturating_sub(offset);
                 let listed = listed(index, offset, bytes, message.get_segments());
-                show_message(alloc, showing, &listed, &message, &mut text, sink).map_err(
+                show_read(alloc, showing, &listed, &message, &mut text, sink).map_err(
                     Stop::Unwritten,
                 )?;
                 say_progress(rt, showing.name, progress, taken, count).map_err(Stop::Unwritten)?;
@@ -55,10 +62,45 @@ pub fn show_messages<R: BufRead + Drop, W: Write>(
             }
         }
     }
-    if showing.settings.form == Form::Count {
+    if matches!(showing.settings.form, Form::Count) {
         show_count(showing, count, &mut text, sink).map_err(Stop::Unwritten)?;
     }
     outcome
+}
+
+// Shows a message that was read, or writes it in the other format.
+fn show_read<W: Write>(
+    alloc: Global,
+    showing: Showing<'_>,
+    listed: &Listed,
+    message: &Reader<OwnedSegments>,
+    text: &mut String,
+    sink: &mut W,
+) -> Result<()>
+    requires accepted { IsWithin message.now.segments None }
+    requires whole { AllByRecursion IsWholeWords message.now.segments }
+{
+    match showing.settings.form {
+        Form::Converted(way) => convert(alloc, way, listed.index, message.get_segments(), sink),
+        _ => show_message(alloc, showing, listed, message, text, sink),
+    }
+}
+
+// Writes a message that was read in the other format.
+fn convert<W: Write>(
+    alloc: Global,
+    way: Way,
+    index: u64,
+    message: &OwnedSegments,
+    sink: &mut W,
+) -> Result<()>
+    requires accepted { IsWithin message.now None }
+    requires whole { AllByRecursion IsWholeWords message.now }
+    ensures { OnOk result (IfKnown (W.written sink.old) (W.written sink.new)
+        (Adds (Transcodes way W.appends index message.now))) }
+{
+    let mut memory = Vec::new(alloc);
+    way.write_message(alloc, index, message, &mut memory, sink)
 }
 
 // Says on standard error how far the reading is, where a line is due.
@@ -95,7 +137,7 @@ fn next_message<R: BufRead>(
 
 // What is listed of a message.
 fn listed<S: ReaderSegments>(index: u64, offset: u64, bytes: u64, segments: &S) -> Listed
-    ensures { (result.index ≡ index) × (result.offset ≡ offset) × (result.bytes ≡ bytes) }
+    ensures { Lists index offset bytes (S.segments segments.now) result }
 {
     let mut count: u64 = 0;
     let mut words: u64 = 0;

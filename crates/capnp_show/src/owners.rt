@@ -14,7 +14,7 @@ use std::alloc::{AllocError, Global};
 pub const MOST_NODES: u64 = 65536;
 
 /// What a word is to its object.
-#[derive(Clone, Copy, Debug, PartialEq, Eq)]
+#[derive(Clone, Copy)]
 pub enum Role {
     Data,
     Pointer,
@@ -24,7 +24,7 @@ pub enum Role {
 }
 
 /// Whose a word is.
-#[derive(Clone, Copy, Debug, PartialEq, Eq)]
+#[derive(Clone, Copy)]
 pub enum Owner {
     /// No object's that the walk reaches.
     Free,
@@ -48,7 +48,7 @@ impl Owner {
 }
 
 /// Where the pointer at a word leads.
-#[derive(Clone, Copy, Debug, PartialEq, Eq)]
+#[derive(Clone, Copy)]
 pub enum Lead {
     /// The walk follows no pointer there, or what it leads to is refused.
     Nowhere,
@@ -202,7 +202,7 @@ impl Owners {
     // Says where the pointer at a word leads, where it was not said yet.
     fn lead(&mut self, place: Place, lead: Lead) {
         if let Some(word) = self.word_mut(place)
-            && word.lead == Lead::Nowhere
+            && matches!(word.lead, Lead::Nowhere)
         {
             word.lead = lead;
         }

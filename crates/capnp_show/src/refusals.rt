@@ -54,7 +54,7 @@ pub fn push_refusal(text: &mut String, kind: ErrorKind) -> Result<(), AllocError
 }
 
 /// Why the messages of an input are not shown to its end.
-#[derive(Debug, Drop)]
+#[derive(Drop)]
 pub enum Stop {
     /// The message of this index was refused, whose first byte stands at this offset.
     Refused {

@@ -1,8 +1,9 @@
 //! What a run reads and shows.
+use capnp::Way;
 use capnp::message::ReaderOptions;
 
 /// How the messages of a file stand.
-#[derive(Clone, Copy, Debug, PartialEq, Eq)]
+#[derive(Clone, Copy)]
 pub enum Reading {
     Framed,
     Packed,
@@ -11,7 +12,7 @@ pub enum Reading {
 }
 
 /// In which form messages are shown.
-#[derive(Clone, Copy, Debug, PartialEq, Eq)]
+#[derive(Clone, Copy)]
 pub enum Form {
     /// A line for each message, and what was asked for below it.
     Lines,
@@ -21,10 +22,12 @@ pub enum Form {
     Html,
     /// The number of messages alone.
     Count,
+    /// The messages themselves, in the other format.
+    Converted(Way),
 }
 
 /// What a run reads and shows.
-#[derive(Clone, Copy, Debug)]
+#[derive(Clone, Copy)]
 pub struct Settings {
     pub reading: Reading,
     pub form: Form,

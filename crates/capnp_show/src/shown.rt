@@ -8,7 +8,7 @@ use crate::drawn::Anchor;
 use crate::hash::hash_of;
 use crate::listing::Listed;
 use crate::settings::{Form, Settings};
-use crate::tree::Walk;
+use crate::tree::{Node, Walk};
 use crate::{html, json, listing};
 use capnp::Result;
 use capnp::io::Write;
@@ -40,7 +40,7 @@ impl<'a> Showing<'a> {
     }
 }
 
-/// Shows one message.
+/// Shows one message, where messages are shown, and not counted or converted.
 pub fn show_message<S: ReaderSegments, W: Write>(
     alloc: Global,
     showing: Showing<'_>,
@@ -51,7 +51,7 @@ pub fn show_message<S: ReaderSegments, W: Write>(
 ) -> Result<()> {
     text.clear();
     match showing.settings.form {
-        Form::Count => return Ok(()),
+        Form::Count | Form::Converted(_) => return Ok(()),
         Form::Lines => show_lines(alloc, showing, listed, message, text, sink)?,
         Form::Json => show_json(alloc, showing, listed, message, text, sink)?,
         Form::Html => show_section(alloc, showing, listed, message, text, sink)?,
@@ -145,18 +145,30 @@ fn show_tree<S: ReaderSegments, W: Write>(
         let Some(node) = walk.next(segments)? else {
             break;
         };
-        if settings.form == Form::Json {
-            if count > 0 {
-                text.push(',')?;
-            }
-            json::push_node(text, segments, &node)?;
-        } else {
-            text.push('\n')?;
-            listing::push_node(text, segments, &node)?;
-        }
-        write_full(text, sink)?;
+        show_node(settings, count, segments, &node, text, sink)?;
     }
     Ok(())
+}
+
+// Shows a node of this number.
+fn show_node<S: ReaderSegments, W: Write>(
+    settings: Settings,
+    number: u64,
+    segments: &S,
+    node: &Node,
+    text: &mut String,
+    sink: &mut W,
+) -> Result<()> {
+    if matches!(settings.form, Form::Json) {
+        if number > 0 {
+            text.push(',')?;
+        }
+        json::push_node(text, segments, node)?;
+    } else {
+        text.push('\n')?;
+        listing::push_node(text, segments, node)?;
+    }
+    write_full(text, sink)
 }
 
 /// Writes a text that has grown to `TEXT_BYTES`, and clears it; a shorter one stays.

@@ -2,9 +2,10 @@
 //!
 //! A walk ends whatever the pointers say: it goes no deeper than the nesting limit, and stops where
 //! the objects come to more words than the limit of words.
-ghost use Rattle.std.specs.Prelude.{◌≡◌, ◌↔◌, ◌≤◌, ◌+◌, ◌-◌, [], ◌∷◌, min, IfOk, IfSome, IsTrue, None, option_map};
+ghost use Rattle.std.specs.Prelude.{◌≡◌, ◌↔◌, ◌≤◌, ◌+◌, ◌-◌, [], ◌∷◌, min, MatchOption, IfOk, IfSome, IsTrue, None, option_map};
+ghost use Rattle.std.specs.List.{All};
 ghost use Rattle.capnp_wire.specs.Readers.{nesting_of};
-ghost use Rattle.capnp_show.specs.Rows.{further, step_of, label_of, Finds, IsBelow};
+ghost use Rattle.capnp_show.specs.Rows.{further, row_after, pointers_row, IsSpent, IsNodeOf, LeavesRows, LeavesWords, Comes, Finds, IsBelow};
 
 use crate::words::{ElementSize, Object, Place, Shape, StructSize, object_at};
 use capnp::ErrorKind;
@@ -104,11 +105,12 @@ impl Walk {
     }
 
     /// The next node; `None` at the end.
-    pub fn next<S: ReaderSegments>(&mut self, segments: &S) -> Result<Option<Node>, AllocError> {
-        for _ in 0..u64::MAX {
-            let Some(row) = self.rows.pop() else {
-                break;
-            };
+    pub fn next<S: ReaderSegments>(&mut self, segments: &S) -> Result<Option<Node>, AllocError>
+        ensures { IfOk result (λ found. MatchOption found (All IsSpent self.old.rows.items)
+            (λ node. Comes (S.segments segments.now) self.old.rows.items self.old.left node
+            self.new.rows.items self.new.left)) }
+    {
+        while let Some(row) = self.rows.pop() {
             if row.index < row.count {
                 self.rows.push(row.after())?;
                 return Ok(Some(self.node(segments, row)?));
@@ -119,13 +121,10 @@ impl Walk {
 
     // The next node of a row.
     fn node<S: ReaderSegments>(&mut self, segments: &S, row: Row) -> Result<Node, AllocError>
-        ensures place { IfOk result (λ node. (node.place ≡ row.next) × (node.depth ≡ row.depth)
-            × (node.label ≡ label_of row.kind row.index)) }
-        ensures element { IfOk result (λ node. (size : StructSize) → row.kind ≡ RowKind.Elements size
-            → node.found ≡ Found.Element row.next size) }
-        ensures found { IfOk result (λ node.
-            ((size : StructSize) → row.kind ≡ RowKind.Elements size → ⊥)
-            → Finds (S.segments segments.now) row.next row.nesting self.old.left node.found) }
+        ensures node { IfOk result (IsNodeOf (S.segments segments.now) row self.old.left) }
+        ensures rows { IfOk result (λ node.
+            LeavesRows row node.found self.old.rows.items self.new.rows.items) }
+        ensures words { IfOk result (λ node. LeavesWords node.found self.old.left self.new.left) }
     {
         let label = match row.kind {
             RowKind::Root => Label::Root,
@@ -150,8 +149,11 @@ impl Walk {
 
     // What the next pointer of a row leads to.
     fn follow<S: ReaderSegments>(&mut self, segments: &S, row: Row) -> Result<Found, AllocError>
-        ensures { IfOk result (λ found.
+        ensures found { IfOk result (λ found.
             Finds (S.segments segments.now) row.next row.nesting self.old.left found) }
+        ensures rows { IfOk result (λ found.
+            LeavesRows row found self.old.rows.items self.new.rows.items) }
+        ensures words { IfOk result (λ found. LeavesWords found self.old.left self.new.left) }
     {
         let object = match object_at(segments, row.next) {
             Ok(Some(object)) => object,
@@ -176,6 +178,7 @@ impl Walk {
         ensures within { IfSome self.old.left (λ left. IsTrue result ↔ (words ≤ left)) }
         ensures unlimited { self.old.left ≡ None → IsTrue result }
         ensures taken { IsTrue result → self.new.left ≡ option_map (λ left. left - words) self.old.left }
+        ensures rows { self.new.rows ≡ self.old.rows }
     {
         let Some(left) = self.left else {
             return true;
@@ -193,10 +196,7 @@ impl Walk {
 impl Row {
     // The row once its next node has come.
     fn after(self) -> Row
-        ensures { result ≡ record self {
-          index = min (self.index + 1) u64.MAX;
-          next = further self.next (step_of self.kind);
-        } }
+        ensures { result ≡ row_after self }
     {
         let words = match self.kind {
             RowKind::Elements(size) => size.words(),
@@ -238,14 +238,7 @@ impl Row {
 
     // The pointers of a struct at a place.
     fn pointers_of(self, start: Place, size: StructSize, nesting: u64) -> Row
-        ensures { result ≡ record {
-          index = 0;
-          count = size.pointers;
-          next = further start size.data_words;
-          kind = RowKind.Pointers;
-          depth = min (self.depth + 1) u64.MAX;
-          nesting = nesting;
-        } }
+        ensures { result ≡ pointers_row self start size nesting }
     {
         let first = start.moved(size.data_words);
         self.row(RowKind::Pointers, first, size.pointers, nesting)

@@ -13,7 +13,7 @@ use capnp::ErrorKind;
 use capnp::message::ReaderSegments;
 
 /// Where a word of a message stands.
-#[derive(Clone, Copy, Debug, PartialEq, Eq)]
+#[derive(Clone, Copy)]
 pub struct Place {
     /// The number of the segment, from 0 on.
     pub segment: u32,

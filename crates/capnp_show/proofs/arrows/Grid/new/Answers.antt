@@ -29,4 +29,4 @@ loop-words-preserved c =
 pub returns : goal.returns
 returns c =
     let all = take_all c.loop-words.words-index c.segments-words-items.result.now c.loop-words-test.false in
-    subst (λ (segments : List (Vec Word Global)). AreTops segments c.loop-words.tops.items c.loop-words.height) (all ∙ c.segments-words-items.ensures) c.loop-words.invariant
+    (c.loop-words.height, subst (λ (segments : List (Vec Word Global)). AreTops segments c.loop-words.tops.items c.loop-words.height) (all ∙ c.segments-words-items.ensures) c.loop-words.invariant)
