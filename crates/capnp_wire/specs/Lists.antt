@@ -14,7 +14,7 @@ abbrev pub elements_left : {L E : Type 0} → (L → ℕ) → (L → ℕ → E) 
 elements_left size element elements =
     map (element elements.list.now) (range_with_len elements.index (size elements.list.now - elements.index))
 
--- of so many elements the one of an index is found where there is one
+-- of a list of this size the element of an index is found where there is one
 abbrev pub FindsElement : {A : Type 0} → ℕ → ℕ → (A → Type 0) → Option A → Type 0
 FindsElement size index element result = MatchOption result (size ≤ index) (λ item. (index < size) × element item)
 
