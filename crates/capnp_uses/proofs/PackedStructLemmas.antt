@@ -18,7 +18,7 @@ use Rattle.capnp.specs.declared.streams.Format.TheVariants.{Packed}
 use Rattle.capnp.specs.Streams.{BeginsPacked, RefusesNext}
 use Rattle.capnp.specs.Written.{IsPackedTextOf}
 use Rattle.capnp_uses.specs.Roots.{RefusesPackedStruct}
-use Rattle.capnp_uses.proofs.StreamLemmas.{slice_refused}
+use Rattle.capnp.proofs.StreamLemmas.{slice_refused}
 use Rattle.capnp.proofs.WriterLemmas.{IsWithin-written}
 
 pub packed_read : (limit : Option ℕ) (read message : List (List ℕ)) (text left : List ℕ) → BeginsPacked Zero limit read text left → IsWritable message → IsPackedTextOf message text → read ≡ message
@@ -36,7 +36,7 @@ shown_text message text shown same packed = subst (λ l. IsPackedTextOf message 
 -- why a reader of a packed text stops
 pub packed_stops : (kind : ErrorKind) (old new : List ℕ) (T : Type 0) → (kind ≡ DeviceFailed → Fails 0 0)
     → (kind ≡ DeviceFailed) ⊎ ((kind ≡ OutOfMemory) × T) ⊎ RefusesNext Zero Packed default_limit kind old new → RefusesPackedStruct old kind
-packed_stops kind old new T failed refused = elim (slice_refused Packed default_limit kind old new T failed refused) [ inl memory ↦ inl memory | inr ends ↦ inr (inl ends) ]
+packed_stops kind old new T failed refused = elim (slice_refused Zero Packed default_limit kind old new T failed refused) [ inl memory ↦ inl memory | inr ends ↦ inr (inl ends) ]
 
 -- why no struct is read from a text
 pub packed_refused : {X : Type 0} (A B C : ErrorKind → Type 0) (message : List (List ℕ)) (text : List ℕ) (r : Result X Error) → IsPackedTextOf message text

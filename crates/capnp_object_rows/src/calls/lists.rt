@@ -309,13 +309,11 @@ fn lists_one_by_one(rt: HostRuntime) -> Result<()> {
     let segments = [NUMBERS];
     let arena = arena_of(&segments, None, 64);
     let lists = typed_root::<Numbers>(&arena)?;
-    let mut count = 0;
     let mut largest = None;
     for list in lists.iter() {
-        count += 1;
         largest = list?.iter().max();
     }
-    expect(&rt, NUMBERS, (count, largest), (1, Some(7)));
+    expect(&rt, NUMBERS, (lists.iter().len(), largest), (1, Some(7)));
     expect(&rt, "past the end", lists.try_get(1).is_some(), false);
     Ok(())
 }

@@ -227,10 +227,10 @@ fn upgraded_elements_one_by_one(rt: HostRuntime) -> Result<()> {
     let pointers: Pointers<'_> = root_as(&arena)?;
     let texts: Texts<'_> = root_as(&arena)?;
     let words = structs.iter().map(|element| element.get_word(0)).max();
-    let nulls = pointers.iter().filter(|pointer| pointer.is_null()).count();
-    let read = texts.iter().filter(|text| text.is_ok()).count();
-    let elements = (words, numbers.iter().max(), nulls, read);
-    expect(&rt, "one by one", elements, (Some(9), Some(9), 2, 3));
+    let null = pointers.iter().all(|pointer| pointer.is_null());
+    let read = texts.iter().all(|text| text.is_ok());
+    let elements = (words, numbers.iter().max(), null, read);
+    expect(&rt, "one by one", elements, (Some(9), Some(9), false, true));
     let found = [
         structs.try_get(2).is_some(),
         numbers.try_get(2).is_some(),
