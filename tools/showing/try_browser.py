@@ -1,6 +1,7 @@
 """The page of capnp_show in a browser without a window: what it reads, what it draws, where the arrows lie, and how it
 uses the window."""
 import os
+import re
 import shutil
 import subprocess
 
@@ -29,7 +30,7 @@ for (const section of document.querySelectorAll("section")) {
   }
 }
 let beside = 0, below = 0;
-for (const objects of document.querySelectorAll(".objects")) {
+for (const objects of document.querySelectorAll(".objects:has(li)")) {
   const drawing = objects.parentElement.querySelector(".drawing").getBoundingClientRect();
   const list = objects.getBoundingClientRect();
   beside += list.left >= drawing.right && list.right > 0.9 * innerWidth ? 1 : 0;
@@ -66,7 +67,8 @@ def try_browser(text, inputs):
         return
     browser = Browser(program)
     wrongs = wrongs_of(browser.open("page.html", text, "--dump-dom"), page_of(inputs, {}))
-    arrows, lists = text.count("<a href="), text.count('<ol class="objects"')
+    # a message of no objects has a list that isn't seen
+    arrows, lists = text.count("<a href="), len(re.findall(r'<ol class="objects"[^>]*>\s*<li', text))
     # the lists of objects stand beside the drawings in a wide window, and below them in a narrow one
     for size, where in (("1280,800", f"{lists} beside, 0 below"), ("500,800", f"0 beside, {lists} below")):
         looked = browser.open("looked.html", text.replace("</body>", f"{LOOK}</body>"), "--dump-dom", size=size)
