@@ -293,13 +293,17 @@ fn pointers_one_by_one(rt: HostRuntime) -> Result<()> {
     let segments = [POINTERS];
     let arena = arena_of(&segments, None, 64);
     let list: Pointers<'_> = typed_root::<any_pointer_list::Owned>(&arena)?;
-    let nulls = list.iter().filter(|pointer| pointer.is_null()).count();
+    let nulls: [bool; 3] = [true, false, false];
+    let are_null = list
+        .iter()
+        .zip(&nulls)
+        .all(|(pointer, null)| pointer.is_null() == *null);
     let found = [list.try_get(2).is_some(), list.try_get(3).is_some()];
     expect(
         &rt,
         POINTERS,
-        (list.iter().len(), nulls, found),
-        (3, 1, [true, false]),
+        (list.iter().len(), are_null, found),
+        (3, true, [true, false]),
     );
     Ok(())
 }
