@@ -133,7 +133,7 @@ static inline const char *linsjoar_error_name(int number) {
 
 /* Tells how many bytes the framed message at the front of a buffer takes, so that a caller steps from one
  * message to the next. It returns 0 wherever one stands there. Where there are no bytes it returns 0
- * and tells 0; else 0 bytes are told only beside a refusal. */
+ * and tells 0; else 0 bytes are declared only beside a refusal. */
 uint8_t linsjoar_next_message(const uint8_t *bytes, size_t len, size_t *message_len);
 
 /* Packs a framed message, and tells how many bytes that took. The buffer is one message and no more. It

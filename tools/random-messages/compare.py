@@ -117,7 +117,7 @@ def write_types(cases):
 
 
 def write_program(cases):
-    taken = taken_names(os.path.join(folder, "crates/capnpc_rattle/src/taken.rt"))
+    taken = taken_names(os.path.join(folder, "crates/capnpc_rattle/src/reserved.rt"))
     write(sources + "/schemas.rt", roots(len(cases)))
     for case in cases:
         program = Program(case.schema, "schema%d_capnp" % case.index, taken)

@@ -12,12 +12,12 @@ use Rattle.capnp_frame.specs.Frame.{IsFrame}
 use Rattle.capnp_frame.specs.Limits.{KeepsLimit}
 use Rattle.capnp_frame.specs.Message.{lengths}
 use Rattle.capnp_frame.specs.Source.{Giving, Refusing, IfKnown, Fails}
-use Rattle.capnp_frame.specs.Texts.{Grammar, BeginsWith, AreTexts}
-use Rattle.capnp_frame.specs.Writing.{IsWritable, HasFew}
+use Rattle.capnp_frame.specs.Texts.{Grammar, BeginsWith, AreEncodings}
+use Rattle.capnp_frame.specs.Writing.{IsWritable, IsWithinSegmentLimit}
 use Rattle.capnp_frame.proofs.SourceLemmas.{IfKnown-join, IfKnown-refl}
-use Rattle.capnp_frame.proofs.FrameLemmas.{frame_text_is}
+use Rattle.capnp_frame.proofs.FrameLemmas.{frame_bytes_are}
 use Rattle.capnp_frame.proofs.SizeLemmas.{HasTable-writable}
-use Rattle.capnp_frame.proofs.TextLemmas.{PartsStreams, AreTexts-push}
+use Rattle.capnp_frame.proofs.TextLemmas.{PartsStreams, AreEncodings-push}
 use Rattle.capnp_pack.proofs.AllLemmas.{AllByRecursion-append}
 use Rattle.capnp_pack.proofs.PackedFrameLemmas.{packed_text_is}
 use Rattle.capnp.specs.declared.streams.Format.{Format}
@@ -37,31 +37,31 @@ AllByRecursion-push P xs ys x e all here = subst (AllByRecursion P) (sym e) (All
 -- one more message is read
 pub texts_next : {X : Type 0} (rule : Padding) (format : Format) (limit : Option ℕ) (segments : X → List (List ℕ)) (xs ys : List X)
     (x : X) (old mid new : Option (List ℕ)) → ys ≡ xs ++ x ∷ []
-    → IfKnown old mid (AreTexts (grammar_of rule format) limit (map segments xs))
+    → IfKnown old mid (AreEncodings (grammar_of rule format) limit (map segments xs))
     → IfKnown mid new (StandsNext rule format limit (segments x))
-    → IfKnown old new (AreTexts (grammar_of rule format) limit (map segments ys))
+    → IfKnown old new (AreEncodings (grammar_of rule format) limit (map segments ys))
 texts_next rule format limit segments xs ys x old mid new e texts begins =
     let both : map segments ys ≡ map segments xs ++ segments x ∷ [] = ap (map segments) e ∙ map-append segments xs (x ∷ []) in
-    subst (λ ms. IfKnown old new (AreTexts (grammar_of rule format) limit ms)) (sym both)
-    (IfKnown-join old mid new (AreTexts-push (grammar_of rule format) limit (map segments xs) (segments x)) texts begins)
+    subst (λ ms. IfKnown old new (AreEncodings (grammar_of rule format) limit ms)) (sym both)
+    (IfKnown-join old mid new (AreEncodings-push (grammar_of rule format) limit (map segments xs) (segments x)) texts begins)
 
--- after fewer texts a next one stands
+-- after fewer texts a next one is
 texts_further : {IsText : Grammar} {rule : Padding} {gives : Giving} {refuses : Refusing} {limit : Option ℕ}
     → PartsStreams IsText rule gives refuses limit
-    → (ns ms : List (List (List ℕ))) (raw mid rest : List ℕ) → AreTexts IsText limit ns raw mid
-    → AreTexts IsText limit ms raw rest → length ns < length ms
+    → (ns ms : List (List (List ℕ))) (raw mid rest : List ℕ) → AreEncodings IsText limit ns raw mid
+    → AreEncodings IsText limit ms raw rest → length ns < length ms
     → (m : List (List ℕ)) × (left : List ℕ) × BeginsWith IsText limit m mid left
 texts_further parts ns [] raw mid rest had texts few = absurd (omega arith)
 texts_further {IsText} {limit = limit} parts [] (m ∷ ms) raw mid rest had texts few = (m, texts.0, subst (λ l. BeginsWith IsText limit m l texts.0) (sym had) texts.1)
 texts_further {IsText} {limit = limit} parts (n ∷ ns) (m ∷ ms) raw mid rest had texts few =
     let same = parts.begins_once n m raw had.0 texts.0 had.1 texts.1 in
-    texts_further parts ns ms texts.0 mid rest (subst (λ l. AreTexts IsText limit ns l mid) same.1 had.2) texts.2 (omega arith)
+    texts_further parts ns ms texts.0 mid rest (subst (λ l. AreEncodings IsText limit ns l mid) same.1 had.2) texts.2 (omega arith)
 
--- so where as many as are asked for stand, a refusal is a fault
+-- so where as many as are asked for are, an error is a fault
 pub accepted_later : (rule : Padding) (format : Format) (limit : Option ℕ) (F : Type 0) (ns : List (List (List ℕ))) (count : ℕ)
-    (old mid : Option (List ℕ)) → length ns < count → IfKnown old mid (AreTexts (grammar_of rule format) limit ns)
+    (old mid : Option (List ℕ)) → length ns < count → IfKnown old mid (AreEncodings (grammar_of rule format) limit ns)
     → IfSome mid (λ raw. (m : List (List ℕ)) (rest : List ℕ) → StandsNext rule format limit m raw rest → F)
-    → IfSome old (λ raw. (ms : List (List (List ℕ))) (rest : List ℕ) → AreTexts (grammar_of rule format) limit ms raw rest
+    → IfSome old (λ raw. (ms : List (List (List ℕ))) (rest : List ℕ) → AreEncodings (grammar_of rule format) limit ms raw rest
     → length ms ≡ count → F)
 accepted_later rule format limit F ns count None mid few had accepted = tt
 accepted_later rule format limit F ns count (Some raw) None few had accepted = absurd had
@@ -71,32 +71,32 @@ accepted_later rule format limit F ns count (Some raw) (Some left) few had accep
 
 -- and want of memory is a fault
 pub accepted_at_memory : (rule : Padding) (format : Format) (limit : Option ℕ) (count : ℕ) (kind : ErrorKind) (old : Option (List ℕ)) → kind ≡ OutOfMemory
-    → IfSome old (λ raw. (ms : List (List (List ℕ))) (rest : List ℕ) → AreTexts (grammar_of rule format) limit ms raw rest → length ms ≡ count → IsFault kind)
+    → IfSome old (λ raw. (ms : List (List (List ℕ))) (rest : List ℕ) → AreEncodings (grammar_of rule format) limit ms raw rest → length ms ≡ count → IsFault kind)
 accepted_at_memory rule format limit count kind None memory = tt
 accepted_at_memory rule format limit count kind (Some raw) memory = λ ms rest texts counted. inr memory
 
 -- as many texts are the same messages
 texts_same : {IsText : Grammar} {rule : Padding} {gives : Giving} {refuses : Refusing} {limit : Option ℕ}
     → PartsStreams IsText rule gives refuses limit
-    → (ns ms : List (List (List ℕ))) (raw left rest : List ℕ) → AreTexts IsText limit ns raw left
-    → AreTexts IsText limit ms raw rest → length ns ≡ length ms → (ns ≡ ms) × (left ≡ rest)
+    → (ns ms : List (List (List ℕ))) (raw left rest : List ℕ) → AreEncodings IsText limit ns raw left
+    → AreEncodings IsText limit ms raw rest → length ns ≡ length ms → (ns ≡ ms) × (left ≡ rest)
 texts_same parts [] [] raw left rest had texts many = (refl, had ∙ sym texts)
 texts_same parts [] (m ∷ ms) raw left rest had texts many = absurd (omega arith)
 texts_same parts (n ∷ ns) [] raw left rest had texts many = absurd (omega arith)
 texts_same {IsText} {limit = limit} parts (n ∷ ns) (m ∷ ms) raw left rest had texts many =
     let same = parts.begins_once n m raw had.0 texts.0 had.1 texts.1 in
-    let inner = texts_same parts ns ms texts.0 left rest (subst (λ l. AreTexts IsText limit ns l left) same.1 had.2) texts.2 (omega arith) in
+    let inner = texts_same parts ns ms texts.0 left rest (subst (λ l. AreEncodings IsText limit ns l left) same.1 had.2) texts.2 (omega arith) in
     (ap (λ x. x ∷ ns) same.0 ∙ ap (λ l. m ∷ l) inner.0, inner.1)
 
 -- what is written of a message is a text of it
 pub text_is : (rule : Padding) (format : Format) (m : List (List ℕ)) (text : List ℕ) → IsWritable m → IsTextOf format m text → grammar_of rule format text m
-text_is rule Framed m text writable e = subst (λ t. IsFrame rule t m) (sym e) (frame_text_is rule m (HasTable-writable m writable) writable.whole)
+text_is rule Framed m text writable e = subst (λ t. IsFrame rule t m) (sym e) (frame_bytes_are rule m (HasTable-writable m writable) writable.whole)
 text_is rule Packed m text writable p = packed_text_is rule text m (HasTable-writable m writable) p
 
 -- so what is written of messages is their texts
 appended_texts : (rule : Padding) (format : Format) (limit : Option ℕ) (ms : List (List (List ℕ))) (text : List ℕ)
-    → AllByRecursion IsWritable ms → AllByRecursion HasFew ms → AllByRecursion (λ m. KeepsLimit (lengths m) limit) ms
-    → AppendsEach (IsTextOf format) ms text → AreTexts (grammar_of rule format) limit ms text []
+    → AllByRecursion IsWritable ms → AllByRecursion IsWithinSegmentLimit ms → AllByRecursion (λ m. KeepsLimit (lengths m) limit) ms
+    → AppendsEach (IsTextOf format) ms text → AreEncodings (grammar_of rule format) limit ms text []
 appended_texts rule format limit [] text writable few size all = sym all
 appended_texts rule format limit (m ∷ ms) text writable few size (first, others, here, more, e) = (
   others,
@@ -105,7 +105,7 @@ appended_texts rule format limit (m ∷ ms) text writable few size (first, other
 )
 
 pub appended_stream : (rule : Padding) (format : Format) (limit : Option ℕ) (ms : List (List (List ℕ))) (text : List ℕ)
-    → AllByRecursion IsWritable ms → AllByRecursion HasFew ms → AllByRecursion (λ m. KeepsLimit (lengths m) limit) ms
+    → AllByRecursion IsWritable ms → AllByRecursion IsWithinSegmentLimit ms → AllByRecursion (λ m. KeepsLimit (lengths m) limit) ms
     → AppendsEach (IsTextOf format) ms text → IsStream rule format limit ms None text
 appended_stream rule format limit ms text writable few size all =
     record { rest = []; texts = appended_texts rule format limit ms text writable few size all; ends = refl }
@@ -143,9 +143,9 @@ writable_at segments (y ∷ ys) (suc index) x here is all = writable_at segments
 
 -- none of those that were written has too many segments
 pub few_next : {S : Type 0} (segments : S → List (List ℕ)) (xs : List S) (index : ℕ) (x : S) → index < length xs → x ≡ get_or xs index x
-    → AllByRecursion HasFew (map segments (take index xs)) → HasFew (segments x) → AllByRecursion HasFew (map segments (take (index + 1) xs))
-few_next segments xs index x here is before few = subst (AllByRecursion HasFew) (sym (map-next segments xs index x here is))
-    (AllByRecursion-append HasFew (map segments (take index xs)) (segments x ∷ []) before (few, tt))
+    → AllByRecursion IsWithinSegmentLimit (map segments (take index xs)) → IsWithinSegmentLimit (segments x) → AllByRecursion IsWithinSegmentLimit (map segments (take (index + 1) xs))
+few_next segments xs index x here is before few = subst (AllByRecursion IsWithinSegmentLimit) (sym (map-next segments xs index x here is))
+    (AllByRecursion-append IsWithinSegmentLimit (map segments (take index xs)) (segments x ∷ []) before (few, tt))
 
 -- what was appended to nothing is what was written
 pub appended_alone : (P : List ℕ → Type 0) (start new : List ℕ) → start ≡ [] → Adds P start new → P new
@@ -153,18 +153,18 @@ appended_alone P start new none (text, holds, e) = subst P (sym (e ∙ ap (λ l.
 
 -- what was appended to nothing is texts
 pub read_texts : (rule : Padding) (format : Format) (limit : Option ℕ) (ms : List (List (List ℕ))) (start new shown : List ℕ)
-    → start ≡ [] → shown ≡ new → AllByRecursion IsWritable ms → AllByRecursion HasFew ms
+    → start ≡ [] → shown ≡ new → AllByRecursion IsWritable ms → AllByRecursion IsWithinSegmentLimit ms
     → AllByRecursion (λ m. KeepsLimit (lengths m) limit) ms → Adds (AppendsEach (IsTextOf format) ms) start new
-    → AreTexts (grammar_of rule format) limit ms shown []
+    → AreEncodings (grammar_of rule format) limit ms shown []
 read_texts rule format limit ms start new shown none same writable few size (text, all, e) =
-    subst (λ l. AreTexts (grammar_of rule format) limit ms l []) (ap (λ l. l ++ text) (sym none) ∙ sym e ∙ sym same)
+    subst (λ l. AreEncodings (grammar_of rule format) limit ms l []) (ap (λ l. l ++ text) (sym none) ∙ sym e ∙ sym same)
     (appended_texts rule format limit ms text writable few size all)
 
 -- and just these are read of it
 pub read_same : {X S : Type 0} (rule : Padding) (format : Format) (limit : Option ℕ) (segments : X → List (List ℕ))
     (of : S → List (List ℕ)) (xs : List X) (ms : List S) (raw left : List ℕ)
-    → AreTexts (grammar_of rule format) limit (map segments xs) raw left
-    → AreTexts (grammar_of rule format) limit (map of ms) raw [] → length xs ≡ length ms
+    → AreEncodings (grammar_of rule format) limit (map segments xs) raw left
+    → AreEncodings (grammar_of rule format) limit (map of ms) raw [] → length xs ≡ length ms
     → (map segments xs ≡ map of ms) × (left ≡ [])
 read_same rule format limit segments of xs ms raw left had texts many =
     texts_same (format_parts rule format limit) (map segments xs) (map of ms) raw left [] had texts

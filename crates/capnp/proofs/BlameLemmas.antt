@@ -2,7 +2,7 @@
 use Rattle.std.proofs.Common.{◌≡◌, ◌⊎◌, ℕ, List, Option, inl, inr}
 use Rattle.capnp_frame.specs.declared.error.ErrorKind.{ErrorKind}
 use Rattle.capnp_frame.specs.declared.error.ErrorKind.TheVariants.{DeviceFailed, OutOfMemory}
-use Rattle.capnp_wire.specs.Faults.{NoWord, no_segment, past_segment, BadLandingPad, no_landing_pad, far_again, landing_pad_capability, no_tag, not_far, no_content, far_tag, capability_tag, Misfits}
+use Rattle.capnp_wire.specs.Faults.{NoWord, no_segment, past_segment, BadLandingPad, no_landing_pad, far_again, landing_pad_capability, no_tag, not_far, no_content, far_tag, capability_tag, RejectsSize}
 use Rattle.capnp_wire.specs.Faults.{struct_outside, list_outside, structs_outside, odd_tag, many_elements, Fault, no_word, capability, bad_landing_pad, too_deep, no_start, misfits}
 use Rattle.capnp_wire.specs.Faults.{StopsWalk, at_pointer, over_limit, inside, later}
 use Rattle.capnp_wire.specs.Views.{Pointer}
@@ -23,7 +23,7 @@ landing_pad_blames_none m word _ (no_content _ _ _ _ _) is = cc
 landing_pad_blames_none m word _ (far_tag _ _ _ _ _ _) is = cc
 landing_pad_blames_none m word _ (capability_tag _ _ _ _ _ _) is = cc
 
-misfit_blames_none : (words : List ℕ) (start tag : ℕ) (kind : ErrorKind) → Misfits words start tag kind → kind ≡ DeviceFailed → ⊥
+misfit_blames_none : (words : List ℕ) (start tag : ℕ) (kind : ErrorKind) → RejectsSize words start tag kind → kind ≡ DeviceFailed → ⊥
 misfit_blames_none words start tag _ (struct_outside _ _) is = cc
 misfit_blames_none words start tag _ (list_outside _ _ _) is = cc
 misfit_blames_none words start tag _ (structs_outside _ _ _) is = cc

@@ -9,14 +9,14 @@ use Rattle.capnp_frame.specs.Refusals.{Asks, RefusesAtLimit, RefusesAtCount, Ref
 use Rattle.capnp_frame.specs.declared.error.ErrorKind.TheVariants.{BufferNotLargeEnough}
 use Rattle.capnp_frame.specs.SegmentTable.{table_size}
 use Rattle.capnp_frame.specs.Texts.{BeginsWith}
-use Rattle.capnp_frame.specs.Writing.{IsWritable, HasFew}
+use Rattle.capnp_frame.specs.Writing.{IsWritable, IsWithinSegmentLimit}
 use Rattle.capnp_frame.proofs.SizeLemmas.{HasTable-writable}
 use Rattle.capnp_pack.specs.PackedFrame.{IsPackedFrame}
-use Rattle.capnp_pack.specs.PackedSource.{head_text, Unpacks, Overruns, MeetsFault, RefusesChunk}
+use Rattle.capnp_pack.specs.PackedSource.{head_encoding, Unpacks, Overruns, MeetsFault, RefusesChunk}
 use Rattle.capnp_pack.proofs.PackedFrameLemmas.{packed_text_is}
 use Rattle.capnp.specs.declared.streams.Format.TheVariants.{Packed}
 use Rattle.capnp.specs.Streams.{RefusesNext}
-use Rattle.capnp.specs.Written.{IsPackedTextOf}
+use Rattle.capnp.specs.Written.{IsPackedEncodingOf}
 use Rattle.capnp.proofs.WriterLemmas.{IsWithin-written}
 use Rattle.capnp.proofs.RunLemmas.{format_parts}
 use Rattle.capnp.specs.Reading.{IsCutKind}
@@ -33,7 +33,7 @@ overrun_after : (n : ℕ) (left more : List ℕ) → Overruns n left → Overrun
 overrun_after n left more over = record {
   group = over.group;
   following = over.following ++ more;
-  head = record { is = over.head.is; spelled = ap (λ l. l ++ more) over.head.spelled ∙ append_assoc (head_text over.group) over.following more };
+  head = record { is = over.head.is; spelled = ap (λ l. l ++ more) over.head.spelled ∙ append_assoc (head_encoding over.group) over.following more };
   long = over.long;
 }
 
@@ -87,12 +87,12 @@ limit_after limit kind left word others following more (ns, table, inr (small, i
 count_after : (limit : Option ℕ) (kind : ErrorKind) (left word between more : List ℕ)
     → RefusesAtCount Zero Unpacks RefusesChunk limit None kind (Segments kind left) left word between
     → IsCutKind kind ⊎ RefusesAtCount Zero Unpacks RefusesChunk limit None kind (Segments kind (left ++ more)) (left ++ more) word (between ++ more)
-count_after limit kind left word between more (count, told, inl (out, (is, at))) = inr (count, told, inl (out, (is, ap (λ l. l ++ more) at)))
-count_after limit kind left word between more (count, told, inr (within, inl (room, stop))) = absurd room
-count_after limit kind left word between more (count, told, inr (within, inr (room, asks))) =
+count_after limit kind left word between more (count, declared, inl (out, (is, at))) = inr (count, declared, inl (out, (is, ap (λ l. l ++ more) at)))
+count_after limit kind left word between more (count, declared, inr (within, inl (room, stop))) = absurd room
+count_after limit kind left word between more (count, declared, inr (within, inr (room, asks))) =
     elim (asks_after kind between more (8 * (count / 2)) (λ others following lines. limit_after limit kind left word others following more lines) asks) [
       | inl cut ↦ inl cut
-      | inr there ↦ inr (count, told, inr (within, inr (room, there)))
+      | inr there ↦ inr (count, declared, inr (within, inr (room, there)))
     ]
 
 stream_after : (limit : Option ℕ) (kind : ErrorKind) (raw left more : List ℕ) → RefusesNext Zero Packed limit kind raw left
@@ -104,9 +104,9 @@ stream_after limit kind raw left more (inr (room, (some, asks))) =
       | inr there ↦ inr (inr (room, (none_before raw more some, there)))
     ]
 
--- what refuses the front of a record that a reader takes says that it ends too early
-pub front_is_cut : (limit : Option ℕ) (next : List (List ℕ)) (part missing left : List ℕ) (kind : ErrorKind) → IsWritable next → HasFew next → KeepsLimit (lengths next) limit
-    → IsPackedTextOf next (part ++ missing) → RefusesNext Zero Packed limit kind part left → IsCutKind kind
+-- what rejects the front of a record that a reader takes says that it ends too early
+pub front_is_cut : (limit : Option ℕ) (next : List (List ℕ)) (part missing left : List ℕ) (kind : ErrorKind) → IsWritable next → IsWithinSegmentLimit next → KeepsLimit (lengths next) limit
+    → IsPackedEncodingOf next (part ++ missing) → RefusesNext Zero Packed limit kind part left → IsCutKind kind
 front_is_cut limit next part missing left kind writable few size packed refused = elim (stream_after limit kind part left missing refused) [
   | inl cut ↦ cut
   | inr there ↦

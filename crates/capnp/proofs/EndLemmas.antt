@@ -3,8 +3,8 @@ use Rattle.std.proofs.Common.{◌≡◌, ◌⊎◌, inl, inr, ℕ, ◌<◌, Opti
 use Rattle.capnp_frame.specs.declared.serialize.segment_table.Padding.{Padding}
 use Rattle.capnp_frame.specs.declared.error.ErrorKind.{ErrorKind}
 use Rattle.capnp_frame.specs.Source.{IfKnown}
-use Rattle.capnp_frame.specs.Texts.{AreTexts}
-use Rattle.capnp_frame.proofs.TextLemmas.{AreTexts-once, AreTexts-most, EndsTexts-once}
+use Rattle.capnp_frame.specs.Texts.{AreEncodings}
+use Rattle.capnp_frame.proofs.TextLemmas.{AreEncodings-once, AreEncodings-most, EndsEncodings-once}
 use Rattle.capnp.specs.declared.streams.Format.{Format}
 use Rattle.capnp.specs.declared.streams.StoppedAt.{StoppedAt}
 use Rattle.capnp.specs.Streams.{grammar_of, StandsNext, RefusesNext, EndsBy, IsStream}
@@ -20,14 +20,14 @@ ran_out_ends rule format limit Writes left before after raw ran messages ending 
     let counted = written.counted in
     elim (ran.done) [
       | inl none ↦
-          let one = AreTexts-once (format_parts rule format limit) None ending written.messages messages raw ran.rest stream.rest written.texts none stream.texts stream.ends in
-          sym (EndsTexts-once rule (format_lawful format) limit None ending stream.rest (sym one.1 ∙ none) stream.ends)
+          let one = AreEncodings-once (format_parts rule format limit) None ending written.messages messages raw ran.rest stream.rest written.texts none stream.texts stream.ends in
+          sym (EndsEncodings-once rule (format_lawful format) limit None ending stream.rest (sym one.1 ∙ none) stream.ends)
       | inr most ↦
-          let bound = AreTexts-most (format_parts rule format limit) ending messages written.messages raw stream.rest ran.rest stream.texts stream.ends written.texts in
+          let bound = AreEncodings-most (format_parts rule format limit) ending messages written.messages raw stream.rest ran.rest stream.texts stream.ends written.texts in
           absurd (omega (arith, bound, few, most, counted))
     ]
 
--- the reader's refusal says what stands there
+-- the reader's error says what is there
 refused_ends : (rule : Padding) (format : Format) (limit : Option ℕ) (kind : ErrorKind) (rest : List ℕ) (left : Option (List ℕ)) → IfKnown (Some rest) left (RefusesNext rule format limit kind) → EndsBy rule format limit (Some kind) rest
 refused_ends rule format limit kind rest None line = absurd line
 refused_ends rule format limit kind rest (Some left) line = (left, line)
@@ -40,22 +40,22 @@ stopped_ends : (rule : Padding) (format : Format) (limit : Option ℕ) (Writes :
     → IsStream rule format limit messages ending raw → (ending ≡ Some kind) × (count ≡ length messages)
 stopped_ends rule format limit Writes count kind left before after raw stopped ends messages ending stream =
     let written = stopped.written in
-    let one = AreTexts-once (format_parts rule format limit) (Some kind) ending written.messages messages raw stopped.rest stream.rest written.texts ends stream.texts stream.ends in
+    let one = AreEncodings-once (format_parts rule format limit) (Some kind) ending written.messages messages raw stopped.rest stream.rest written.texts ends stream.texts stream.ends in
     let moved : EndsBy rule format limit (Some kind) stream.rest = subst (λ l. EndsBy rule format limit (Some kind) l) one.1 ends in
-    (sym (EndsTexts-once rule (format_lawful format) limit (Some kind) ending stream.rest moved stream.ends), sym written.counted ∙ ap length one.0)
+    (sym (EndsEncodings-once rule (format_lawful format) limit (Some kind) ending stream.rest moved stream.ends), sym written.counted ∙ ap length one.0)
 
 -- no more messages are written than the stream has
 few_written : (rule : Padding) (format : Format) (limit : Option ℕ) (Writes : Writing) (count : ℕ) (before after : Option (List ℕ)) (raw rest : List ℕ)
     → HasWritten rule format limit Writes count before after raw rest → (messages : List (List (List ℕ))) (ending : Option ErrorKind)
     → IsStream rule format limit messages ending raw → count ≤ length messages
 few_written rule format limit Writes count before after raw rest written messages ending stream =
-    let bound = AreTexts-most (format_parts rule format limit) ending messages written.messages raw stream.rest rest stream.texts stream.ends written.texts in
+    let bound = AreEncodings-most (format_parts rule format limit) ending messages written.messages raw stream.rest rest stream.texts stream.ends written.texts in
     omega (arith, bound, written.counted)
 
--- the message that stands after some of a stream's messages is the next of them
+-- the message that is after some of a stream's messages is the next of them
 next_listed : (rule : Padding) (format : Format) (limit : Option ℕ) (ending : Option ErrorKind) (ms messages : List (List (List ℕ))) (message : List (List ℕ))
-    (raw between left rest : List ℕ) → AreTexts (grammar_of rule format) limit ms raw between → StandsNext rule format limit message between left
-    → AreTexts (grammar_of rule format) limit messages raw rest → EndsBy rule format limit ending rest
+    (raw between left rest : List ℕ) → AreEncodings (grammar_of rule format) limit ms raw between → StandsNext rule format limit message between left
+    → AreEncodings (grammar_of rule format) limit messages raw rest → EndsBy rule format limit ending rest
     → (others : List (List (List ℕ))) × (messages ≡ ms ++ message ∷ others)
 next_listed rule format limit ending [] [] message raw between left rest texts stands all ends =
     absurd ((format_parts rule format limit).ends_apart ending message raw left (subst (λ l. EndsBy rule format limit ending l) all ends)
@@ -68,7 +68,7 @@ next_listed rule format limit ending (m ∷ ms) [] message raw between left rest
     absurd ((format_parts rule format limit).ends_apart ending m raw texts.0 (subst (λ l. EndsBy rule format limit ending l) all ends) texts.1)
 next_listed rule format limit ending (m ∷ ms) (n ∷ ns) message raw between left rest texts stands all ends =
     let same = (format_parts rule format limit).begins_once m n raw texts.0 all.0 texts.1 all.1 in
-    let moved = subst (λ l. AreTexts (grammar_of rule format) limit ms l between) same.1 texts.2 in
+    let moved = subst (λ l. AreEncodings (grammar_of rule format) limit ms l between) same.1 texts.2 in
     let inner = next_listed rule format limit ending ms ns message all.0 between left rest moved stands all.2 ends in
     (inner.0, ap (λ x. x ∷ ns) (sym same.0) ∙ ap (λ l. m ∷ l) inner.1)
 
@@ -128,5 +128,5 @@ pub stream_once : (rule : Padding) (format : Format) (limit : Option ℕ) (messa
     (ending other : Option ErrorKind) (raw : List ℕ) → IsStream rule format limit messages ending raw
     → IsStream rule format limit others other raw → (messages ≡ others) × (ending ≡ other)
 stream_once rule format limit messages others ending other raw stream also =
-    let one = AreTexts-once (format_parts rule format limit) ending other messages others raw stream.rest also.rest stream.texts stream.ends also.texts also.ends in
-    (one.0, EndsTexts-once rule (format_lawful format) limit ending other also.rest (subst (λ l. EndsBy rule format limit ending l) one.1 stream.ends) also.ends)
+    let one = AreEncodings-once (format_parts rule format limit) ending other messages others raw stream.rest also.rest stream.texts stream.ends also.texts also.ends in
+    (one.0, EndsEncodings-once rule (format_lawful format) limit ending other also.rest (subst (λ l. EndsBy rule format limit ending l) one.1 stream.ends) also.ends)

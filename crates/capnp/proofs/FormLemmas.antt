@@ -20,7 +20,7 @@ use Rattle.capnp_wire.specs.Layout.{body}
 use Rattle.capnp_wire.specs.Views.{Pointer}
 use Rattle.capnp_wire.specs.Values.{IsCanonicalForm}
 use Rattle.capnp_wire.proofs.layouts.SizeLemmas.{length-body}
-use Rattle.capnp_wire.proofs.layouts.OpenLemmas.{room_formed}
+use Rattle.capnp_wire.proofs.layouts.OpenLemmas.{room_output}
 use Rattle.capnp_wire.proofs.words.WordLemmas.{length-words_of}
 use Rattle.capnp_message.specs.Canonical.{LacksForm}
 use Rattle.capnp.specs.Canonical.{IsForm, AppendsForm, LeavesForm, BreaksForm, DeclinesForm}
@@ -30,7 +30,7 @@ use Rattle.capnp.proofs.BlameLemmas.{result_blames_none}
 -- a form has fewer words than a segment may
 pub form_is_small : (pointer : Pointer) (form : List ℕ) → IsCanonicalForm pointer (words_of form) → length form / 8 < 2 ^ 32
 form_is_small pointer form is =
-    let size : length (body (trim is.trees)) ≡ total_words (trim is.trees) = length-body (trim is.trees) (room_formed true is.trees is.rooms) in
+    let size : length (body (trim is.trees)) ≡ total_words (trim is.trees) = length-body (trim is.trees) (room_output true is.trees is.rooms) in
     let long : length (words_of form) ≡ suc (length (body (trim is.trees))) = ap length is.words_are in
     omega (arith, long, size, is.few, length-words_of form)
 
@@ -42,18 +42,18 @@ one_writable pointer form is = record {
   each = (form_is_small pointer form is.words_are, tt);
 }
 
--- a refusal of the reader's is one of the form's
+-- an error of the reader's is one of the form's
 declines_reading : (pointer : Pointer) (refuses : Declining) (kind : ErrorKind) → LacksForm pointer kind ⊎ (kind ≡ OutOfMemory)
     → (kind ≡ DeviceFailed) ⊎ (kind ≡ OutOfMemory) ⊎ DeclinesForm pointer refuses kind
 declines_reading pointer refuses kind (inl lacks) = inr (inr (inl lacks))
 declines_reading pointer refuses kind (inr memory) = inr (inl memory)
 
--- what is refused after a call is refused as that
+-- what is rejected after a call is rejected as that
 pub refused_on : {Y : Type 0} {error : Error} (P : Error → Type 0) (result : Result Y Error) → IsErrAnd result (λ y. y ≡ error) → P error → IsErrAnd result P
 refused_on P (Ok y) is p = is
 refused_on P (Err e) is p = subst P (sym is) p
 
--- the engine's refusal is one of the form's
+-- the engine's error is one of the form's
 declines_writing : (pointer : Pointer) (refuses : Declining) (form : List ℕ) (segments : List (List ℕ)) (kind : ErrorKind) → IsForm pointer form → segments ≡ form ∷ []
     → RefusesWriter refuses segments kind → (kind ≡ DeviceFailed) ⊎ (kind ≡ OutOfMemory) ⊎ DeclinesForm pointer refuses kind
 declines_writing pointer refuses form segments kind stands is (inl failed) = inl failed
@@ -81,28 +81,28 @@ form_lacking {X = X} sink keeps s pointer e (Err o) is lacks = record {
 pub form_written : {S X : Type 0} (sink : Ghosts S) (old new : S) (pointer : Pointer) (form : List ℕ) (segments : List (List ℕ)) (r : Result X Error)
     → IsForm pointer form → segments ≡ form ∷ [] → WritesSegments sink old new segments r
     → WritesTo sink old new (AppendsForm pointer sink.appends) (LeavesForm pointer sink.appends sink.leaves) (λ kind. (kind ≡ OutOfMemory) ⊎ DeclinesForm pointer sink.refuses kind) r
-form_written sink old new pointer form segments (Ok x) stands is told = record {
+form_written sink old new pointer form segments (Ok x) stands is declared = record {
   written = IfKnown-weaker (sink.written old) (sink.written new) (λ before after (text, p, e).
-      (text, (form, stands, subst (λ (s : List (List ℕ)). AppendsAll sink.appends (chunks s) text) is p), e)) told.parts.written;
+      (text, (form, stands, subst (λ (s : List (List ℕ)). AppendsAll sink.appends (chunks s) text) is p), e)) declared.parts.written;
   left = tt;
   refused = tt;
   failed = tt;
-  grows = told.parts.grows;
+  grows = declared.parts.grows;
 }
-form_written sink old new pointer form segments (Err e) stands is told = record {
+form_written sink old new pointer form segments (Err e) stands is declared = record {
   written = tt;
   left = IfKnown-weaker (sink.written old) (sink.written new) (λ before after (text, p, e).
-      (text, inr (form, stands, subst (λ (s : List (List ℕ)). LeavesSome sink.appends sink.leaves (chunks s) text) is p), e)) told.parts.left;
-  refused = declines_writing pointer sink.refuses form segments e.kind stands is told.parts.refused;
-  failed = told.parts.failed;
-  grows = told.parts.grows;
+      (text, inr (form, stands, subst (λ (s : List (List ℕ)). LeavesSome sink.appends sink.leaves (chunks s) text) is p), e)) declared.parts.left;
+  refused = declines_writing pointer sink.refuses form segments e.kind stands is declared.parts.refused;
+  failed = declared.parts.failed;
+  grows = declared.parts.grows;
 }
 
--- nothing of it is written unless the sink refuses a chunk
+-- nothing of it is written unless the sink rejects a chunk
 pub form_untouched : {S X : Type 0} (sink : Ghosts S) (old new : S) (pointer : Pointer) (form : List ℕ) (segments : List (List ℕ)) (r : Result X Error)
     → IsForm pointer form → segments ≡ form ∷ [] → WritesSegments sink old new segments r → FailsOr r (λ kind. BreaksForm pointer sink.refuses kind ⊎ (new ≡ old))
-form_untouched sink old new pointer form segments (Ok x) stands is told = tt
-form_untouched sink old new pointer form segments (Err e) stands is told = elim told.parts.untouched [
+form_untouched sink old new pointer form segments (Ok x) stands is declared = tt
+form_untouched sink old new pointer form segments (Err e) stands is declared = elim declared.parts.untouched [
   | inl failed ↦ inl failed
   | inr (inl declined) ↦ inr (inl (form, stands, subst (λ (s : List (List ℕ)). DeclinesSome sink.refuses (chunks s) e.kind) is declined))
   | inr (inr same) ↦ inr (inr same)

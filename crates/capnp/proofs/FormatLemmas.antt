@@ -27,7 +27,7 @@ TakesMemory-map rule given limit raw left (inl count) = inl (record {
   word = count.word;
   count = count.count;
   given = given raw 8 count.word left count.given;
-  told = count.told;
+  declared = count.declared;
   accepted = count.accepted;
 })
 TakesMemory-map rule given limit raw left (inr (lengths, table, within)) = inr (
@@ -139,7 +139,7 @@ or_fails_failed source old new rules limit (Ok found) reads = tt
 or_fails_failed source old new rules limit (Err e) (inl reads) = reads.failed
 or_fails_failed source old new rules limit (Err e) (inr (kind, reads)) = λ device. cc
 
--- what stands in a format, within the limit, begins with a text
+-- what is in a format, within the limit, begins with a text
 pub stands_next : (rule : Padding) (format : Format) (limit : Option ℕ) (segments : List (List ℕ)) (old new : Option (List ℕ))
     → IsWithin segments limit → IfKnown old new ((rules_of rule format).stands segments)
     → IfKnown old new (StandsNext rule format limit segments)

@@ -9,8 +9,8 @@ use Rattle.capnp_frame.specs.Limits.{KeepsLimit}
 use Rattle.capnp_frame.specs.Message.{lengths}
 use Rattle.capnp_frame.specs.Source.{IfKnown, IsFront}
 use Rattle.capnp_frame.specs.Sink.{Adds}
-use Rattle.capnp_frame.specs.Texts.{Grammar, BeginsWith, AreTexts}
-use Rattle.capnp_frame.specs.Writing.{IsWritable, HasFew}
+use Rattle.capnp_frame.specs.Texts.{Grammar, BeginsWith, AreEncodings}
+use Rattle.capnp_frame.specs.Writing.{IsWritable, IsWithinSegmentLimit}
 use Rattle.capnp_frame.proofs.SizeLemmas.{HasTable-writable}
 use Rattle.capnp_frame.proofs.TextLemmas.{texts_part}
 use Rattle.capnp_pack.specs.PackedFrame.{IsPackedFrame}
@@ -19,7 +19,7 @@ use Rattle.capnp_pack.proofs.AllLemmas.{AllByRecursion-append}
 use Rattle.capnp_pack.proofs.PackedFrameLemmas.{packed_requests, packed_text_is}
 use Rattle.capnp.specs.declared.streams.Format.TheVariants.{Packed}
 use Rattle.capnp.specs.Streams.{EndsBy, IsStream}
-use Rattle.capnp.specs.Written.{IsTextOf, IsPackedTextOf, AppendsEach}
+use Rattle.capnp.specs.Written.{IsTextOf, IsPackedEncodingOf, AppendsEach}
 use Rattle.capnp.proofs.AppendedLemmas.{AppendsEach-push, appended_stream}
 use Rattle.capnp.proofs.RunLemmas.{format_parts}
 use Rattle.capnp.specs.Reading.{kind_of, LacksMemory, IsCut}
@@ -28,7 +28,7 @@ use Rattle.capnp.proofs.CutLemmas.{front_is_cut}
 
 -- Appending
 
-pub appended_log : (m : List (List ℕ)) (old new : List ℕ) → IsWritable m → HasFew m → IfKnown (Some old) (Some new) (Adds (IsPackedTextOf m))
+pub appended_log : (m : List (List ℕ)) (old new : List ℕ) → IsWritable m → IsWithinSegmentLimit m → IfKnown (Some old) (Some new) (Adds (IsPackedEncodingOf m))
     → (limit : Option ℕ) (records : List (List (List ℕ))) → IsLog limit records old → KeepsLimit (lengths m) limit → IsLog limit (records ++ m ∷ []) new
 appended_log m old new writable few (text, packed, spelled) limit records log size = record {
   writable = AllByRecursion-append _ records (m ∷ []) log.writable (writable, tt);
@@ -37,7 +37,7 @@ appended_log m old new writable few (text, packed, spelled) limit records log si
   appended = subst (λ l. AppendsEach (IsTextOf Packed) (records ++ m ∷ []) l) (sym spelled) (AppendsEach-push (IsTextOf Packed) records m old text log.appended packed);
 }
 
--- what stands at the front is kept by a cut to its length
+-- what is at the front is kept by a cut to its length
 pub kept_back : (old new kept : List ℕ) (end : ℕ) → IfKnown (Some old) (Some new) IsFront → end ≡ length old → kept ≡ take end new → kept ≡ old
 kept_back old new kept end (tail, spelled) at is = is ∙ ap (λ k. take k new) at ∙ ap (λ l. take (length old) l) spelled ∙ take-append_seam old tail
 
@@ -66,7 +66,7 @@ log_is_read limit ms refusal log end within (inr ends) exact records is =
 -- A log that is cut
 
 -- texts stay where more bytes follow
-texts_after : (IsText : Grammar) (limit : Option ℕ) (ms : List (List (List ℕ))) (raw rest part : List ℕ) → AreTexts IsText limit ms raw rest → AreTexts IsText limit ms (raw ++ part) (rest ++ part)
+texts_after : (IsText : Grammar) (limit : Option ℕ) (ms : List (List (List ℕ))) (raw rest part : List ℕ) → AreEncodings IsText limit ms raw rest → AreEncodings IsText limit ms (raw ++ part) (rest ++ part)
 texts_after IsText limit [] raw rest part texts = ap (λ l. l ++ part) texts
 texts_after IsText limit (m ∷ ms) raw rest part (between, begins, texts) = (
   between ++ part,
@@ -75,7 +75,7 @@ texts_after IsText limit (m ∷ ms) raw rest part (between, begins, texts) = (
 )
 
 -- no record is read of a part of another one
-part_is_none : (limit : Option ℕ) (next other : List (List ℕ)) (part missing left : List ℕ) → IsWritable next → IsPackedTextOf next (part ++ missing) → 0 < length missing
+part_is_none : (limit : Option ℕ) (next other : List (List ℕ)) (part missing left : List ℕ) → IsWritable next → IsPackedEncodingOf next (part ++ missing) → 0 < length missing
     → BeginsWith (IsPackedFrame Zero) limit other part left → ⊥
 part_is_none limit next other part missing left writable packed some begins =
     let whole = packed_text_is Zero (part ++ missing) next (HasTable-writable next writable) packed in
@@ -86,7 +86,7 @@ part_is_none limit next other part missing left writable packed some begins =
 
 -- up to such a part there is one list of records
 cut_once : (limit : Option ℕ) (ending : Option ErrorKind) (ms ns : List (List (List ℕ))) (raw rest part : List ℕ)
-    → AreTexts (IsPackedFrame Zero) limit ms raw rest → EndsBy Zero Packed limit ending rest → AreTexts (IsPackedFrame Zero) limit ns raw part
+    → AreEncodings (IsPackedFrame Zero) limit ms raw rest → EndsBy Zero Packed limit ending rest → AreEncodings (IsPackedFrame Zero) limit ns raw part
     → ((other : List (List ℕ)) (left : List ℕ) → BeginsWith (IsPackedFrame Zero) limit other part left → ⊥) → (ms ≡ ns) × (rest ≡ part)
 cut_once limit ending [] [] raw rest part texts ends others none = (refl, texts ∙ sym others)
 cut_once limit ending [] (n ∷ ns) raw rest part texts ends others none =
@@ -95,38 +95,38 @@ cut_once limit ending (m ∷ ms) [] raw rest part texts ends others none =
     absurd (none m texts.0 (subst (λ l. BeginsWith (IsPackedFrame Zero) limit m l texts.0) (sym others) texts.1))
 cut_once limit ending (m ∷ ms) (n ∷ ns) raw rest part texts ends others none =
     let same = (format_parts Zero Packed limit).begins_once m n raw texts.0 others.0 texts.1 others.1 in
-    let inner = cut_once limit ending ms ns others.0 rest part (subst (λ l. AreTexts (IsPackedFrame Zero) limit ms l rest) same.1 texts.2) ends others.2 none in
+    let inner = cut_once limit ending ms ns others.0 rest part (subst (λ l. AreEncodings (IsPackedFrame Zero) limit ms l rest) same.1 texts.2) ends others.2 none in
     (ap (λ x. x ∷ ms) same.0 ∙ ap (λ l. n ∷ l) inner.0, inner.1)
 
 cut_end : (log whole part : List ℕ) (end : ℕ) → end ≤ length log → log ≡ whole ++ part → drop end log ≡ part → end ≡ length whole
 cut_end log whole part end within is left = omega (arith, ap length is, length-append whole part, ap length left, length-drop end log)
 
-pub cut_is_told : (limit : Option ℕ) (ms : List (List (List ℕ))) (refusal : Option Error) (log : List ℕ) (end : ℕ) → end ≤ length log
-    → AreTexts (IsPackedFrame Zero) limit ms log (drop end log) → LacksMemory refusal ⊎ EndsBy Zero Packed limit (kind_of refusal) (drop end log)
-    → (records : List (List (List ℕ))) (whole part missing : List ℕ) (next : List (List ℕ)) → IsLog limit records whole → IsWritable next → IsPackedTextOf next (part ++ missing)
+pub cut_is_declared : (limit : Option ℕ) (ms : List (List (List ℕ))) (refusal : Option Error) (log : List ℕ) (end : ℕ) → end ≤ length log
+    → AreEncodings (IsPackedFrame Zero) limit ms log (drop end log) → LacksMemory refusal ⊎ EndsBy Zero Packed limit (kind_of refusal) (drop end log)
+    → (records : List (List (List ℕ))) (whole part missing : List ℕ) (next : List (List ℕ)) → IsLog limit records whole → IsWritable next → IsPackedEncodingOf next (part ++ missing)
     → 0 < length missing → log ≡ whole ++ part → LacksMemory refusal ⊎ (ms ≡ records) × (end ≡ length whole)
-cut_is_told limit ms refusal log end within texts (inl memory) records whole part missing next is writable packed some spelled = inl memory
-cut_is_told limit ms refusal log end within texts (inr ends) records whole part missing next is writable packed some spelled =
+cut_is_declared limit ms refusal log end within texts (inl memory) records whole part missing next is writable packed some spelled = inl memory
+cut_is_declared limit ms refusal log end within texts (inr ends) records whole part missing next is writable packed some spelled =
     let stream = appended_stream Zero Packed limit records whole is.writable is.few is.size is.appended in
     let nothing : stream.rest ≡ [] = stream.ends in
     let following = texts_after (IsPackedFrame Zero) limit records whole stream.rest part stream.texts in
-    let there : AreTexts (IsPackedFrame Zero) limit records log part =
-    subst (λ l. AreTexts (IsPackedFrame Zero) limit records l part) (sym spelled) (subst (λ l. AreTexts (IsPackedFrame Zero) limit records (whole ++ part) (l ++ part)) nothing following) in
+    let there : AreEncodings (IsPackedFrame Zero) limit records log part =
+    subst (λ l. AreEncodings (IsPackedFrame Zero) limit records l part) (sym spelled) (subst (λ l. AreEncodings (IsPackedFrame Zero) limit records (whole ++ part) (l ++ part)) nothing following) in
     let same = cut_once limit (kind_of refusal) ms records log (drop end log) part texts ends there (λ other left. part_is_none limit next other part missing left writable packed some) in
     inr (same.0, cut_end log whole part end within spelled same.1)
 
 -- why it is read no further
-cut_by : (limit : Option ℕ) (refusal : Option Error) (next : List (List ℕ)) (part missing : List ℕ) → IsWritable next → HasFew next → KeepsLimit (lengths next) limit
-    → IsPackedTextOf next (part ++ missing) → 0 < length part → EndsBy Zero Packed limit (kind_of refusal) part → IsCut refusal
+cut_by : (limit : Option ℕ) (refusal : Option Error) (next : List (List ℕ)) (part missing : List ℕ) → IsWritable next → IsWithinSegmentLimit next → KeepsLimit (lengths next) limit
+    → IsPackedEncodingOf next (part ++ missing) → 0 < length part → EndsBy Zero Packed limit (kind_of refusal) part → IsCut refusal
 cut_by limit None next part missing writable few size packed begun none = absurd (omega (arith, begun, ap length none))
 cut_by limit (Some error) next part missing writable few size packed begun (left, refused) = front_is_cut limit next part missing left error.kind writable few size packed refused
 
-pub cut_told : (limit : Option ℕ) (ms : List (List (List ℕ))) (refusal : Option Error) (log : List ℕ) (end : ℕ) → end ≤ length log
-    → AreTexts (IsPackedFrame Zero) limit ms log (drop end log) → LacksMemory refusal ⊎ EndsBy Zero Packed limit (kind_of refusal) (drop end log)
+pub cut_declared : (limit : Option ℕ) (ms : List (List (List ℕ))) (refusal : Option Error) (log : List ℕ) (end : ℕ) → end ≤ length log
+    → AreEncodings (IsPackedFrame Zero) limit ms log (drop end log) → LacksMemory refusal ⊎ EndsBy Zero Packed limit (kind_of refusal) (drop end log)
     → (records : List (List (List ℕ))) (whole : List ℕ) → IsCutLog limit records whole log → LacksMemory refusal ⊎ IsCut refusal
-cut_told limit ms refusal log end within texts (inl memory) records whole cut = inl memory
-cut_told limit ms refusal log end within texts (inr ends) records whole cut =
-    elim (cut_is_told limit ms refusal log end within texts (inr ends) records whole cut.part cut.missing cut.next cut.before cut.writable cut.packed cut.some cut.spelled) [
+cut_declared limit ms refusal log end within texts (inl memory) records whole cut = inl memory
+cut_declared limit ms refusal log end within texts (inr ends) records whole cut =
+    elim (cut_is_declared limit ms refusal log end within texts (inr ends) records whole cut.part cut.missing cut.next cut.before cut.writable cut.packed cut.some cut.spelled) [
       | inl memory ↦ inl memory
       | inr same ↦
           let left : drop end log ≡ cut.part = ap (drop end) cut.spelled ∙ drop_at whole cut.part end (sym same.1) in

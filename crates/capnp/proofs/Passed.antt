@@ -1,4 +1,4 @@
--- Lemmas of the crates below, for callers that stand on this crate alone.
+-- Lemmas of the crates below, for callers that depend on this crate alone.
 pub use Rattle.capnp_frame.proofs.SizeLemmas.{sum_below}
 pub use Rattle.capnp_frame.proofs.WritingLemmas.{lengths-next, size-next}
 pub use Rattle.capnp_frame.proofs.SourceLemmas.{IfKnown-join, Advances-join, Grows-join}

@@ -16,7 +16,7 @@ use Rattle.capnp_frame.proofs.RequestLemmas.{MessageStands-map}
 use Rattle.capnp_frame.proofs.FrameLemmas.{plain_requests}
 use Rattle.capnp_frame.proofs.TextLemmas.{AreRequested}
 use Rattle.capnp.specs.Streams.{IsPlainSource}
-use Rattle.capnp.specs.Headline.{IsFault, BufferHasRoom, ReturnsTexts, ReturnsTextsInto}
+use Rattle.capnp.specs.Headline.{IsFault, BufferHasRoom, ReturnsEncodings, ReturnsEncodingsInto}
 
 -- the requests of a plain source take just the frames
 pub frames_requested : (rule : Padding) (gives : Giving) (refuses : Refusing) → IsPlainSource gives refuses → AreRequested (IsFrame rule) rule gives
@@ -25,13 +25,13 @@ frames_requested rule gives refuses plain segments raw rest = (
   λ text. MessageStands-map (λ w n b t. (plain.given w n b t).0) segments raw rest ((plain_requests rule segments raw rest).1 text),
 )
 
--- where a message stands by these rules, there stands a text of it in this grammar
-abbrev pub AreTextsBy : Grammar → StreamRules → Type 0
-AreTextsBy IsText rules = (m : List (List ℕ)) (raw rest : List ℕ) → rules.stands m raw rest ↔ ((text : List ℕ) × IsText text m × (raw ≡ text ++ rest))
+-- where a message is by these rules, there is a text of it in this grammar
+abbrev pub AreEncodingsBy : Grammar → StreamRules → Type 0
+AreEncodingsBy IsText rules = (m : List (List ℕ)) (raw rest : List ℕ) → rules.stands m raw rest ↔ ((text : List ℕ) × IsText text m × (raw ≡ text ++ rest))
 
 -- so it begins the stream, within the limit
 begins_next : (IsText : Grammar) (rules : StreamRules) (limit : Option ℕ) (old new : Option (List ℕ)) (r : Result (Option (List (List ℕ))) Error)
-    → AreTextsBy IsText rules → IfOk r (λ found. IfSome found (λ m. IsWithin m limit))
+    → AreEncodingsBy IsText rules → IfOk r (λ found. IfSome found (λ m. IsWithin m limit))
     → IfOk r (λ found. IfSome found (λ m. IfKnown old new (rules.stands m)))
     → IfOk r (λ found. IfSome found (λ m. IfKnown old new (BeginsWith IsText limit m)))
 begins_next IsText rules limit old new (Err e) texts within found = tt
@@ -40,9 +40,9 @@ begins_next IsText rules limit old new (Ok (Some m)) texts within found = IfKnow
     let text = (texts m raw rest).0 stands in
     record { text = text.0; is_text = text.1; within = within; spelled = text.2 }) found
 
--- and what follows where a message stands follows where the stream begins with it
+-- and what follows where a message is follows where the stream begins with it
 accepts_next : (IsText : Grammar) (rules : StreamRules) (limit : Option ℕ) (F : List (List ℕ) → Type 0)
-    (old : Option (List ℕ)) → AreTextsBy IsText rules
+    (old : Option (List ℕ)) → AreEncodingsBy IsText rules
     → IfSome old (λ raw. (m : List (List ℕ)) (rest : List ℕ) → rules.stands m raw rest → IsWithin m limit → F m)
     → IfSome old (λ raw. (m : List (List ℕ)) (rest : List ℕ) → BeginsWith IsText limit m raw rest → F m)
 accepts_next IsText rules limit F None texts accepted = tt
@@ -51,23 +51,23 @@ accepts_next IsText rules limit F (Some raw) texts accepted =
 
 -- what a reader returns by its rules it returns in texts
 pub returns_texts : {S : Type 0} (source : Ghosts S) (old new : S) (rules : StreamRules) (IsText : Grammar)
-    (limit : Option ℕ) (r : Result (Option (List (List ℕ))) Error) → AreTextsBy IsText rules
-    → ReadsStream source old new rules limit r → ReturnsTexts IsText limit (source.unread old) (source.unread new) r
+    (limit : Option ℕ) (r : Result (Option (List (List ℕ))) Error) → AreEncodingsBy IsText rules
+    → ReadsStream source old new rules limit r → ReturnsEncodings IsText limit (source.unread old) (source.unread new) r
 returns_texts source old new rules IsText limit r texts reads = record {
   found = begins_next IsText rules limit _ _ r texts reads.within reads.found;
   accepted = accepts_next IsText rules limit (λ m. IfErr r (λ error. IsFault error.kind)) _ texts reads.accepted;
 }
 
 pub returns_texts_into : {S : Type 0} (source : Ghosts S) (old new : S) (rules : StreamRules) (IsText : Grammar)
-    (limit : Option ℕ) (room : ℕ) (r : Result (Option (List (List ℕ))) Error) → AreTextsBy IsText rules
+    (limit : Option ℕ) (room : ℕ) (r : Result (Option (List (List ℕ))) Error) → AreEncodingsBy IsText rules
     → ReadsStreamInto source old new rules limit room r
-    → ReturnsTextsInto IsText limit room (source.unread old) (source.unread new) r
+    → ReturnsEncodingsInto IsText limit room (source.unread old) (source.unread new) r
 returns_texts_into source old new rules IsText limit room r texts reads = record {
   found = begins_next IsText rules limit _ _ r texts reads.within reads.found;
   accepted = accepts_next IsText rules limit (λ m. BufferHasRoom room m → IfErr r (λ error. error.kind ≡ DeviceFailed)) _ texts reads.accepted;
 }
 
--- no message stands where nothing is unread
+-- no message is where nothing is unread
 pub nothing_stands : (rule : Padding) {gives : Giving} {refuses : Refusing} → IsSource gives refuses → (m : List (List ℕ))
     (old new : Option (List ℕ)) → old ≡ Some [] → IfKnown old new (MessageStands rule gives m) → ⊥
 nothing_stands rule laws m None new none stands = cc
@@ -94,7 +94,7 @@ nothing_begins rule laws texts limit F (Some raw) none = λ m rest begins.
 -- so where nothing is unread any failure is one
 pub ends_texts : {IsText : Grammar} (rule : Padding) {gives : Giving} {refuses : Refusing} → IsSource gives refuses
     → AreRequested IsText rule gives → (limit : Option ℕ) (old new : Option (List ℕ)) (error : Error)
-    → IfSome old (λ raw. raw ≡ []) → ReturnsTexts IsText limit old new (Err error)
+    → IfSome old (λ raw. raw ≡ []) → ReturnsEncodings IsText limit old new (Err error)
 ends_texts rule laws texts limit old new error none = record {
   found = tt;
   accepted = nothing_begins rule laws texts limit (λ m. IsFault error.kind) old none;
@@ -102,7 +102,7 @@ ends_texts rule laws texts limit old new error none = record {
 
 pub ends_texts_into : {IsText : Grammar} (rule : Padding) {gives : Giving} {refuses : Refusing} → IsSource gives refuses
     → AreRequested IsText rule gives → (limit : Option ℕ) (room : ℕ) (old new : Option (List ℕ)) (error : Error)
-    → IfSome old (λ raw. raw ≡ []) → ReturnsTextsInto IsText limit room old new (Err error)
+    → IfSome old (λ raw. raw ≡ []) → ReturnsEncodingsInto IsText limit room old new (Err error)
 ends_texts_into rule laws texts limit room old new error none = record {
   found = tt;
   accepted = nothing_begins rule laws texts limit (λ m. BufferHasRoom room m → error.kind ≡ DeviceFailed) old none;

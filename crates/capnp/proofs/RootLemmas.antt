@@ -12,7 +12,7 @@ use Rattle.capnp_frame.specs.Message.{word_count, lengths, size_in_words}
 use Rattle.capnp_frame.specs.declared.io.Read.{Ghosts}
 use Rattle.capnp_frame.specs.Sink.{Adds}
 use Rattle.capnp_frame.specs.Streams.{message_in, ReadsStream}
-use Rattle.capnp_frame.specs.Writing.{IsWritable, HasFew, RefusesMany}
+use Rattle.capnp_frame.specs.Writing.{IsWritable, IsWithinSegmentLimit, RefusesMany}
 use Rattle.capnp_frame.proofs.AgreementLemmas.{limit_cases}
 use Rattle.capnp_frame.proofs.LimitLemmas.{past_limit}
 use Rattle.capnp_wire.specs.Tree.{Trees}
@@ -23,10 +23,10 @@ use Rattle.capnp_build.specs.Bytes.{Space}
 use Rattle.capnp_build.specs.declared.allocator.Allocator as allocator
 use Rattle.capnp_build.specs.Built.{Built, message, IsSet}
 use Rattle.capnp_build.specs.Placed.{IsPut}
-use Rattle.capnp_build.specs.Held.{used_of}
+use Rattle.capnp_build.specs.BuilderState.{used_of}
 use Rattle.capnp_build.proofs.NullLemmas.{root_stands}
 use Rattle.capnp.specs.declared.streams.Format.{Format}
-use Rattle.capnp.specs.Headline.{IsFault, ReturnsTexts, OrFailsAtEnd}
+use Rattle.capnp.specs.Headline.{IsFault, ReturnsEncodings, OrFailsAtEnd}
 use Rattle.capnp.specs.Roots.{HasRootTree, HasRootOf, RefusesSize, ReadsWritten, StaysUnset, StaysUnread}
 use Rattle.capnp.specs.Streams.{grammar_of, rules_of, StandsNext}
 use Rattle.capnp.specs.Written.{IsTextOf, output_of}
@@ -35,25 +35,25 @@ use Rattle.capnp.proofs.FormatLemmas.{or_fails_failed}
 use Rattle.capnp.proofs.RunLemmas.{format_lawful, format_requested, format_parts}
 use Rattle.capnp.proofs.WriterLemmas.{IsWithin-written}
 
--- where a tree stands at the root, there is a segment
+-- where a tree is at the root, there is a segment
 pub has_segment : (spaces : List Space) (trees : Trees) (traversed : ℕ) → At (message spaces) (root ∷ []) trees traversed → 0 < length spaces
 has_segment spaces trees traversed (at points inside following) =
     let word = word_stands (message spaces) root _ points in (root_stands spaces word.0 word.1).0
 
 -- the text of a message stands for it before any rest
-text_stands : (rule : Padding) (format : Format) (limit : Option ℕ) (m : List (List ℕ)) (text rest : List ℕ) → IsWritable m → HasFew m → KeepsLimit (lengths m) limit
+text_stands : (rule : Padding) (format : Format) (limit : Option ℕ) (m : List (List ℕ)) (text rest : List ℕ) → IsWritable m → IsWithinSegmentLimit m → KeepsLimit (lengths m) limit
     → IsTextOf format m text → StandsNext rule format limit m (text ++ rest) rest
 text_stands rule format limit m text rest writable few size here =
     record { text = text; is_text = text_is rule format m text writable here; within = IsWithin-written m limit writable few size; spelled = refl }
 
 -- so what is read of it is the message
-pub written_is_read : (rule : Padding) (format : Format) (limit : Option ℕ) (m read : List (List ℕ)) (text rest left : List ℕ) → IsWritable m → HasFew m
+pub written_is_read : (rule : Padding) (format : Format) (limit : Option ℕ) (m read : List (List ℕ)) (text rest left : List ℕ) → IsWritable m → IsWithinSegmentLimit m
     → KeepsLimit (lengths m) limit → IsTextOf format m text → StandsNext rule format limit read (text ++ rest) left → (read ≡ m) × (left ≡ rest)
 written_is_read rule format limit m read text rest left writable few size here stands =
     (format_parts rule format limit).begins_once read m (text ++ rest) left rest stands (text_stands rule format limit m text rest writable few size here)
 
 pub root_is_read : (rule : Padding) (format : Format) (limit : Option ℕ) (spaces : List Space) (trees : Trees) (text rest left : List ℕ) (read : List (List ℕ))
-    → HasRootTree (map used_of spaces) trees → IsWritable (map used_of spaces) → HasFew (map used_of spaces)
+    → HasRootTree (map used_of spaces) trees → IsWritable (map used_of spaces) → IsWithinSegmentLimit (map used_of spaces)
     → KeepsLimit (lengths (map used_of spaces)) limit → IsTextOf format (map used_of spaces) text
     → StandsNext rule format limit read (text ++ rest) left → HasRootTree read trees × (left ≡ rest)
 root_is_read rule format limit spaces trees text rest left read root writable few size here stands =
@@ -62,7 +62,7 @@ root_is_read rule format limit spaces trees text rest left read root writable fe
 
 -- what was added to nothing is its text, alone
 added_stands : (rule : Padding) (format : Format) (limit : Option ℕ) (m : List (List ℕ)) (shown : List ℕ) → IsWritable m
-    → IsTextOf format m shown → HasFew m → KeepsLimit (lengths m) limit → StandsNext rule format limit m shown []
+    → IsTextOf format m shown → IsWithinSegmentLimit m → KeepsLimit (lengths m) limit → StandsNext rule format limit m shown []
 added_stands rule format limit m shown writable here few size =
     subst (λ (l : List ℕ). StandsNext rule format limit m l []) (append-nil shown) (text_stands rule format limit m shown [] writable few size here)
 
@@ -84,7 +84,7 @@ unlimited rule format limit m raw rest stands = let within = stands.within in re
 -- what is read of it is the message, which is within the limit
 read_again : {X : Type 0} (rule : Padding) (format : Format) (limit : Option ℕ) (segments : X → List (List ℕ)) (x : X) (m : List (List ℕ)) (shown : List ℕ)
     (left : Option (List ℕ)) → StandsNext rule format None m shown []
-    → ReturnsTexts (grammar_of rule format) limit (Some shown) left (message_in segments (Ok x))
+    → ReturnsEncodings (grammar_of rule format) limit (Some shown) left (message_in segments (Ok x))
     → (segments x ≡ m) × KeepsLimit (lengths m) limit
 read_again rule format limit segments x m shown None stands texts = absurd texts.found
 read_again rule format limit segments x m shown (Some rest) stands texts =
@@ -92,7 +92,7 @@ read_again rule format limit segments x m shown (Some rest) stands texts =
     let same = ((format_parts rule format None).begins_once (segments x) m shown rest [] (unlimited rule format limit (segments x) shown rest found) stands).0 in
     (same, subst (λ m. KeepsLimit (lengths m) limit) same found.within.size)
 
--- past the limit of words it fails with that line of the table of refusals
+-- past the limit of words it fails with that line of the table of errors
 reads_too_many : {S : Type 0} (rule : Padding) (format : Format) (limit : Option ℕ) (source : Ghosts S) (old new : S) (m : List (List ℕ)) (e : Error)
     (shown : List ℕ) → StandsNext rule format None m shown [] → source.unread old ≡ Some shown → IsTooLarge (lengths m) limit
     → OrFailsAtEnd (ReadsStream source old new (rules_of rule format) limit) (Err e)
@@ -101,8 +101,8 @@ reads_too_many rule format limit source old new m e shown stands unread over rea
     let requested = (format_requested rule format m shown []).1 (stands.text, stands.is_text, stands.spelled) in
     let (left, line) = past_limit rule (format_lawful format) limit m shown [] requested (few_segments stands.within) over in
     elim reads [
-      | inl told ↦ (rw unread at told.exact) (MessageTooLarge (size_in_words m)) left line
-      | inr (end, told) ↦ absurd ((rw unread at told.exact) (MessageTooLarge (size_in_words m)) left line)
+      | inl declared ↦ (rw unread at declared.exact) (MessageTooLarge (size_in_words m)) left line
+      | inr (end, declared) ↦ absurd ((rw unread at declared.exact) (MessageTooLarge (size_in_words m)) left line)
     ]
   where
     few_segments : AreWithin (lengths m) None → length m < 512
@@ -110,7 +110,7 @@ reads_too_many rule format limit source old new m e shown stands unread over rea
 
 -- so of what is written and read nothing else comes than the limit and want of memory
 refused_again : {S : Type 0} (rule : Padding) (format : Format) (limit : Option ℕ) (source : Ghosts S) (old new : S) (m : List (List ℕ)) (e : Error) (shown : List ℕ)
-    → IsTextOf format m shown → IsWritable m → HasFew m → source.unread old ≡ Some shown → source.failures old ≡ 0 → source.failures new ≡ 0
+    → IsTextOf format m shown → IsWritable m → IsWithinSegmentLimit m → source.unread old ≡ Some shown → source.failures old ≡ 0 → source.failures new ≡ 0
     → (StandsNext rule format limit m shown [] → IsFault e.kind)
     → OrFailsAtEnd (ReadsStream source old new (rules_of rule format) limit) (Err e)
     → RefusesMany m e.kind ⊎ RefusesSize m limit e.kind ⊎ (e.kind ≡ OutOfMemory)
@@ -129,8 +129,8 @@ refused_again rule format limit source old new m e shown here writable few unrea
 -- what is returned of a message that is written and read
 pub written_and_read : {S X : Type 0} (rule : Padding) (format : Format) (options : ReaderOptions) (source : Ghosts S) (old new : S) (m : List (List ℕ))
     (segments : X → List (List ℕ)) (options_of : X → ReaderOptions) (r : Result X Error) (shown : List ℕ)
-    → IsTextOf format m shown → IsWritable m → HasFew m → source.unread old ≡ Some shown → source.failures old ≡ 0 → source.failures new ≡ 0
-    → ReturnsTexts (grammar_of rule format) options.traversal_limit_in_words (source.unread old) (source.unread new) (message_in segments r)
+    → IsTextOf format m shown → IsWritable m → IsWithinSegmentLimit m → source.unread old ≡ Some shown → source.failures old ≡ 0 → source.failures new ≡ 0
+    → ReturnsEncodings (grammar_of rule format) options.traversal_limit_in_words (source.unread old) (source.unread new) (message_in segments r)
     → OrFailsAtEnd (ReadsStream source old new (rules_of rule format) options.traversal_limit_in_words) (message_in segments r)
     → IfOk r (λ reader. options_of reader ≡ options) → ReadsWritten m options segments options_of r
 written_and_read rule format options source old new m segments options_of (Ok x) shown here writable few unread none still texts reads are =

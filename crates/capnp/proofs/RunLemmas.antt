@@ -11,7 +11,7 @@ use Rattle.capnp_frame.specs.Sink.{Adds}
 use Rattle.capnp_frame.specs.SplittingLaws.{splitting}
 use Rattle.capnp_frame.proofs.SourceLemmas.{IfKnown-join, IfKnown-refl, IfKnown-weaker}
 use Rattle.capnp_frame.proofs.FrameLemmas.{plain_requests}
-use Rattle.capnp_frame.proofs.TextLemmas.{AreRequested, PartsStreams, parts_streams, AreTexts-push}
+use Rattle.capnp_frame.proofs.TextLemmas.{AreRequested, PartsStreams, parts_streams, AreEncodings-push}
 use Rattle.capnp_pack.specs.RefusingLaws.{unpacking}
 use Rattle.capnp_pack.proofs.PackedFrameLemmas.{packed_requests}
 use Rattle.capnp.specs.declared.streams.Format.{Format}
@@ -76,12 +76,12 @@ pub HasWritten-next : (rule : Padding) (format : Format) (limit : Option ℕ) (W
 HasWritten-next rule format limit Writes count before between after raw mid rest written next = record {
   messages = written.messages ++ next.message ∷ [];
   counted = length_push written.messages next.message ∙ ap (λ k. k + 1) written.counted;
-  texts = AreTexts-push (grammar_of rule format) limit written.messages next.message raw mid rest written.texts next.stands;
+  texts = AreEncodings-push (grammar_of rule format) limit written.messages next.message raw mid rest written.texts next.stands;
   written = IfKnown-join before between after (Adds-join Writes written.messages next.message) written.written
       (subst (λ k. IfKnown between after (Adds (Writes k next.message))) (sym written.counted) next.written);
 }
 
--- the next message stands, and is written, or not as a whole
+-- the next message is, and is written, or not as a whole
 pub written_next : (rule : Padding) (format : Format) (limit : Option ℕ) (Writes : Writing) (index : ℕ) (message : List (List ℕ))
     (old new before after : Option (List ℕ)) → IsWithin message limit
     → IfKnown old new ((rules_of rule format).stands message) → IfKnown before after (Adds (Writes index message))

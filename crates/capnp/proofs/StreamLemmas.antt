@@ -6,15 +6,15 @@ use Rattle.capnp_frame.specs.declared.error.Error.{Error}
 use Rattle.capnp_frame.specs.declared.error.ErrorKind.{ErrorKind}
 use Rattle.capnp_frame.specs.declared.error.ErrorKind.TheVariants.{DeviceFailed, OutOfMemory}
 use Rattle.capnp_frame.specs.Source.{Fails}
-use Rattle.capnp_frame.specs.Texts.{Grammar, AreTexts}
+use Rattle.capnp_frame.specs.Texts.{Grammar, AreEncodings}
 use Rattle.capnp_frame.proofs.AskLemmas.{never_fails}
-use Rattle.capnp_frame.proofs.TextLemmas.{AreTexts-push}
+use Rattle.capnp_frame.proofs.TextLemmas.{AreEncodings-push}
 use Rattle.capnp.specs.declared.streams.Format.{Format}
 use Rattle.capnp.specs.Streams.{grammar_of, StandsNext, RefusesNext, EndsBy, IsStream}
 use Rattle.capnp.proofs.EndLemmas.{stream_once}
 use Rattle.capnp.specs.Reading.{kind_of, LacksMemory}
 
--- a slice never fails, so its reader fails for want of memory or by what stands there
+-- a slice never fails, so its reader fails for want of memory or by what is there
 pub slice_refused : (rule : Padding) (format : Format) (limit : Option ℕ) (kind : ErrorKind) (old new : List ℕ) (T : Type 0) → (kind ≡ DeviceFailed → Fails 0 0)
     → (kind ≡ DeviceFailed) ⊎ ((kind ≡ OutOfMemory) × T) ⊎ RefusesNext rule format limit kind old new
     → (kind ≡ OutOfMemory) ⊎ EndsBy rule format limit (Some kind) old
@@ -22,8 +22,8 @@ slice_refused rule format limit kind old new T failed (inl device) = absurd (nev
 slice_refused rule format limit kind old new T failed (inr (inl memory)) = inl memory.0
 slice_refused rule format limit kind old new T failed (inr (inr line)) = inr (new, line)
 
--- texts stand at the front of a stream
-pub texts_front : (IsText : Grammar) (limit : Option ℕ) (ms : List (List (List ℕ))) (raw rest : List ℕ) → AreTexts IsText limit ms raw rest
+-- texts are at the front of a stream
+pub texts_front : (IsText : Grammar) (limit : Option ℕ) (ms : List (List (List ℕ))) (raw rest : List ℕ) → AreEncodings IsText limit ms raw rest
     → (front : List ℕ) × (raw ≡ front ++ rest)
 texts_front IsText limit [] raw rest texts = ([], sym texts)
 texts_front IsText limit (m ∷ ms) raw rest (between, begins, texts) =
@@ -39,29 +39,29 @@ drop-front front rest =
 pub rest_is_dropped : (raw front rest : List ℕ) (end : ℕ) → raw ≡ front ++ rest → end ≡ length raw - length rest → drop end raw ≡ rest
 rest_is_dropped raw front rest end is at = ap (λ k. drop k raw) at ∙ ap (λ l. drop (length l - length rest) l) is ∙ drop-front front rest
 
-pub texts_end : (IsText : Grammar) (limit : Option ℕ) (ms : List (List (List ℕ))) (raw rest : List ℕ) (end : ℕ) → AreTexts IsText limit ms raw rest → end ≡ length raw - length rest
+pub texts_end : (IsText : Grammar) (limit : Option ℕ) (ms : List (List (List ℕ))) (raw rest : List ℕ) (end : ℕ) → AreEncodings IsText limit ms raw rest → end ≡ length raw - length rest
     → drop end raw ≡ rest
 texts_end IsText limit ms raw rest end texts at =
     let front = texts_front IsText limit ms raw rest texts in rest_is_dropped raw front.0 rest end front.1 at
 
 -- one list of messages, unless memory ran out
 pub stream_is_one : (rule : Padding) (format : Format) (limit : Option ℕ) (ms ns : List (List (List ℕ))) (refusal : Option Error) (raw rest : List ℕ)
-    → AreTexts (grammar_of rule format) limit ms raw rest → LacksMemory refusal ⊎ EndsBy rule format limit (kind_of refusal) rest
+    → AreEncodings (grammar_of rule format) limit ms raw rest → LacksMemory refusal ⊎ EndsBy rule format limit (kind_of refusal) rest
     → (ending : Option ErrorKind) → IsStream rule format limit ns ending raw → LacksMemory refusal ⊎ (ms ≡ ns) × (kind_of refusal ≡ ending)
 stream_is_one rule format limit ms ns refusal raw rest texts (inl memory) ending stream = inl memory
 stream_is_one rule format limit ms ns refusal raw rest texts (inr ends) ending stream =
     inr (stream_once rule format limit ms ns (kind_of refusal) ending raw (record { rest = rest; texts = texts; ends = ends }) stream)
 
-pub texts_within : (IsText : Grammar) (limit : Option ℕ) (ms : List (List (List ℕ))) (raw rest : List ℕ) → AreTexts IsText limit ms raw rest → length rest ≤ length raw
+pub texts_within : (IsText : Grammar) (limit : Option ℕ) (ms : List (List (List ℕ))) (raw rest : List ℕ) → AreEncodings IsText limit ms raw rest → length rest ≤ length raw
 texts_within IsText limit ms raw rest texts =
     let front = texts_front IsText limit ms raw rest texts in
     omega (arith, ap length front.1, length-append front.0 rest)
 
 -- one message more
-pub next_texts : (rule : Padding) (format : Format) (limit : Option ℕ) (ms ns : List (List (List ℕ))) (raw rest left : List ℕ) → AreTexts (grammar_of rule format) limit ms raw rest
-    → (message : List (List ℕ)) × StandsNext rule format limit message rest left × (ns ≡ ms ++ message ∷ []) → AreTexts (grammar_of rule format) limit ns raw left
+pub next_texts : (rule : Padding) (format : Format) (limit : Option ℕ) (ms ns : List (List (List ℕ))) (raw rest left : List ℕ) → AreEncodings (grammar_of rule format) limit ms raw rest
+    → (message : List (List ℕ)) × StandsNext rule format limit message rest left × (ns ≡ ms ++ message ∷ []) → AreEncodings (grammar_of rule format) limit ns raw left
 next_texts rule format limit ms ns raw rest left texts (message, stands, more) =
-    subst (λ l. AreTexts (grammar_of rule format) limit l raw left) (sym more) (AreTexts-push (grammar_of rule format) limit ms message raw rest left texts stands)
+    subst (λ l. AreEncodings (grammar_of rule format) limit l raw left) (sym more) (AreEncodings-push (grammar_of rule format) limit ms message raw rest left texts stands)
 
 pub refused_ends : (error : Error) (Q : Type 0) → (error.kind ≡ OutOfMemory) ⊎ Q → LacksMemory (Some error) ⊎ Q
 refused_ends error Q (inl memory) = inl (ap Some memory)
@@ -69,14 +69,14 @@ refused_ends error Q (inr ends) = inr ends
 
 -- What is returned where the reading stops.
 pub stopped : (rule : Padding) (format : Format) (limit : Option ℕ) (ms ns : List (List (List ℕ))) (refusal : Option Error) (raw rest : List ℕ) (end : ℕ)
-    → ns ≡ ms → AreTexts (grammar_of rule format) limit ms raw rest → end ≡ length raw - length rest → LacksMemory refusal ⊎ EndsBy rule format limit (kind_of refusal) rest
-    → (end ≤ length raw) × AreTexts (grammar_of rule format) limit ns raw (drop end raw) × (LacksMemory refusal ⊎ EndsBy rule format limit (kind_of refusal) (drop end raw))
+    → ns ≡ ms → AreEncodings (grammar_of rule format) limit ms raw rest → end ≡ length raw - length rest → LacksMemory refusal ⊎ EndsBy rule format limit (kind_of refusal) rest
+    → (end ≤ length raw) × AreEncodings (grammar_of rule format) limit ns raw (drop end raw) × (LacksMemory refusal ⊎ EndsBy rule format limit (kind_of refusal) (drop end raw))
     × ((messages : List (List (List ℕ))) (ending : Option ErrorKind) → IsStream rule format limit messages ending raw → LacksMemory refusal ⊎ (ns ≡ messages) × (kind_of refusal ≡ ending))
 stopped rule format limit ms ns refusal raw rest end same texts at ends =
     let left : drop end raw ≡ rest = texts_end (grammar_of rule format) limit ms raw rest end texts at in
-    let told = subst (λ l. AreTexts (grammar_of rule format) limit l raw rest) (sym same) texts in (
+    let declared = subst (λ l. AreEncodings (grammar_of rule format) limit l raw rest) (sym same) texts in (
       omega (arith, at),
-      subst (λ l. AreTexts (grammar_of rule format) limit ns raw l) (sym left) told,
+      subst (λ l. AreEncodings (grammar_of rule format) limit ns raw l) (sym left) declared,
       subst (λ l. LacksMemory refusal ⊎ EndsBy rule format limit (kind_of refusal) l) (sym left) ends,
-      λ messages ending stream. stream_is_one rule format limit ns messages refusal raw rest told ends ending stream,
+      λ messages ending stream. stream_is_one rule format limit ns messages refusal raw rest declared ends ending stream,
     )

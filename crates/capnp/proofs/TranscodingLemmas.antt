@@ -13,7 +13,7 @@ use Rattle.capnp.specs.declared.transcoding.Way.TheVariants.{Pack, Unpack}
 use Rattle.capnp.specs.Written.{IsPlainSink}
 use Rattle.capnp.specs.Runs.{Writing, DecliningWriting, WritesFrom, HasWritten, RanOut, HasStopped, HasRun, WritesEach}
 use Rattle.capnp.specs.Transcoding.{Transcodes, IsOtherText}
-use Rattle.capnp.proofs.WriterLemmas.{frame_text_added, packed_text_added}
+use Rattle.capnp.proofs.WriterLemmas.{frame_bytes_added, packed_text_added}
 
 -- what is written of each message is what is weaker
 abbrev IsWeaker : Writing → Writing → Type 0
@@ -70,7 +70,7 @@ HasStopped-weaker rule format limit P Q Declines weaker count kind left before a
 pub other_text_added : (way : Way) (appends : Appending) → IsPlainSink appends → (index : ℕ) (message : List (List ℕ))
     (text : List ℕ) → Transcodes way appends index message text → IsOtherText way index message text
 other_text_added Pack appends plain index message text all = packed_text_added appends plain message text all
-other_text_added Unpack appends plain index message text all = frame_text_added appends plain message text all
+other_text_added Unpack appends plain index message text all = frame_bytes_added appends plain message text all
 
 IfSome-weaker : {P Q : List ℕ → Type 0} (unread : Option (List ℕ)) → ((raw : List ℕ) → P raw → Q raw) → IfSome unread P → IfSome unread Q
 IfSome-weaker None weaker p = tt

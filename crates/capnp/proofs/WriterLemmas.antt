@@ -11,15 +11,15 @@ use Rattle.capnp_frame.specs.Asking.{FailsOr}
 use Rattle.capnp_frame.specs.Source.{IfKnown, Fails}
 use Rattle.capnp_frame.specs.Sink.{Appending, Declining, DeclinesSome, Adds, AppendsAll, AppendsSame, Grows}
 use Rattle.capnp_frame.specs.Writers.{KeepsCount, WritesSegments}
-use Rattle.capnp_frame.specs.Writing.{IsWritable, HasFew, HasMany, chunks, serialized_words}
+use Rattle.capnp_frame.specs.Writing.{IsWritable, IsWithinSegmentLimit, ExceedsSegmentLimit, chunks, serialized_words}
 use Rattle.capnp_frame.proofs.SourceLemmas.{IfKnown-weaker}
-use Rattle.capnp_frame.proofs.SizeLemmas.{concat-chunks, length-frame_text}
+use Rattle.capnp_frame.proofs.SizeLemmas.{concat-chunks, length-frame_bytes}
 use Rattle.capnp_frame.proofs.TextLemmas.{chunks_joined}
 use Rattle.capnp_frame.proofs.WritingLemmas.{length-lengths}
 use Rattle.capnp_pack.specs.PackedSink.{AppendsPacked, DeclinesPacked}
-use Rattle.capnp_pack.proofs.PackedTextLemmas.{packed_chunks}
+use Rattle.capnp_pack.proofs.PackedEncodingLemmas.{packed_chunks}
 use Rattle.capnp.specs.declared.streams.Format.TheVariants.{Framed, Packed}
-use Rattle.capnp.specs.Written.{IsPlainSink, IsFrameText, IsPackedTextOf, RefusesWriter, AppendsMessage, LeavesMessage, WritesMessage}
+use Rattle.capnp.specs.Written.{IsPlainSink, IsFrameEncoding, IsPackedEncodingOf, RefusesWriter, AppendsMessage, LeavesMessage, WritesMessage}
 
 -- a plain sink gets the chunks themselves
 AppendsAll-plain : (appends : Appending) (xs : List (List ℕ)) (text : List ℕ) → IsPlainSink appends → AppendsAll appends xs text → AppendsAll AppendsSame xs text
@@ -32,10 +32,10 @@ AppendsAll-packed appends (x ∷ xs) text plain (first, others, here, more, e) =
     (first, others, (here.0, here.1, AppendsAll-plain appends here.0 first plain here.2), AppendsAll-packed appends xs others plain more, e)
 
 -- so it gets the text of a message, framed and packed
-pub frame_text_added : (appends : Appending) → IsPlainSink appends → (message : List (List ℕ)) (text : List ℕ) → AppendsAll appends (chunks message) text → IsFrameText message text
-frame_text_added appends plain message text all = (chunks_joined (chunks message) text).0 (AppendsAll-plain appends (chunks message) text plain all) ∙ concat-chunks message
+pub frame_bytes_added : (appends : Appending) → IsPlainSink appends → (message : List (List ℕ)) (text : List ℕ) → AppendsAll appends (chunks message) text → IsFrameEncoding message text
+frame_bytes_added appends plain message text all = (chunks_joined (chunks message) text).0 (AppendsAll-plain appends (chunks message) text plain all) ∙ concat-chunks message
 
-pub packed_text_added : (appends : Appending) → IsPlainSink appends → (message : List (List ℕ)) (text : List ℕ) → AppendsAll (AppendsPacked appends) (chunks message) text → IsPackedTextOf message text
+pub packed_text_added : (appends : Appending) → IsPlainSink appends → (message : List (List ℕ)) (text : List ℕ) → AppendsAll (AppendsPacked appends) (chunks message) text → IsPackedEncodingOf message text
 packed_text_added appends plain message text all = (packed_chunks message text).0 (AppendsAll-packed appends (chunks message) text plain all)
 
 -- what is added is what is weaker
@@ -59,7 +59,7 @@ pub IsWithin-any : (message : List (List ℕ)) (limit : Option ℕ) → IsWithin
 IsWithin-any message limit within = record { some = within.some; few = within.few; each = within.each; size = tt }
 
 -- a message that keeps the limit of words, and that a writer took, is one that a reader accepts
-pub IsWithin-written : (message : List (List ℕ)) (limit : Option ℕ) → IsWritable message → HasFew message → KeepsLimit (lengths message) limit → IsWithin message limit
+pub IsWithin-written : (message : List (List ℕ)) (limit : Option ℕ) → IsWritable message → IsWithinSegmentLimit message → KeepsLimit (lengths message) limit → IsWithin message limit
 IsWithin-written message limit writable few size =
     let count = length-lengths message in
     let some = writable.some in
@@ -78,36 +78,36 @@ writer_fault L refuses message limit (Err e) within (inr (inr (inr memory))) = i
 
 -- the size of a text that was written
 pub text_size : (r : Result ℕ Error) (message : List (List ℕ)) → IsWritable message → IfOk r (λ words. words ≡ serialized_words message)
-    → IfOk r (λ words. (text : List ℕ) → IsFrameText message text → length text ≡ 8 * words)
+    → IfOk r (λ words. (text : List ℕ) → IsFrameEncoding message text → length text ≡ 8 * words)
 text_size (Err e) message writable size = tt
-text_size (Ok words) message writable size = λ text is. ap length is ∙ length-frame_text message writable ∙ ap (λ (n : ℕ). 8 * n) (sym size)
+text_size (Ok words) message writable size = λ text is. ap length is ∙ length-frame_bytes message writable ∙ ap (λ (n : ℕ). 8 * n) (sym size)
 
 -- what the engine writes of a message, framed
 pub frame_written : {S X : Type 0} (sink : Ghosts S) (old new : S) (message : List (List ℕ)) (r : Result X Error)
     → WritesSegments sink old new message r → WritesMessage Framed sink old new message r
-frame_written sink old new message r told = record {
-  count = told.count;
-  unwritten = told.unwritten;
-  text = λ plain. Adds-weaker r _ _ (frame_text_added sink.appends plain message) told.parts.written;
-  written = told.parts.written;
-  left = told.parts.left;
-  refused = told.parts.refused;
-  untouched = told.parts.untouched;
-  failed = told.parts.failed;
-  grows = told.parts.grows;
+frame_written sink old new message r declared = record {
+  count = declared.count;
+  unwritten = declared.unwritten;
+  text = λ plain. Adds-weaker r _ _ (frame_bytes_added sink.appends plain message) declared.parts.written;
+  written = declared.parts.written;
+  left = declared.parts.left;
+  refused = declared.parts.refused;
+  untouched = declared.parts.untouched;
+  failed = declared.parts.failed;
+  grows = declared.parts.grows;
 }
 
 -- what stays of a packer stays of its sink
 kept_below : {S P X : Type 0} (see : P → S) (Declines : ErrorKind → Type 0) (old new : P) (r : Result X Error)
     → FailsOr r (λ kind. Declines kind ⊎ (new ≡ old)) → FailsOr r (λ kind. Declines kind ⊎ (see new ≡ see old))
-kept_below see Declines old new (Ok x) told = tt
+kept_below see Declines old new (Ok x) declared = tt
 kept_below see Declines old new (Err e) (inl failed) = inl failed
 kept_below see Declines old new (Err e) (inr (inl declined)) = inr (inl declined)
 kept_below see Declines old new (Err e) (inr (inr same)) = inr (inr (ap see same))
 
 -- and packed, by a packer in which the sink is seen
 pub packed_written : {S P X : Type 0} (sink : Ghosts S) (see : P → S) (old new : P) (message : List (List ℕ)) (r : Result X Error)
-    → KeepsCount message r → (HasMany message → new ≡ old) → OnOk r (IfKnown (sink.written (see old)) (sink.written (see new)) (Adds (AppendsMessage Packed sink.appends message)))
+    → KeepsCount message r → (ExceedsSegmentLimit message → new ≡ old) → OnOk r (IfKnown (sink.written (see old)) (sink.written (see new)) (Adds (AppendsMessage Packed sink.appends message)))
     → OnErr r (IfKnown (sink.written (see old)) (sink.written (see new)) (Adds (LeavesMessage Packed sink.appends sink.leaves message)))
     → IfErr r (λ e. RefusesWriter (DeclinesPacked sink.refuses) message e.kind)
     → FailsOr r (λ kind. DeclinesSome (DeclinesPacked sink.refuses) (chunks message) kind ⊎ (new ≡ old))

@@ -9,8 +9,8 @@ use Rattle.capnp_frame.specs.declared.serialize.segment_table.Padding.{Padding}
 use Rattle.capnp_frame.specs.declared.serialize.segment_table.Padding.TheVariants.{Zero}
 use Rattle.capnp_frame.specs.Source.{IfKnown, Advances, Fails}
 use Rattle.capnp_frame.specs.Streams.{ReadsStream}
-use Rattle.capnp_frame.specs.Texts.{AreTexts}
-use Rattle.capnp_frame.specs.Writing.{HasFew}
+use Rattle.capnp_frame.specs.Texts.{AreEncodings}
+use Rattle.capnp_frame.specs.Writing.{IsWithinSegmentLimit}
 use Rattle.capnp.specs.declared.streams.Format.{Format}
 use Rattle.capnp.specs.Headline.{IsFault, OrFailsAtEnd}
 use Rattle.capnp.specs.Streams.{grammar_of, rules_of}
@@ -24,7 +24,7 @@ pub record StopsWithin {S : Type 0} (source : Ghosts S) (old new : S) (rule : Pa
   pub between : S
   pub messages : List (List (List ℕ))
   pub fewer : length messages < count
-  pub texts : IfKnown (source.unread old) (source.unread between) (AreTexts (grammar_of rule format) limit messages)
+  pub texts : IfKnown (source.unread old) (source.unread between) (AreEncodings (grammar_of rule format) limit messages)
   -- what the reader of the next message keeps where it fails
   pub next : OrFailsAtEnd (ReadsStream source between new (rules_of rule format) limit) (Err error)
 
@@ -33,14 +33,14 @@ pub record StopsWithin {S : Type 0} (source : Ghosts S) (old new : S) (rule : Pa
 pub record ReadsMessages {S V X : Type 0} (source : Ghosts S) (old new : S) (format : Format) (options : ReaderOptions) (count : ℕ)
     (readers : V → List X) (segments : X → List (List ℕ)) (options_of : X → ReaderOptions) (result : Result V Error) : Type 0 where
   pub counted : IfOk result (λ read. length (readers read) ≡ count)
-  -- their texts stand there, one after the other, and just these are consumed
+  -- their texts are there, one after the other, and just these are consumed
   pub found : IfOk result (λ read. IfKnown (source.unread old) (source.unread new)
-      (AreTexts (grammar_of Zero format) options.traversal_limit_in_words (map segments (readers read))))
+      (AreEncodings (grammar_of Zero format) options.traversal_limit_in_words (map segments (readers read))))
   -- each reader has the options that are given
   pub options_are : IfOk result (λ read. AllByRecursion (λ reader. options_of reader ≡ options) (readers read))
-  -- where as many texts stand, a failure is a fault
+  -- where as many texts are, a failure is a fault
   pub accepted : IfErr result (λ error. IfSome (source.unread old) (λ raw. (messages : List (List (List ℕ))) (rest : List ℕ)
-      → AreTexts (grammar_of Zero format) options.traversal_limit_in_words messages raw rest → length messages ≡ count → IsFault error.kind))
+      → AreEncodings (grammar_of Zero format) options.traversal_limit_in_words messages raw rest → length messages ≡ count → IsFault error.kind))
   -- it fails where the reader of one message does, or for want of memory for the list
   pub stops : IfErr result (λ error. (error.kind ≡ OutOfMemory)
       ⊎ StopsWithin source old new Zero format options.traversal_limit_in_words count error)
@@ -56,12 +56,12 @@ pub record ReadsBack {V X : Type 0} (format : Format) (options : ReaderOptions) 
   -- the text is that of the messages, one after the other
   pub written : IfOk result (λ done. AppendsEach (IsTextOf format) messages (text done))
   -- the readers found their messages there
-  pub read : IfOk result (λ done. AreTexts (grammar_of Zero format) options.traversal_limit_in_words (map segments (readers done)) (text done) [])
+  pub read : IfOk result (λ done. AreEncodings (grammar_of Zero format) options.traversal_limit_in_words (map segments (readers done)) (text done) [])
   -- they are those that were written
   pub back : IfOk result (λ done. map segments (readers done) ≡ messages)
   pub options_are : IfOk result (λ done. AllByRecursion (λ reader. options_of reader ≡ options) (readers done))
   -- after them there is no message
   pub ends : IfOk result (λ done. end done ≡ None)
   -- one with more segments than a reader accepts is not written
-  pub few : OnOk result (AllByRecursion HasFew messages)
+  pub few : OnOk result (AllByRecursion IsWithinSegmentLimit messages)
   pub refused : IfErr result (λ error. RefusesManyOf messages error.kind ⊎ (error.kind ≡ OutOfMemory))

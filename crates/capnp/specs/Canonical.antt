@@ -15,16 +15,16 @@ use Rattle.capnp_wire.specs.Pointer.{words_of}
 use Rattle.capnp_wire.specs.Views.{Pointer}
 use Rattle.capnp_wire.specs.Values.{IsCanonicalForm}
 use Rattle.capnp_message.specs.Canonical.{LacksForm}
-use Rattle.capnp.specs.Written.{IsPlainSink, IsFrameText}
+use Rattle.capnp.specs.Written.{IsPlainSink, IsFrameEncoding}
 
 -- the one segment of the canonical form of a root
 pub record IsForm (pointer : Pointer) (form : List ℕ) : Type 0 where
   pub words_are : IsCanonicalForm pointer (words_of form)
   pub whole : IsWholeWords form
 
--- the framed text of that form
+-- the framed encoding of that form
 abbrev pub IsCanonicalText : Pointer → List ℕ → Type 0
-IsCanonicalText pointer text = (form : List ℕ) × IsForm pointer form × IsFrameText (form ∷ []) text
+IsCanonicalText pointer text = (form : List ℕ) × IsForm pointer form × IsFrameEncoding (form ∷ []) text
 
 -- what a sink adds for it
 abbrev pub AppendsForm : Pointer → Appending → List ℕ → Type 0
@@ -34,18 +34,18 @@ AppendsForm pointer appends text = (form : List ℕ) × IsForm pointer form × A
 abbrev pub LeavesForm : Pointer → Appending → Leaving → List ℕ → Type 0
 LeavesForm pointer appends leaves text = (text ≡ []) ⊎ ((form : List ℕ) × IsForm pointer form × LeavesSome appends leaves (chunks (form ∷ [])) text)
 
--- the sink refuses a chunk of it
+-- the sink rejects a chunk of it
 abbrev pub BreaksForm : Pointer → Declining → ErrorKind → Type 0
 BreaksForm pointer refuses kind = (form : List ℕ) × IsForm pointer form × DeclinesSome refuses (chunks (form ∷ [])) kind
 
--- why it is not written, beside the device and want of memory: there is no such form, or the sink refuses a chunk of it
+-- why it is not written, beside the device and want of memory: there is no such form, or the sink rejects a chunk of it
 abbrev pub DeclinesForm : Pointer → Declining → ErrorKind → Type 0
 DeclinesForm pointer refuses kind = LacksForm pointer kind ⊎ BreaksForm pointer refuses kind
 
 -- What a call does to its sink that writes the canonical form of this root. `sink` is what is seen of the sink (the members
 -- of the trait Write), `old` and `new` are the sink before the call and after it.
 pub record WritesForm {S X : Type 0} (sink : Ghosts S) (old new : S) (pointer : Pointer) (result : Result X Error) : Type 0 where
-  -- a plain sink gets the framed text of the form
+  -- a plain sink gets the framed encoding of the form
   pub text : IsPlainSink sink.appends → OnOk result (IfKnown (sink.written old) (sink.written new) (Adds (IsCanonicalText pointer)))
   -- where there is no form, the call says why, and the sink is as it was
   pub lacks : (kind : ErrorKind) → LacksForm pointer kind → IsErrAnd result (λ error. error.kind ≡ kind) × (new ≡ old)

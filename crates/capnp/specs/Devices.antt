@@ -33,6 +33,6 @@ pending output = writer_buffer output.buffered
 abbrev pub taken_so_far : {W : Type 0} → (W → Option (List ℕ)) → Output W → Option (List ℕ)
 taken_so_far contents output = writer_contents (λ retried. contents retried.device) output.buffered
 
--- the device's fault is a refused growth
+-- the device's fault is a rejected growth
 abbrev pub IsOutOfMemory : Fault → Type 0
 IsOutOfMemory fault = error_kind fault ≡ OutOfMemory

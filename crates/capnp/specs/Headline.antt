@@ -17,20 +17,20 @@ abbrev pub BufferHasRoom : ℕ → List (List ℕ) → Type 0
 BufferHasRoom room message = table_size (length message) + 8 * size_in_words message ≤ room
 
 -- What a reader that grows returns of a stream in a grammar: `old` is unread before the call, and `new` after it.
-pub record ReturnsTexts (IsText : Grammar) (limit : Option ℕ) (old new : Option (List ℕ))
+pub record ReturnsEncodings (IsText : Grammar) (limit : Option ℕ) (old new : Option (List ℕ))
     (result : Result (Option (List (List ℕ))) Error) : Type 0 where
-  -- a text of the message that is returned stands there, the message is within the limit, and just that text is consumed
+  -- a text of the message that is returned is there, the message is within the limit, and just that text is consumed
   pub found : IfOk result (λ found. IfSome found (λ message. IfKnown old new (BeginsWith IsText limit message)))
-  -- where the text of a message within the limit stands, the call fails only with the device's failure or for want of memory
+  -- where the text of a message within the limit is, the call fails only with the device's failure or for want of memory
   pub accepted : IfSome old (λ raw. (message : List (List ℕ)) (rest : List ℕ) → BeginsWith IsText limit message raw rest
       → IfErr result (λ error. IsFault error.kind))
 
 -- What a reader into a caller-provided buffer of `room` bytes returns.
-pub record ReturnsTextsInto (IsText : Grammar) (limit : Option ℕ) (room : ℕ) (old new : Option (List ℕ))
+pub record ReturnsEncodingsInto (IsText : Grammar) (limit : Option ℕ) (room : ℕ) (old new : Option (List ℕ))
     (result : Result (Option (List (List ℕ))) Error) : Type 0 where
-  -- a text of the message that is returned stands there, the message is within the limit, and just that text is consumed
+  -- a text of the message that is returned is there, the message is within the limit, and just that text is consumed
   pub found : IfOk result (λ found. IfSome found (λ message. IfKnown old new (BeginsWith IsText limit message)))
-  -- where the text of a message within the limit stands, and the buffer has room for it, the call fails only with the
+  -- where the text of a message within the limit is, and the buffer has room for it, the call fails only with the
   -- device's failure
   pub accepted : IfSome old (λ raw. (message : List (List ℕ)) (rest : List ℕ) → BeginsWith IsText limit message raw rest
       → BufferHasRoom room message → IfErr result (λ error. error.kind ≡ DeviceFailed))

@@ -1,14 +1,14 @@
--- What is read of a stream in memory, and which refusals say that it is cut (src/streams/reading.rt).
+-- What is read of a stream in memory, and which errors say that it is cut (src/streams/reading.rt).
 use Rattle.std.specs.Prelude.{◌≡◌, ◌⊎◌, ◌≤◌, ◌↔◌, ℕ, List, length, drop, Option, Some, None, Bool, IsTrue, IsSomeAnd}
 use Rattle.capnp_frame.specs.declared.error.Error.{Error}
 use Rattle.capnp_frame.specs.declared.error.ErrorKind.{ErrorKind}
 use Rattle.capnp_frame.specs.declared.error.ErrorKind.TheVariants.{FailedToFillTheWholeBuffer, OutOfMemory, PrematureEndOfPackedInput}
 use Rattle.capnp_frame.specs.declared.serialize.segment_table.Padding.{Padding}
-use Rattle.capnp_frame.specs.Texts.{AreTexts}
+use Rattle.capnp_frame.specs.Texts.{AreEncodings}
 use Rattle.capnp.specs.declared.streams.Format.{Format}
 use Rattle.capnp.specs.Streams.{grammar_of, EndsBy, IsStream}
 
--- the kind of a refusal, if there is one
+-- the kind of an error, if there is one
 abbrev pub kind_of : Option Error → Option ErrorKind
 kind_of None = None
 kind_of (Some error) = Some error.kind
@@ -24,7 +24,7 @@ abbrev pub IsCut : Option Error → Type 0
 IsCut refusal = IsSomeAnd refusal (λ error. IsCutKind error.kind)
 
 abbrev pub TellsCut : Option Error → Bool → Type 0
-TellsCut refusal told = IsTrue told ↔ IsCut refusal
+TellsCut refusal declared = IsTrue declared ↔ IsCut refusal
 
 -- What is read of a stream in memory: messages, where the last of them ends, and why no further one was read, if the stream doesn't
 -- end there.
@@ -32,8 +32,8 @@ pub record ReadsEach (rule : Padding) (format : Format) (limit : Option ℕ) (st
     (refusal : Option Error) : Type 0 where
   -- the messages are the first `end` bytes
   pub within : end ≤ length stream
-  pub texts : AreTexts (grammar_of rule format) limit messages stream (drop end stream)
-  -- and there the stream ends, or is refused so
+  pub texts : AreEncodings (grammar_of rule format) limit messages stream (drop end stream)
+  -- and there the stream ends, or is rejected so
   pub ends : LacksMemory refusal ⊎ EndsBy rule format limit (kind_of refusal) (drop end stream)
   -- so it is the one list of messages that the stream is, memory aside
   pub exact : (listed : List (List (List ℕ))) (ending : Option ErrorKind) → IsStream rule format limit listed ending stream

@@ -7,16 +7,16 @@ use Rattle.capnp_frame.specs.declared.serialize.segment_table.Padding.TheVariant
 use Rattle.capnp_frame.specs.Limits.{KeepsLimit}
 use Rattle.capnp_frame.specs.Message.{lengths}
 use Rattle.capnp_frame.specs.Writers.{KeepsCount}
-use Rattle.capnp_frame.specs.Writing.{IsWritable, HasFew, RefusesMany}
+use Rattle.capnp_frame.specs.Writing.{IsWritable, IsWithinSegmentLimit, RefusesMany}
 use Rattle.capnp.specs.declared.streams.Format.TheVariants.{Packed}
 use Rattle.capnp.specs.Reading.{kind_of, LacksMemory, IsCut}
 use Rattle.capnp.specs.Streams.{EndsBy}
-use Rattle.capnp.specs.Written.{IsTextOf, IsPackedTextOf, AppendsEach}
+use Rattle.capnp.specs.Written.{IsTextOf, IsPackedEncodingOf, AppendsEach}
 
 -- what was appended of these records, none of more segments than a writer takes, each within the limit of words
 pub record IsLog (limit : Option ℕ) (records : List (List (List ℕ))) (log : List ℕ) : Type 0 where
   pub writable : AllByRecursion IsWritable records
-  pub few : AllByRecursion HasFew records
+  pub few : AllByRecursion IsWithinSegmentLimit records
   pub size : AllByRecursion (λ record_is. KeepsLimit (lengths record_is) limit) records
   pub appended : AppendsEach (IsTextOf Packed) records log
 
@@ -36,11 +36,11 @@ pub record IsCutLog (limit : Option ℕ) (records : List (List (List ℕ))) (who
   pub before : IsLog limit records whole
   pub next : List (List ℕ)
   pub writable : IsWritable next
-  pub few : HasFew next
+  pub few : IsWithinSegmentLimit next
   pub size : KeepsLimit (lengths next) limit
   pub part : List ℕ
   pub missing : List ℕ
-  pub packed : IsPackedTextOf next (part ++ missing)
+  pub packed : IsPackedEncodingOf next (part ++ missing)
   pub begun : 0 < length part
   pub some : 0 < length missing
   pub spelled : log ≡ whole ++ part
@@ -53,9 +53,9 @@ pub record ReadsLog (limit : Option ℕ) (log : List ℕ) (messages : List (List
       → LacksMemory refusal ⊎ (messages ≡ records) × (refusal ≡ None) × (end ≡ length log)
   -- where the log is cut within a record those before it are read, and where they end is told
   pub cut : (records : List (List (List ℕ))) (whole part missing : List ℕ) (next : List (List ℕ)) → IsLog limit records whole
-      → IsWritable next → IsPackedTextOf next (part ++ missing) → 0 < length missing → log ≡ whole ++ part
+      → IsWritable next → IsPackedEncodingOf next (part ++ missing) → 0 < length missing → log ≡ whole ++ part
       → LacksMemory refusal ⊎ (messages ≡ records) × (end ≡ length whole)
-  -- why no further one was read is what stands there
+  -- why no further one was read is what is there
   pub ends : LacksMemory refusal ⊎ EndsBy Zero Packed limit (kind_of refusal) (drop end log)
   -- and where a record is cut that a reader takes, it is a kind that says so
-  pub told : (records : List (List (List ℕ))) (whole : List ℕ) → IsCutLog limit records whole log → LacksMemory refusal ⊎ IsCut refusal
+  pub declared : (records : List (List (List ℕ))) (whole : List ℕ) → IsCutLog limit records whole log → LacksMemory refusal ⊎ IsCut refusal

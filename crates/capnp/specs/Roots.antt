@@ -7,7 +7,7 @@ use Rattle.capnp_frame.specs.declared.message.options.ReaderOptions.{ReaderOptio
 use Rattle.capnp_frame.specs.Limits.{KeepsLimit}
 use Rattle.capnp_frame.specs.Message.{lengths, size_in_words}
 use Rattle.capnp_frame.specs.Refusals.{IsTooLarge}
-use Rattle.capnp_frame.specs.Writing.{HasFew, RefusesMany}
+use Rattle.capnp_frame.specs.Writing.{IsWithinSegmentLimit, RefusesMany}
 use Rattle.capnp_wire.specs.Tree.{Trees}
 use Rattle.capnp_wire.specs.Object.{message_of}
 use Rattle.capnp_wire.specs.Reached.{At, root}
@@ -18,7 +18,7 @@ use Rattle.capnp_build.specs.Placed.{FindsNoRoom, IsCleared, IsPut}
 use Rattle.capnp_build.specs.Outcomes.{StopsFirst}
 use Rattle.capnp.specs.Written.{output_of}
 
--- these trees stand at the root
+-- these trees are at the root
 abbrev pub HasRootTree : List (List ℕ) → Trees → Type 0
 HasRootTree segments trees = (traversed : ℕ) × At (message_of segments) (root ∷ []) trees traversed
 
@@ -38,7 +38,7 @@ pub record ReadsWritten {X : Type 0} (message : List (List ℕ)) (options : Read
   pub back : IfOk result (λ reader. segments reader ≡ message)
   -- the segments are within the limit of words, and no more than a reader accepts
   pub size : OnOk result (KeepsLimit (lengths message) options.traversal_limit_in_words)
-  pub few : OnOk result (HasFew message)
+  pub few : OnOk result (IsWithinSegmentLimit message)
   pub options_are : IfOk result (λ reader. options_of reader ≡ options)
   -- it fails for too many segments, for too many words, or for want of memory
   pub refused : IfErr result (λ error. RefusesMany message error.kind

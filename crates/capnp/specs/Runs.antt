@@ -9,7 +9,7 @@ use Rattle.capnp_frame.specs.declared.io.Write.{Ghosts as SinkGhosts}
 use Rattle.capnp_frame.specs.Refusals.{IsReaderKind}
 use Rattle.capnp_frame.specs.Source.{IfKnown, Advances, Fails}
 use Rattle.capnp_frame.specs.Sink.{Adds, Grows}
-use Rattle.capnp_frame.specs.Texts.{AreTexts}
+use Rattle.capnp_frame.specs.Texts.{AreEncodings}
 use Rattle.capnp_frame.specs.Writing.{IsWritable}
 use Rattle.capnp.specs.declared.streams.Format.{Format}
 use Rattle.capnp.specs.declared.streams.StoppedAt.{StoppedAt}
@@ -49,11 +49,11 @@ pub record HasWrittenNext (rule : Padding) (format : Format) (limit : Option ℕ
 pub record HasWritten (rule : Padding) (format : Format) (limit : Option ℕ) (Writes : Writing) (count : ℕ) (before after : Option (List ℕ)) (raw rest : List ℕ) : Type 0 where
   pub messages : List (List (List ℕ))
   pub counted : length messages ≡ count
-  pub texts : AreTexts (grammar_of rule format) limit messages raw rest
+  pub texts : AreEncodings (grammar_of rule format) limit messages raw rest
   pub written : IfKnown before after (Adds (WritesAll Writes messages))
 
 -- why the next message was not read: the device's fault, want of memory where memory is taken, so that no more is
--- consumed than was asked for till then, or what stands there
+-- consumed than was asked for till then, or what is there
 abbrev pub IsReadingFault : Padding → Format → Option ℕ → ErrorKind → Option (List ℕ) → Option (List ℕ) → Type 0
 IsReadingFault rule format limit kind old new = (kind ≡ DeviceFailed)
     ⊎ ((kind ≡ OutOfMemory) × IfKnown old new ((rules_of rule format).takes_memory limit))
@@ -63,13 +63,13 @@ IsReadingFault rule format limit kind old new = (kind ≡ DeviceFailed)
 abbrev pub Declined : DecliningWriting → ℕ → List (List ℕ) → ErrorKind → Type 0
 Declined Declines index message kind = Declines.lacks index message kind ⊎ Declines.breaks index message kind
 
--- why a message was not written: the device's fault, want of memory where memory is taken, what it lacks, or that the sink refuses
+-- why a message was not written: the device's fault, want of memory where memory is taken, what it lacks, or that the sink rejects
 -- some of it
 abbrev pub IsWritingFault : DecliningWriting → ℕ → List (List ℕ) → ErrorKind → Type 0
 IsWritingFault Declines index message kind = (kind ≡ DeviceFailed) ⊎ ((kind ≡ OutOfMemory) × Declines.takes_memory index message)
     ⊎ Declined Declines index message kind
 
--- the sink failed or refused some of a message, so that a front of it may be written; else `same` holds
+-- the sink failed or rejected some of a message, so that a front of it may be written; else `same` holds
 abbrev pub BreaksOffOr : DecliningWriting → ℕ → List (List ℕ) → Type 0 → ErrorKind → Type 0
 BreaksOffOr Declines index message same kind = (kind ≡ DeviceFailed) ⊎ Declines.breaks index message kind ⊎ same
 

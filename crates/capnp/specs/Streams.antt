@@ -4,7 +4,7 @@ use Rattle.capnp_frame.specs.declared.error.ErrorKind.{ErrorKind}
 use Rattle.capnp_frame.specs.declared.serialize.segment_table.Padding.{Padding}
 use Rattle.capnp_frame.specs.Frame.{IsFrame}
 use Rattle.capnp_frame.specs.Source.{Giving, Refusing, Splits, RunsShort}
-use Rattle.capnp_frame.specs.Texts.{Grammar, BeginsWith, AreTexts, EndsTexts}
+use Rattle.capnp_frame.specs.Texts.{Grammar, BeginsWith, AreEncodings, EndsEncodings}
 use Rattle.capnp_frame.specs.Refusals.{RefusesStream, TakesMemory, IsReaderKind, IsProvidedReaderKind}
 use Rattle.capnp_frame.specs.Streams.{StreamRules}
 use Rattle.capnp_pack.specs.PackedFrame.{IsPackedFrame}
@@ -17,11 +17,11 @@ pub record IsPlainSource (gives : Giving) (refuses : Refusing) : Type 0 where
   pub given : (raw : List ℕ) (n : ℕ) (bytes rest : List ℕ) → Splits raw n bytes rest ↔ gives raw n bytes rest
   pub refused : (raw : List ℕ) (n : ℕ) (kind : ErrorKind) → RunsShort raw n kind ↔ refuses raw n kind
 
--- a framed text of the message stands at the front, and the message is within the limit
+-- a framed encoding of the message is at the front, and the message is within the limit
 abbrev pub BeginsFramed : Padding → Option ℕ → List (List ℕ) → List ℕ → List ℕ → Type 0
 BeginsFramed rule limit message raw rest = BeginsWith (IsFrame rule) limit message raw rest
 
--- a packed text
+-- a packed encoding
 abbrev pub BeginsPacked : Padding → Option ℕ → List (List ℕ) → List ℕ → List ℕ → Type 0
 BeginsPacked rule limit message raw rest = BeginsWith (IsPackedFrame rule) limit message raw rest
 
@@ -30,7 +30,7 @@ abbrev pub grammar_of : Padding → Format → Grammar
 grammar_of rule Framed = IsFrame rule
 grammar_of rule Packed = IsPackedFrame rule
 
--- what requests take of a stream of a format, and by which kinds they are refused
+-- what requests take of a stream of a format, and by which kinds they are rejected
 abbrev pub gives_of : Format → Giving
 gives_of Framed = Splits
 gives_of Packed = Unpacks
@@ -49,20 +49,20 @@ rules_of rule format = record {
   provided_kinds = IsProvidedReaderKind rule (refuses_of format);
 }
 
--- a text of the message in this format stands at the front, and the message is within the limit
+-- a text of the message in this format is at the front, and the message is within the limit
 abbrev pub StandsNext : Padding → Format → Option ℕ → List (List ℕ) → List ℕ → List ℕ → Type 0
 StandsNext rule format limit message raw rest = BeginsWith (grammar_of rule format) limit message raw rest
 
--- the reader of this format is refused there by this kind, and leaves `left` unread
+-- the reader of this format is rejected there by this kind, and leaves `left` unread
 abbrev pub RefusesNext : Padding → Format → Option ℕ → ErrorKind → List ℕ → List ℕ → Type 0
 RefusesNext rule format limit kind rest left = RefusesStream rule (gives_of format) (refuses_of format) limit None kind rest left
 
--- why no text of a message stands there: nothing is left, or the reader refuses by this kind
+-- why no text of a message is there: nothing is left, or the reader rejects by this kind
 abbrev pub EndsBy : Padding → Format → Option ℕ → Option ErrorKind → List ℕ → Type 0
-EndsBy rule format limit ending rest = EndsTexts rule (gives_of format) (refuses_of format) limit ending rest
+EndsBy rule format limit ending rest = EndsEncodings rule (gives_of format) (refuses_of format) limit ending rest
 
 -- The stream is texts of these messages, each within the limit, and then ends so.
 pub record IsStream (rule : Padding) (format : Format) (limit : Option ℕ) (messages : List (List (List ℕ))) (ending : Option ErrorKind) (raw : List ℕ) : Type 0 where
   pub rest : List ℕ
-  pub texts : AreTexts (grammar_of rule format) limit messages raw rest
+  pub texts : AreEncodings (grammar_of rule format) limit messages raw rest
   pub ends : EndsBy rule format limit ending rest

@@ -10,7 +10,7 @@ use Rattle.capnp.specs.declared.streams.Format.{Format}
 use Rattle.capnp.specs.declared.streams.Format.TheVariants.{Framed, Packed}
 use Rattle.capnp.specs.declared.transcoding.Way.{Way}
 use Rattle.capnp.specs.declared.transcoding.Way.TheVariants.{Pack, Unpack}
-use Rattle.capnp.specs.Written.{IsPlainSink, IsFrameText, IsPackedTextOf, AppendsMessage, LeavesMessage, DeclinesAs}
+use Rattle.capnp.specs.Written.{IsPlainSink, IsFrameEncoding, IsPackedEncodingOf, AppendsMessage, LeavesMessage, DeclinesAs}
 use Rattle.capnp.specs.Runs.{Writing, DecliningWriting, WritesEach, WithoutCount}
 
 -- the format that is read
@@ -27,7 +27,7 @@ output_of_way Unpack = Framed
 abbrev pub Transcodes : Way → Appending → Writing
 Transcodes way appends index message text = AppendsMessage (output_of_way way) appends message text
 
--- and how it may fail to be written: by a chunk that the sink refuses, or, from four segments on, for want of memory for its table
+-- and how it may fail to be written: by a chunk that the sink rejects, or, from four segments on, for want of memory for its table
 abbrev pub DeclinesTranscoded : Way → Appending → Leaving → Declining → DecliningWriting
 DeclinesTranscoded way appends leaves refuses = record {
   lacks = λ index message kind. ⊥;
@@ -38,8 +38,8 @@ DeclinesTranscoded way appends leaves refuses = record {
 
 -- the text of a message in the other format
 abbrev pub IsOtherText : Way → Writing
-IsOtherText Pack index message text = IsPackedTextOf message text
-IsOtherText Unpack index message text = IsFrameText message text
+IsOtherText Pack index message text = IsPackedEncodingOf message text
+IsOtherText Unpack index message text = IsFrameEncoding message text
 
 -- What a call does that writes each message of a stream, its padding by the rule, in the other format. `source` and `sink`
 -- are what is seen of them (the members of the traits Read and Write); the source is `old` before the call and `new` after

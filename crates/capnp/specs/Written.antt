@@ -6,14 +6,14 @@ use Rattle.capnp_frame.specs.declared.error.ErrorKind.{ErrorKind}
 use Rattle.capnp_frame.specs.declared.error.ErrorKind.TheVariants.{DeviceFailed}
 use Rattle.capnp_frame.specs.declared.io.Write.{Ghosts}
 use Rattle.capnp_frame.specs.Asking.{FailsOr}
-use Rattle.capnp_frame.specs.Frame.{frame_text}
+use Rattle.capnp_frame.specs.Frame.{frame_bytes}
 use Rattle.capnp_frame.specs.Sink.{Appending, Leaving, Declining, DeclinesSome, Adds, AppendsAll, LeavesSome, Grows}
 use Rattle.capnp_frame.specs.Source.{IfKnown, Fails}
 use Rattle.capnp_frame.specs.Writers.{KeepsCount, RefusesUnwritten}
-use Rattle.capnp_frame.specs.Writing.{HasFew, HasMany, RefusesMany, chunks}
+use Rattle.capnp_frame.specs.Writing.{IsWithinSegmentLimit, ExceedsSegmentLimit, RefusesMany, chunks}
 use Rattle.capnp_build.specs.Built.{Built}
-use Rattle.capnp_build.specs.Held.{used_of}
-use Rattle.capnp_pack.specs.PackedFrame.{IsPackedText}
+use Rattle.capnp_build.specs.BuilderState.{used_of}
+use Rattle.capnp_pack.specs.PackedFrame.{IsPackedEncoding}
 use Rattle.capnp_pack.specs.PackedSink.{AppendsPacked, LeavesPacked, DeclinesPacked}
 use Rattle.capnp.specs.declared.streams.Format.{Format}
 use Rattle.capnp.specs.declared.streams.Format.TheVariants.{Framed, Packed}
@@ -23,26 +23,26 @@ abbrev pub IsPlainSink : Appending → Type 0
 IsPlainSink appends = (chunk text : List ℕ) → appends chunk text → text ≡ chunk
 
 -- the text that is written of a message, framed and packed
-abbrev pub IsFrameText : List (List ℕ) → List ℕ → Type 0
-IsFrameText message text = text ≡ frame_text message
+abbrev pub IsFrameEncoding : List (List ℕ) → List ℕ → Type 0
+IsFrameEncoding message text = text ≡ frame_bytes message
 
-abbrev pub IsPackedTextOf : List (List ℕ) → List ℕ → Type 0
-IsPackedTextOf message text = IsPackedText text message
+abbrev pub IsPackedEncodingOf : List (List ℕ) → List ℕ → Type 0
+IsPackedEncodingOf message text = IsPackedEncoding text message
 
 abbrev pub IsTextOf : Format → List (List ℕ) → List ℕ → Type 0
-IsTextOf Framed = IsFrameText
-IsTextOf Packed = IsPackedTextOf
+IsTextOf Framed = IsFrameEncoding
+IsTextOf Packed = IsPackedEncodingOf
 
 -- what is written of a message that is built: the used words of each segment
 abbrev pub output_of : {A : Type 0} → Built A → List (List ℕ)
 output_of built = map used_of built.spaces
 
--- why a writer fails: by the device, as its sink refuses one of the chunks, or before it writes, for more segments than a reader
+-- why a writer fails: by the device, as its sink rejects one of the chunks, or before it writes, for more segments than a reader
 -- accepts or, from four on, for want of memory
 abbrev pub RefusesWriter : Declining → List (List ℕ) → ErrorKind → Type 0
 RefusesWriter refuses message kind = (kind ≡ DeviceFailed) ⊎ DeclinesSome refuses (chunks message) kind ⊎ RefusesUnwritten message kind
 
--- what a chunk adds to a sink in this format, what a call that fails leaves of it, and by which kinds it may be refused
+-- what a chunk adds to a sink in this format, what a call that fails leaves of it, and by which kinds it may be rejected
 abbrev pub AppendsAs : Format → Appending → Appending
 AppendsAs Framed appends = appends
 AppendsAs Packed appends = AppendsPacked appends
@@ -68,12 +68,12 @@ pub record WritesMessage {S X : Type 0} (format : Format) (sink : Ghosts S) (old
     (result : Result X Error) : Type 0 where
   -- it fails by the number of segments exactly where there are more than a reader accepts, and then the sink stays as it was
   pub count : KeepsCount message result
-  pub unwritten : HasMany message → new ≡ old
+  pub unwritten : ExceedsSegmentLimit message → new ≡ old
   -- to a plain sink the text of the message is added
   pub text : IsPlainSink sink.appends → OnOk result (IfKnown (sink.written old) (sink.written new) (Adds (IsTextOf format message)))
   -- to every sink is added what the message's chunks add, one after the other
   pub written : OnOk result (IfKnown (sink.written old) (sink.written new) (Adds (AppendsMessage format sink.appends message)))
-  -- where it fails, what the first chunks add is written, and of the next one what the sink leaves of it; nothing stands after a hole
+  -- where it fails, what the first chunks add is written, and of the next one what the sink leaves of it; nothing is after a hole
   pub left : OnErr result (IfKnown (sink.written old) (sink.written new) (Adds (LeavesMessage format sink.appends sink.leaves message)))
   pub refused : IfErr result (λ error. RefusesWriter (DeclinesAs format sink.refuses) message error.kind)
   -- a failure that isn't the sink's leaves the sink as it was
@@ -98,7 +98,7 @@ abbrev pub AppendsEach : (List (List ℕ) → List ℕ → Type 0) → List (Lis
 AppendsEach Writes [] text = text ≡ []
 AppendsEach Writes (m ∷ ms) text = (first others : List ℕ) × Writes m first × AppendsEach Writes ms others × (text ≡ first ++ others)
 
--- A writer fails at this message by this kind, and leaves this text of it: nothing, unless the device failed or the sink refused a
+-- A writer fails at this message by this kind, and leaves this text of it: nothing, unless the device failed or the sink rejected a
 -- chunk.
 pub record StopsMessage (format : Format) (appends : Appending) (leaves : Leaving) (refuses : Declining) (message : List (List ℕ)) (kind : ErrorKind)
     (text : List ℕ) : Type 0 where
@@ -120,11 +120,11 @@ pub record WritesMessages {S X : Type 0} (format : Format) (sink : Ghosts S) (ol
   pub text : IsPlainSink sink.appends → OnOk result (IfKnown (sink.written old) (sink.written new) (Adds (AppendsEach (IsTextOf format) messages)))
   -- to every sink is added what the messages' chunks add
   pub written : OnOk result (IfKnown (sink.written old) (sink.written new) (Adds (AppendsEach (AppendsMessage format sink.appends) messages)))
-  -- where it fails, the first messages are written, and it is the writer of the next one that fails so; nothing stands after a hole
+  -- where it fails, the first messages are written, and it is the writer of the next one that fails so; nothing is after a hole
   pub stops : IfErr result (λ error. IfKnown (sink.written old) (sink.written new)
       (Adds (StopsEach (AppendsMessage format sink.appends) (StopsMessage format sink.appends sink.leaves sink.refuses) messages error.kind)))
   -- what is written has no more segments than a reader accepts
-  pub few : OnOk result (AllByRecursion HasFew messages)
+  pub few : OnOk result (AllByRecursion IsWithinSegmentLimit messages)
   -- it fails as the writer of one of them does
   pub refused : IfErr result (λ error. RefusesOneOf (DeclinesAs format sink.refuses) messages error.kind)
   -- the device is blamed only where it failed

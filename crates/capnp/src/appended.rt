@@ -6,7 +6,7 @@ ghost use Rattle.capnp_frame.specs.Message.{lengths};
 ghost use Rattle.capnp_frame.specs.Writing.{IsWritable};
 ghost use Rattle.capnp_frame.specs.Streams.{next_in, message_in, ReadsStream};
 ghost use Rattle.capnp.specs.Appended.{ReadsMessages, ReadsBack};
-ghost use Rattle.capnp.specs.Headline.{ReturnsTexts, OrFailsAtEnd};
+ghost use Rattle.capnp.specs.Headline.{ReturnsEncodings, OrFailsAtEnd};
 ghost use Rattle.capnp.specs.Streams.{grammar_of, rules_of};
 ghost use Rattle.capnp.specs.Written.{WritesMessage, WritesMessages};
 
@@ -121,7 +121,7 @@ pub(crate) fn read_message<R: BufRead>(
     source: &mut R,
     options: ReaderOptions,
 ) -> Result<Reader<OwnedSegments>>
-    ensures texts { ReturnsTexts (grammar_of Padding.Zero format) options.traversal_limit_in_words
+    ensures texts { ReturnsEncodings (grammar_of Padding.Zero format) options.traversal_limit_in_words
         (R.unread source.old) (R.unread source.new)
         (message_in (λ reader. reader.segments) result) }
     ensures reads { OrFailsAtEnd (ReadsStream R.Read source.old source.new
@@ -142,7 +142,7 @@ fn try_read_message<R: BufRead>(
     source: &mut R,
     options: ReaderOptions,
 ) -> Result<Option<Reader<OwnedSegments>>>
-    ensures texts { ReturnsTexts (grammar_of Padding.Zero format) options.traversal_limit_in_words
+    ensures texts { ReturnsEncodings (grammar_of Padding.Zero format) options.traversal_limit_in_words
         (R.unread source.old) (R.unread source.new)
         (next_in (λ reader. reader.segments) result) }
     ensures reads { ReadsStream R.Read source.old source.new (rules_of Padding.Zero format)

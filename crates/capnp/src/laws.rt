@@ -5,11 +5,11 @@ ghost use Rattle.capnp_frame.specs.declared.error.ErrorKind.{ErrorKind};
 ghost use Rattle.capnp_frame.specs.declared.serialize.segment_table.Padding.{Padding};
 ghost use Rattle.capnp_frame.specs.Limits.{KeepsLimit};
 ghost use Rattle.capnp_frame.specs.Message.{lengths};
-ghost use Rattle.capnp_frame.specs.Texts.{AreTexts};
-ghost use Rattle.capnp_frame.specs.Writing.{IsWritable, HasFew};
+ghost use Rattle.capnp_frame.specs.Texts.{AreEncodings};
+ghost use Rattle.capnp_frame.specs.Writing.{IsWritable, IsWithinSegmentLimit};
 ghost use Rattle.capnp_wire.specs.Tree.{Trees};
 ghost use Rattle.capnp_build.specs.Bytes.{Space};
-ghost use Rattle.capnp_build.specs.Held.{used_of};
+ghost use Rattle.capnp_build.specs.BuilderState.{used_of};
 ghost use Rattle.capnp.specs.declared.streams.Format.{Format};
 ghost use Rattle.capnp.specs.Roots.{HasRootTree};
 ghost use Rattle.capnp.specs.Streams.{grammar_of, StandsNext, EndsBy, IsStream};
@@ -44,7 +44,7 @@ pub fn a_stream_is_one_list()
 /// of just these messages, within any limit of words that they keep.
 pub fn what_is_written_is_a_stream()
     ensures { (rule : Padding) (format : Format) (limit : Option ℕ) (messages : List (List (List ℕ)))
-        (text : List ℕ) → AllByRecursion IsWritable messages → AllByRecursion HasFew messages →
+        (text : List ℕ) → AllByRecursion IsWritable messages → AllByRecursion IsWithinSegmentLimit messages →
         AllByRecursion (λ message. KeepsLimit (lengths message) limit) messages →
         AppendsEach (IsTextOf format) messages text → IsStream rule format limit messages None text }
 {}
@@ -55,7 +55,7 @@ pub fn what_is_written_is_a_stream()
 pub fn a_root_is_read_back()
     ensures { (rule : Padding) (format : Format) (limit : Option ℕ) (spaces : List Space) (trees : Trees)
         (text rest left : List ℕ) (read : List (List ℕ)) → HasRootTree (map used_of spaces) trees →
-        IsWritable (map used_of spaces) → HasFew (map used_of spaces) →
+        IsWritable (map used_of spaces) → IsWithinSegmentLimit (map used_of spaces) →
         KeepsLimit (lengths (map used_of spaces)) limit →
         IsTextOf format (map used_of spaces) text →
         StandsNext rule format limit read (text ++ rest) left →

@@ -2,10 +2,10 @@
 ghost use Rattle.std.specs.Prelude.{◌≡◌, ◌<◌, ◌⊎◌, false, length, IfOk, OnOk, IfErr};
 ghost use Rattle.capnp_frame.specs.Limits.{KeepsLimit};
 ghost use Rattle.capnp_frame.specs.Message.{lengths};
-ghost use Rattle.capnp_frame.specs.Writing.{HasFew};
+ghost use Rattle.capnp_frame.specs.Writing.{IsWithinSegmentLimit};
 ghost use Rattle.capnp_wire.specs.Values.{HasWords};
-ghost use Rattle.capnp_build.specs.Held.{KeepsOthers};
-ghost use Rattle.capnp_build.specs.Built.{held_of};
+ghost use Rattle.capnp_build.specs.BuilderState.{KeepsOthers};
+ghost use Rattle.capnp_build.specs.Built.{state_of};
 ghost use Rattle.capnp_build.specs.Placed.{IsPut};
 ghost use Rattle.capnp.specs.Written.{output_of};
 ghost use Rattle.capnp.specs.Roots.{HasRootOf, ReadsWritten, StaysUnset, StaysUnread};
@@ -36,7 +36,7 @@ pub fn set_and_read_back<T, V: SetterInput<T> + Drop, A: Allocator>(
     ensures tree { IfOk result (λ reader. HasRootOf (V.has_tree value) reader.segments) }
     ensures back { IfOk result (λ reader. reader.segments ≡ output_of message.new) }
     ensures options { IfOk result (λ reader. reader.options ≡ options) }
-    ensures few { OnOk result (HasFew (output_of message.new)) }
+    ensures few { OnOk result (IsWithinSegmentLimit (output_of message.new)) }
     ensures size { OnOk result (KeepsLimit (lengths (output_of message.new)) options.traversal_limit_in_words) }
     ensures placed { OnOk result
         (IsPut A.Allocator (HasWords (V.has_tree value) false) message.old message.new) }
@@ -45,7 +45,7 @@ pub fn set_and_read_back<T, V: SetterInput<T> + Drop, A: Allocator>(
         StaysUnset A.Allocator (V.has_tree value) (V.refuses value) message.old message.new error.kind
         ⊎ StaysUnread A.Allocator (V.has_tree value) options.traversal_limit_in_words
         message.old message.new error.kind) }
-    ensures others { KeepsOthers A.out (held_of message.old) (held_of message.new) }
+    ensures others { KeepsOthers A.out (state_of message.old) (state_of message.new) }
 {
     message.set_root::<T, V>(value)?;
     write_and_read_back(alloc, format, message, options)

@@ -47,8 +47,8 @@ fn add_forms(alloc: Global, segment: &[u8], digest: &mut Digest) -> Result<()> {
     for word in &message.canonicalize(alloc)? {
         digest.add(u64::from_le_bytes(word.bytes()));
     }
-    let formed = [form.as_slice()];
-    let canonical = Reader::new(SegmentArray::new(&formed), options());
+    let output = [form.as_slice()];
+    let canonical = Reader::new(SegmentArray::new(&output), options());
     digest.add(u64::from(canonical.is_canonical()?));
     add_copies(alloc, &canonical, form.len() / 8, digest)
 }

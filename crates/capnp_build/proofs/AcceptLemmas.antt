@@ -14,8 +14,8 @@ use Rattle.capnp_build.specs.declared.root_kind.RootKind.TheVariants.{Null, Byte
 use Rattle.capnp_build.proofs.NullLemmas.{root_there}
 
 -- without a segment there is no root
-no_root : (form : Form) (held : Trees) (traversed : ℕ) → Root (message []) form held traversed → ⊥
-no_root form held traversed there = let some : 0 < length {A = Space} [] = root_there [] (root ∷ []) (tree form held none) traversed refl there in absurd (omega (arith, some))
+no_root : (form : Form) (children : Trees) (traversed : ℕ) → Root (message []) form children traversed → ⊥
+no_root form children traversed there = let some : 0 < length {A = Space} [] = root_there [] (root ∷ []) (tree form children none) traversed refl there in absurd (omega (arith, some))
 
 pub null_kind : (shown : RootKind) → IsRootKind shown [] → shown ≡ Null
 null_kind Null stands = refl
@@ -27,13 +27,13 @@ null_kind Other stands = absurd (no_root stands.0 stands.1 stands.2 stands.3)
 null_shown : (shown : RootKind) → IsRootKind shown [] → ShowsRoot shown null
 null_shown shown stands = subst (λ kind. ShowsRoot kind null) (sym (null_kind shown stands)) refl
 
--- so what has stood there has a segment
+-- so what has been there has a segment
 pub no_bytes : (n : ℕ) (spaces : List Space) → IsRootKind (Bytes n) spaces → spaces ≡ [] → ⊥
 no_bytes n spaces stands empty = let none : Bytes n ≡ Null = null_kind (Bytes n) (subst (λ s. IsRootKind (Bytes n) s) empty stands) in cc
 
 pub no_field : (spaces : List Space) (index : ℕ) → HasField spaces index → spaces ≡ [] → ⊥
 no_field spaces index field empty =
-    let some = root_there spaces (root ∷ []) (tree (struct field.words) field.held none) field.traversed refl field.stands in
+    let some = root_there spaces (root ∷ []) (tree (struct field.words) field.children none) field.traversed refl field.stands in
     absurd (omega (arith, some, ap length empty))
 
 pub no_number : (spaces : List Space) (index : ℕ) → HasNumber spaces index → spaces ≡ [] → ⊥
@@ -41,10 +41,10 @@ no_number spaces index number empty =
     let some = root_there spaces (root ∷ []) (tree (numbers 5 number.values) none none) number.traversed refl number.stands in
     absurd (omega (arith, some, ap length empty))
 
--- what is refused declines the root, null where there is no segment
+-- what is rejected declines the root, null where there is no segment
 pub declined_there : (spaces : List Space) (declines : Form → ErrorKind → Type 0) (shown : RootKind) (bytes : List ℕ) (r : Result (Unit {0}) Error)
     → ForRoot spaces (ShowsRoot shown) → IsRootKind shown spaces → ForRoot spaces (HoldsForm bytes)
     → IfErr r (λ error. (form : Form) → ShowsRoot shown form → HoldsForm bytes form → declines form error.kind) → IfErr r (λ error. DeclinesRoot declines spaces error.kind)
 declined_there spaces declines shown bytes (Ok done) shows stands holds is = tt
 declined_there [] declines shown bytes (Err error) shows stands holds is = is null (null_shown shown stands) tt
-declined_there (s ∷ spaces) declines shown bytes (Err error) shows stands holds is = λ form held traversed there. is form (shows form held traversed there) (holds form held traversed there)
+declined_there (s ∷ spaces) declines shown bytes (Err error) shows stands holds is = λ form children traversed there. is form (shows form children traversed there) (holds form children traversed there)

@@ -5,7 +5,7 @@ use Rattle.capnp_frame.specs.Words.{bytes_of}
 use Rattle.capnp_frame.specs.declared.words.Word.{Word}
 use Rattle.capnp_wire.specs.Pointer.{number_of, words_of}
 use Rattle.capnp_wire.specs.Tree.{Trees, total_words}
-use Rattle.capnp_wire.specs.Layout.{body, formed}
+use Rattle.capnp_wire.specs.Layout.{body, output}
 use Rattle.capnp_wire.specs.Copy.{IsCopied}
 use Rattle.capnp_wire.specs.Values.{HasWords, HasRoomAt, IsFreeFrom}
 use Rattle.capnp_wire.specs.declared.layout.copy.Copied.{Copied}
@@ -31,13 +31,13 @@ part_free h c bytes from to order within whole zeros w = free_part bytes from (t
 
 -- what is written is the value's block
 pub is_block : (h : Trees → Type 0) (c : Bool) (n : ℕ) (old new : List ℕ) (copied : Copied) (word : Word) → HasWords h c (n / 8) → length (words_of old) ≡ n / 8
-    → ((trees : Trees) → h trees → IsCopied (formed c trees) (0 - 0) 0 (words_of old) (words_of new) copied)
-    → ((trees : Trees) → h trees → length (body (formed c trees)) ≡ total_words (formed c trees)) → number_of 256 (bytes_of word) ≡ copied.pointer → IsBlockOf h c word new
+    → ((trees : Trees) → h trees → IsCopied (output c trees) (0 - 0) 0 (words_of old) (words_of new) copied)
+    → ((trees : Trees) → h trees → length (body (output c trees)) ≡ total_words (output c trees)) → number_of 256 (bytes_of word) ≡ copied.pointer → IsBlockOf h c word new
 is_block h c n old new copied word w size written sizes word_is trees is =
     let own = written trees is in
     let all = written w.trees w.tree_is in
-    let long : length (body (formed c trees)) ≡ length (words_of old) = omega (arith, sizes trees is, own.next_is, all.next_is, w.words_are, size) in
-    ap (λ (k : ℕ). k ∷ words_of new) word_is ∙ whole_written (formed c trees) (words_of old) (words_of new) copied long own
+    let long : length (body (output c trees)) ≡ length (words_of old) = omega (arith, sizes trees is, own.next_is, all.next_is, w.words_are, size) in
+    ap (λ (k : ℕ). k ∷ words_of new) word_is ∙ whole_written (output c trees) (words_of old) (words_of new) copied long own
 
 -- a part of some bytes is written over
 pub part_written : (bytes block : List ℕ) (from n : ℕ) → length block ≡ n → take from bytes ++ (block ++ drop n (drop from bytes)) ≡ written bytes from block

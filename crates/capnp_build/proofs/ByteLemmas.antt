@@ -12,7 +12,7 @@ use Rattle.capnp_wire.specs.declared.layout.place.Place.{Place}
 use Rattle.capnp_wire.proofs.words.MessageLemmas.{word_stands}
 use Rattle.capnp_wire.proofs.words.WordLemmas.{number_of_eight}
 use Rattle.capnp_build.specs.Bytes.{Space, written, with_bytes}
-use Rattle.capnp_build.specs.Held.{used_of, space_at}
+use Rattle.capnp_build.specs.BuilderState.{used_of, space_at}
 use Rattle.capnp_build.specs.Built.{message}
 use Rattle.capnp_build.proofs.UsedLemmas.{written_length, written_used}
 

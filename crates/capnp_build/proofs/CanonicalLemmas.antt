@@ -6,12 +6,12 @@ use Rattle.capnp_frame.specs.declared.error.ErrorKind.TheVariants.{NotOneSegment
 use Rattle.capnp_wire.specs.Tree.{Trees}
 use Rattle.capnp_wire.specs.Values.{HasWords, LacksWords}
 use Rattle.capnp_build.specs.declared.allocator.Allocator as allocator
-use Rattle.capnp_build.specs.Held.{space_at, free_words_of}
+use Rattle.capnp_build.specs.BuilderState.{space_at, free_words_of}
 use Rattle.capnp_build.specs.Built.{Built}
 use Rattle.capnp_build.specs.Outcomes.{SetsRootCanonical, ClearsRoot, RefusesCanonical}
 use Rattle.capnp_build.proofs.OutcomeLemmas.{cleared_root, room_first}
 
--- what refuses a value once the root is cleared: `many`, `measured` and `full` say what each line comes to
+-- what rejects a value once the root is cleared: `many`, `measured` and `full` say what each line comes to
 fails_with : {A S : Type 0} (alloc : allocator.Ghosts A S) (has_tree : Trees → Type 0) (refuses : ErrorKind → Type 0) (old cleared : Built A) (kind : ErrorKind) (P : Type 0)
     {done : Unit {0}} → ClearsRoot alloc old cleared (Ok done) → (1 < length cleared.spaces → kind ≡ NotOneSegment → P) → (length cleared.spaces ≡ 1 → LacksWords has_tree refuses true kind → P)
     → (length cleared.spaces ≡ 1 → kind ≡ NotOneSegment → (words : ℕ) → HasWords has_tree true words → free_words_of (space_at cleared.spaces 0) < words → P)
@@ -38,7 +38,7 @@ canonical_unmeasured alloc has_tree refuses old new error clear one lacks exact 
   exact = λ kind refused. fails_with alloc has_tree refuses old new kind _ clear (λ m k. absurd (omega (arith, one, m))) (λ o l. exact kind l) (λ o k w h f. absurd (found w h)) refused;
   lacks = λ none kind is. inl (exact kind is);
   fits = λ few words has room. absurd (found words has);
-  home = λ none out taken. lacks;
+  available = λ none out taken. lacks;
   same = clear.same;
   others = clear.others;
 }
@@ -57,7 +57,7 @@ canonical_full alloc has_tree refuses old new error words clear one is has full 
   exact = λ kind refused. fails_with alloc has_tree refuses old new kind _ clear (λ m k. absurd (omega (arith, one, m))) (λ o l. absurd (exact kind l)) (λ o k w h f. is ∙ sym k) refused;
   lacks = λ none kind lacks. absurd (exact kind lacks);
   fits = λ few other also room. let fit = room_first alloc old new other clear also.few room in absurd (omega (arith, fit, full, found other also));
-  home = λ none out taken. let clash : NotOneSegment ≡ SegmentTaken = sym is ∙ taken in absurd (cc);
+  available = λ none out taken. let clash : NotOneSegment ≡ SegmentTaken = sym is ∙ taken in absurd (cc);
   same = clear.same;
   others = clear.others;
 }

@@ -7,13 +7,13 @@ use Rattle.std.proofs.Math.Seq.{take-set-lt}
 use Rattle.std.specs.Int.{to_le_bytes}
 use Rattle.capnp_wire.proofs.objects.ObjectLemmas.{one_tree}
 use Rattle.capnp_wire.specs.Pointer.{words_of, words_from}
-use Rattle.capnp_wire.specs.Tree.{struct, Trees, none, tree, count, own_words, total_words}
+use Rattle.capnp_wire.specs.Tree.{struct, Trees, none, tree, count, object_size, total_words}
 use Rattle.capnp_wire.specs.Object.{word_at}
 use Rattle.capnp_wire.specs.Reached.{At, root}
 use Rattle.capnp_wire.specs.Layout.{struct_pointer, minus_one, body, pointers_to, slots, run, Laid}
 use Rattle.capnp_wire.proofs.words.WordLemmas.{length-words_of}
 use Rattle.capnp_build.specs.Bytes.{Space, written, with_bytes}
-use Rattle.capnp_build.specs.Held.{space_at}
+use Rattle.capnp_build.specs.BuilderState.{space_at}
 use Rattle.capnp_build.specs.Built.{message, root_word, landing_pad_of, IsLaid}
 use Rattle.capnp_build.specs.declared.arena.location.RootLocation.{RootLocation}
 use Rattle.capnp_build.proofs.WordLemmas.{words_set}
@@ -22,41 +22,41 @@ use Rattle.capnp_build.proofs.UsedLemmas.{written_length}
 use Rattle.capnp_build.proofs.ByteLemmas.{root_kept, word_kept}
 
 -- a data word is another one
-set_body : (words : List ℕ) (held : Trees) (i x : ℕ) → i < length words → slice_set (body (tree (struct words) held none)) i x ≡ body (tree (struct (slice_set words i x)) held none)
-set_body words held i x within =
+set_body : (words : List ℕ) (children : Trees) (i x : ℕ) → i < length words → slice_set (body (tree (struct words) children none)) i x ≡ body (tree (struct (slice_set words i x)) children none)
+set_body words children i x within =
     let long : length (slice_set words i x) ≡ length words = length-set words i x in
-    let links : List ℕ = pointers_to (slots (struct words) (count held)) (own_words (struct words) (count held)) held in
+    let links : List ℕ = pointers_to (slots (struct words) (count children)) (object_size (struct words) (count children)) children in
     let more : i < length (words ++ links) = omega (arith, within, length-append words links) in
-    let most : i < length ((words ++ links) ++ body held) = omega (arith, more, length-append (words ++ links) (body held)) in
-    let same : pointers_to (slots (struct (slice_set words i x)) (count held)) (own_words (struct (slice_set words i x)) (count held)) held ≡ links =
-    ap (λ (n : ℕ). pointers_to (run n (count held)) (n + count held) held) long in
-    set-append_left ((words ++ links) ++ body held) [] i x most
-    ∙ ap (λ (l : List ℕ). l ++ []) (set-append_left (words ++ links) (body held) i x more)
-    ∙ ap (λ (l : List ℕ). (l ++ body held) ++ []) (set-append_left words links i x within)
-    ∙ ap (λ (l : List ℕ). ((slice_set words i x ++ l) ++ body held) ++ []) (sym same)
+    let most : i < length ((words ++ links) ++ body children) = omega (arith, more, length-append (words ++ links) (body children)) in
+    let same : pointers_to (slots (struct (slice_set words i x)) (count children)) (object_size (struct (slice_set words i x)) (count children)) children ≡ links =
+    ap (λ (n : ℕ). pointers_to (run n (count children)) (n + count children) children) long in
+    set-append_left ((words ++ links) ++ body children) [] i x most
+    ∙ ap (λ (l : List ℕ). l ++ []) (set-append_left (words ++ links) (body children) i x more)
+    ∙ ap (λ (l : List ℕ). (l ++ body children) ++ []) (set-append_left words links i x within)
+    ∙ ap (λ (l : List ℕ). ((slice_set words i x ++ l) ++ body children) ++ []) (sym same)
 
-set_laid : (words : List ℕ) (start i x : ℕ) (fields : List ℕ) (held : Trees) → i < length fields → Laid words start (tree (struct fields) held none)
-    → Laid (slice_set words (start + i) x) start (tree (struct (slice_set fields i x)) held none)
-set_laid words start i x fields held within laid =
+set_laid : (words : List ℕ) (start i x : ℕ) (fields : List ℕ) (children : Trees) → i < length fields → Laid words start (tree (struct fields) children none)
+    → Laid (slice_set words (start + i) x) start (tree (struct (slice_set fields i x)) children none)
+set_laid words start i x fields children within laid =
     let long : length (slice_set fields i x) ≡ length fields = length-set fields i x in
-    let total : total_words (tree (struct (slice_set fields i x)) held none) ≡ total_words (tree (struct fields) held none) = ap (λ (n : ℕ). n + count held + total_words held + 0) long in
-    let inside : i < total_words (tree (struct fields) held none) = omega (arith, within) in
+    let total : total_words (tree (struct (slice_set fields i x)) children none) ≡ total_words (tree (struct fields) children none) = ap (λ (n : ℕ). n + count children + total_words children + 0) long in
+    let inside : i < total_words (tree (struct fields) children none) = omega (arith, within) in
     record {
       within = omega (arith, total, laid.within, length-set words (start + i) x);
       words_are = ap (λ (n : ℕ). words_from (slice_set words (start + i) x) start n) total
-          ∙ ap (take (total_words (tree (struct fields) held none))) (drop-set-add start words i x)
-          ∙ take-set-lt (total_words (tree (struct fields) held none)) (drop start words) i x inside
-          ∙ ap (λ (l : List ℕ). slice_set l i x) laid.words_are ∙ set_body fields held i x within;
+          ∙ ap (take (total_words (tree (struct fields) children none))) (drop-set-add start words i x)
+          ∙ take-set-lt (total_words (tree (struct fields) children none)) (drop start words) i x inside
+          ∙ ap (λ (l : List ℕ). slice_set l i x) laid.words_are ∙ set_body fields children i x within;
     }
 
-root_same : (k start : ℕ) (fields : List ℕ) (held : Trees) (i x : ℕ) → root_word k start (struct (slice_set fields i x)) held ≡ root_word k start (struct fields) held
-root_same zero start fields held i x = ap (λ (n : ℕ). struct_pointer (if n + count held == 0 then minus_one else start - 1) n (count held)) (length-set fields i x)
-root_same (suc k) start fields held i x = refl
+root_same : (k start : ℕ) (fields : List ℕ) (children : Trees) (i x : ℕ) → root_word k start (struct (slice_set fields i x)) children ≡ root_word k start (struct fields) children
+root_same zero start fields children i x = ap (λ (n : ℕ). struct_pointer (if n + count children == 0 then minus_one else start - 1) n (count children)) (length-set fields i x)
+root_same (suc k) start fields children i x = refl
 
-pub field_laid : (spaces last : List Space) (location : RootLocation) (fields : List ℕ) (held : Trees) (i x : ℕ) (w : List ℕ) → IsLaid spaces location (struct fields) held → i < length fields
+pub field_laid : (spaces last : List Space) (location : RootLocation) (fields : List ℕ) (children : Trees) (i x : ℕ) (w : List ℕ) → IsLaid spaces location (struct fields) children → i < length fields
     → x < 2 ^ 64 → w ≡ to_le_bytes w64 x → length w ≡ 8
-    → last ≡ slice_set spaces location.segment (with_bytes (space_at spaces location.segment) (8 * (location.start + i)) w) → IsLaid last location (struct (slice_set fields i x)) held
-field_laid spaces last location fields held i x w r within small is eight e =
+    → last ≡ slice_set spaces location.segment (with_bytes (space_at spaces location.segment) (8 * (location.start + i)) w) → IsLaid last location (struct (slice_set fields i x)) children
+field_laid spaces last location fields children i x w r within small is eight e =
     let old : List ℕ = (space_at spaces location.segment).used in
     let a = set_used spaces last location.segment (with_bytes (space_at spaces location.segment) (8 * (location.start + i)) w) r.body_is.within e in
     let used : (space_at last location.segment).used ≡ written old (8 * (location.start + i)) w = ap (λ (s : Space). s.used) a.1 in
@@ -70,15 +70,15 @@ field_laid spaces last location fields held i x w r within small is eight e =
         within = omega (arith, a.0, r.body_is.within);
         room = omega (arith, long, r.body_is.room);
         following = r.body_is.following;
-        near = r.body_is.near;
+        local = r.body_is.local;
         rooms = ((omega (arith, wide, r.body_is.rooms.0.0), r.body_is.rooms.0.1, All-set (λ (v : ℕ). v < 2 ^ 64) fields i x small r.body_is.rooms.0.2), r.body_is.rooms.1, tt);
-        size = r.body_is.size ∙ ap (λ (n : ℕ). n + count held + total_words held + 0) (sym wide);
+        size = r.body_is.size ∙ ap (λ (n : ℕ). n + count children + total_words children + 0) (sym wide);
         few = r.body_is.few;
-        tag = r.body_is.tag ∙ ap (λ (n : ℕ). struct_pointer (if n + count held == 0 then minus_one else 0) n (count held)) (sym wide);
-        laid = subst (λ (l : List ℕ). Laid l location.start (tree (struct (slice_set fields i x)) held none)) (sym words) (set_laid (words_of old) location.start i x fields held within r.body_is.laid);
+        tag = r.body_is.tag ∙ ap (λ (n : ℕ). struct_pointer (if n + count children == 0 then minus_one else 0) n (count children)) (sym wide);
+        laid = subst (λ (l : List ℕ). Laid l location.start (tree (struct (slice_set fields i x)) children none)) (sym words) (set_laid (words_of old) location.start i x fields children within r.body_is.laid);
       };
       root_is = ap (λ (l : List Space). word_at (message l) root) e ∙ root_kept spaces location.segment (8 * (location.start + i)) w r.body_is.within (omega (arith, r.body_is.following)) room ∙ r.root_is
-          ∙ ap Some (sym (root_same location.segment location.start fields held i x));
+          ∙ ap Some (sym (root_same location.segment location.start fields children i x));
       landing_pad_is = λ p. (
         (r.landing_pad_is p).0,
         ap (λ (l : List Space). word_at (message l) (landing_pad_of location)) e
@@ -87,10 +87,10 @@ field_laid spaces last location fields held i x w r within small is eight e =
     }
 
 -- a root has a given number of data words
-pub same_fields : (spaces : List Space) (words others : List ℕ) (held h : Trees) (traversed c : ℕ) → At (message spaces) (root ∷ []) (tree (struct words) held none) traversed
+pub same_fields : (spaces : List Space) (words others : List ℕ) (children h : Trees) (traversed c : ℕ) → At (message spaces) (root ∷ []) (tree (struct words) children none) traversed
     → At (message spaces) (root ∷ []) (tree (struct others) h none) c
     → length words ≡ length others
-same_fields spaces words others held h traversed c one other =
-    let same : tree (struct words) held none ≡ tree (struct others) h none = (one_tree (message spaces) (root ∷ []) (tree (struct words) held none) (tree
+same_fields spaces words others children h traversed c one other =
+    let same : tree (struct words) children none ≡ tree (struct others) h none = (one_tree (message spaces) (root ∷ []) (tree (struct words) children none) (tree
     (struct others) h none) traversed c one other).0 in
     let forms : words ≡ others = cc in ap length forms

@@ -2,7 +2,7 @@
 use Rattle.std.proofs.Common.{◌≡◌, inl, inr, ℕ, ◌+◌, ◌/◌, ◌^◌, ◌<◌, ◌≤◌, min, List, [], ◌∷◌, length, ap, ◌∙◌, arith}
 use Rattle.capnp_build.specs.Bytes.{Space}
 use Rattle.capnp_build.specs.Out.{HasLarge}
-use Rattle.capnp_build.specs.Held.{space_at, pairs}
+use Rattle.capnp_build.specs.BuilderState.{space_at, pairs}
 use Rattle.capnp_build.specs.Built.{Built, size_in_words}
 use Rattle.capnp_build.specs.Placed.{HasRootAlone, HasNoRoom, IsPlaced, IsFirst, most_words}
 use Rattle.capnp_build.proofs.SpaceLemmas.{past_all}
@@ -22,9 +22,9 @@ first_put cleared new words alone placed size =
     let most : most_words (space_at new.spaces 0) ≡ most_words (space_at cleared.spaces 0) = ap (λ (n : ℕ). min (n / 8) (2 ^ 29)) size in
     let one : size_in_words cleared.spaces ≡ 1 = one_word cleared.spaces alone in
     record {
-      near = λ room.
+      local = λ room.
           let within : words < most_words (space_at new.spaces 0) = room in
-          let p = placed.near (omega (arith, within, most, alone.1, alone.2)) in (
+          let p = placed.local (omega (arith, within, most, alone.1, alone.2)) in (
             record {
               place = p.0.place;
               place_is = p.0.place_is;

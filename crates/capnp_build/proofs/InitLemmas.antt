@@ -16,7 +16,7 @@ use Rattle.capnp_build.proofs.NullLemmas.{null_root}
 use Rattle.capnp_build.proofs.PlaceLemmas.{still_cleared, found_no_room}
 use Rattle.capnp_build.proofs.FirstLemmas.{first_put}
 use Rattle.capnp_build.proofs.KeptLemmas.{zero_stays, outside_stays}
-use Rattle.capnp_build.proofs.OutcomeLemmas.{cleared_root, room_first, finds_no_room, home_alone, still_granted}
+use Rattle.capnp_build.proofs.OutcomeLemmas.{cleared_root, room_first, finds_no_room, available_alone, still_granted}
 
 -- a new object's block is placed once the root is cleared
 pub inits_root : {A S K : Type 0} (alloc : allocator.Ghosts A S) (schema : owned_builder.Ghosts K) (n : ℕ) (form : Form) (old cleared new : Built A)
@@ -38,7 +38,7 @@ inits_root alloc schema n form old cleared new (Ok done) keeps clear inits told 
       kind = tt;
       none = λ gone. tt;
       fits = λ words has most room. tt;
-      home = λ empty out. tt;
+      available = λ empty out. tt;
       same = keeps.transitive _ _ _ clear.same told.2.same;
       others = λ others is. told.2.others others (clear.others others is);
     }
@@ -52,7 +52,7 @@ inits_root alloc schema n form old cleared new (Err error) keeps clear inits tol
   fits = λ words has most room.
       let fit = room_first alloc old cleared words clear has.2.few room in
       let full = told.2.kind.0.first in absurd (omega (arith, fit, full, most told.0 (form, inits, told.1)));
-  home = λ empty out taken. absurd (home_alone alloc old cleared told.0 clear told.1.few told.2.kind.0 (told.2.taken taken) empty out);
+  available = λ empty out taken. absurd (available_alone alloc old cleared told.0 clear told.1.few told.2.kind.0 (told.2.taken taken) empty out);
   same = keeps.transitive _ _ _ clear.same told.2.same;
   others = λ others is. told.2.others others (clear.others others is);
 }
@@ -70,12 +70,12 @@ inits_null alloc schema n old new clear inits =
       kind = tt;
       none = λ gone. tt;
       fits = λ words has most room. tt;
-      home = λ empty out. tt;
+      available = λ empty out. tt;
       same = clear.same;
       others = clear.others;
     }
 
--- a view of a new object is refused as the object is
+-- a view of a new object is rejected as the object is
 pub init_refused : {A S K M V : Type 0} (alloc : allocator.Ghosts A S) (schema : owned_builder.Ghosts K) (n : ℕ) (built : M → Built A) (message : V → MutBor M) (old : MutBor M) (new : Built A)
     (error : Error) → InitsRoot alloc schema n (built old.now) new (Err error) → InitsView alloc schema n built message old (Err error)
 init_refused alloc schema n built message old new error told = record {
@@ -85,7 +85,7 @@ init_refused alloc schema n built message old new error told = record {
   placed = tt;
   kind = found_no_room alloc (InitWords schema.inits n) (schema.refuses n) (LacksFirst alloc (built old.now)) (built old.now) new (Err error) told.nulled told.kind;
   fits = told.fits;
-  home = told.home;
+  available = told.available;
   allocator = tt;
   others = tt;
 }

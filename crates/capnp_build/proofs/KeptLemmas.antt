@@ -5,7 +5,7 @@ use Rattle.std.specs.Prelude.{⊤}
 use Rattle.std.proofs.lemmas.Bool.{cases_lt}
 use Rattle.std.proofs.lemmas.List.{drop-take, take-append-le, drop-append-le, length-replicate}
 use Rattle.capnp_build.specs.Bytes.{Space, written, with_bytes}
-use Rattle.capnp_build.specs.Held.{space_at}
+use Rattle.capnp_build.specs.BuilderState.{space_at}
 use Rattle.capnp_build.specs.Built.{KeepsBytes, KeepsOutside}
 use Rattle.capnp_build.specs.Placed.{IsAdded, IsZeroAt}
 use Rattle.capnp_build.specs.declared.arena.location.RootLocation.{RootLocation}

@@ -13,9 +13,9 @@ use Rattle.capnp_wire.specs.Layout.{pointer, minus_one, far_pointer, body, Laid,
 use Rattle.capnp_wire.specs.declared.layout.place.Place.{Place}
 use Rattle.capnp_wire.proofs.words.WordLemmas.{length-words_of}
 use Rattle.capnp_wire.proofs.words.MessageLemmas.{segment_stands}
-use Rattle.capnp_wire.proofs.trees.PlacedLemmas.{near_tree, far_tree, some_form}
+use Rattle.capnp_wire.proofs.trees.PlacedLemmas.{local_tree, far_tree, some_form}
 use Rattle.capnp_build.specs.Bytes.{Space, written}
-use Rattle.capnp_build.specs.Held.{used_of, space_at}
+use Rattle.capnp_build.specs.BuilderState.{used_of, space_at}
 use Rattle.capnp_build.specs.Built.{message, IsLaid}
 use Rattle.capnp_build.specs.declared.arena.location.RootLocation.{RootLocation}
 use Rattle.capnp_build.proofs.WordLemmas.{part_words}
@@ -59,46 +59,46 @@ word_of m place words x there is = sym (ap (option_and_then (λ (l : List ℕ). 
 content : (spaces : List Space) (i : ℕ) → i < length spaces → slice_get (message spaces) i ≡ Some (words_of (space_at spaces i).used)
 content spaces i within = segment_stands (map used_of spaces) i (space_at spaces i).used (used_at spaces i within)
 
--- the tree stands at the root, as readers define it
-rooted : (spaces : List Space) (k start n tag : ℕ) (form : Form) (held : Trees) → (let location : RootLocation = record { segment = k; start = start; words = n; tag = tag } in IsLaid spaces location form held)
-    → (traversed : ℕ) × At (message spaces) (root ∷ []) (tree form held none) traversed
-rooted spaces zero start n tag form held r =
+-- the tree is at the root, as readers define it
+rooted : (spaces : List Space) (k start n tag : ℕ) (form : Form) (children : Trees) → (let location : RootLocation = record { segment = k; start = start; words = n; tag = tag } in IsLaid spaces location form children)
+    → (traversed : ℕ) × At (message spaces) (root ∷ []) (tree form children none) traversed
+rooted spaces zero start n tag form children r =
     let back : start ≡ 0 + 1 + (start - 1) = omega (arith, r.body_is.following) in
     let words : List ℕ = words_of (space_at spaces 0).used in
-    near_tree (message spaces) 0 0 (start - 1) words form held (content spaces 0 r.body_is.within) r.body_is.rooms (omega (arith, r.body_is.size, r.body_is.few)) (omega (arith, r.body_is.near, r.body_is.following))
-    (word_of (message spaces) root words _ (content spaces 0 r.body_is.within) r.root_is) (subst (λ (x : ℕ). Laid words x (tree form held none)) back r.body_is.laid)
-rooted spaces (suc k) start n tag form held r =
+    local_tree (message spaces) 0 0 (start - 1) words form children (content spaces 0 r.body_is.within) r.body_is.rooms (omega (arith, r.body_is.size, r.body_is.few)) (omega (arith, r.body_is.local, r.body_is.following))
+    (word_of (message spaces) root words _ (content spaces 0 r.body_is.within) r.root_is) (subst (λ (x : ℕ). Laid words x (tree form children none)) back r.body_is.laid)
+rooted spaces (suc k) start n tag form children r =
     let back : start ≡ start - 1 + 1 = omega (arith, r.body_is.following) in
     let words : List ℕ = words_of (space_at spaces (suc k)).used in
     let place : Place = record { segment = suc k; word = start - 1 } in
     let landing_pad = r.landing_pad_is (omega arith) in
-    far_tree (message spaces) root (suc k) (start - 1) words form held (content spaces (suc k) r.body_is.within) r.body_is.rooms (omega (arith, r.body_is.size, r.body_is.few)) (some_form form held r.body_is.rooms (omega (
+    far_tree (message spaces) root (suc k) (start - 1) words form children (content spaces (suc k) r.body_is.within) r.body_is.rooms (omega (arith, r.body_is.size, r.body_is.few)) (some_form form children r.body_is.rooms (omega (
       arith,
       r.body_is.size,
       landing_pad.0,
     )))
-    (omega (arith, r.body_is.near, r.body_is.following)) r.root_is (word_of (message spaces) place words _ (content spaces (suc k) r.body_is.within) (landing_pad.1 ∙ ap Some r.body_is.tag))
-    (subst (λ (x : ℕ). Laid words x (tree form held none)) back r.body_is.laid)
+    (omega (arith, r.body_is.local, r.body_is.following)) r.root_is (word_of (message spaces) place words _ (content spaces (suc k) r.body_is.within) (landing_pad.1 ∙ ap Some r.body_is.tag))
+    (subst (λ (x : ℕ). Laid words x (tree form children none)) back r.body_is.laid)
 
-pub laid_root : (spaces : List Space) (location : RootLocation) (form : Form) (held : Trees) → IsLaid spaces location form held → (traversed : ℕ) × At (message spaces) (root ∷ []) (tree form held none) traversed
-laid_root spaces location form held r = rooted spaces location.segment location.start location.words location.tag form held r
+pub laid_root : (spaces : List Space) (location : RootLocation) (form : Form) (children : Trees) → IsLaid spaces location form children → (traversed : ℕ) × At (message spaces) (root ∷ []) (tree form children none) traversed
+laid_root spaces location form children r = rooted spaces location.segment location.start location.words location.tag form children r
 
 -- the root's word once it is a far pointer
 pub far_root_is : (spaces last : List Space) (i landing_pad word : ℕ) (v : List ℕ) → 0 < length last → 8 ≤ length (space_at spaces 0).used → (space_at last 0).used ≡ written (space_at spaces 0).used 0 v
     → i < 2 ^ 32 → landing_pad < 2 ^ 29 → word ≡ far_pointer i landing_pad → v ≡ to_le_bytes w64 word → length v ≡ 8 → word_at (message last) root ≡ Some (far_pointer i landing_pad)
-far_root_is spaces last i landing_pad word v there room first_is few near word_is is eight =
+far_root_is spaces last i landing_pad word v there room first_is few local word_is is eight =
     let long : length (space_at last 0).used ≡ length (space_at spaces 0).used = ap length first_is ∙ written_length 0 (space_at spaces 0).used v (omega (arith, eight, room)) in
-    let small : word < 2 ^ 64 = omega (arith, word_is, few, near) in
+    let small : word < 2 ^ 64 = omega (arith, word_is, few, local) in
     let first : take 8 (drop (8 * 0) (space_at last 0).used) ≡ v = ap (λ (l : List ℕ). take 8 (drop (8 * 0) l)) first_is ∙ eight_here 0 (space_at spaces 0).used v (omega arith) eight in
     let same : word ≡ far_pointer i landing_pad = omega (arith, word_is) in
     word_there last root there (omega (arith, long, room)) ∙ ap (λ (b : List ℕ). Some (number_of 256 b)) first ∙ ap Some (word_back word v small is eight ∙ same)
 
 -- a tree of a known root
-pub laid_as : (spaces : List Space) (location : RootLocation) (form f : Form) (held h : Trees) (traversed : ℕ) → IsLaid spaces location form held → At (message spaces) (root ∷ []) (tree f h none) traversed
+pub laid_as : (spaces : List Space) (location : RootLocation) (form f : Form) (children h : Trees) (traversed : ℕ) → IsLaid spaces location form children → At (message spaces) (root ∷ []) (tree f h none) traversed
     → IsLaid spaces location f h
-laid_as spaces location form f held h traversed r there =
-    let t = laid_root spaces location form held r in
-    let same : tree form held none ≡ tree f h none = (one_tree (message spaces) (root ∷ []) (tree form held none) (tree f h none) t.0 traversed t.1 there).0 in
+laid_as spaces location form f children h traversed r there =
+    let t = laid_root spaces location form children r in
+    let same : tree form children none ≡ tree f h none = (one_tree (message spaces) (root ∷ []) (tree form children none) (tree f h none) t.0 traversed t.1 there).0 in
     let forms : form ≡ f = cc in
-    let helds : held ≡ h = cc in
+    let helds : children ≡ h = cc in
     subst (λ (x : Form). IsLaid spaces location x h) forms (subst (λ (x : Trees). IsLaid spaces location form x) helds r)

@@ -3,10 +3,10 @@ mod AcceptLemmas
 pub mod UsedLemmas
 pub mod WordLemmas
 pub mod ByteLemmas
-pub mod HeldLemmas
+pub mod BuilderStateLemmas
 pub mod SpaceLemmas
 pub mod NullLemmas
-pub mod WipeLemmas
+pub mod ZeroRootLemmas
 pub mod KeptLemmas
 pub mod LaidLemmas
 pub mod PointLemmas

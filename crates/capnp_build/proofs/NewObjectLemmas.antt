@@ -6,13 +6,13 @@ use Rattle.capnp_wire.specs.Pointer.{number_of, digits, words_of}
 use Rattle.capnp_wire.specs.Element.{words_for}
 use Rattle.capnp_wire.specs.Tree.{struct, Trees, none, tree, total_words}
 use Rattle.capnp_wire.specs.Trim.{cut_zeros, keep_word}
-use Rattle.capnp_wire.specs.Layout.{body, pointer, formed, struct_pointer, minus_one, AllHaveRoom}
+use Rattle.capnp_wire.specs.Layout.{body, pointer, output, struct_pointer, minus_one, AllHaveRoom}
 use Rattle.capnp_wire.specs.Block.{put}
 use Rattle.capnp_wire.specs.Copy.{IsCopied}
 use Rattle.capnp_wire.specs.Values.{HasWords, HasRoomAt, IsFreeFrom}
 use Rattle.capnp_wire.proofs.layouts.FreeLemmas.{body_long}
 use Rattle.capnp_wire.proofs.layouts.LayoutLemmas.{if_positive}
-use Rattle.capnp_build.specs.Body.{words_of_body, Fits, body_tag, zero_form, formed_new_object}
+use Rattle.capnp_build.specs.Body.{words_of_body, Fits, body_tag, zero_form, output_new_object}
 use Rattle.capnp_build.specs.declared.object.Body.{Body}
 use Rattle.capnp_build.specs.declared.object.Body.TheVariants.{Bytes, Words, Struct}
 
@@ -26,13 +26,13 @@ cut_all : (d : ℕ) → cut_zeros (replicate d 0) ≡ []
 cut_all zero = refl
 cut_all (suc d) = ap (λ (l : List ℕ). keep_word l 0) (cut_all d)
 
-pub formed_new : (c : Bool) (b : Body) → formed c (new_tree b) ≡ new_tree (formed_new_object c b)
-formed_new true (Bytes n) = refl
-formed_new true (Words n) = refl
-formed_new true (Struct d) = ap (λ (l : List ℕ). tree (struct l) none none) (cut_all d)
-formed_new false (Bytes n) = refl
-formed_new false (Words n) = refl
-formed_new false (Struct d) = refl
+pub output_new : (c : Bool) (b : Body) → output c (new_tree b) ≡ new_tree (output_new_object c b)
+output_new true (Bytes n) = refl
+output_new true (Words n) = refl
+output_new true (Struct d) = ap (λ (l : List ℕ). tree (struct l) none none) (cut_all d)
+output_new false (Bytes n) = refl
+output_new false (Words n) = refl
+output_new false (Struct d) = refl
 
 no_number : (base n : ℕ) → number_of base (replicate n 0) ≡ 0
 no_number base zero = refl
@@ -74,12 +74,12 @@ zero_rooms (Bytes n) fits = ((omega arith, omega (arith, long n, fits), refl, Al
 zero_rooms (Words n) fits = ((omega arith, omega (arith, long n, fits), refl, All-replicate (λ (v : ℕ). v < 2 ^ 64) n 0 (omega arith)), tt, tt)
 zero_rooms (Struct d) fits = ((omega (arith, long d, fits), omega arith, All-replicate (λ (v : ℕ). v < 2 ^ 64) d 0 (omega arith)), tt, tt)
 
-pub new_object_words : (b : Body) (c : Bool) (n : ℕ) → Fits b → n ≡ words_of_body (formed_new_object c b) → n < 2 ^ 29 → HasWords (λ trees. trees ≡ new_tree b) c n
+pub new_object_words : (b : Body) (c : Bool) (n : ℕ) → Fits b → n ≡ words_of_body (output_new_object c b) → n < 2 ^ 29 → HasWords (λ trees. trees ≡ new_tree b) c n
 new_object_words b c n fits is few = record {
   trees = new_tree b;
   tree_is = refl;
   rooms = zero_rooms b fits;
-  words_are = is ∙ sym (zero_total (formed_new_object c b)) ∙ sym (ap total_words (formed_new c b));
+  words_are = is ∙ sym (zero_total (output_new_object c b)) ∙ sym (ap total_words (output_new c b));
   few = few;
 }
 
@@ -102,17 +102,17 @@ zeros_put n next ws zeros room =
     ∙ take-append-drop next ws
 
 pub new_object_written : (b : Body) (c : Bool) (gap next tag end : ℕ) (block : List ℕ) → HasRoomAt (λ trees. trees ≡ new_tree b) c next (length (words_of block)) → IsFreeFrom next block
-    → tag ≡ body_tag gap (formed_new_object c b) → end ≡ next + words_of_body (formed_new_object c b) → (trees : Trees) → trees ≡ new_tree b
-    → IsCopied (formed c trees) gap next (words_of block) (words_of block) (record { pointer = tag; next = end })
+    → tag ≡ body_tag gap (output_new_object c b) → end ≡ next + words_of_body (output_new_object c b) → (trees : Trees) → trees ≡ new_tree b
+    → IsCopied (output c trees) gap next (words_of block) (words_of block) (record { pointer = tag; next = end })
 new_object_written b c gap next tag end block w f tag_is end_is trees is =
-    let made : Body = formed_new_object c b in
-    let total : total_words (formed c w.trees) ≡ words_of_body (formed_new_object c b) = ap (λ (t : Trees). total_words (formed c t)) w.tree_is ∙ ap total_words (formed_new c b) ∙ zero_total (formed_new_object c b) in
-    subst (λ (t : Trees). IsCopied t gap next (words_of block) (words_of block) (record { pointer = tag; next = end })) (sym (ap (formed c) is ∙ formed_new c b)) (record {
+    let made : Body = output_new_object c b in
+    let total : total_words (output c w.trees) ≡ words_of_body (output_new_object c b) = ap (λ (t : Trees). total_words (output c t)) w.tree_is ∙ ap total_words (output_new c b) ∙ zero_total (output_new_object c b) in
+    subst (λ (t : Trees). IsCopied t gap next (words_of block) (words_of block) (record { pointer = tag; next = end })) (sym (ap (output c) is ∙ output_new c b)) (record {
       words_are = sym (ap (λ (l : List ℕ). put next l (words_of block)) (zero_body made) ∙ zeros_put (words_of_body made) next (words_of block) f.zero (omega (arith, w.fits, total)));
       pointer_is = tag_is ∙ sym (body_tag_at gap made);
       next_is = end_is ∙ ap (λ (n : ℕ). next + n) (sym (zero_total made));
     })
 
 pub new_object_long : (b : Body) (c : Bool) (next room : ℕ) → HasRoomAt (λ trees. trees ≡ new_tree b) c next room → (trees : Trees) → trees ≡ new_tree b
-    → length (body (formed c trees)) ≡ total_words (formed c trees)
+    → length (body (output c trees)) ≡ total_words (output c trees)
 new_object_long b c next room w = body_long (λ trees. trees ≡ new_tree b) c next room (λ x y p q. p ∙ sym q) w

@@ -2,13 +2,13 @@
 use Rattle.std.proofs.Common.{◌≡◌, inl, inr, ℕ, ◌+◌, ◌<◌, ◌≤◌, List, [], ◌∷◌, length, Some, slice_get, refl, ap, sym, ◌∙◌, arith, max, replicate, slice_set, length-set}
 use Rattle.capnp_wire.specs.Pointer.{number_of, words_of}
 use Rattle.capnp_wire.specs.Tree.{Form, null, none, Trees, tree}
-use Rattle.capnp_wire.specs.Object.{places, word_at, Target, Lands, near, far, Shape, PointsTo, is_null, is_object, double_far}
+use Rattle.capnp_wire.specs.Object.{places, word_at, Target, Lands, local, far, Shape, PointsTo, is_null, is_object, double_far}
 use Rattle.capnp_wire.specs.Reached.{At, at, nowhere, root, Root}
 use Rattle.capnp_wire.specs.declared.layout.place.Place.{Place}
 use Rattle.capnp_wire.proofs.words.WordLemmas.{length-words_of}
 use Rattle.capnp_wire.proofs.objects.ObjectLemmas.{one_tree}
 use Rattle.capnp_build.specs.Bytes.{Space, written, with_bytes}
-use Rattle.capnp_build.specs.Held.{space_at}
+use Rattle.capnp_build.specs.BuilderState.{space_at}
 use Rattle.capnp_build.specs.Built.{message, HasNullRoot, size_in_words}
 use Rattle.capnp_build.proofs.SpaceLemmas.{size_set, set_room}
 use Rattle.capnp_build.proofs.UsedLemmas.{written_length}
@@ -28,7 +28,7 @@ no_word : (place : Place) (x : ℕ) → word_at [] place ≡ Some x → ⊥
 no_word place x e = cc
 
 lands_there : (spaces : List Space) (place : Place) (landing : Target) → Lands (message spaces) place landing → 0 < length spaces
-lands_there [] place landing (near e positive low) = absurd (no_word place _ e)
+lands_there [] place landing (local e positive low) = absurd (no_word place _ e)
 lands_there [] place landing (far e is_far inner low) = absurd (no_word place _ e)
 lands_there [] place landing (double_far e is_far inner wide last words low) = absurd (no_word place _ e)
 lands_there (s ∷ spaces) place landing l = omega arith
@@ -42,7 +42,7 @@ pub root_there : (spaces : List Space) (places : List Place) (trees : Trees) (tr
 root_there spaces places trees traversed e nowhere = cc
 root_there spaces places trees traversed e (at {place = p} {shape = s} object inner rest) = object_there spaces p s object
 
--- where the root's word stands, the first segment has it
+-- where the root's word is, the first segment has it
 some_word : (xs : List ℕ) (x : ℕ) → slice_get xs 0 ≡ Some x → 0 < length xs
 some_word [] x e = cc
 some_word (y ∷ xs) x e = omega arith

@@ -10,8 +10,8 @@ use Rattle.capnp_build.specs.declared.root_kind.RootKind.{RootKind}
 use Rattle.capnp_build.specs.Bytes.{Space}
 use Rattle.capnp_frame.specs.Source.{IsPreorder}
 use Rattle.capnp_build.specs.Out.{Out, HasLarge}
-use Rattle.capnp_build.specs.Held.{pairs, space_at, free_words_of}
-use Rattle.capnp_build.specs.Built.{Built, held_of, size_in_words, HasNullRoot, ForRoot, IsSet}
+use Rattle.capnp_build.specs.BuilderState.{pairs, space_at, free_words_of}
+use Rattle.capnp_build.specs.Built.{Built, state_of, size_in_words, HasNullRoot, ForRoot, IsSet}
 use Rattle.capnp_build.specs.Placed.{DeclinesRoot, HasNoRoom, LacksSegment, FindsNoRoom, IsPut, IsGranted, IsCleared, IsLookedAt}
 use Rattle.capnp_build.specs.Blocks.{PutsBlock}
 use Rattle.capnp_build.specs.Outcomes.{SetsRoot, ClearsRoot, EnsuresRoot, LooksAtRoot, HasRoomFirst}
@@ -75,16 +75,16 @@ sets_root_unmeasured alloc has_tree refuses old new error clear lacks exact foun
   none = λ empty. let l : length new.spaces ≡ 0 = ap length empty in absurd (omega (arith, l, clear.there));
   exact = λ kind is. inl (exact kind is);
   fits = λ words has room. absurd (found words has);
-  home = λ empty out taken. lacks;
+  available = λ empty out taken. lacks;
   same = clear.same;
   others = clear.others;
 }
 
--- a refusal of the block's segment is not for one that is out, where none was
-pub home_alone : {A S : Type 0} (alloc : allocator.Ghosts A S) (old cleared : Built A) (words : ℕ) {done : Unit {0}} → ClearsRoot alloc old cleared (Ok done) → words < 2 ^ 29
+-- an error of the block's segment is not for one that is out, where none was
+pub available_alone : {A S : Type 0} (alloc : allocator.Ghosts A S) (old cleared : Built A) (words : ℕ) {done : Unit {0}} → ClearsRoot alloc old cleared (Ok done) → words < 2 ^ 29
     → HasNoRoom cleared.spaces words → ((others : List Out) → alloc.out cleared.allocator (pairs cleared.spaces others) → HasLarge (words + 1) (pairs cleared.spaces others))
     → old.spaces ≡ [] → alloc.out old.allocator [] → ⊥
-home_alone alloc old cleared words clear few full taken empty out =
+available_alone alloc old cleared words clear few full taken empty out =
     no_large cleared.spaces words (clear.new_object empty) full few
     (taken [] (clear.others [] (subst (λ (l : List Space). alloc.out old.allocator (pairs l [])) (sym empty) out)))
 
@@ -110,7 +110,7 @@ is_put alloc stands measured old cleared new words clear has told = record {
 
 -- want of room once the root is cleared
 pub finds_no_room : {A S : Type 0} (alloc : allocator.Ghosts A S) (measured : ℕ → Type 0) (old cleared new : Built A) (words : ℕ) {kind : ErrorKind} {done : Unit {0}}
-    → ClearsRoot alloc old cleared (Ok done) → measured words → new.spaces ≡ cleared.spaces → HasNoRoom cleared.spaces words × LacksSegment alloc (held_of cleared) (words + 1) kind
+    → ClearsRoot alloc old cleared (Ok done) → measured words → new.spaces ≡ cleared.spaces → HasNoRoom cleared.spaces words × LacksSegment alloc (state_of cleared) (words + 1) kind
     → FindsNoRoom alloc measured old new.spaces kind
 finds_no_room alloc measured old cleared new words {kind} clear has kept told = record {
   words = words;
@@ -136,7 +136,7 @@ sets_root alloc has_tree refuses old cleared new words (Ok done) keeps clear has
   none = λ empty. tt;
   exact = λ kind lacks. absurd (exact kind lacks);
   fits = λ other also room. refl;
-  home = λ empty out. tt;
+  available = λ empty out. tt;
   same = keeps.transitive _ _ _ clear.same told.same;
   others = λ others is. told.others others (clear.others others is);
 }
@@ -150,7 +150,7 @@ sets_root alloc has_tree refuses old cleared new words (Err error) keeps clear h
   exact = λ kind lacks. absurd (exact kind lacks);
   fits = λ other also room.
       let fit = room_first alloc old cleared other clear also.few room in let full = told.kind.0.first in absurd (omega (arith, fit, full, found other also));
-  home = λ empty out taken. absurd (home_alone alloc old cleared words clear has.few told.kind.0 (told.taken taken) empty out);
+  available = λ empty out taken. absurd (available_alone alloc old cleared words clear has.few told.kind.0 (told.taken taken) empty out);
   same = keeps.transitive _ _ _ clear.same told.same;
   others = λ others is. told.others others (clear.others others is);
 }
@@ -167,23 +167,23 @@ pub looks_at_root : {A S K : Type 0} (alloc : allocator.Ghosts A S) (schema : ow
     → OnOk r ((form : Form) → ShowsRoot shown form → HoldsForm bytes form → schema.takes form)
     → IfErr r (λ error. (form : Form) → ShowsRoot shown form → HoldsForm bytes form → schema.declines form error.kind) → LooksAtRoot alloc schema old last r
 looks_at_root alloc schema old last shown bytes (Ok done) told shows holds takes declines = record {
-  taken = λ form held traversed root_is. takes form (shows form held traversed root_is) (holds form held traversed root_is);
+  taken = λ form children traversed root_is. takes form (shows form children traversed root_is) (holds form children traversed root_is);
   there = told.there;
   looked = told.looked;
   kind = tt;
   granted = λ empty most grants. tt;
-  home = λ empty out. tt;
+  available = λ empty out. tt;
   others = told.others;
 }
 looks_at_root {A} alloc schema old last shown bytes (Err error) told shows holds takes declines =
     let is = declined old.spaces last.spaces schema.declines error.kind (λ some. ap (λ (v : Built A). v.spaces) (told.looked.stays some)) told.looked.null_word told.there
-    (λ form held traversed root_is. declines form (shows form held traversed root_is) (holds form held traversed root_is)) in
+    (λ form children traversed root_is. declines form (shows form children traversed root_is) (holds form children traversed root_is)) in
     record {
       taken = tt;
       there = tt;
       looked = told.looked;
       kind = inr is;
       granted = λ empty most grants. is;
-      home = λ empty out taken. is;
+      available = λ empty out taken. is;
       others = told.others;
     }

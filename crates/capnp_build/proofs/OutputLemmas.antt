@@ -8,9 +8,9 @@ use Rattle.capnp_frame.specs.SegmentTable.{FitsField}
 use Rattle.capnp_frame.specs.Writing.{IsWritable}
 use Rattle.capnp_build.specs.Bytes.{Space, with_block, with_bytes, written}
 use Rattle.capnp_build.specs.Filled.{with_more}
-use Rattle.capnp_build.specs.Held.{used_of, spaces_of, space_at, no_space, free_words_of}
+use Rattle.capnp_build.specs.BuilderState.{used_of, spaces_of, space_at, no_space, free_words_of}
 use Rattle.capnp_build.specs.Output.{UsesWords}
-use Rattle.capnp_build.proofs.HeldLemmas.{same_at}
+use Rattle.capnp_build.proofs.BuilderStateLemmas.{same_at}
 use Rattle.capnp_build.proofs.UsedLemmas.{written_length}
 
 -- words more, as many as there is room for

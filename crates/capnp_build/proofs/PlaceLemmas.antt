@@ -5,9 +5,9 @@ use Rattle.std.proofs.lemmas.Bool.{cases_lt}
 use Rattle.capnp_frame.specs.declared.error.Error.{Error}
 use Rattle.capnp_frame.specs.declared.error.ErrorKind.{ErrorKind}
 use Rattle.capnp_build.specs.Bytes.{Space}
-use Rattle.capnp_build.specs.Held.{space_at, free_words_of, KeepsOthers}
+use Rattle.capnp_build.specs.BuilderState.{space_at, free_words_of, KeepsOthers}
 use Rattle.capnp_build.specs.declared.allocator.Allocator.{Ghosts}
-use Rattle.capnp_build.specs.Built.{Built, size_in_words, HasNullRoot, KeepsOutside, held_of}
+use Rattle.capnp_build.specs.Built.{Built, size_in_words, HasNullRoot, KeepsOutside, state_of}
 use Rattle.capnp_build.specs.Placed.{IsAdded, IsAtEnd, IsPlaced, IsZeroAt, IsCleared, FindsNoRoom, FoundNoRoom, KeepsRooms, HasRootAlone}
 use Rattle.capnp_frame.specs.Source.{IsPreorder}
 use Rattle.capnp_build.proofs.SpaceLemmas.{size_added, past_all, added_there}
@@ -26,7 +26,7 @@ pub placed_far : {A : Type 0} (old mid : List Space) (new : Built A) (segment wo
     → length new.spaces ≡ length mid → IsAtEnd mid new.location segment 1 words → size_in_words new.spaces ≡ size_in_words mid + words + 1 → IsPlaced old new words
 placed_far old mid new segment words full following first older newer count at_end size = elim (cases_lt segment (length old)) [
   | inl among ↦ (let same = older among in record {
-    near = λ room. absurd (omega (arith, room, full));
+    local = λ room. absurd (omega (arith, room, full));
     far = λ _. (
       segment,
       following,
@@ -38,7 +38,7 @@ placed_far old mid new segment words full following first older newer count at_e
     );
   })
   | inr past ↦ (let more = newer past in let long : length mid ≡ length old + 1 = ap length more.1.1 ∙ omega (arith, length-append old (more.1.0 ∷ [])) in record {
-    near = λ room. absurd (omega (arith, room, full));
+    local = λ room. absurd (omega (arith, room, full));
     far = λ _. (
       segment,
       following,
@@ -59,9 +59,9 @@ on_err : {A E : Type 0} (r : Result A E) (P Q : Type 0) → (P → Q) → OnErr 
 on_err (Ok a) P Q step p = tt
 on_err (Err e) P Q step p = step p
 
--- what is refused later leaves the root cleared
+-- what is rejected later leaves the root cleared
 pub still_cleared : {A S : Type 0} (alloc : Ghosts A S) (old cleared last : Built A) (r : Result (Unit {0}) Error) → IsPreorder alloc.same → IsCleared alloc old cleared → OnErr r (last.location ≡ None)
-    → OnErr r (last.spaces ≡ cleared.spaces) → alloc.same cleared.allocator last.allocator → KeepsOthers alloc.out (held_of cleared) (held_of last) → OnErr r (IsCleared alloc old last)
+    → OnErr r (last.spaces ≡ cleared.spaces) → alloc.same cleared.allocator last.allocator → KeepsOthers alloc.out (state_of cleared) (state_of last) → OnErr r (IsCleared alloc old last)
 still_cleared alloc old cleared last (Ok done) keeps c null kept alike others = tt
 still_cleared alloc old cleared last (Err error) keeps c null kept alike others = record {
   null = null;
@@ -76,9 +76,9 @@ still_cleared alloc old cleared last (Err error) keeps c null kept alike others 
 }
 
 -- a block in the first segment
-pub placed_near : {A : Type 0} (old : List Space) (new : Built A) (words : ℕ) → words ≤ free_words_of (space_at old 0) → IsAtEnd old new.location 0 0 words → length new.spaces ≡ length old
+pub placed_local : {A : Type 0} (old : List Space) (new : Built A) (words : ℕ) → words ≤ free_words_of (space_at old 0) → IsAtEnd old new.location 0 0 words → length new.spaces ≡ length old
     → size_in_words new.spaces ≡ size_in_words old + words → IsPlaced old new words
-placed_near old new words room at_end count size = record { near = λ _. (at_end, count, size); far = λ full. absurd (omega (arith, room, full)) }
+placed_local old new words room at_end count size = record { local = λ _. (at_end, count, size); far = λ full. absurd (omega (arith, room, full)) }
 
 -- what finds no room found none once the root was cleared
 pub found_no_room : {A S : Type 0} (alloc : Ghosts A S) (measured : ℕ → Type 0) (R E : ErrorKind → Type 0) (old new : Built A) (r : Result (Unit {0}) Error) → OnErr r (IsCleared alloc old new)

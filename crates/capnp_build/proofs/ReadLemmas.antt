@@ -1,4 +1,4 @@
--- What stands at the root, read back from its bytes.
+-- What is at the root, read back from its bytes.
 use Rattle.std.proofs.Common.{◌≡◌, ℕ, zero, suc, ◌+◌, ◌*◌, ◌/◌, ◌^◌, ◌<◌, ◌≤◌, List, [], ◌∷◌, ◌++◌, length, take, drop, slice_index_or, slice_set, w64, refl, ap, sym, subst, ◌∙◌, arith}
 use Rattle.std.proofs.Common.{length-append, length-take, length-drop, length-set}
 use Rattle.std.specs.Prelude.{All}
@@ -8,7 +8,7 @@ use Rattle.std.proofs.lemmas.List.Elements.{All-set}
 use Rattle.std.proofs.Math.Seq.{take-append_seam}
 use Rattle.capnp_wire.specs.Pointer.{number_of, digits, words_of, words_from}
 use Rattle.capnp_wire.specs.Element.{words_for}
-use Rattle.capnp_wire.specs.Tree.{Form, null, struct, numbers, pointers, structs, Trees, none, tree, count, own_words}
+use Rattle.capnp_wire.specs.Tree.{Form, null, struct, numbers, pointers, structs, Trees, none, tree, count, object_size}
 use Rattle.capnp_wire.specs.Reached.{At, root}
 use Rattle.capnp_wire.specs.Views.{HasData, IsWords}
 use Rattle.capnp_wire.specs.Layout.{body, pointers_to, slots}
@@ -16,7 +16,7 @@ use Rattle.capnp_wire.proofs.words.DigitLemmas.{digits-number_of}
 use Rattle.capnp_wire.proofs.words.WordLemmas.{length-words_of}
 use Rattle.capnp_wire.proofs.objects.ObjectLemmas.{one_tree}
 use Rattle.capnp_build.specs.Bytes.{Space, written, with_bytes}
-use Rattle.capnp_build.specs.Held.{space_at}
+use Rattle.capnp_build.specs.BuilderState.{space_at}
 use Rattle.capnp_build.specs.Built.{message, IsLaid, IsRootKind}
 use Rattle.capnp_build.specs.RootKind.{ShowsRoot, HoldsForm}
 use Rattle.capnp_build.specs.declared.root_kind.RootKind.{RootKind}
@@ -33,13 +33,13 @@ list_body values all =
     append-nil (own_is ++ []) ∙ append-nil own_is ∙ ap (λ (k : ℕ). digits (2 ^ 64) k (number_of (2 ^ 64) values)) n ∙ digits-number_of (2 ^ 64) values all
 
 -- the words of the body
-pub body_words : (spaces : List Space) (location : RootLocation) (form : Form) (held : Trees) → IsLaid spaces location form held → words_of (body_bytes spaces location) ≡ body (tree form held none)
-body_words spaces location form held r =
+pub body_words : (spaces : List Space) (location : RootLocation) (form : Form) (children : Trees) → IsLaid spaces location form children → words_of (body_bytes spaces location) ≡ body (tree form children none)
+body_words spaces location form children r =
     let old : List ℕ = (space_at spaces location.segment).used in
     sym (part_words location.start location.words old r.body_is.room) ∙ ap (words_from (words_of old) location.start) r.body_is.size ∙ r.body_is.laid.words_are
 
-pub body_long : (spaces : List Space) (location : RootLocation) (form : Form) (held : Trees) → IsLaid spaces location form held → length (body_bytes spaces location) ≡ 8 * location.words
-body_long spaces location form held r =
+pub body_long : (spaces : List Space) (location : RootLocation) (form : Form) (children : Trees) → IsLaid spaces location form children → length (body_bytes spaces location) ≡ 8 * location.words
+body_long spaces location form children r =
     let old : List ℕ = (space_at spaces location.segment).used in
     omega (arith, r.body_is.room, length-take (8 * location.words) (drop (8 * location.start) old), length-drop (8 * location.start) old)
 
@@ -51,21 +51,21 @@ first_words : (n : ℕ) (bytes : List ℕ) → 8 * n ≤ length bytes → words_
 first_words n bytes room = sym (part_words 0 n bytes (omega (arith, room)))
 
 -- the data words of a struct
-fields_there : (spaces : List Space) (location : RootLocation) (words : List ℕ) (held : Trees) → IsLaid spaces location (struct words) held → words_of (take (8 * length words) (body_bytes spaces location)) ≡ words
-fields_there spaces location words held r =
-    let links : List ℕ = pointers_to (slots (struct words) (count held)) (own_words (struct words) (count held)) held in
+fields_there : (spaces : List Space) (location : RootLocation) (words : List ℕ) (children : Trees) → IsLaid spaces location (struct words) children → words_of (take (8 * length words) (body_bytes spaces location)) ≡ words
+fields_there spaces location words children r =
+    let links : List ℕ = pointers_to (slots (struct words) (count children)) (object_size (struct words) (count children)) children in
     let bytes : List ℕ = body_bytes spaces location in
-    first_words (length words) bytes (omega (arith, body_long spaces location (struct words) held r, r.body_is.size)) ∙ ap (take (length words)) (body_words spaces location (struct words) held r)
-    ∙ take-append-le (length words) ((words ++ links) ++ body held) [] (omega (arith, length-append (words ++ links) (body held), length-append words links))
-    ∙ take-append-le (length words) (words ++ links) (body held) (omega (arith, length-append words links)) ∙ take-append_seam words links
+    first_words (length words) bytes (omega (arith, body_long spaces location (struct words) children r, r.body_is.size)) ∙ ap (take (length words)) (body_words spaces location (struct words) children r)
+    ∙ take-append-le (length words) ((words ++ links) ++ body children) [] (omega (arith, length-append (words ++ links) (body children), length-append words links))
+    ∙ take-append-le (length words) (words ++ links) (body children) (omega (arith, length-append words links)) ∙ take-append_seam words links
 
-none_held : (held : Trees) → count held ≡ 0 → held ≡ none
-none_held none e = refl
-none_held (tree form inner rest) e = absurd (omega (arith, e))
+none_children : (children : Trees) → count children ≡ 0 → children ≡ none
+none_children none e = refl
+none_children (tree form inner rest) e = absurd (omega (arith, e))
 
-code_is : (spaces : List Space) (location : RootLocation) (c d : ℕ) (values : List ℕ) (held : Trees) → c ≡ d → IsLaid spaces location (numbers c values) held → IsLaid spaces location (numbers d values) none
-code_is spaces location c d values held e r =
-    subst (λ (t : Trees). IsLaid spaces location (numbers d values) t) (none_held held r.body_is.rooms.0.2) (subst (λ (k : ℕ). IsLaid spaces location (numbers k values) held) e r)
+code_is : (spaces : List Space) (location : RootLocation) (c d : ℕ) (values : List ℕ) (children : Trees) → c ≡ d → IsLaid spaces location (numbers c values) children → IsLaid spaces location (numbers d values) none
+code_is spaces location c d values children e r =
+    subst (λ (t : Trees). IsLaid spaces location (numbers d values) t) (none_children children r.body_is.rooms.0.2) (subst (λ (k : ℕ). IsLaid spaces location (numbers k values) children) e r)
 
 bytes_read : (spaces : List Space) (location : RootLocation) (values : List ℕ) → IsLaid spaces location (numbers 2 values) none → ((i : ℕ) → slice_index_or (space_at spaces location.segment).used i 0 < 256)
     → take (length values) (body_bytes spaces location) ≡ values
@@ -76,16 +76,16 @@ words_read spaces location values r =
     let long = body_long spaces location (numbers 5 values) none r in
     ap words_of (take_all (8 * length values) (body_bytes spaces location) (omega (arith, long, r.body_is.size))) ∙ list_there spaces location values r
 
-pub holds_form : (spaces : List Space) (location : RootLocation) (form : Form) (held : Trees) → IsLaid spaces location form held → ((i : ℕ) → slice_index_or (space_at spaces location.segment).used i 0 < 256)
+pub holds_form : (spaces : List Space) (location : RootLocation) (form : Form) (children : Trees) → IsLaid spaces location form children → ((i : ℕ) → slice_index_or (space_at spaces location.segment).used i 0 < 256)
     → HoldsForm (body_bytes spaces location) form
-holds_form spaces location null held r low = tt
-holds_form spaces location (struct words) held r low = fields_there spaces location words held r
-holds_form spaces location (numbers c values) held r low = (
-  λ e. bytes_read spaces location values (code_is spaces location c 2 values held e r) low,
-  λ e. words_read spaces location values (code_is spaces location c 5 values held e r),
+holds_form spaces location null children r low = tt
+holds_form spaces location (struct words) children r low = fields_there spaces location words children r
+holds_form spaces location (numbers c values) children r low = (
+  λ e. bytes_read spaces location values (code_is spaces location c 2 values children e r) low,
+  λ e. words_read spaces location values (code_is spaces location c 5 values children e r),
 )
-holds_form spaces location pointers held r low = tt
-holds_form spaces location (structs d p rows) held r low = tt
+holds_form spaces location pointers children r low = tt
+holds_form spaces location (structs d p rows) children r low = tt
 
 -- a number of a list of words is another one
 pub number_laid : (spaces last : List Space) (location : RootLocation) (values : List ℕ) (i x : ℕ) (w : List ℕ) → IsLaid spaces location (numbers 5 values) none → i < length values → x < 2 ^ 64
@@ -142,15 +142,15 @@ number_read (numbers c values) bytes words i holds has within =
 number_read pointers bytes words i holds has within = absurd has
 number_read (structs d p rows) bytes words i holds has within = absurd has
 
--- what is shown stands there
-pub shown_there : (spaces : List Space) (location : RootLocation) (shown : RootKind) (form : Form) (held : Trees) → IsLaid spaces location form held → ShowsRoot shown form → IsRootKind shown spaces
-shown_there spaces location Null form held r shows = tt
-shown_there spaces location (Bytes n) form held r shows =
-    let laid = code_is spaces location 2 2 shows.0 held refl (subst (λ (f : Form). IsLaid spaces location f held) shows.1 r) in
+-- what is shown is there
+pub shown_there : (spaces : List Space) (location : RootLocation) (shown : RootKind) (form : Form) (children : Trees) → IsLaid spaces location form children → ShowsRoot shown form → IsRootKind shown spaces
+shown_there spaces location Null form children r shows = tt
+shown_there spaces location (Bytes n) form children r shows =
+    let laid = code_is spaces location 2 2 shows.0 children refl (subst (λ (f : Form). IsLaid spaces location f children) shows.1 r) in
     let t = laid_root spaces location (numbers 2 shows.0) none laid in (shows.0, t.0, t.1, shows.2)
-shown_there spaces location (Words n) form held r shows =
-    let laid = code_is spaces location 5 5 shows.0 held refl (subst (λ (f : Form). IsLaid spaces location f held) shows.1 r) in
+shown_there spaces location (Words n) form children r shows =
+    let laid = code_is spaces location 5 5 shows.0 children refl (subst (λ (f : Form). IsLaid spaces location f children) shows.1 r) in
     let t = laid_root spaces location (numbers 5 shows.0) none laid in (shows.0, t.0, t.1, shows.2)
-shown_there spaces location (Struct n) form held r shows =
-    let t = laid_root spaces location (struct shows.0) held (subst (λ (f : Form). IsLaid spaces location f held) shows.1 r) in (shows.0, held, t.0, t.1, shows.2)
-shown_there spaces location Other form held r shows = let t = laid_root spaces location form held r in (form, held, t.0, t.1)
+shown_there spaces location (Struct n) form children r shows =
+    let t = laid_root spaces location (struct shows.0) children (subst (λ (f : Form). IsLaid spaces location f children) shows.1 r) in (shows.0, children, t.0, t.1, shows.2)
+shown_there spaces location Other form children r shows = let t = laid_root spaces location form children r in (form, children, t.0, t.1)

@@ -6,14 +6,14 @@ use Rattle.std.proofs.lemmas.List.{take_all, append-nil, take-append-le, drop-ap
 use Rattle.std.proofs.lemmas.List.Elements.{All-head, All-tail, All-cons, All-append, All-take, All-drop}
 use Rattle.capnp_wire.specs.Pointer.{number_of, digits, words_of, words_from}
 use Rattle.capnp_wire.specs.Element.{words_for}
-use Rattle.capnp_wire.specs.Tree.{Form, numbers, Trees, none, tree, count, own_words, total_words}
+use Rattle.capnp_wire.specs.Tree.{Form, numbers, Trees, none, tree, count, object_size, total_words}
 use Rattle.capnp_wire.specs.Object.{word_at}
 use Rattle.capnp_wire.specs.Reached.{root}
 use Rattle.capnp_wire.specs.Layout.{pointer, body, HasRoom}
 use Rattle.capnp_wire.proofs.words.WordLemmas.{numbers_from, bytes_back, length-words_of}
 use Rattle.capnp_wire.proofs.words.BytesLemmas.{padded, below_zeros}
 use Rattle.capnp_build.specs.Bytes.{Space, written, with_bytes}
-use Rattle.capnp_build.specs.Held.{space_at}
+use Rattle.capnp_build.specs.BuilderState.{space_at}
 use Rattle.capnp_build.specs.Built.{message, root_word, landing_pad_of, IsLaid}
 use Rattle.capnp_build.specs.declared.arena.location.RootLocation.{RootLocation}
 use Rattle.capnp_build.proofs.WordLemmas.{part_words}
@@ -25,25 +25,25 @@ use Rattle.capnp_build.proofs.ByteLemmas.{root_kept, word_kept, part_written}
 abbrev pub body_bytes : List Space → RootLocation → List ℕ
 body_bytes spaces location = take (8 * location.words) (drop (8 * location.start) (space_at spaces location.segment).used)
 
-root_alike : (k start : ℕ) (form f : Form) (held : Trees) → ((offset : ℕ) → pointer f (count held) offset ≡ pointer form (count held) offset) → root_word k start form held ≡ root_word k start f held
-root_alike zero start form f held alike = sym (alike (start - 1))
-root_alike (suc k) start form f held alike = refl
+root_alike : (k start : ℕ) (form f : Form) (children : Trees) → ((offset : ℕ) → pointer f (count children) offset ≡ pointer form (count children) offset) → root_word k start form children ≡ root_word k start f children
+root_alike zero start form f children alike = sym (alike (start - 1))
+root_alike (suc k) start form f children alike = refl
 
--- where the new bytes are the body of a tree whose pointer is the same, it stands there
-pub rewritten : (spaces last : List Space) (location : RootLocation) (form f : Form) (held : Trees) (start : ℕ) (w : List ℕ) → IsLaid spaces location form held → start + length w ≤ 8 * location.words
+-- where the new bytes are the body of a tree whose pointer is the same, it is there
+pub rewritten : (spaces last : List Space) (location : RootLocation) (form f : Form) (children : Trees) (start : ℕ) (w : List ℕ) → IsLaid spaces location form children → start + length w ≤ 8 * location.words
     → last ≡ slice_set spaces location.segment (with_bytes (space_at spaces location.segment) (8 * location.start + start) w)
-    → ((offset : ℕ) → pointer f (count held) offset ≡ pointer form (count held) offset) → own_words f (count held) ≡ own_words form (count held) → HasRoom f (count held)
-    → words_of (written (body_bytes spaces location) start w) ≡ body (tree f held none) → IsLaid last location f held
-rewritten spaces last location form f held start w r inside e alike wide room_is body_is =
+    → ((offset : ℕ) → pointer f (count children) offset ≡ pointer form (count children) offset) → object_size f (count children) ≡ object_size form (count children) → HasRoom f (count children)
+    → words_of (written (body_bytes spaces location) start w) ≡ body (tree f children none) → IsLaid last location f children
+rewritten spaces last location form f children start w r inside e alike wide room_is body_is =
     let old : List ℕ = (space_at spaces location.segment).used in
     let first : ℕ = 8 * location.start + start in
     let a = set_used spaces last location.segment (with_bytes (space_at spaces location.segment) (8 * location.start + start) w) r.body_is.within e in
     let used : (space_at last location.segment).used ≡ written old (8 * location.start + start) w = ap (λ (s : Space). s.used) a.1 in
     let room : 8 * location.start + start + length w ≤ length old = omega (arith, r.body_is.room, inside) in
     let long : length (space_at last location.segment).used ≡ length old = ap length used ∙ written_length (8 * location.start + start) old w room in
-    let total : total_words (tree f held none) ≡ location.words = omega (arith, wide, r.body_is.size) in
+    let total : total_words (tree f children none) ≡ location.words = omega (arith, wide, r.body_is.size) in
     let fits : 8 * location.start + 8 * location.words ≤ length old = omega (arith, r.body_is.room) in
-    let part : words_from (words_of (space_at last location.segment).used) location.start location.words ≡ body (tree f held none) =
+    let part : words_from (words_of (space_at last location.segment).used) location.start location.words ≡ body (tree f children none) =
     part_words location.start location.words (space_at last location.segment).used (omega (arith, long, r.body_is.room))
     ∙ ap (λ (l : List ℕ). words_of (take (8 * location.words) (drop (8 * location.start) l))) used
     ∙ ap words_of (part_written (8 * location.start) (8 * location.words) start old w fits inside) ∙ body_is in
@@ -52,7 +52,7 @@ rewritten spaces last location form f held start w r inside e alike wide room_is
         within = omega (arith, a.0, r.body_is.within);
         room = omega (arith, long, r.body_is.room);
         following = r.body_is.following;
-        near = r.body_is.near;
+        local = r.body_is.local;
         rooms = (room_is, r.body_is.rooms.1, tt);
         size = sym total;
         few = r.body_is.few;
@@ -63,7 +63,7 @@ rewritten spaces last location form f held start w r inside e alike wide room_is
         };
       };
       root_is = ap (λ (l : List Space). word_at (message l) root) e ∙ root_kept spaces location.segment (8 * location.start + start) w r.body_is.within (omega (arith, r.body_is.following)) room ∙ r.root_is
-          ∙ ap Some (root_alike location.segment location.start form f held alike);
+          ∙ ap Some (root_alike location.segment location.start form f children alike);
       landing_pad_is = λ p. (
         (r.landing_pad_is p).0,
         ap (λ (l : List Space). word_at (message l) (landing_pad_of location)) e

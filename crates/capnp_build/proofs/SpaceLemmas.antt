@@ -6,7 +6,7 @@ use Rattle.capnp_wire.specs.Pointer.{words_of}
 use Rattle.capnp_wire.specs.Object.{word_at}
 use Rattle.capnp_wire.specs.Reached.{root}
 use Rattle.capnp_build.specs.Bytes.{Space, written, with_bytes}
-use Rattle.capnp_build.specs.Held.{used_of, space_at, free_words_of}
+use Rattle.capnp_build.specs.BuilderState.{used_of, space_at, free_words_of}
 use Rattle.capnp_build.specs.Built.{message, size_in_words}
 use Rattle.capnp_build.specs.Placed.{KeepsRooms}
 use Rattle.capnp_build.proofs.UsedLemmas.{written_length, written_zero}

@@ -4,7 +4,7 @@ use Rattle.std.specs.Prelude.{⊤}
 use Rattle.std.specs.Int.{to_le_bytes}
 use Rattle.capnp_wire.specs.Tree.{null, numbers, none, struct}
 use Rattle.capnp_build.proofs.FieldLemmas.{field_laid, same_fields}
-use Rattle.capnp_build.proofs.HeldLemmas.{pairs_set}
+use Rattle.capnp_build.proofs.BuilderStateLemmas.{pairs_set}
 use Rattle.capnp_build.proofs.KeptLemmas.{kept_outside}
 use Rattle.capnp_build.proofs.LaidLemmas.{laid_as, laid_root}
 use Rattle.capnp_build.proofs.ReadLemmas.{number_laid, same_numbers}
@@ -14,38 +14,38 @@ use Rattle.capnp_build.proofs.UsedLemmas.{written_length}
 use Rattle.capnp_build.specs.Built.{Built, IsLaid, IsBuilt, LiesOutside, size_in_words}
 use Rattle.capnp_build.specs.Written.{IsWritten, HasField, IsFieldSet, HasNumber, IsNumberSet, HasBytes, IsBytesSet}
 use Rattle.capnp_build.specs.Bytes.{Space, written, with_bytes}
-use Rattle.capnp_build.specs.Held.{Held, space_at, with_space, pairs}
+use Rattle.capnp_build.specs.BuilderState.{BuilderState, space_at, with_space, pairs}
 use Rattle.capnp_build.specs.declared.arena.location.RootLocation.{RootLocation}
 
 -- bytes of the root's body are written
-pub written_at : {A : Type 0} (held last : Held A) (place : Option RootLocation) (location : RootLocation) (at : ℕ) (w : List ℕ) → place ≡ Some location
-    → last ≡ with_space held location.segment (with_bytes (space_at held.spaces location.segment) at w) → 8 * location.start ≤ at
-    → at + length w ≤ 8 * location.start + 8 * location.words → at + length w ≤ length (space_at held.spaces location.segment).used
-    → IsWritten (record { spaces = held.spaces; location = place; allocator = held.allocator }) (record { spaces = last.spaces; location = place; allocator = last.allocator })
-written_at {A = A} held last place location at w is e following within room =
+pub written_at : {A : Type 0} (state last : BuilderState A) (place : Option RootLocation) (location : RootLocation) (at : ℕ) (w : List ℕ) → place ≡ Some location
+    → last ≡ with_space state location.segment (with_bytes (space_at state.spaces location.segment) at w) → 8 * location.start ≤ at
+    → at + length w ≤ 8 * location.start + 8 * location.words → at + length w ≤ length (space_at state.spaces location.segment).used
+    → IsWritten (record { spaces = state.spaces; location = place; allocator = state.allocator }) (record { spaces = last.spaces; location = place; allocator = last.allocator })
+written_at {A = A} state last place location at w is e following within room =
     let i : ℕ = location.segment in
-    let s : Space = with_bytes (space_at held.spaces i) at w in
-    let long : length s.used ≡ length (space_at held.spaces i).used = written_length at (space_at held.spaces i).used w room in
+    let s : Space = with_bytes (space_at state.spaces i) at w in
+    let long : length s.used ≡ length (space_at state.spaces i).used = written_length at (space_at state.spaces i).used w room in
     record {
       location = refl;
-      count = ap (λ (h : Held A). length h.spaces) e ∙ length-set held.spaces i s;
-      size = ap (λ (h : Held A). size_in_words h.spaces) e ∙ size_set held.spaces i s long;
+      count = ap (λ (h : BuilderState A). length h.spaces) e ∙ length-set state.spaces i s;
+      size = ap (λ (h : BuilderState A). size_in_words h.spaces) e ∙ size_set state.spaces i s long;
       outside = λ j from n lies inside.
-          kept_outside held.spaces last.spaces i at j from n w (ap (λ (h : Held A). h.spaces) e)
+          kept_outside state.spaces last.spaces i at j from n w (ap (λ (h : BuilderState A). h.spaces) e)
           (λ same. elim (subst (λ (o : Option RootLocation). MatchOption o ⊤ (LiesOutside j from n)) is lies (sym same)) [
             | inl before ↦ inl (omega (arith, before, following))
             | inr past ↦ inr (omega (arith, past, within))
           ]) (omega (arith, room)) inside;
-      allocator = ap (λ (h : Held A). h.allocator) e;
-      pairs = λ others. ap (λ (h : Held A). pairs h.spaces others) e ∙ pairs_set held.spaces i s others refl;
+      allocator = ap (λ (h : BuilderState A). h.allocator) e;
+      pairs = λ others. ap (λ (h : BuilderState A). pairs h.spaces others) e ∙ pairs_set state.spaces i s others refl;
     }
 
 pub unwritten : {A : Type 0} (old : Built A) → IsWritten old old
 unwritten old = record { location = refl; count = refl; size = refl; outside = λ i from n lies fits. refl; allocator = refl; pairs = λ others. refl }
 
 -- a data word of the struct at the root
-pub field_known : (spaces : List Space) (location : RootLocation) (index : ℕ) (f : HasField spaces index) → IsBuilt spaces (Some location) → IsLaid spaces location (struct f.words) f.held
-field_known spaces location index f p = laid_as spaces location p.0 (struct f.words) p.1 f.held f.traversed p.2 f.stands
+pub field_known : (spaces : List Space) (location : RootLocation) (index : ℕ) (f : HasField spaces index) → IsBuilt spaces (Some location) → IsLaid spaces location (struct f.words) f.children
+field_known spaces location index f p = laid_as spaces location p.0 (struct f.words) p.1 f.children f.traversed p.2 f.stands
 
 pub field_room : (spaces : List Space) (location : RootLocation) (index n : ℕ) (f : HasField spaces index) → IsBuilt spaces (Some location) → n ≡ 8
     → 8 * (location.start + index) + n ≤ length (space_at spaces location.segment).used
@@ -57,11 +57,11 @@ field_inside spaces location index n f p eight = let r = field_known spaces loca
 
 pub field_set : (spaces last : List Space) (location : RootLocation) (index x : ℕ) (w : List ℕ) (f : HasField spaces index) → IsBuilt spaces (Some location) → x < 2 ^ 64 → w ≡ to_le_bytes w64 x → length w ≡ 8
     → last ≡ slice_set spaces location.segment (with_bytes (space_at spaces location.segment) (8 * (location.start + index)) w) → IsFieldSet spaces last index x
-field_set spaces last location index x w f p small is eight e words held traversed there =
-    let r = laid_as spaces location p.0 (struct words) p.1 held traversed p.2 there in
-    let s = laid_as spaces location p.0 (struct f.words) p.1 f.held f.traversed p.2 f.stands in
-    let long : length words ≡ length f.words = same_fields spaces words f.words held f.held traversed f.traversed there f.stands in
-    laid_root last location (struct (slice_set words index x)) held (field_laid spaces last location words held index x w r (omega (arith, long, f.within)) small is eight e)
+field_set spaces last location index x w f p small is eight e words children traversed there =
+    let r = laid_as spaces location p.0 (struct words) p.1 children traversed p.2 there in
+    let s = laid_as spaces location p.0 (struct f.words) p.1 f.children f.traversed p.2 f.stands in
+    let long : length words ≡ length f.words = same_fields spaces words f.words children f.children traversed f.traversed there f.stands in
+    laid_root last location (struct (slice_set words index x)) children (field_laid spaces last location words children index x w r (omega (arith, long, f.within)) small is eight e)
 
 pub no_struct : (words : List ℕ) → struct words ≡ null → ⊥
 no_struct words e = cc

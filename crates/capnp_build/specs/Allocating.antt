@@ -1,5 +1,5 @@
 -- What an allocator keeps that hands out a segment, or takes one back (src/allocator.rt). `out` says which segments may be out,
--- `keeps` what each call keeps, `grants` which requests have to be granted, `refuses` how one may be refused, and `returns` what
+-- `keeps` what each call keeps, `grants` which requests have to be granted, `refuses` how one may be rejected, and `returns` what
 -- a return leads to, as the members of the trait Allocator.
 use Rattle.std.specs.Prelude.{ℕ, ◌/◌, ◌^◌, ◌<◌, ◌≤◌, ◌≡◌, Bool, List, length, Result, IfOk, IfErr, IsOkAnd, OnErr}
 use Rattle.capnp_frame.specs.declared.error.Error.{Error}

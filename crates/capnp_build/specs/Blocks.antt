@@ -8,11 +8,11 @@ use Rattle.capnp_build.specs.declared.allocator.Allocator.{Ghosts}
 use Rattle.capnp_build.specs.declared.arena.location.RootLocation.{RootLocation}
 use Rattle.capnp_build.specs.Bytes.{Space}
 use Rattle.capnp_build.specs.Out.{Out, HasLarge}
-use Rattle.capnp_build.specs.Held.{Held, space_at, pairs, KeepsOthers}
-use Rattle.capnp_build.specs.Built.{Built, held_of, message, size_in_words, HasNullRoot, IsSet, HasBody, IsLaid, IsRewritten, KeepsBytes, KeepsOutside}
+use Rattle.capnp_build.specs.BuilderState.{BuilderState, space_at, pairs, KeepsOthers}
+use Rattle.capnp_build.specs.Built.{Built, state_of, message, size_in_words, HasNullRoot, IsSet, HasBody, IsLaid, IsRewritten, KeepsBytes, KeepsOutside}
 use Rattle.capnp_build.specs.Placed.{IsAtEnd, IsPlaced, HasNoRoom, LacksSegment, IsZeroAt, KeepsRooms}
 
--- a new object stands at the root
+-- a new object is at the root
 abbrev pub IsNew : Form → List Space → Type 0
 IsNew form spaces = (traversed : ℕ) × Root (message spaces) form none traversed
 
@@ -26,12 +26,12 @@ pub record PutsBlock {A S : Type 0} (alloc : Ghosts A S) (stands : List Space �
   pub sizes : OnOk result ((i : ℕ) → i < length old.spaces → (space_at new.spaces i).size ≡ (space_at old.spaces i).size)
   pub refused : OnErr result (new.location ≡ None)
   pub kept : OnErr result (new.spaces ≡ old.spaces)
-  pub kind : IfErr result (λ error. HasNoRoom old.spaces words × LacksSegment alloc (held_of old) (words + 1) error.kind)
+  pub kind : IfErr result (λ error. HasNoRoom old.spaces words × LacksSegment alloc (state_of old) (words + 1) error.kind)
   pub taken : IfErr result (λ error. error.kind ≡ SegmentTaken → (others : List Out) → alloc.out old.allocator (pairs old.spaces others)
       → HasLarge (words + 1) (pairs old.spaces others))
   pub same : alloc.same old.allocator new.allocator
   -- what else the allocator has out stays out
-  pub others : KeepsOthers alloc.out (held_of old) (held_of new)
+  pub others : KeepsOthers alloc.out (state_of old) (state_of new)
 
 -- A value's block is placed in a segment that has room for it, after a given number of words of a landing pad.
 pub record PlacesBlock {A S : Type 0} (alloc : Ghosts A S) (has_tree : Trees → Type 0) (canonical : Bool) (segment landing_pad words : ℕ)
@@ -44,18 +44,18 @@ pub record PlacesBlock {A S : Type 0} (alloc : Ghosts A S) (has_tree : Trees →
   pub sizes : (i : ℕ) → (space_at new.spaces i).size ≡ (space_at old.spaces i).size
   pub same : new.allocator ≡ old.allocator
   -- what else the allocator has out stays out
-  pub others : KeepsOthers alloc.out (held_of old) (held_of new)
+  pub others : KeepsOthers alloc.out (state_of old) (state_of new)
 
--- The root's word leads to the body that stands at a location; no segment becomes longer.
-pub record PointsRoot {A : Type 0} (location : RootLocation) (old new : Held A) : Type 0 where
-  pub stands : (form : Form) (held : Trees) → HasBody old.spaces location form held → IsLaid new.spaces location form held
+-- The root's word leads to the body that is at a location; no segment becomes longer.
+pub record PointsRoot {A : Type 0} (location : RootLocation) (old new : BuilderState A) : Type 0 where
+  pub stands : (form : Form) (children : Trees) → HasBody old.spaces location form children → IsLaid new.spaces location form children
   pub rewritten : IsRewritten old new
   -- the used bytes before the body and its landing pad stay, but for the root's word
   pub bytes : (i from n : ℕ) → (i ≡ 0 → 8 ≤ from) → (0 < i → i ≡ location.segment → from + n + 8 ≤ 8 * location.start) → from + n ≤ length (space_at old.spaces i).used
       → take n (drop from (space_at new.spaces i).used) ≡ take n (drop from (space_at old.spaces i).used)
 
 -- The root's word and the block that it leads to become zero; no segment becomes longer.
-pub record WipesRoot {A S : Type 0} (alloc : Ghosts A S) (location : Option RootLocation) (old new : Held A) : Type 0 where
+pub record ZeroesRoot {A S : Type 0} (alloc : Ghosts A S) (location : Option RootLocation) (old new : BuilderState A) : Type 0 where
   pub null_word : HasNullRoot new.spaces
   pub zero : MatchOption location ⊤ (IsZeroAt new.spaces)
   pub following : MatchOption location ⊤ (λ place. 0 < place.start)
@@ -72,4 +72,4 @@ pub record LeavesNull {A S : Type 0} (alloc : Ghosts A S) (old new : Built A) : 
   pub null : new.location ≡ None
   pub same : alloc.same old.allocator new.allocator
   -- what else the allocator has out stays out
-  pub others : KeepsOthers alloc.out (held_of old) (held_of new)
+  pub others : KeepsOthers alloc.out (state_of old) (state_of new)

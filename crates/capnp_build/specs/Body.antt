@@ -40,6 +40,6 @@ OptionFits None = ⊤
 OptionFits (Some body) = Fits body
 
 -- in canonical form a new struct has no data words
-abbrev pub formed_new_object : Bool → Body → Body
-formed_new_object true (Struct d) = Struct 0
-formed_new_object canonical body = body
+abbrev pub output_new_object : Bool → Body → Body
+output_new_object true (Struct d) = Struct 0
+output_new_object canonical body = body

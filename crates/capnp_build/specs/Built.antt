@@ -5,11 +5,11 @@ use Rattle.capnp_wire.specs.Pointer.{words_of}
 use Rattle.capnp_wire.specs.Tree.{Form, struct, numbers, Trees, none, tree, count, total_words}
 use Rattle.capnp_wire.specs.Object.{message_of, word_at}
 use Rattle.capnp_wire.specs.Reached.{At, root, Root}
-use Rattle.capnp_wire.specs.Layout.{pointer, far_pointer, layout, Laid, formed, AllHaveRoom}
+use Rattle.capnp_wire.specs.Layout.{pointer, far_pointer, layout, Laid, output, AllHaveRoom}
 use Rattle.capnp_wire.specs.declared.layout.place.Place.{Place}
 use Rattle.capnp_build.specs.Bytes.{Space}
 use Rattle.capnp_build.specs.Out.{Out}
-use Rattle.capnp_build.specs.Held.{Held, pairs as pairs_of, used_of, space_at}
+use Rattle.capnp_build.specs.BuilderState.{BuilderState, pairs as pairs_of, used_of, space_at}
 use Rattle.capnp_build.specs.declared.arena.location.RootLocation.{RootLocation}
 use Rattle.capnp_build.specs.declared.root_kind.RootKind.{RootKind}
 use Rattle.capnp_build.specs.declared.root_kind.RootKind.TheVariants.{Null, Bytes, Words, Struct, Other}
@@ -27,65 +27,65 @@ size_in_words (space ∷ spaces) = length space.used / 8 + size_in_words spaces
 abbrev pub HasNullRoot : List Space → Type 0
 HasNullRoot spaces = (spaces ≡ []) ⊎ (word_at (message spaces) root ≡ Some 0)
 
--- the segments in order, where the root's tree stands, and the allocator as it is
+-- the segments in order, where the root's tree is, and the allocator as it is
 pub record Built (A : Type 0) : Type 0 where
   pub spaces : List Space
   pub location : Option RootLocation
   pub allocator : A
 
 -- its segments, and the allocator that they come from
-abbrev pub held_of : {A : Type 0} → Built A → Held A
-held_of built = record { spaces = built.spaces; allocator = built.allocator }
+abbrev pub state_of : {A : Type 0} → Built A → BuilderState A
+state_of built = record { spaces = built.spaces; allocator = built.allocator }
 
 -- what holds of the form of the root's tree
 abbrev pub ForRoot : List Space → (Form → Type 0) → Type 0
-ForRoot spaces fact = (form : Form) (held : Trees) (traversed : ℕ) → Root (message spaces) form held traversed → fact form
+ForRoot spaces fact = (form : Form) (children : Trees) (traversed : ℕ) → Root (message spaces) form children traversed → fact form
 
 -- the root's object is the one that is shown, unless nothing or another one is
 abbrev pub IsRootKind : RootKind → List Space → Type 0
 IsRootKind Null spaces = ⊤
 IsRootKind (Bytes n) spaces = (values : List ℕ) × (traversed : ℕ) × Root (message spaces) (numbers 2 values) none traversed × (length values ≡ n)
 IsRootKind (Words n) spaces = (values : List ℕ) × (traversed : ℕ) × Root (message spaces) (numbers 5 values) none traversed × (length values ≡ n)
-IsRootKind (Struct n) spaces = (words : List ℕ) × (held : Trees) × (traversed : ℕ) × Root (message spaces) (struct words) held traversed × (length words ≡ n)
-IsRootKind Other spaces = (form : Form) × (held : Trees) × (traversed : ℕ) × Root (message spaces) form held traversed
+IsRootKind (Struct n) spaces = (words : List ℕ) × (children : Trees) × (traversed : ℕ) × Root (message spaces) (struct words) children traversed × (length words ≡ n)
+IsRootKind Other spaces = (form : Form) × (children : Trees) × (traversed : ℕ) × Root (message spaces) form children traversed
 
 -- the root's own word, to a body in the first segment, or after its landing pad in another one
 abbrev pub root_word : ℕ → ℕ → Form → Trees → ℕ
-root_word zero start form held = pointer form (count held) (start - 1)
-root_word (suc k) start form held = far_pointer (suc k) (start - 1)
+root_word zero start form children = pointer form (count children) (start - 1)
+root_word (suc k) start form children = far_pointer (suc k) (start - 1)
 
 abbrev pub landing_pad_of : RootLocation → Place
 landing_pad_of location = record { segment = location.segment; word = location.start - 1 }
 
--- a tree's body stands there
-pub record HasBody (spaces : List Space) (location : RootLocation) (form : Form) (held : Trees) : Type 0 where
+-- a tree's body is there
+pub record HasBody (spaces : List Space) (location : RootLocation) (form : Form) (children : Trees) : Type 0 where
   pub within : location.segment < length spaces
   pub room : 8 * (location.start + location.words) ≤ length (space_at spaces location.segment).used
   pub following : 0 < location.start
-  pub near : location.start ≤ 2 ^ 29
-  pub rooms : AllHaveRoom (tree form held none)
-  pub size : location.words ≡ total_words (tree form held none)
+  pub local : location.start ≤ 2 ^ 29
+  pub rooms : AllHaveRoom (tree form children none)
+  pub size : location.words ≡ total_words (tree form children none)
   pub few : location.words < 2 ^ 29
-  pub tag : location.tag ≡ pointer form (count held) 0
-  pub laid : Laid (words_of (space_at spaces location.segment).used) location.start (tree form held none)
+  pub tag : location.tag ≡ pointer form (count children) 0
+  pub laid : Laid (words_of (space_at spaces location.segment).used) location.start (tree form children none)
 
--- some tree's body stands there
+-- some tree's body is there
 abbrev pub HasSomeBody : List Space → RootLocation → Type 0
-HasSomeBody spaces location = (form : Form) × (held : Trees) × HasBody spaces location form held
+HasSomeBody spaces location = (form : Form) × (children : Trees) × HasBody spaces location form children
 
--- the body of a value's tree stands there
+-- the body of a value's tree is there
 pub record HasValue (has_tree : Trees → Type 0) (canonical : Bool) (spaces : List Space) (location : RootLocation) : Type 0 where
   pub trees : Trees
   pub tree_is : has_tree trees
   pub form : Form
-  pub held : Trees
-  pub same : formed canonical trees ≡ tree form held none
-  pub body_is : HasBody spaces location form held
+  pub children : Trees
+  pub same : output canonical trees ≡ tree form children none
+  pub body_is : HasBody spaces location form children
 
--- a tree's body stands there, and the root leads to it
-pub record IsLaid (spaces : List Space) (location : RootLocation) (form : Form) (held : Trees) : Type 0 where
-  pub body_is : HasBody spaces location form held
-  pub root_is : word_at (message spaces) root ≡ Some (root_word location.segment location.start form held)
+-- a tree's body is there, and the root leads to it
+pub record IsLaid (spaces : List Space) (location : RootLocation) (form : Form) (children : Trees) : Type 0 where
+  pub body_is : HasBody spaces location form children
+  pub root_is : word_at (message spaces) root ≡ Some (root_word location.segment location.start form children)
   pub landing_pad_is : 0 < location.segment → (0 < location.words) × (word_at (message spaces) (landing_pad_of location) ≡ Some location.tag)
 
 -- the used bytes of these segments stay, but for the root's word
@@ -103,7 +103,7 @@ KeepsOutside location old new = (i from n : ℕ) → (i ≡ 0 → 8 ≤ from) �
     → take n (drop from (space_at new i).used) ≡ take n (drop from (space_at old i).used)
 
 -- the same segments, of which some used bytes may be others
-pub record IsRewritten {A : Type 0} (old new : Held A) : Type 0 where
+pub record IsRewritten {A : Type 0} (old new : BuilderState A) : Type 0 where
   pub count : length new.spaces ≡ length old.spaces
   pub size : size_in_words new.spaces ≡ size_in_words old.spaces
   pub used : (i : ℕ) → length (space_at new.spaces i).used ≡ length (space_at old.spaces i).used
@@ -112,7 +112,7 @@ pub record IsRewritten {A : Type 0} (old new : Held A) : Type 0 where
   pub pairs : (others : List Out) → pairs_of new.spaces others ≡ pairs_of old.spaces others
 
 -- the same segments, of which one has a given number of used words more
-pub record IsLonger {A : Type 0} (old new : Held A) (segment words : ℕ) : Type 0 where
+pub record IsLonger {A : Type 0} (old new : BuilderState A) (segment words : ℕ) : Type 0 where
   pub count : length new.spaces ≡ length old.spaces
   pub size : size_in_words new.spaces ≡ size_in_words old.spaces + words
   pub used : length (space_at new.spaces segment).used ≡ length (space_at old.spaces segment).used + 8 * words
@@ -123,20 +123,20 @@ pub record IsLonger {A : Type 0} (old new : Held A) (segment words : ℕ) : Type
   pub allocator : new.allocator ≡ old.allocator
   pub pairs : (others : List Out) → pairs_of new.spaces others ≡ pairs_of old.spaces others
 
--- the root is null, also where there is no segment yet, or a tree stands there
+-- the root is null, also where there is no segment yet, or a tree is there
 abbrev pub IsBuilt : List Space → Option RootLocation → Type 0
 IsBuilt spaces None = HasNullRoot spaces
-IsBuilt spaces (Some location) = (form : Form) × (held : Trees) × IsLaid spaces location form held
+IsBuilt spaces (Some location) = (form : Form) × (children : Trees) × IsLaid spaces location form children
 
 -- the root is a value's tree
 pub record IsSet (has_tree : Trees → Type 0) (canonical : Bool) (spaces : List Space) : Type 0 where
   pub trees : Trees
   pub tree_is : has_tree trees
   pub traversed : ℕ
-  pub stands : At (message spaces) (root ∷ []) (formed canonical trees) traversed
+  pub stands : At (message spaces) (root ∷ []) (output canonical trees) traversed
 
 -- the one segment is a value's layout and nothing else: in canonical form, its canonical form
 pub record IsWhole (has_tree : Trees → Type 0) (canonical : Bool) (spaces : List Space) : Type 0 where
   pub trees : Trees
   pub tree_is : has_tree trees
-  pub words_are : message spaces ≡ layout (formed canonical trees) ∷ []
+  pub words_are : message spaces ≡ layout (output canonical trees) ∷ []

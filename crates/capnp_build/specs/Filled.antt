@@ -2,13 +2,13 @@
 use Rattle.std.specs.Prelude.{◌≡◌, ℕ, ◌*◌, Bool, List, ◌++◌, length}
 use Rattle.capnp_frame.specs.declared.words.Word.{Word}
 use Rattle.capnp_wire.specs.Tree.{Trees}
-use Rattle.capnp_wire.specs.Layout.{layout, formed}
+use Rattle.capnp_wire.specs.Layout.{layout, output}
 use Rattle.capnp_wire.specs.Values.{pointed}
 use Rattle.capnp_build.specs.Bytes.{Space, written}
 
 -- a pointer and the block after it are the value's tree
 abbrev pub IsBlockOf : (Trees → Type 0) → Bool → Word → List ℕ → Type 0
-IsBlockOf has_tree canonical word block = (trees : Trees) → has_tree trees → pointed word block ≡ layout (formed canonical trees)
+IsBlockOf has_tree canonical word block = (trees : Trees) → has_tree trees → pointed word block ≡ layout (output canonical trees)
 
 -- n bytes from an index on are the block of a value
 pub record IsFilled (has_tree : Trees → Type 0) (canonical : Bool) (word : Word) (from n : ℕ) (old new : List ℕ) : Type 0 where

@@ -2,7 +2,7 @@ pub mod Bytes
 pub mod Out
 pub mod Allocating
 pub mod Filled
-pub mod Held
+pub mod BuilderState
 pub mod Body
 pub mod RootKind
 pub mod Built

@@ -12,12 +12,12 @@ use Rattle.capnp_wire.specs.Values.{HasWords, LacksWords}
 use Rattle.capnp_build.specs.declared.allocator.Allocator as allocator
 use Rattle.capnp_build.specs.declared.owned_builder.OwnedBuilder as owned_builder
 use Rattle.capnp_build.specs.Bytes.{Space}
-use Rattle.capnp_build.specs.Held.{space_at, free_words_of, Held, KeepsOthers, BringsHome, ReturnsEach}
-use Rattle.capnp_build.specs.Built.{Built, held_of, message, size_in_words, HasNullRoot, ForRoot, IsSet, IsWhole, KeepsOutside}
+use Rattle.capnp_build.specs.BuilderState.{space_at, free_words_of, BuilderState, KeepsOthers, ReturnsRegion, ReturnsEach}
+use Rattle.capnp_build.specs.Built.{Built, state_of, message, size_in_words, HasNullRoot, ForRoot, IsSet, IsWhole, KeepsOutside}
 use Rattle.capnp_build.specs.Placed.{Refuses, DeclinesRoot, IsPut, IsInit}
 use Rattle.capnp_build.specs.Placed.{InitWords, FindsNoRoom, IsCleared, IsZeroAt, KeepsRooms, HasRootAlone, IsLookedAt}
 
--- there is no segment yet, and the allocator refuses the first one, of a word
+-- there is no segment yet, and the allocator rejects the first one, of a word
 abbrev pub LacksFirst : {A S : Type 0} → allocator.Ghosts A S → Built A → ErrorKind → Type 0
 LacksFirst alloc old kind = (length old.spaces ≡ 0) × Refuses alloc old.allocator 1 kind
 
@@ -39,10 +39,10 @@ abbrev pub WhereGranted : {A S : Type 0} → allocator.Ghosts A S → Built A �
 WhereGranted alloc old fact = old.spaces ≡ [] → (most : ℕ) → alloc.grants old.allocator 1 most → fact
 
 -- as the first action, over an allocator that has nothing out, a call does not fail with SegmentTaken, but where `refuses` says so
-abbrev pub NotTakenAtHome : {A S X : Type 0} → allocator.Ghosts A S → (ErrorKind → Type 0) → Built A → Result X Error → Type 0
-NotTakenAtHome alloc refuses old result = old.spaces ≡ [] → alloc.out old.allocator [] → IfErr result (λ error. error.kind ≡ SegmentTaken → refuses error.kind)
+abbrev pub NotExhaustedWhileAvailable : {A S X : Type 0} → allocator.Ghosts A S → (ErrorKind → Type 0) → Built A → Result X Error → Type 0
+NotExhaustedWhileAvailable alloc refuses old result = old.spaces ≡ [] → alloc.out old.allocator [] → IfErr result (λ error. error.kind ≡ SegmentTaken → refuses error.kind)
 
--- which refusal of a value in canonical form comes once the old root is cleared: the lines are tested in this order
+-- which error of a value in canonical form comes once the old root is cleared: the lines are tested in this order
 abbrev pub RefusesCanonical : (Trees → Type 0) → (ErrorKind → Type 0) → List Space → ErrorKind → Type 0
 RefusesCanonical has_tree refuses spaces kind =
     -- there are more segments
@@ -71,10 +71,10 @@ pub record SetsRoot {A S : Type 0} (alloc : allocator.Ghosts A S) (has_tree : Tr
   pub exact : (kind : ErrorKind) → LacksWords has_tree refuses false kind → IsErrAnd result (λ error. (error.kind ≡ kind) ⊎ StopsFirst alloc old new.spaces error.kind)
   -- a value is set where the first segment has room
   pub fits : (words : ℕ) → HasWords has_tree false words → HasRoomFirst alloc old words → IsOk result
-  pub home : NotTakenAtHome alloc (LacksWords has_tree refuses false) old result
+  pub available : NotExhaustedWhileAvailable alloc (LacksWords has_tree refuses false) old result
   pub same : alloc.same old.allocator new.allocator
   -- what else the allocator has out stays out
-  pub others : KeepsOthers alloc.out (held_of old) (held_of new)
+  pub others : KeepsOthers alloc.out (state_of old) (state_of new)
 
 -- What setting the root to a value in canonical form, in the first segment, keeps.
 pub record SetsRootCanonical {A S : Type 0} (alloc : allocator.Ghosts A S) (has_tree : Trees → Type 0) (refuses : ErrorKind → Type 0)
@@ -96,10 +96,10 @@ pub record SetsRootCanonical {A S : Type 0} (alloc : allocator.Ghosts A S) (has_
   pub lacks : old.spaces ≡ [] → (kind : ErrorKind) → LacksWords has_tree refuses true kind → IsErrAnd result (λ error. (error.kind ≡ kind) ⊎ StopsFirst alloc old new.spaces error.kind)
   -- a value is set where the one segment has room
   pub fits : length old.spaces ≤ 1 → (words : ℕ) → HasWords has_tree true words → HasRoomFirst alloc old words → IsOk result
-  pub home : NotTakenAtHome alloc (LacksWords has_tree refuses true) old result
+  pub available : NotExhaustedWhileAvailable alloc (LacksWords has_tree refuses true) old result
   pub same : alloc.same old.allocator new.allocator
   -- what else the allocator has out stays out
-  pub others : KeepsOthers alloc.out (held_of old) (held_of new)
+  pub others : KeepsOthers alloc.out (state_of old) (state_of new)
 
 -- What making the root a new object of length `n` keeps: of a type of which `schema` is what is seen (the members of the
 -- trait OwnedBuilder).
@@ -120,10 +120,10 @@ pub record InitsRoot {A S K : Type 0} (alloc : allocator.Ghosts A S) (schema : o
   pub none : new.spaces ≡ [] → IfErr result (λ error. LacksFirst alloc old error.kind)
   -- an object that the type has is made where the first segment has room
   pub fits : FitsFirst alloc (InitWords schema.inits n) old (IfErr result (λ error. schema.refuses n error.kind))
-  pub home : NotTakenAtHome alloc (schema.refuses n) old result
+  pub available : NotExhaustedWhileAvailable alloc (schema.refuses n) old result
   pub same : alloc.same old.allocator new.allocator
   -- what else the allocator has out stays out
-  pub others : KeepsOthers alloc.out (held_of old) (held_of new)
+  pub others : KeepsOthers alloc.out (state_of old) (state_of new)
 
 -- What making the root null, and the old body zero, keeps.
 pub record ClearsRoot {A S : Type 0} (alloc : allocator.Ghosts A S) (old new : Built A) (result : Result (Unit {0}) Error) : Type 0 where
@@ -139,7 +139,7 @@ pub record ClearsRoot {A S : Type 0} (alloc : allocator.Ghosts A S) (old new : B
   pub kind : IfErr result (λ error. LacksFirst alloc old error.kind)
   pub same : alloc.same old.allocator new.allocator
   -- what else the allocator has out stays out
-  pub others : KeepsOthers alloc.out (held_of old) (held_of new)
+  pub others : KeepsOthers alloc.out (state_of old) (state_of new)
   -- where there was a segment, none is asked for
   pub stays : 0 < length old.spaces → new.allocator ≡ old.allocator
   pub size : OnOk result (size_in_words new.spaces ≡ max 1 (size_in_words old.spaces))
@@ -148,9 +148,9 @@ pub record ClearsRoot {A S : Type 0} (alloc : allocator.Ghosts A S) (old new : B
   pub new_object : old.spaces ≡ [] → OnOk result (HasRootAlone new.spaces)
   -- where it has to be granted, the first segment is, with a given number of words
   pub granted : old.spaces ≡ [] → (most : ℕ) → alloc.grants old.allocator 1 most → IsOk result × ((space_at new.spaces 0).size / 8 ≡ most)
-  pub home : NotTakenAtHome alloc (λ kind. ⊥) old result
+  pub available : NotExhaustedWhileAvailable alloc (λ kind. ⊥) old result
 
--- What making sure of a root keeps: where there is no segment, a null one stands in a new segment afterwards.
+-- What making sure of a root keeps: where there is no segment, a null one is in a new segment afterwards.
 pub record EnsuresRoot {A S : Type 0} (alloc : allocator.Ghosts A S) (old new : Built A) (result : Result (Unit {0}) Error) : Type 0 where
   pub there : OnOk result (0 < length new.spaces)
   pub none : OnErr result (new.spaces ≡ [])
@@ -159,9 +159,9 @@ pub record EnsuresRoot {A S : Type 0} (alloc : allocator.Ghosts A S) (old new : 
   pub kind : IfErr result (λ error. LacksFirst alloc old error.kind)
   -- where it has to be granted, the first segment is
   pub granted : WhereGranted alloc old (IsOk result)
-  pub home : NotTakenAtHome alloc (λ kind. ⊥) old result
+  pub available : NotExhaustedWhileAvailable alloc (λ kind. ⊥) old result
   -- what else the allocator has out stays out
-  pub others : KeepsOthers alloc.out (held_of old) (held_of new)
+  pub others : KeepsOthers alloc.out (state_of old) (state_of new)
 
 -- What a look at the root keeps, whether a type takes the object there.
 pub record LooksAtRoot {A S K : Type 0} (alloc : allocator.Ghosts A S) (schema : owned_builder.Ghosts K) (old new : Built A)
@@ -173,9 +173,9 @@ pub record LooksAtRoot {A S K : Type 0} (alloc : allocator.Ghosts A S) (schema :
   pub kind : IfErr result (λ error. StopsFirst alloc old new.spaces error.kind ⊎ DeclinesRoot schema.declines old.spaces error.kind)
   -- where it has to be granted, the first segment is
   pub granted : WhereGranted alloc old (IfErr result (λ error. DeclinesRoot schema.declines old.spaces error.kind))
-  pub home : NotTakenAtHome alloc (DeclinesRoot schema.declines old.spaces) old result
+  pub available : NotExhaustedWhileAvailable alloc (DeclinesRoot schema.declines old.spaces) old result
   -- what else the allocator has out stays out
-  pub others : KeepsOthers alloc.out (held_of old) (held_of new)
+  pub others : KeepsOthers alloc.out (state_of old) (state_of new)
 
 -- A message of no segments, whose root is null, and of whose allocator a fact holds.
 pub record IsNewMessage {A : Type 0} (fact : A → Type 0) (built : Built A) : Type 0 where
@@ -184,8 +184,8 @@ pub record IsNewMessage {A : Type 0} (fact : A → Type 0) (built : Built A) : T
   pub allocator : fact built.allocator
 
 -- What the allocator that comes back keeps: each segment has gone back to it with its used words.
-pub record GivesBack {A S : Type 0} (alloc : allocator.Ghosts A S) (held : Held A) (last : A) : Type 0 where
-  pub home : BringsHome alloc.out held last
+pub record GivesBack {A S : Type 0} (alloc : allocator.Ghosts A S) (state : BuilderState A) (last : A) : Type 0 where
+  pub available : ReturnsRegion alloc.out state last
   -- by just such returns the allocator came to be as it is
-  pub returned : ReturnsEach alloc.returns held.spaces held.allocator last
-  pub same : alloc.same held.allocator last
+  pub returned : ReturnsEach alloc.returns state.spaces state.allocator last
+  pub same : alloc.same state.allocator last

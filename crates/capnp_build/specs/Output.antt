@@ -2,7 +2,7 @@
 use Rattle.std.specs.Prelude.{◌≡◌, ℕ, ◌*◌, ◌%◌, ◌^◌, ◌<◌, ◌≤◌, List, length, map}
 use Rattle.capnp_frame.specs.Writing.{IsWritable}
 use Rattle.capnp_build.specs.Bytes.{Space}
-use Rattle.capnp_build.specs.Held.{used_of}
+use Rattle.capnp_build.specs.BuilderState.{used_of}
 
 -- whole words are used of a segment, at most 2 ^ 29 of them
 abbrev pub UsesWords : Space → Type 0

@@ -7,26 +7,26 @@ use Rattle.capnp_wire.specs.Tree.{Form, null, none, tree}
 use Rattle.capnp_wire.specs.Values.{HasWords}
 use Rattle.capnp_build.specs.Bytes.{Space}
 use Rattle.capnp_build.specs.Out.{MayRefuse}
-use Rattle.capnp_build.specs.Held.{Held, space_at, free_words_of, KeepsOthers}
+use Rattle.capnp_build.specs.BuilderState.{BuilderState, space_at, free_words_of, KeepsOthers}
 use Rattle.capnp_build.specs.declared.allocator.Allocator.{Ghosts}
 use Rattle.capnp_build.specs.declared.arena.location.RootLocation.{RootLocation}
-use Rattle.capnp_build.specs.Built.{size_in_words, HasNullRoot, Built, held_of, ForRoot, KeepsOutside}
+use Rattle.capnp_build.specs.Built.{size_in_words, HasNullRoot, Built, state_of, ForRoot, KeepsOutside}
 
 -- no segment has room for a block of a given number of words, nor one after the first for it and its landing pad
 pub record HasNoRoom (spaces : List Space) (words : ℕ) : Type 0 where
   pub first : free_words_of (space_at spaces 0) < words
   pub others : (i : ℕ) → 0 < i → i < length spaces → free_words_of (space_at spaces i) < words + 1
 
--- an allocator refuses a request of a given number of words
+-- an allocator rejects a request of a given number of words
 abbrev pub Refuses : {A S : Type 0} → Ghosts A S → A → ℕ → ErrorKind → Type 0
 Refuses alloc allocator asked kind = alloc.refuses allocator asked kind × MayRefuse asked kind
 
 -- a further segment of a given number of words is not had: there are as many segments as there may be, the list of those after the
--- first can't grow, or the allocator refuses it
-abbrev pub LacksSegment : {A S : Type 0} → Ghosts A S → Held A → ℕ → ErrorKind → Type 0
-LacksSegment alloc held asked kind =
-    ((2 ^ 32 ≤ length held.spaces + 1) × (kind ≡ AllocationTooLarge asked))
-    ⊎ ((length held.spaces + 1 < 2 ^ 32) × (((0 < length held.spaces) × (kind ≡ OutOfMemory)) ⊎ Refuses alloc held.allocator asked kind))
+-- first can't grow, or the allocator rejects it
+abbrev pub LacksSegment : {A S : Type 0} → Ghosts A S → BuilderState A → ℕ → ErrorKind → Type 0
+LacksSegment alloc state asked kind =
+    ((2 ^ 32 ≤ length state.spaces + 1) × (kind ≡ AllocationTooLarge asked))
+    ⊎ ((length state.spaces + 1 < 2 ^ 32) × (((0 < length state.spaces) × (kind ≡ OutOfMemory)) ⊎ Refuses alloc state.allocator asked kind))
 
 -- want of room in these segments once the old root is cleared: the value has a given number of words, no segment has room for
 -- them, and a further one is not had
@@ -51,7 +51,7 @@ InitWords inits n words = (form : Form) × inits n form × NewWords form words
 abbrev pub IsAdded : List Space → List Space → Type 0
 IsAdded old new = (space : Space) × (new ≡ old ++ space ∷ []) × (space.used ≡ [])
 
--- a block of a given number of words stands after the used words of a segment and a landing pad of as many
+-- a block of a given number of words is after the used words of a segment and a landing pad of as many
 pub record IsAtEnd (old : List Space) (location : Option RootLocation) (segment landing_pad words : ℕ) : Type 0 where
   pub place : RootLocation
   pub place_is : location ≡ Some place
@@ -59,10 +59,10 @@ pub record IsAtEnd (old : List Space) (location : Option RootLocation) (segment 
   pub words_are : place.words ≡ words
   pub start_is : 8 * place.start ≡ length (space_at old segment).used + 8 * landing_pad
 
--- a block of a given number of words stands in the first segment where that has room, else after a landing pad in the first one
+-- a block of a given number of words is in the first segment where that has room, else after a landing pad in the first one
 -- with room for both, else in a new one; no other words are taken
 pub record IsPlaced {A : Type 0} (old : List Space) (new : Built A) (words : ℕ) : Type 0 where
-  pub near : words ≤ free_words_of (space_at old 0) → IsAtEnd old new.location 0 0 words × (length new.spaces ≡ length old)
+  pub local : words ≤ free_words_of (space_at old 0) → IsAtEnd old new.location 0 0 words × (length new.spaces ≡ length old)
       × (size_in_words new.spaces ≡ size_in_words old + words)
   pub far : free_words_of (space_at old 0) < words → (segment : ℕ) × (0 < segment) × IsAtEnd old new.location segment 1 words
       × ((i : ℕ) → 0 < i → i < segment → free_words_of (space_at old i) < words + 1) × (segment ≤ length old)
@@ -80,7 +80,7 @@ IsZeroAt spaces location = take (8 * location.words) (drop (8 * location.start) 
 abbrev pub HasRootAlone : List Space → Type 0
 HasRootAlone spaces = (length spaces ≡ 1) × (length (space_at spaces 0).used ≡ 8) × (8 ≤ (space_at spaces 0).size)
 
--- after a refusal: a null root, the old block zero, and no words taken but the root's own
+-- after an error: a null root, the old block zero, and no words taken but the root's own
 pub record IsCleared {A S : Type 0} (alloc : Ghosts A S) (old last : Built A) : Type 0 where
   pub null : last.location ≡ None
   pub null_word : HasNullRoot last.spaces
@@ -93,9 +93,9 @@ pub record IsCleared {A S : Type 0} (alloc : Ghosts A S) (old last : Built A) : 
   pub new_object : old.spaces ≡ [] → (last.spaces ≡ []) ⊎ HasRootAlone last.spaces
   pub same_allocator : alloc.same old.allocator last.allocator
   -- what else the allocator has out stays out
-  pub others : KeepsOthers alloc.out (held_of old) (held_of last)
+  pub others : KeepsOthers alloc.out (state_of old) (state_of last)
 
--- a block of a given number of words stands in a segment from a word on
+-- a block of a given number of words is in a segment from a word on
 pub record StandsAt (location : Option RootLocation) (segment start words : ℕ) : Type 0 where
   pub place : RootLocation
   pub place_is : location ≡ Some place
@@ -110,7 +110,7 @@ most_words space = min (space.size / 8) (2 ^ 29)
 -- a block of a given number of words as the first one: just after the root's word where the first segment has room, else after
 -- its landing pad at the front of a second one; no other words are used
 pub record IsFirst {A : Type 0} (new : Built A) (words : ℕ) : Type 0 where
-  pub near : words < most_words (space_at new.spaces 0) → StandsAt new.location 0 1 words × (length new.spaces ≡ 1) × (size_in_words new.spaces ≡ 1 + words)
+  pub local : words < most_words (space_at new.spaces 0) → StandsAt new.location 0 1 words × (length new.spaces ≡ 1) × (size_in_words new.spaces ≡ 1 + words)
   pub far : most_words (space_at new.spaces 0) ≤ words → StandsAt new.location 1 1 words × (length new.spaces ≡ 2) × (size_in_words new.spaces ≡ 2 + words)
 
 -- where the first segment has to be granted, it is the granted one, of a given number of words
@@ -156,7 +156,7 @@ pub record IsLookedAt {A S : Type 0} (alloc : Ghosts A S) (old last : Built A) :
   pub granted : IsGranted alloc old last.spaces
   pub same_allocator : alloc.same old.allocator last.allocator
   -- what else the allocator has out stays out
-  pub others : KeepsOthers alloc.out (held_of old) (held_of last)
+  pub others : KeepsOthers alloc.out (state_of old) (state_of last)
 
 -- the root is declined, null where there is no segment
 abbrev pub DeclinesRoot : (Form → ErrorKind → Type 0) → List Space → ErrorKind → Type 0

@@ -10,16 +10,16 @@ use Rattle.capnp_wire.specs.Tree.{Form, Trees, none, tree, total_words}
 use Rattle.capnp_wire.specs.Reached.{Root}
 use Rattle.capnp_wire.specs.Layout.{body}
 use Rattle.capnp_wire.specs.Readers.{unlimited_root}
-use Rattle.capnp_wire.specs.Views.{Pointer, Measures, Unmeasured}
+use Rattle.capnp_wire.specs.Views.{Pointer, Measures, RejectsMeasuring}
 use Rattle.capnp_wire.specs.declared.message_size.MessageSize.{MessageSize}
 use Rattle.capnp_build.specs.declared.allocator.Allocator as allocator
 use Rattle.capnp_build.specs.declared.owned_builder.OwnedBuilder as owned_builder
 use Rattle.capnp_build.specs.Bytes.{Space}
-use Rattle.capnp_build.specs.Held.{used_of, KeepsOthers}
-use Rattle.capnp_build.specs.Built.{Built, held_of, message as words_of_message, ForRoot}
+use Rattle.capnp_build.specs.BuilderState.{used_of, KeepsOthers}
+use Rattle.capnp_build.specs.Built.{Built, state_of, message as words_of_message, ForRoot}
 use Rattle.capnp_build.specs.Placed.{DeclinesRoot, InitWords, IsInit, FoundNoRoom, IsLookedAt}
 use Rattle.capnp_build.specs.Written.{IsWritten}
-use Rattle.capnp_build.specs.Outcomes.{LacksFirst, FitsFirst, WhereGranted, NotTakenAtHome}
+use Rattle.capnp_build.specs.Outcomes.{LacksFirst, FitsFirst, WhereGranted, NotExhaustedWhileAvailable}
 
 -- What a call keeps that makes the root a new object of length `n` and returns a view that writes it.
 pub record InitsView {A S K M V : Type 0} (alloc : allocator.Ghosts A S) (schema : owned_builder.Ghosts K) (n : ℕ) (built : M → Built A)
@@ -38,10 +38,10 @@ pub record InitsView {A S K M V : Type 0} (alloc : allocator.Ghosts A S) (schema
       ⊎ FoundNoRoom alloc (InitWords schema.inits n) (built old.now) error.kind)
   -- an object that the type has is made where the first segment has room
   pub fits : FitsFirst alloc (InitWords schema.inits n) (built old.now) (IfErr result (λ error. schema.refuses n error.kind))
-  pub home : NotTakenAtHome alloc (schema.refuses n) (built old.now) result
+  pub available : NotExhaustedWhileAvailable alloc (schema.refuses n) (built old.now) result
   pub allocator : IfOk result (λ view. alloc.same (built old.now).allocator (built (message view).now).allocator)
   -- what else the allocator has out stays out
-  pub others : IfOk result (λ view. KeepsOthers alloc.out (held_of (built old.now)) (held_of (built (message view).now)))
+  pub others : IfOk result (λ view. KeepsOthers alloc.out (state_of (built old.now)) (state_of (built (message view).now)))
 
 -- What a call keeps that returns a view of the root's object, where the type takes it.
 pub record GetsView {A S K M V : Type 0} (alloc : allocator.Ghosts A S) (schema : owned_builder.Ghosts K) (built : M → Built A)
@@ -53,13 +53,13 @@ pub record GetsView {A S K M V : Type 0} (alloc : allocator.Ghosts A S) (schema 
   pub there : IfOk result (λ view. 0 < length (built (message view).now).spaces)
   pub looked : IfOk result (λ view. IsLookedAt alloc (built old.now) (built (message view).now))
   -- what else the allocator has out stays out
-  pub others : IfOk result (λ view. KeepsOthers alloc.out (held_of (built old.now)) (held_of (built (message view).now)))
+  pub others : IfOk result (λ view. KeepsOthers alloc.out (state_of (built old.now)) (state_of (built (message view).now)))
   -- it fails as the allocator fails to hand out the first segment, or as the type declines the root
   pub kind : IfErr result (λ error. LacksFirst alloc (built old.now) error.kind
       ⊎ DeclinesRoot schema.declines (built old.now).spaces error.kind)
   -- where it has to be granted, the first segment is
   pub granted : WhereGranted alloc (built old.now) (IfErr result (λ error. DeclinesRoot schema.declines (built old.now).spaces error.kind))
-  pub home : NotTakenAtHome alloc (DeclinesRoot schema.declines (built old.now).spaces) (built old.now) result
+  pub available : NotExhaustedWhileAvailable alloc (DeclinesRoot schema.declines (built old.now).spaces) (built old.now) result
 
 -- What writing into the root's object keeps: a relation of the segments before and after says what is written.
 pub record WritesRoot {A : Type 0} (writes : List Space → List Space → Type 0) (old new : Built A) : Type 0 where
@@ -76,13 +76,13 @@ pub record WritesView {A M : Type 0} (built : M → Built A) (writes : List Spac
 -- What the size of the tree at the root keeps: it is what a reading pointer to it returns.
 pub record SizesRoot (spaces : List Space) (result : Result MessageSize Error) : Type 0 where
   pub returned : let pointer : Pointer = unlimited_root (map used_of spaces) in MatchResult result
-      (λ size. Measures pointer size.word_count × (size.cap_count ≡ 0)) (λ error. Unmeasured pointer error.kind)
+      (λ size. Measures pointer size.word_count × (size.cap_count ≡ 0)) (λ error. RejectsMeasuring pointer error.kind)
   pub measured : (words : ℕ) → Measures (unlimited_root (map used_of spaces)) words → words < 2 ^ 64 → IsOk result
-  pub exact : (kind : ErrorKind) → Unmeasured (unlimited_root (map used_of spaces)) kind → IsErrAnd result (λ error. error.kind ≡ kind)
+  pub exact : (kind : ErrorKind) → RejectsMeasuring (unlimited_root (map used_of spaces)) kind → IsErrAnd result (λ error. error.kind ≡ kind)
 
 -- The bytes of the object at the root and of what it holds: the words of the whole tree, and no more.
 pub record HoldsTree (spaces : List Space) (bytes : List ℕ) : Type 0 where
-  pub words : (form : Form) (held : Trees) (traversed : ℕ) → Root (words_of_message spaces) form held traversed → words_of bytes ≡ body (tree form held none)
-  pub size : (form : Form) (held : Trees) (traversed : ℕ) → Root (words_of_message spaces) form held traversed → length bytes ≡ 8 * total_words (tree form held none)
+  pub words : (form : Form) (children : Trees) (traversed : ℕ) → Root (words_of_message spaces) form children traversed → words_of bytes ≡ body (tree form children none)
+  pub size : (form : Form) (children : Trees) (traversed : ℕ) → Root (words_of_message spaces) form children traversed → length bytes ≡ 8 * total_words (tree form children none)
   -- there is no segment yet
   pub empty : spaces ≡ [] → bytes ≡ []

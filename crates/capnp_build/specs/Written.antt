@@ -4,22 +4,22 @@ use Rattle.capnp_wire.specs.Tree.{struct, numbers, Trees, none, tree}
 use Rattle.capnp_wire.specs.Reached.{At, root}
 use Rattle.capnp_build.specs.Bytes.{Space, written}
 use Rattle.capnp_build.specs.Out.{Out}
-use Rattle.capnp_build.specs.Held.{space_at, pairs as pairs_of}
+use Rattle.capnp_build.specs.BuilderState.{space_at, pairs as pairs_of}
 use Rattle.capnp_build.specs.Built.{Built, message, size_in_words, LiesOutside}
 
 -- the root is a struct with such a data word
 pub record HasField (spaces : List Space) (index : ℕ) : Type 0 where
   pub words : List ℕ
-  pub held : Trees
+  pub children : Trees
   pub traversed : ℕ
-  pub stands : At (message spaces) (root ∷ []) (tree (struct words) held none) traversed
+  pub stands : At (message spaces) (root ∷ []) (tree (struct words) children none) traversed
   pub within : index < length words
 
 -- one of the root's data words is another one, and all else is as it was
 abbrev pub IsFieldSet : List Space → List Space → ℕ → ℕ → Type 0
 IsFieldSet spaces last index word =
-    (words : List ℕ) (held : Trees) (traversed : ℕ) → At (message spaces) (root ∷ []) (tree (struct words) held none) traversed
-    → (after : ℕ) × At (message last) (root ∷ []) (tree (struct (slice_set words index word)) held none) after
+    (words : List ℕ) (children : Trees) (traversed : ℕ) → At (message spaces) (root ∷ []) (tree (struct words) children none) traversed
+    → (after : ℕ) × At (message last) (root ∷ []) (tree (struct (slice_set words index word)) children none) after
 
 -- the root is a list of bytes with a given number of them from an index on
 pub record HasBytes (spaces : List Space) (index n : ℕ) : Type 0 where

@@ -14,10 +14,10 @@ use capnp_frame::Result;
 /// For implementers: `out` says which segments may be out, each by its length in bytes and whether
 /// it is caller-provided. `same` is what each call keeps, as the caller-provided region of an
 /// allocator. `grants` says which requests have to be granted, where an allocator can promise that:
-/// memory is never sure to be there. `refuses` says how a request may be refused, and `returns` what
+/// memory is never sure to be there. `refuses` says how a request may be rejected, and `returns` what
 /// a return does, by the segment and its used words. An allocator for which nothing depends on these
 /// two leaves them open, and code over any allocator still shows that it asked for just these words
-/// where it was refused, and that it returns just these words.
+/// where it was rejected, and that it returns just these words.
 pub trait Allocator: Drop {
     /// The bytes of a segment.
     type Segment: SegmentSpace;
@@ -32,7 +32,7 @@ pub trait Allocator: Drop {
     /// words.
     ghost grants: { Self → ℕ → ℕ → Type 0 };
 
-    /// A request of a given number of words may be refused so.
+    /// A request of a given number of words may be rejected so.
     ghost refuses: { Self → ℕ → ErrorKind → Type 0 };
 
     /// A return of a segment, of which this many words were used, leads from the one allocator to

@@ -1,7 +1,7 @@
 //! New objects, as values that a root is set to.
 ghost use Rattle.std.specs.Prelude.{◌≡◌};
 ghost use Rattle.capnp_wire.specs.Tree.{none, tree, count};
-ghost use Rattle.capnp_build.specs.Body.{Fits, zero_form, formed_new_object};
+ghost use Rattle.capnp_build.specs.Body.{Fits, zero_form, output_new_object};
 ghost use Rattle.capnp_wire.specs.Values.{HasWords};
 ghost use Rattle.std.specs.Prelude.{false};
 
@@ -42,13 +42,13 @@ impl NewObject {
     pub fn words(&self) -> u32
         ensures { HasWords (λ trees. trees ≡ tree (zero_form self.now) none none) false result }
     {
-        let body = self.formed(false);
+        let body = self.output(false);
         body.words()
     }
 
-    fn formed(&self, canonical: bool) -> Body
+    fn output(&self, canonical: bool) -> Body
         ensures fits { Fits result }
-        ensures body { result ≡ formed_new_object canonical self.now }
+        ensures body { result ≡ output_new_object canonical self.now }
         ensures whole { Fits self.now }
     {
         match self.body {
@@ -68,7 +68,7 @@ impl SetterInput<Owned> for NewObject {
     ghost one = { λ new_object trees is. ap count is };
 
     fn measure(&self, canonical: bool) -> Result<u32> {
-        Ok(self.formed(canonical).words())
+        Ok(self.output(canonical).words())
     }
 
     fn is_null(&self) -> bool {
@@ -77,7 +77,7 @@ impl SetterInput<Owned> for NewObject {
 
     // The block is zero already.
     fn write(&self, canonical: bool, _block: &mut [u8], following: usize, next: usize) -> Copied {
-        let body = self.formed(canonical);
+        let body = self.output(canonical);
         Copied {
             pointer: body.tag((next - following) as u32),
             next: next + body.words() as usize,

@@ -31,7 +31,7 @@ impl Body {
     /// The pointer to it, from this many words before it.
     pub fn tag(self, offset: u32) -> u64
         requires fits { Fits self }
-        requires near { offset < 2 ^ 29 }
+        requires local { offset < 2 ^ 29 }
         ensures word { result ≡ body_tag offset self }
     {
         match self {

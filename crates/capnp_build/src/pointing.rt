@@ -1,10 +1,10 @@
 //! Blocks of values after the used words of segments, and the root's pointer to them.
 ghost use Rattle.std.specs.Prelude.{◌≡◌, ℕ, ◌+◌, ◌-◌, ◌*◌, ◌^◌, ◌<◌, ◌≤◌, length, Some};
-ghost use Rattle.capnp_build.specs.Held.{space_at, free_words_of};
+ghost use Rattle.capnp_build.specs.BuilderState.{space_at, free_words_of};
 ghost use Rattle.capnp_build.specs.Built.{HasSomeBody, HasValue, IsBuilt, IsLonger};
 ghost use Rattle.capnp_build.specs.Placed.{IsAtEnd};
 ghost use Rattle.capnp_wire.specs.Values.{HasWords};
-ghost use Rattle.capnp_build.specs.Blocks.{PointsRoot, WipesRoot};
+ghost use Rattle.capnp_build.specs.Blocks.{PointsRoot, ZeroesRoot};
 
 use crate::allocator::Allocator;
 use crate::arena::location::RootLocation;
@@ -14,10 +14,10 @@ use capnp_wire::traits::SetterInput;
 
 impl<A: Allocator> Segments<A> {
     /// Makes the root's word zero, and the object that it leads to.
-    pub fn wipe(&mut self, location: Option<RootLocation>)
+    pub fn zero_root(&mut self, location: Option<RootLocation>)
         requires there { 0 < length self.old.spaces }
         requires built { IsBuilt self.old.spaces location }
-        ensures { WipesRoot A.Allocator location self.old self.new }
+        ensures { ZeroesRoot A.Allocator location self.old self.new }
     {
         if let Some(location) = location {
             let from = 8 * location.start as usize;
@@ -56,7 +56,7 @@ impl<A: Allocator> Segments<A> {
     }
 
     /// Makes the root's word a pointer to a body in the first segment.
-    pub fn point_near(&mut self, location: RootLocation)
+    pub fn point_local(&mut self, location: RootLocation)
         requires first { location.segment ≡ 0 }
         requires body { HasSomeBody self.old.spaces location }
         ensures { PointsRoot location self.old self.new }

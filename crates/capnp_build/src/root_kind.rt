@@ -5,7 +5,7 @@ ghost use Rattle.capnp_wire.specs.Tree.{Form};
 ghost use Rattle.capnp_wire.specs.Layout.{pointer, HasRoom};
 ghost use Rattle.capnp_build.specs.RootKind.{ShowsRoot};
 
-use capnp_wire::pointer_word::{NearShape, near_shape};
+use capnp_wire::pointer_word::{LocalShape, local_shape};
 
 /// What a pointer leads to, as far as builders have views of it.
 #[derive(Clone, Copy)]
@@ -27,9 +27,9 @@ pub(crate) fn read_tag(tag: u64) -> RootKind
     if tag == 0 {
         return RootKind::Null;
     }
-    match near_shape(tag) {
-        Some(NearShape::Struct(size)) => RootKind::Struct(size.data_words),
-        Some(NearShape::Numbers(size, count)) => match size.code() {
+    match local_shape(tag) {
+        Some(LocalShape::Struct(size)) => RootKind::Struct(size.data_words),
+        Some(LocalShape::Numbers(size, count)) => match size.code() {
             2 => RootKind::Bytes(count),
             5 => RootKind::Words(count),
             _ => RootKind::Other,

@@ -6,7 +6,7 @@ ghost use Rattle.capnp_frame.specs.declared.error.ErrorKind.TheVariants.{Segment
 ghost use Rattle.capnp_build.specs.Bytes.{Space, with_block, with_bytes};
 ghost use Rattle.capnp_build.specs.Out.{Out, HasLarge, IsOut};
 ghost use Rattle.capnp_build.specs.Built.{size_in_words};
-ghost use Rattle.capnp_build.specs.Held.{IsAppendedAt, index_of, Held, pair, pairs, spaces_of, used_of, space_at, free_words_of, with_space, KeepsOthers};
+ghost use Rattle.capnp_build.specs.BuilderState.{IsAppendedAt, index_of, BuilderState, pair, pairs, spaces_of, used_of, space_at, free_words_of, with_space, KeepsOthers};
 ghost use Rattle.capnp_build.specs.Placed.{LacksSegment};
 ghost use Rattle.capnp_build.specs.Output.{CanBeWritten, CountsUsedWords};
 ghost use Rattle.capnp_wire.specs.Values.{HasWords};
@@ -49,10 +49,10 @@ pub struct Segments<A: Allocator> {
 impl<A: Allocator> Model for Segments<A> {
     ghost use Rattle.std.specs.Prelude.{◌≡◌, ℕ, ◌+◌, ◌<◌, ◌^◌, List, [], ⊤, MatchOption, length};
     ghost use Rattle.std.specs.List.{AllByRecursion};
-    ghost use Rattle.capnp_build.specs.Held.{Held, spaces_of, AreOut};
+    ghost use Rattle.capnp_build.specs.BuilderState.{BuilderState, spaces_of, AreOut};
     ghost use Rattle.capnp_build.specs.Output.{UsesWords};
 
-    ghost Value = { Held A };
+    ghost Value = { BuilderState A };
 
     ghost view = { λ s. record { spaces = spaces_of s.first s.others.items; allocator = s.allocator } };
 
@@ -270,10 +270,10 @@ impl<A: Allocator> Segments<A> {
             mut others,
         } = self;
         while let Some(part) = others.pop() {
-            give_back(&mut allocator, part);
+            return_segment(&mut allocator, part);
         }
         if let Some(part) = first {
-            give_back(&mut allocator, part);
+            return_segment(&mut allocator, part);
             return allocator;
         }
         allocator
@@ -281,7 +281,7 @@ impl<A: Allocator> Segments<A> {
 }
 
 // Returns a segment to its allocator, with the words that are used of it.
-fn give_back<A: Allocator>(allocator: &mut A, part: BuilderSegment<A::Segment>)
+fn return_segment<A: Allocator>(allocator: &mut A, part: BuilderSegment<A::Segment>)
     requires { IsOut (A.out allocator.old) (pair part) }
     ensures { TakesBack A.out A.same A.returns (pair part) (length part.used / 8) allocator.old allocator.new }
 {

@@ -38,7 +38,7 @@ pub fn is_null_root<A: Allocator>(message: &mut Builder<A>) -> Result<bool> {
     Ok(root.is_null())
 }
 
-/// The refusal of a new object at the root.
+/// The error of a new object at the root.
 pub fn init_refusal<K: OwnedBuilder, A: Allocator>(
     message: &mut Builder<A>,
     length: u32,

@@ -1,6 +1,6 @@
 //! What is expected at a row.
 //!
-//! It stands in each crate that calls it, since no library may end the process.
+//! It is in each crate that calls it, since no library may end the process.
 use std::fmt::Debug;
 use std::process::Abort;
 

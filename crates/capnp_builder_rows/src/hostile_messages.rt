@@ -13,7 +13,7 @@ use capnp_rows::retried;
 use capnp_wire::any_pointer;
 use std::process::Abort;
 
-// The kind of a refusal. One for want of memory is handed back.
+// The kind of an error. One for want of memory is handed back.
 fn refusal<T: Drop>(returned: Result<T>) -> Result<Option<ErrorKind>> {
     match returned {
         Ok(_) => Ok(None),
@@ -41,7 +41,7 @@ pub fn is_null<A: Allocator>(message: &Builder<A>) -> bool {
     message.is_empty() || message.size_in_words() == 1 && has_segments(message, &[&[0; 8]])
 }
 
-// Messages that are refused: by `canonicalize`, by `set_root`, and by `set_root_canonical`.
+// Messages that are rejected: by `canonicalize`, by `set_root`, and by `set_root_canonical`.
 fn refuse(
     rt: &(impl Abort + AllocGlobal),
     segments: &[&[u8]],
@@ -68,7 +68,7 @@ const DEEP: ErrorKind = ErrorKind::NestingLimitExceeded;
 
 const TOO_LARGE: ErrorKind = ErrorKind::CanonicalTooLarge;
 
-// Refused roots, each by one kind in all three calls.
+// Rejected roots, each by one kind in all three calls.
 #[rattlefmt::skip]
 const ROOTS: [(&[&[u8]], ErrorKind); 10] = [
     (&[], ErrorKind::InvalidSegmentId(0)),

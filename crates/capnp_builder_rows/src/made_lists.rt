@@ -3,7 +3,7 @@
 use crate::values::{compare_by_each, compare_canonical};
 use capnp_frame::Result;
 use capnp_values::{
-    Field, MadePointerList, MadeStructList, NoFields, StructSource, StructValue, ValueSource,
+    Field, LazyPointerList, LazyStructList, NoFields, StructSource, StructValue, ValueSource,
 };
 use capnp_wire::{any_struct, struct_list, text, text_list};
 
@@ -45,9 +45,9 @@ const PERSON: &[u8] = b"\0\0\0\0\x01\0\x02\0\x09\0\0\0\0\0\0\0\
 
 type Phone<'a> = StructValue<1, Field<text::Owned, &'a str, NoFields>>;
 
-type Texts<'a> = MadePointerList<text::Owned, Names<'a>>;
+type Texts<'a> = LazyPointerList<text::Owned, Names<'a>>;
 
-type Phones<'a> = MadeStructList<Entries<'a>>;
+type Phones<'a> = LazyStructList<Entries<'a>>;
 
 type AfterNames<'a> = Field<struct_list::Owned, Phones<'a>, NoFields>;
 
@@ -136,13 +136,13 @@ fn entry<'a>(number: &'a str, kind: u64) -> PhoneEntry<'a> {
 #[test]
 fn made_lists_of_structs_stand_at_the_root(rt: HostRuntime) -> Result<()> {
     let entries = [entry("123", 1), entry("4567890", 0x203), entry("", 65535)];
-    let list = MadeStructList::new(Entries { entries: &entries });
+    let list = LazyStructList::new(Entries { entries: &entries });
     compare_by_each::<struct_list::Owned, Phones<'_>>(&rt, &list, PHONES)?;
     compare_canonical::<struct_list::Owned, Phones<'_>>(&rt, &list, PHONES)?;
     let zeros = [entry("Ann", 0), entry("Bo", 0)];
-    let list = MadeStructList::new(Entries { entries: &zeros });
+    let list = LazyStructList::new(Entries { entries: &zeros });
     compare_canonical::<struct_list::Owned, Phones<'_>>(&rt, &list, NO_NUMBERS)?;
-    let none = MadeStructList::new(Entries {
+    let none = LazyStructList::new(Entries {
         entries: &zeros[..0],
     });
     compare_by_each::<struct_list::Owned, Phones<'_>>(&rt, &none, NO_PHONES)?;
@@ -152,10 +152,10 @@ fn made_lists_of_structs_stand_at_the_root(rt: HostRuntime) -> Result<()> {
 #[test]
 fn made_lists_of_pointers_stand_at_the_root(rt: HostRuntime) -> Result<()> {
     let names = ["Ann", "ab cd ef", ""];
-    let list = MadePointerList::new(Names { names: &names });
+    let list = LazyPointerList::new(Names { names: &names });
     compare_by_each::<text_list::Owned, Texts<'_>>(&rt, &list, NAMES)?;
     compare_canonical::<text_list::Owned, Texts<'_>>(&rt, &list, NAMES)?;
-    let none = MadePointerList::new(Names { names: &names[..0] });
+    let none = LazyPointerList::new(Names { names: &names[..0] });
     compare_by_each::<text_list::Owned, Texts<'_>>(&rt, &none, NO_POINTERS)
 }
 
@@ -164,8 +164,8 @@ fn made_lists_of_pointers_stand_at_the_root(rt: HostRuntime) -> Result<()> {
 fn made_lists_stand_in_structs(rt: HostRuntime) -> Result<()> {
     let names = ["Bo", "Ann"];
     let entries = [entry("", 7)];
-    let phones = MadeStructList::new(Entries { entries: &entries });
-    let texts = MadePointerList::new(Names { names: &names });
+    let phones = LazyStructList::new(Entries { entries: &entries });
+    let texts = LazyPointerList::new(Names { names: &names });
     let person = StructValue::new([9], Field::new(texts, Field::new(phones, NoFields)));
     compare_by_each::<any_struct::Owned, Person<'_>>(&rt, &person, PERSON)?;
     compare_canonical::<any_struct::Owned, Person<'_>>(&rt, &person, PERSON)

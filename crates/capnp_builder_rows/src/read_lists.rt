@@ -18,7 +18,7 @@ use std::process::Abort;
 const TWO_NAMES: &[u8] = b"\x01\0\0\0\x16\0\0\0\
     \x05\0\0\0\x22\0\0\0\x05\0\0\0\x1a\0\0\0Ann\0\0\0\0\0Bo\0\0\0\0\0\0";
 
-// A far pointer, and in its segment the pointer to a list of one struct, after which all stands.
+// A far pointer, and in its segment the pointer to a list of one struct, after which all is.
 const FAR: &[u8] = b"\x02\0\0\0\x01\0\0\0";
 
 #[rattlefmt::skip]
@@ -92,7 +92,7 @@ fn compare_numbers<N: PrimitiveElement>(
     compare_read::<_, primitive_list::Owned<N>, primitive_list::Reader<'_, N>>(rt, &arena, expected)
 }
 
-// What stands after the last element in its word is left out.
+// What is after the last element in its word is left out.
 #[test]
 fn lists_of_numbers_are_set_again(rt: HostRuntime) -> Result<()> {
     compare_numbers::<u8>(

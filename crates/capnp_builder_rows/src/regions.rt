@@ -1,4 +1,4 @@
-//! Regions that come home from builders, and heaps whose growth is refused.
+//! Regions that come home from builders, and heaps whose growth fails.
 use crate::building::{expect_segments, expect_zeros, set_canonical_text, set_text, text_of};
 use crate::fixtures::expect;
 use crate::hostile_messages::{is_null, set, set_canonical};
@@ -25,7 +25,7 @@ fn refusal_of_root<A: Allocator>(message: &mut Builder<A>, text: &str) -> Option
     }
 }
 
-// "hello" stands in two words after its root; "Hello, World!" does not fit after it.
+// "hello" is in two words after its root; "Hello, World!" does not fit after it.
 #[test]
 fn a_single_region_comes_home(rt: HostRuntime) {
     let mut region = [7; 24];
@@ -58,7 +58,7 @@ fn set_past_a_region(rt: &(impl Abort + AllocGlobal)) -> Result<()> {
     let mut region = [7; 16];
     let mut scratch = ScratchSpaceHeapAllocator::new(rt.alloc(), &mut region);
     let mut message = Builder::new(rt.alloc(), &mut scratch);
-    // The list of segments and the heap's segment are made, or one of them is refused.
+    // The list of segments and the heap's segment are made, or one of them is rejected.
     if let Some(kind) = kind_of(set_text(&mut message, LONG)) {
         assert!(rt; kind == ErrorKind::OutOfMemory);
         assert!(rt; is_null(&message) && !message.is_empty());
@@ -108,7 +108,7 @@ fn next_segment(heap: &mut HeapAllocator, words: u32) -> Result<Vec<u8>> {
     heap.allocate_segment(words)
 }
 
-// A growth that is refused changes nothing: the next request has the same size, and the one after it
+// A growth that is rejected changes nothing: the next request has the same size, and the one after it
 // twice that.
 #[test]
 fn a_heap_that_is_refused(rt: HostRuntime) -> Result<()> {

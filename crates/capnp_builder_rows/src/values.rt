@@ -86,7 +86,7 @@ fn loose<'a>() -> Loose<'a> {
     StructValue::new([7, 0], Field::new(hollow, after))
 }
 
-// Sets the root, and compares the segment where the value stands.
+// Sets the root, and compares the segment where the value is.
 fn compare<T, V: SetterInput<T>, A: Allocator>(
     rt: &impl Abort,
     message: &mut Builder<A>,

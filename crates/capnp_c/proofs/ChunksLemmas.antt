@@ -52,15 +52,15 @@ parted (x ∷ xs) ys text (first, others, packs, all, e) =
 -- chunks after those that are packed
 pub packs_after : {S X Y : Type 0} (sink : Ghosts S) (keeps : IsPreorder sink.same) (a b c : S) (xs ys : List (List ℕ)) (x : X) (r : Result Y Error)
     → PacksChunks sink a b xs (Ok x) → PacksChunks sink b c ys r → PacksChunks sink a c (xs ++ ys) r
-packs_after {S} {X} {Y} sink keeps a b c xs ys x r before told = record {
-  packed = added r told.packed;
-  refused = declined r told.refused;
-  failed = blamed r told.failed;
+packs_after {S} {X} {Y} sink keeps a b c xs ys x r before declared = record {
+  packed = added r declared.packed;
+  refused = declined r declared.refused;
+  failed = blamed r declared.failed;
   granted = λ text more all grants.
       let (s, t, front, back, e) = parted xs ys text all in
       let all_granted : sink.grants a (length s + (length t + more)) = subst (λ k. sink.grants a k) (omega (arith, ap length e, length-append s t)) grants in
-      told.granted t more back (before.granted s (length t + more) front all_granted).1;
-  grows = Grows-join a b c (keeps.transitive a b c) before.grows told.grows;
+      declared.granted t more back (before.granted s (length t + more) front all_granted).1;
+  grows = Grows-join a b c (keeps.transitive a b c) before.grows declared.grows;
 }
   where
     added : (r : Result Y Error) → OnOk r (IfKnown (sink.written b) (sink.written c) (Adds (AppendsAll (AppendsPacked sink.appends) ys)))
@@ -82,14 +82,14 @@ packs_after {S} {X} {Y} sink keeps a b c xs ys x r before told = record {
 -- the first chunks are not all packed
 pub packs_stopped : {S X Y : Type 0} (sink : Ghosts S) (old new : S) (xs ys : List (List ℕ)) (e : Error)
     → PacksChunks {X = X} sink old new xs (Err e) → PacksChunks {X = Y} sink old new (xs ++ ys) (Err e)
-packs_stopped sink old new xs ys e told = record {
+packs_stopped sink old new xs ys e declared = record {
   packed = tt;
-  refused = more told.refused;
-  failed = told.failed;
+  refused = more declared.refused;
+  failed = declared.failed;
   granted = λ text more all grants.
       let (s, t, front, back, is) = parted xs ys text all in
-      absurd (false≢true (told.granted s (length t + more) front (subst (λ k. sink.grants old k) (omega (arith, ap length is, length-append s t)) grants)).0);
-  grows = told.grows;
+      absurd (false≢true (declared.granted s (length t + more) front (subst (λ k. sink.grants old k) (omega (arith, ap length is, length-append s t)) grants)).0);
+  grows = declared.grows;
 }
   where
     more : (e.kind ≡ DeviceFailed) ⊎ DeclinesSome (DeclinesPacked sink.refuses) xs e.kind → (e.kind ≡ DeviceFailed) ⊎ DeclinesSome (DeclinesPacked sink.refuses) (xs ++ ys) e.kind
@@ -100,11 +100,11 @@ packs_stopped sink old new xs ys e told = record {
 pub packs_next : {S X Y : Type 0} (sink : Ghosts S) (keeps : IsPreorder sink.same) (a b c : S) (chunks : List (List ℕ)) (index : ℕ) (chunk : List ℕ)
     (x : X) (r : Result Y Error) → slice_get chunks index ≡ Some chunk
     → PacksChunks sink a b (take index chunks) (Ok x) → PacksChunks sink b c (chunk ∷ []) r → PacksChunks sink a c (take (index + 1) chunks) r
-packs_next sink keeps a b c chunks index chunk x r here before told =
-    subst (λ l. PacksChunks sink a c l r) (sym (take-next chunks index chunk here)) (packs_after sink keeps a b c (take index chunks) (chunk ∷ []) x r before told)
+packs_next sink keeps a b c chunks index chunk x r here before declared =
+    subst (λ l. PacksChunks sink a c l r) (sym (take-next chunks index chunk here)) (packs_after sink keeps a b c (take index chunks) (chunk ∷ []) x r before declared)
 
 -- it is not packed
 pub packs_stopped_at : {S X Y : Type 0} (sink : Ghosts S) (old new : S) (chunks : List (List ℕ)) (count : ℕ) (e : Error)
     → PacksChunks {X = X} sink old new (take count chunks) (Err e) → PacksChunks {X = Y} sink old new chunks (Err e)
-packs_stopped_at {X = X} {Y = Y} sink old new chunks count e told =
-    subst (λ l. PacksChunks {X = Y} sink old new l (Err e)) (take-append-drop count chunks) (packs_stopped {X = X} sink old new (take count chunks) (drop count chunks) e told)
+packs_stopped_at {X = X} {Y = Y} sink old new chunks count e declared =
+    subst (λ l. PacksChunks {X = Y} sink old new l (Err e)) (take-append-drop count chunks) (packs_stopped {X = X} sink old new (take count chunks) (drop count chunks) e declared)

@@ -1,4 +1,4 @@
--- Messages that are whole buffers, and their packed texts.
+-- Messages that are whole buffers, and their packed encodings.
 use Rattle.std.proofs.Common.{◌≡◌, ℕ, ◌+◌, ◌<◌, ◌≤◌, ◌⊎◌, inl, inr, List, [], ◌∷◌, ◌++◌, length, take, drop, sym, ap, ◌∙◌, subst, arith, append_assoc, length-append, length-take}
 use Rattle.std.proofs.lemmas.List.{take_at}
 use Rattle.std.specs.List.{concat}
@@ -14,37 +14,37 @@ use Rattle.capnp_frame.proofs.TableLemmas.{zero_table}
 use Rattle.capnp_frame.proofs.TextLemmas.{frames_part}
 use Rattle.capnp_frame.proofs.WritingLemmas.{length-lengths}
 use Rattle.capnp_pack.specs.Packed.{Packs}
-use Rattle.capnp_pack.specs.PackedFrame.{IsPackedText}
+use Rattle.capnp_pack.specs.PackedFrame.{IsPackedEncoding}
 use Rattle.capnp_pack.specs.PackedSink.{AppendsPacked, DeclinesPacked}
-use Rattle.capnp_pack.proofs.PackedTextLemmas.{packed_message, each_packed}
+use Rattle.capnp_pack.proofs.PackedEncodingLemmas.{packed_message, each_packed}
 use Rattle.capnp_pack.proofs.PackerLemmas.{Packs-once, Packs-whole}
 use Rattle.capnp_c.specs.Fronts.{IsAtFront}
 use Rattle.capnp_c.specs.Packing.{packed_chunks}
 
--- its table stands at the front
+-- its table is at the front
 pub front_table : (bytes : List ℕ) (segments : List (List ℕ)) (rest : List ℕ) → IsAtFront bytes segments rest
     → (take (table_size (length segments)) bytes ≡ zero_padded_table (lengths segments))
     × (table_size (length segments) + length rest ≤ length bytes)
 front_table bytes segments rest front =
     let frame = front.is_text in
     let table = frame.table in
-    let long = length-table table (lengths segments) frame.lengths_told in
+    let long = length-table table (lengths segments) frame.lengths_declared in
     let many = length-lengths segments in
     let size : length table ≡ table_size (length segments) = omega arith in
     let spelled : bytes ≡ table ++ (concat segments ++ rest) = front.spelled ∙ ap (λ l. l ++ rest) frame.spelled ∙ append_assoc table (concat segments) rest in (
       ap (take (table_size (length segments))) spelled ∙ take_at table (concat segments ++ rest) (table_size (length segments)) size
-          ∙ zero_table table (lengths segments) frame.lengths_told,
+          ∙ zero_table table (lengths segments) frame.lengths_declared,
       omega (arith, ap length spelled, length-append table (concat segments ++ rest), length-append (concat segments) rest),
     )
 
--- and one rest stands after it
+-- and one rest is after it
 pub one_rest : (bytes rest left : List ℕ) (segments others : List (List ℕ)) → IsAtFront bytes segments rest → IsAtFront bytes others left → rest ≡ left
 one_rest bytes rest left segments others p q = (frames_part p.text q.text rest left segments others p.is_text q.is_text (sym p.spelled ∙ q.spelled)).2
 
--- The packed text
+-- The packed encoding
 
 -- it is what the chunks are packed to
-pub text_of_chunks : (segments : List (List ℕ)) (text : List ℕ) → IsPackedText text segments → AppendsAll Packs (packed_chunks segments) text
+pub text_of_chunks : (segments : List (List ℕ)) (text : List ℕ) → IsPackedEncoding text segments → AppendsAll Packs (packed_chunks segments) text
 text_of_chunks segments text packed = (each_packed (packed_chunks segments) text).0 ((packed_message segments text).1 packed)
 
 -- and there is one
@@ -56,14 +56,14 @@ chunks_once (chunk ∷ chunks) text other (s, t, first, more, e) (u, v, also, ot
 -- what was added to nothing is that text
 pub message_alone : (segments : List (List ℕ)) (table old new : List ℕ) (n used : ℕ) → table ≡ zero_padded_table (lengths segments) → n ≡ 0
     → Adds (AppendsAll (AppendsPacked AppendsSame) (take 8 table ∷ drop 8 table ∷ segments)) (take n old) (take used new)
-    → IsPackedText (take used new) segments
+    → IsPackedEncoding (take used new) segments
 message_alone segments table old new n used is none (text, all, e) =
     let alone : take used new ≡ text = e ∙ ap (λ k. take k old ++ text) none in
     let chunks = subst (λ l. AppendsAll (AppendsPacked AppendsSame) (take 8 l ∷ drop 8 l ∷ segments) text) is all in
-    subst (λ l. IsPackedText l segments) (sym alone) ((packed_message segments text).0 chunks)
+    subst (λ l. IsPackedEncoding l segments) (sym alone) ((packed_message segments text).0 chunks)
 
 -- so a block that is shorter does not hold it
-pub message_fits : (segments : List (List ℕ)) (text block : List ℕ) (n : ℕ) → IsPackedText text segments → length block < length text → IsPackedText (take n block) segments → ⊥
+pub message_fits : (segments : List (List ℕ)) (text block : List ℕ) (n : ℕ) → IsPackedEncoding text segments → length block < length text → IsPackedEncoding (take n block) segments → ⊥
 message_fits segments text block n packed short written =
     let same = chunks_once (packed_chunks segments) text (take n block) (text_of_chunks segments text packed) (text_of_chunks segments (take n block) written) in
     absurd (omega (arith, short, ap length same, length-take n block))
@@ -76,7 +76,7 @@ chunks_refused (chunk ∷ chunks) text kind (s, t, first, more, e) (inl (inl (pa
 chunks_refused (chunk ∷ chunks) text kind (s, t, first, more, e) (inl (inr (whole, (any, is)))) = is
 chunks_refused (chunk ∷ chunks) text kind (s, t, first, more, e) (inr refused) = chunks_refused chunks t kind more refused
 
-pub message_refused : (segments : List (List ℕ)) (table text : List ℕ) (kind : ErrorKind) → table ≡ zero_padded_table (lengths segments) → IsPackedText text segments
+pub message_refused : (segments : List (List ℕ)) (table text : List ℕ) (kind : ErrorKind) → table ≡ zero_padded_table (lengths segments) → IsPackedEncoding text segments
     → (kind ≡ DeviceFailed) ⊎ DeclinesSome (DeclinesPacked (ByKind BufferNotLargeEnough)) (take 8 table ∷ drop 8 table ∷ segments) kind
     → (kind ≡ DeviceFailed → Fails 0 0) → kind ≡ BufferNotLargeEnough
 message_refused segments table text kind is packed (inl device) failed = absurd (never_fails kind failed device)
@@ -85,6 +85,6 @@ message_refused segments table text kind is packed (inr refused) failed =
     (subst (λ l. DeclinesSome (DeclinesPacked (ByKind BufferNotLargeEnough)) (take 8 l ∷ drop 8 l ∷ segments) kind) is refused)
 
 -- the text of the chunks, by the table that is there
-pub text_of_parts : (segments : List (List ℕ)) (table text : List ℕ) → table ≡ zero_padded_table (lengths segments) → IsPackedText text segments
+pub text_of_parts : (segments : List (List ℕ)) (table text : List ℕ) → table ≡ zero_padded_table (lengths segments) → IsPackedEncoding text segments
     → AppendsAll Packs (take 8 table ∷ drop 8 table ∷ segments) text
 text_of_parts segments table text is packed = subst (λ l. AppendsAll Packs (take 8 l ∷ drop 8 l ∷ segments) text) (sym is) (text_of_chunks segments text packed)

@@ -8,10 +8,10 @@ use Rattle.capnp_frame.proofs.AskLemmas.{never_fails}
 use Rattle.capnp_pack.specs.Packed.{Packs}
 use Rattle.capnp_pack.specs.PackedSink.{AppendsPacked, DeclinesPacked}
 use Rattle.capnp_pack.specs.PackedSource.{RefusesChunk}
-use Rattle.capnp_pack.proofs.PackedTextLemmas.{packed_over_plain}
+use Rattle.capnp_pack.proofs.PackedEncodingLemmas.{packed_over_plain}
 use Rattle.capnp_pack.proofs.PackerLemmas.{Packs-once, Packs-whole}
 
--- a refusal of a slice is a line of the table
+-- an error of a slice is a line of the table
 pub chunk_refused : (raw : List ℕ) (n : ℕ) (kind : ErrorKind) → (kind ≡ DeviceFailed) ⊎ RefusesChunk raw n kind → (kind ≡ DeviceFailed → Fails 0 0) → RefusesChunk raw n kind
 chunk_refused raw n kind (inl device) failed = absurd (never_fails kind failed device)
 chunk_refused raw n kind (inr line) failed = line

@@ -15,7 +15,7 @@ use Rattle.capnp_pack.specs.UnpackingLaws.{none_unpacked}
 use Rattle.capnp_pack.proofs.PackedFrameLemmas.{packed_requests}
 use Rattle.capnp_c.specs.Packing.{IsMessage}
 
--- the first bytes of a buffer are a framed text, and no more
+-- the first bytes of a buffer are a framed encoding, and no more
 pub front_message : (bytes : List ℕ) (segments : List (List ℕ)) (n : ℕ) → HasFrame Zero bytes segments (drop n bytes) → n ≤ length bytes
     → IsWithin segments default_limit → IsMessage (take n bytes) segments
 front_message bytes segments n (text, frame, e) room within =
@@ -27,7 +27,7 @@ front_message bytes segments n (text, frame, e) room within =
 pub taken : (segments : List (List ℕ)) (packed rest : List ℕ) → PackedStands Zero segments packed rest → length rest ≤ length packed
 taken segments packed rest (text, frame, e) = omega (arith, ap length e, length-append text rest)
 
--- no packed message stands where there are no bytes
+-- no packed message is where there are no bytes
 pub none_stands : (segments : List (List ℕ)) (packed rest : List ℕ) → PackedStands Zero segments packed rest → packed ≡ [] → ⊥
 none_stands segments packed rest stands none =
     let requests = (packed_requests Zero segments packed rest).1 stands in

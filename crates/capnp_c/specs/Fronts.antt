@@ -12,7 +12,7 @@ use Rattle.capnp_frame.specs.Texts.{BeginsWith}
 use Rattle.capnp_wire.specs.Readers.{default_root}
 use Rattle.capnp_wire.specs.Values.{HasWords, LacksWords, LeadsToTree, StopsWalkFrom}
 
--- a framed text of the message stands there, and the message is within that limit
+-- a framed encoding of the message is there, and the message is within that limit
 abbrev pub IsAtFront : List ℕ → List (List ℕ) → List ℕ → Type 0
 IsAtFront bytes segments rest = BeginsWith (IsFrame Zero) default_limit segments bytes rest
 
@@ -37,5 +37,5 @@ pub record ReturnsFrontForm (bytes : List ℕ) (has_room : ℕ → Type 0) (resu
   -- where the message has no form, the number of the reason is returned
   pub refused : (segments : List (List ℕ)) (rest : List ℕ) (kind : ErrorKind) → IsAtFront bytes segments rest → FrontLacksForm segments kind
       → result ≡ kind_number kind
-  -- where no message stands there, the number of the first line of the table of refusals that holds is returned
+  -- where no message is there, the number of the first line of the table of errors that holds is returned
   pub unreadable : (kind : ErrorKind) → RefusesFlat by_fields Zero default_limit kind bytes → result ≡ kind_number kind

@@ -10,7 +10,7 @@ use Rattle.capnp_pack.specs.PackedFrame.{table_first, table_others}
 use Rattle.capnp_pack.specs.PackedSink.{AppendsPacked, DeclinesPacked}
 use Rattle.capnp_c.specs.Fronts.{IsAtFront}
 
--- the bytes are a framed text of the message, and no more
+-- the bytes are a framed encoding of the message, and no more
 abbrev pub IsMessage : List ℕ → List (List ℕ) → Type 0
 IsMessage bytes segments = IsAtFront bytes segments []
 
@@ -23,11 +23,11 @@ packed_chunks segments = table_first segments ∷ table_others segments ∷ segm
 pub record PacksChunks {S X : Type 0} (sink : Ghosts S) (old new : S) (chunks : List (List ℕ)) (result : Result X Error) : Type 0 where
   -- where it succeeds, what each chunk is packed to is added
   pub packed : OnOk result (IfKnown (sink.written old) (sink.written new) (Adds (AppendsAll (AppendsPacked sink.appends) chunks)))
-  -- it fails with the device's failure, or as one of the chunks is refused
+  -- it fails with the device's failure, or as one of the chunks is rejected
   pub refused : IfErr result (λ error. (error.kind ≡ DeviceFailed) ⊎ DeclinesSome (DeclinesPacked sink.refuses) chunks error.kind)
   -- the device is blamed only where it failed
   pub failed : IfErr result (λ error. error.kind ≡ DeviceFailed → Fails (sink.failures old) (sink.failures new))
-  -- where the sink grants the packed text, the step succeeds
+  -- where the sink grants the packed encoding, the step succeeds
   pub granted : (text : List ℕ) (more : ℕ) → AppendsAll Packs chunks text → sink.grants old (length text + more)
       → IsOk result × sink.grants new more
   pub grows : Grows sink.written sink.failures sink.same old new

@@ -31,7 +31,7 @@ pub extern "C" fn linsjoar_pack(words: &[u8], text: &mut [u8], written: &mut usi
         result ≡ 2 }
     ensures stays { 0 < result → written.new ≡ 0 }
 {
-    laws::plain_sink_gets_the_packed_text();
+    laws::plain_sink_gets_the_packed_encoding();
     *written = 0;
     let mut sink = ProvidedText::new(text);
     match pack_into(&mut sink, words) {

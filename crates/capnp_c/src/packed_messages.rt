@@ -9,7 +9,7 @@ ghost use Rattle.capnp_frame.specs.Numbers.{kind_number};
 ghost use Rattle.capnp_frame.specs.Refusals.{RefusesStream};
 ghost use Rattle.capnp_frame.specs.SegmentTable.{table_size, zero_padded_table};
 ghost use Rattle.capnp_frame.specs.declared.error.ErrorKind.{ErrorKind};
-ghost use Rattle.capnp_pack.specs.PackedFrame.{IsPackedText, PackedStands};
+ghost use Rattle.capnp_pack.specs.PackedFrame.{IsPackedEncoding, PackedStands};
 ghost use Rattle.capnp_pack.specs.PackedSource.{Unpacks, RefusesChunk};
 ghost use Rattle.capnp_c.specs.Fronts.{IsAtFront};
 ghost use Rattle.capnp_c.specs.Packing.{IsMessage, PacksChunks, packed_chunks};
@@ -20,13 +20,13 @@ use capnp_frame::io::Write;
 use capnp_frame::message::{DEFAULT_READER_OPTIONS, ReaderSegments};
 use capnp_frame::serialize::{NoAllocBufferSegments, NoAllocSliceSegments};
 use capnp_frame::{Error, ErrorKind, Result};
-use capnp_pack::stream::try_read_packed_text_into;
+use capnp_pack::stream::try_read_packed_framed_into;
 
 /// Packs a framed message, and tells how many bytes that took: the first word of its table, the
 /// table's other words, and each segment are packed one by one.
 ///
 /// The bytes are one message and no more. Returns 6 where it is cut, or where bytes follow it; 2
-/// where its packed text has no room; and else what `linsjoar_message` returns.
+/// where its packed encoding has no room; and else what `linsjoar_message` returns.
 #[unsafe(no_mangle)]
 pub extern "C" fn linsjoar_pack_message(
     framed: &[u8],
@@ -34,12 +34,12 @@ pub extern "C" fn linsjoar_pack_message(
     packed_len: &mut usize,
 ) -> u8
     ensures packed { result ≡ 0 → (segments : List (List ℕ)) × IsMessage framed.now segments
-        × IsPackedText (take packed_len.new packed.new) segments }
+        × IsPackedEncoding (take packed_len.new packed.new) segments }
     ensures within { packed_len.new ≤ length packed.new }
     ensures accepted { (segments : List (List ℕ)) (text : List ℕ) → IsMessage framed.now segments →
-        IsPackedText text segments → length text ≤ length packed.new → result ≡ 0 }
+        IsPackedEncoding text segments → length text ≤ length packed.new → result ≡ 0 }
     ensures short { (segments : List (List ℕ)) (text : List ℕ) → IsMessage framed.now segments →
-        IsPackedText text segments → length packed.new < length text → result ≡ 2 }
+        IsPackedEncoding text segments → length packed.new < length text → result ≡ 2 }
     ensures trailing { (segments : List (List ℕ)) (rest : List ℕ) →
         IsAtFront framed.now segments rest → 0 < length rest → result ≡ 6 }
     ensures refused { (kind : ErrorKind) → RefusesFlat by_fields Zero default_limit kind framed.now →
@@ -62,7 +62,7 @@ pub extern "C" fn linsjoar_pack_message(
     }
 }
 
-/// Unpacks the packed message at the front of these bytes into its framed text, and tells how many
+/// Unpacks the packed message at the front of these bytes into its framed encoding, and tells how many
 /// bytes that has, and how many packed ones it took, so that a caller steps from one message to the
 /// next.
 ///
@@ -92,7 +92,7 @@ pub extern "C" fn linsjoar_unpack_message(
     *framed_len = 0;
     *packed_read = 0;
     let mut source = packed;
-    match try_read_packed_text_into(&mut source, framed, DEFAULT_READER_OPTIONS) {
+    match try_read_packed_framed_into(&mut source, framed, DEFAULT_READER_OPTIONS) {
         Ok(Some(info)) => {
             *framed_len = info.segment_table_length_bytes + info.total_segments_length_bytes;
             *packed_read = packed.len() - source.len();

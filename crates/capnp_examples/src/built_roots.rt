@@ -1,4 +1,4 @@
-//! The callers that build a root: what they read back, and the words that stand then.
+//! The callers that build a root: what they read back, and the words that are then.
 use crate::fixtures::{expect, roomy_message};
 use capnp::Result;
 use capnp::message::{Allocator, Builder, HeapAllocator, SingleSegmentAllocator};
@@ -115,7 +115,7 @@ fn write<A: Allocator>(rt: &impl Abort, message: &mut Builder<A>, root: Root) ->
     }
 }
 
-// Roots, and the one segment that is left of them. A null root leaves zeros where another one stood.
+// Roots, and the one segment that is left of them. A null root leaves zeros where another one was.
 #[rattlefmt::skip]
 const SEGMENTS: [(&[Root], &[u8]); 6] = [
     (&[Root::Text(b"hello")], b"\x01\0\0\0\x32\0\0\0hello\0\0\0"),
@@ -155,7 +155,7 @@ const IN_A_REGION: [Root; 4] = [
     Root::Struct(1, 2),
 ];
 
-// Regions of a given number of bytes, and the refusals of a text of five bytes, of as much data, of
+// Regions of a given number of bytes, and the errors of a text of five bytes, of as much data, of
 // two numbers and of a struct of two words: what does not fit after the root's word wants a word
 // more, for its landing pad.
 #[rattlefmt::skip]
@@ -176,7 +176,7 @@ fn roots_in_a_region(rt: HostRuntime) -> Result<()> {
             let next = (index + 1) % 4;
             let roots = [IN_A_REGION[index], IN_A_REGION[next]];
             let found = two_in_a_region(&rt, region, roots)?;
-            let wanted = [told(refusals[index]), told(refusals[next])];
+            let wanted = [declared(refusals[index]), declared(refusals[next])];
             expect(&rt, (*length, index), found, (wanted, true));
             expect(&rt, *length, region.iter().all(|byte| *byte == 0), true);
         }
@@ -184,10 +184,10 @@ fn roots_in_a_region(rt: HostRuntime) -> Result<()> {
     Ok(())
 }
 
-// Whether a root is read back, or the number of its refusal.
-type Told = std::result::Result<bool, u8>;
+// Whether a root is read back, or the number of its error.
+type Declared = std::result::Result<bool, u8>;
 
-fn told(refusal: u8) -> Told {
+fn declared(refusal: u8) -> Declared {
     if refusal == 0 { Ok(true) } else { Err(refusal) }
 }
 
@@ -197,7 +197,7 @@ fn two_in_a_region(
     rt: &(impl Abort + AllocGlobal),
     region: &mut [u8],
     roots: [Root; 2],
-) -> Result<([Told; 2], bool)> {
+) -> Result<([Declared; 2], bool)> {
     assert!(rt; region.len() <= 24);
     let alloc = rt.alloc();
     let mut message = Builder::new(alloc, SingleSegmentAllocator::new(region));

@@ -17,7 +17,7 @@ fn as_text(reader: &Message<'_>) -> u8 {
     refusal(view)
 }
 
-// Limits, and the refusals of three views as a text, one after the other.
+// Limits, and the errors of three views as a text, one after the other.
 const VIEWS: [(Option<usize>, [u8; 3]); 5] = [
     (Some(65_535), [20, 20, 20]),
     (Some(65_536), [22, 20, 20]),
@@ -38,7 +38,7 @@ fn as_many_elements_as_the_limit(rt: HostRuntime) {
     }
 }
 
-// Pointers in the order in which they are viewed as texts, and the refusals.
+// Pointers in the order in which they are viewed as texts, and the errors.
 #[rattlefmt::skip]
 const POINTERS: [(u16, u8); 12] = [
     (0, 22), (0, 22), (0, 22), (0, 22), (0, 22), (0, 22), (0, 22), (0, 22), (0, 20),
@@ -62,7 +62,7 @@ fn a_limit_past_four_bytes(rt: HostRuntime) -> Result<()> {
     Ok(())
 }
 
-// Segments, a limit, and the words of the canonical form or the refusal's number. A landing pad is
+// Segments, a limit, and the words of the canonical form or the error's number. A landing pad is
 // counted against the traversal limit, and all words of a list of structs.
 #[rattlefmt::skip]
 const SIZES: [(&[&[u8]], Option<usize>, std::result::Result<u32, u8>); 12] = [
@@ -123,7 +123,7 @@ fn set_data(message: &mut Builder<HeapAllocator>, bytes: &[u8]) -> Result<()> {
     message.set_root::<data::Owned, &[u8]>(bytes)
 }
 
-// Whether data that is set stands as this segment, and whether it is viewed as it was set.
+// Whether data that is set is as this segment, and whether it is viewed as it was set.
 fn stands_and_is_viewed(alloc: Global, segment: &[u8], bytes: &[u8]) -> Result<(bool, bool)> {
     let mut message = Builder::new_default(alloc);
     set_data(&mut message, bytes)?;

@@ -71,9 +71,9 @@ fn a_million_packed_words_are_unpacked(rt: HostRuntime) -> Result<()> {
     unpack(&rt, &packed_million(rt.alloc())?, &framed)
 }
 
-// The packed text of a segment of 2^20 words whose root is data of sevens: the table's word, the root's
+// The packed encoding of a segment of 2^20 words whose root is data of sevens: the table's word, the root's
 // with its three zero bytes left out, and then literal runs: each a word by its tag and up to 255 words
-// as they stand, 256 words together. Of 2^20 - 1 words 4,095 runs are full, and the last has 255 words.
+// as they are, 256 words together. Of 2^20 - 1 words 4,095 runs are full, and the last has 255 words.
 fn packed_million(alloc: Global) -> Result<Vec<u8>> {
     let mut packed = [0x40, 0x10, 0xf1, 1, 0xc2, 0xff, 0xff, 3].to_vec(alloc)?;
     let words = [7u8; 255 * 8];
@@ -94,7 +94,7 @@ fn large_message(alloc: Global) -> Builder<HeapAllocator> {
     )
 }
 
-// What is built is the segment, and its framed text a word and the segment.
+// What is built is the segment, and its framed encoding a word and the segment.
 fn build_and_write(rt: &(impl Abort + AllocGlobal), segment: &[u8]) -> Result<()> {
     let mut message = large_message(rt.alloc());
     set_data(&mut message, segment.get(8..).unwrap_or(&[]))?;
@@ -119,7 +119,7 @@ fn written(rt: &(impl Abort + AllocGlobal), message: &Builder<HeapAllocator>) ->
     Ok(framed)
 }
 
-// A framed text, and what is packed of it, by each reader.
+// A framed encoding, and what is packed of it, by each reader.
 fn read_back(rt: &(impl Abort + AllocGlobal), segment: &[u8]) -> Result<()> {
     let framed = framed_text(rt.alloc(), segment)?;
     let packed = pack(rt, &framed)?;
@@ -232,7 +232,7 @@ fn stands(message: &Builder<HeapAllocator>, segment: &[u8]) -> bool {
     }
 }
 
-// A root that is set to that of the message, as it stands and in canonical form.
+// A root that is set to that of the message, as it is and in canonical form.
 fn set_from(rt: &(impl Abort + AllocGlobal), reader: &Message<'_>, segment: &[u8]) -> Result<()> {
     let mut message = large_message(rt.alloc());
     set_root(&mut message, reader.get_root()?)?;

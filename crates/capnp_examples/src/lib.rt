@@ -1,4 +1,4 @@
-//! The examples that stand at public items, the callers of `capnp_uses` by worked bytes, and messages
+//! The examples that are at public items, the callers of `capnp_uses` by worked bytes, and messages
 //! and limits of many words. It holds tests alone.
 #![tactic(auto)]
 

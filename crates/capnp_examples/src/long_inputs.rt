@@ -1,5 +1,5 @@
 //! Chunks of many bytes, and streams of many messages.
-use crate::callers::{told_of, told_of_log};
+use crate::callers::{declared_of, declared_of_log};
 use crate::fixtures::{expect, transcoded};
 use capnp::io::{Read, Write};
 use capnp::message::DEFAULT_READER_OPTIONS;
@@ -101,9 +101,9 @@ fn a_thousand_messages_and_one(rt: HostRuntime) -> Result<()> {
     let framed = repeated(rt.alloc(), &FRAMED, 1001)?;
     let packed = repeated(rt.alloc(), &PACKED, 1001)?;
     let options = DEFAULT_READER_OPTIONS;
-    let found = told_of(rt.alloc(), Format::Framed, &framed, options);
+    let found = declared_of(rt.alloc(), Format::Framed, &framed, options);
     expect(&rt, "framed", found, (1001, 16016, 0));
-    let found = told_of_log(rt.alloc(), &packed, options);
+    let found = declared_of_log(rt.alloc(), &packed, options);
     expect(&rt, "packed", found, (1001, 4004, 0));
     Ok(())
 }

@@ -1,5 +1,5 @@
-//! The callers over other limits than the default ones, and over what is refused.
-use crate::callers::{FRAMED, both, told_of, told_of_log};
+//! The callers over other limits than the default ones, and over what is rejected.
+use crate::callers::{FRAMED, both, declared_of, declared_of_log};
 use crate::examples::PACKED as PACKED_HELLO;
 use crate::fixtures::{expect, limited};
 use capnp::Result;
@@ -15,7 +15,7 @@ use capnp_uses::streaming::{next_message, skip_message};
 use std::alloc::{AllocError, Global};
 use std::process::Abort;
 
-// A limit, how many of both messages are read, and the refusal of the next.
+// A limit, how many of both messages are read, and the error of the next.
 const LIMITS: [(Option<usize>, usize, u8); 5] = [
     (None, 2, 0),
     (Some(3), 2, 0),
@@ -35,11 +35,11 @@ fn streams_within_a_limit(rt: HostRuntime) -> std::result::Result<(), AllocError
         assert!(rt; *messages < 3);
         let (framed_end, packed_end) = ENDS[*messages];
         let options = limited(*limit);
-        let found = told_of(rt.alloc(), Format::Framed, &framed, options);
+        let found = declared_of(rt.alloc(), Format::Framed, &framed, options);
         expect(&rt, *limit, found, (*messages, framed_end, *number));
-        let found = told_of(rt.alloc(), Format::Packed, &packed, options);
+        let found = declared_of(rt.alloc(), Format::Packed, &packed, options);
         expect(&rt, *limit, found, (*messages, packed_end, *number));
-        let log = told_of_log(rt.alloc(), &packed, options);
+        let log = declared_of_log(rt.alloc(), &packed, options);
         expect(&rt, *limit, log, (*messages, packed_end, *number));
         let next = next_refusal(rt.alloc(), &framed, options);
         expect(&rt, *limit, next, if *messages == 0 { 8 } else { 0 });
@@ -47,13 +47,13 @@ fn streams_within_a_limit(rt: HostRuntime) -> std::result::Result<(), AllocError
     Ok(())
 }
 
-// The refusal of the next framed message.
+// The error of the next framed message.
 fn next_refusal(alloc: Global, stream: &[u8], options: ReaderOptions) -> u8 {
     let mut source = stream;
     refusal(next_message(alloc, Format::Framed, &mut source, options))
 }
 
-// Whether a message is skipped, and how many bytes are left, or the refusal's number.
+// Whether a message is skipped, and how many bytes are left, or the error's number.
 fn skip(
     alloc: Global,
     format: Format,
@@ -64,10 +64,10 @@ fn skip(
     Ok((skipped, source.len()))
 }
 
-// Formats, the bytes of their second message, and the refusal where its last byte is missing.
+// Formats, the bytes of their second message, and the error where its last byte is missing.
 const SKIPPED: [(Format, usize, u8); 2] = [(Format::Framed, 32, 1), (Format::Packed, 21, 10)];
 
-// Each call goes over one message, and a refused one tells why; a stream that is cut has no end.
+// Each call goes over one message, and a rejected one tells why; a stream that is cut has no end.
 #[test]
 fn messages_are_skipped(rt: HostRuntime) -> std::result::Result<(), AllocError> {
     for (format, second, cut) in &SKIPPED {
@@ -119,7 +119,7 @@ fn skip_up_to_a_cut(
     expect(rt, format, refused, Err(cut));
 }
 
-// Framed bytes, and their refusals: by a copying reader, in place, and of the canonical words and
+// Framed bytes, and their errors: by a copying reader, in place, and of the canonical words and
 // the text of a message that is read.
 #[rattlefmt::skip]
 const BYTES: [(&[u8], [u8; 4]); 12] = [
@@ -138,7 +138,7 @@ const BYTES: [(&[u8], [u8; 4]); 12] = [
     (b"\0\0\0\0\x01\0\0\0\x04\0\0\0\0\0\0\0",           [0, 0, 17, 17]),
 ];
 
-// The refusal of the text of a message in place, or of the message.
+// The error of the text of a message in place, or of the message.
 fn text_refusal(bytes: &[u8]) -> u8 {
     match borrowed_message(bytes) {
         Ok(message) => refusal(root_text(&message)),
@@ -159,7 +159,7 @@ fn bytes_that_are_refused(rt: HostRuntime) {
     }
 }
 
-// Packed texts, and the refusals of two words that are unpacked and of the struct at the root.
+// Packed encodings, and the errors of two words that are unpacked and of the struct at the root.
 #[rattlefmt::skip]
 const PACKED_TEXTS: [(&[u8], [u8; 2]); 6] = [
     (&[],                                   [1, 9]),

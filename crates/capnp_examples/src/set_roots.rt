@@ -1,4 +1,4 @@
-//! The callers that set a root to what another message holds, by the words that stand then.
+//! The callers that set a root to what another message holds, by the words that are then.
 use crate::fixtures::{Message, Source, expect, message_of, roomy_message};
 use capnp::Result;
 use capnp::message::{Builder, HeapAllocator, ReaderOptions};
@@ -22,7 +22,7 @@ const SHARED: &[&[u8]] = &[
 
 const NULL: &[&[u8]] = &[b"\0\0\0\0\0\0\0\0"];
 
-// Segments; what a root that is set to theirs stands as, the same with a first data word of 9, and the
+// Segments; what a root that is set to theirs is as, the same with a first data word of 9, and the
 // canonical form.
 #[rattlefmt::skip]
 const FORMS: [(&[&[u8]], [&[u8]; 3]); 3] = [
@@ -82,7 +82,7 @@ fn expect_forms(
     Ok(())
 }
 
-// In a segment of its own a tree stands after its landing pad, which is the root pointer that it had.
+// In a segment of its own a tree is after its landing pad, which is the root pointer that it had.
 #[test]
 fn roots_after_a_landing_pad(rt: HostRuntime) -> Result<()> {
     for (segments, forms) in &FORMS[..2] {
@@ -96,7 +96,7 @@ fn roots_after_a_landing_pad(rt: HostRuntime) -> Result<()> {
     Ok(())
 }
 
-// Traversal limits of the message after a far pointer, nesting limits, and the refusals of all three.
+// Traversal limits of the message after a far pointer, nesting limits, and the errors of all three.
 const LIMITS: [(Option<usize>, i32, u8); 5] = [
     (Some(5), 2, 0),
     (Some(4), 64, 20),

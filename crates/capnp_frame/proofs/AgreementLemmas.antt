@@ -1,4 +1,4 @@
--- The two forms of reading a slice refuse the same bytes.
+-- The two forms of reading a slice reject the same bytes.
 use Rattle.std.proofs.Common.{◌≡◌, ℕ, ◌+◌, ◌-◌, ◌*◌, ◌/◌, ◌%◌, ◌<◌, ◌≤◌, ◌^◌, zero, suc, Option, Some, None, ◌⊎◌, inl, inr, ◌↔◌, List, [], ◌∷◌, length, refl, sym, ap, ◌∙◌, subst, arith}
 use Rattle.std.specs.Prelude.{sum, slice_get, IsSome}
 use Rattle.std.specs.List.{AllByRecursion}
@@ -9,7 +9,7 @@ use Rattle.capnp_frame.specs.declared.serialize.segment_table.Padding.{Padding}
 use Rattle.capnp_frame.specs.SegmentTable.{table_size, KeepsPadding}
 use Rattle.capnp_frame.specs.Limits.{KeepsLimit}
 use Rattle.capnp_frame.specs.Refusals.{Unless, IsOutOfRange, IsTooLarge}
-use Rattle.capnp_frame.specs.Front.{HasFrame, number, told_lengths, told_padding}
+use Rattle.capnp_frame.specs.Front.{HasFrame, number, declared_lengths, declared_padding}
 use Rattle.capnp_frame.specs.FlatRefusals.{FlatForm, by_words, by_fields, empty_kind, cut_kind, count_end, count_of, lengths_end, RefusesLengths, RefusesFlat}
 use Rattle.capnp_frame.proofs.RefusalLemmas.{Unless-after, in_range, within_limit}
 use Rattle.capnp_frame.proofs.PaddingLemmas.{padding_cases}
@@ -20,9 +20,9 @@ use Rattle.capnp_frame.proofs.FlatLemmas.{cut_first, count_out, cut_lengths, pas
 record Accepts (rule : Padding) (limit : Option ℕ) (bytes : List ℕ) (count : ℕ) : Type 0 where
   pub counted : number bytes + 1 ≡ count
   pub few : count < 512
-  pub keeps : KeepsLimit (told_lengths count bytes) limit
-  pub kept : KeepsPadding rule (told_padding count bytes)
-  pub room : table_size count + 8 * sum (told_lengths count bytes) ≤ length bytes
+  pub keeps : KeepsLimit (declared_lengths count bytes) limit
+  pub kept : KeepsPadding rule (declared_padding count bytes)
+  pub room : table_size count + 8 * sum (declared_lengths count bytes) ≤ length bytes
 
 first_end_some : (form : FlatForm) → 0 < count_end form
 first_end_some (by_words empty) = omega arith
@@ -46,7 +46,7 @@ count_past by_fields last many fits = inr many
 
 refused_not_accepted : (form : FlatForm) (rule : Padding) (limit : Option ℕ) (kind : ErrorKind) (bytes : List ℕ) (count : ℕ) → RefusesFlat form rule limit kind bytes → Accepts rule limit bytes count → ⊥
 refused_not_accepted form rule limit kind bytes count refused a =
-    let told : count_of form (number bytes) ≡ count = count_within form (number bytes) (omega (arith, a.counted, a.few)) ∙ a.counted in
+    let declared : count_of form (number bytes) ≡ count = count_within form (number bytes) (omega (arith, a.counted, a.few)) ∙ a.counted in
     let some : 0 < count = omega (arith, a.counted) in
     let first = first_end_within form count some in
     let lens = lengths_within form count in
@@ -55,12 +55,12 @@ refused_not_accepted form rule limit kind bytes count refused a =
     (Unless-after (λ short. absurd (omega arith))
     (λ x. Unless-after (in_range count some a.few)
     (Unless-after (λ short. absurd (omega arith))
-    (Unless-after (within_limit (told_lengths count bytes) limit a.keeps)
+    (Unless-after (within_limit (declared_lengths count bytes) limit a.keeps)
     (Unless-after (λ short. absurd (omega arith)) (Unless-after (λ broken. broken a.kept)
     (λ cuts. let short = cuts.0 in absurd (omega arith))))))
     (subst (λ k. Unless (IsOutOfRange k) (kind ≡ InvalidNumberOfSegments k)
     (Unless (length bytes < lengths_end form k) (kind ≡ cut_kind form (length bytes))
-    (RefusesLengths form rule limit kind bytes k (told_lengths k bytes)))) told x))) refused
+    (RefusesLengths form rule limit kind bytes k (declared_lengths k bytes)))) declared x))) refused
 
 -- the limit is kept or passed
 pub limit_cases : (ns : List ℕ) (limit : Option ℕ) → IsTooLarge ns limit ⊎ KeepsLimit ns limit
@@ -85,32 +85,32 @@ number_fits (a ∷ b ∷ c ∷ d ∷ bytes) each long =
 -- after the limit: the padding and the segments
 after_limit : (form : FlatForm) (rule : Padding) (limit : Option ℕ) (bytes : List ℕ) (count : ℕ) → count_end form ≤ length bytes
     → number bytes + 1 ≡ count → count < 512 → lengths_end form count ≤ length bytes
-    → KeepsLimit (told_lengths count bytes) limit → Refused form rule limit bytes ⊎ Accepts rule limit bytes count
-after_limit form rule limit bytes count first told few lens keeps =
-    let counted : count_of form (number bytes) ≡ count = count_within form (number bytes) (omega arith) ∙ told in
+    → KeepsLimit (declared_lengths count bytes) limit → Refused form rule limit bytes ⊎ Accepts rule limit bytes count
+after_limit form rule limit bytes count first declared few lens keeps =
+    let counted : count_of form (number bytes) ≡ count = count_within form (number bytes) (omega arith) ∙ declared in
     let some : 0 < count = omega arith in
     let start = first_end_some form in
     elim (cases_lt (length bytes) (table_size count)) [
       | inl short ↦ inl (
         cut_kind form (length bytes),
         past_lengths form rule limit (cut_kind form (length bytes)) bytes count first start counted some few lens
-            (inr (within_limit (told_lengths count bytes) limit keeps, inl (short, refl))),
+            (inr (within_limit (declared_lengths count bytes) limit keeps, inl (short, refl))),
       )
-      | inr table ↦ elim (padding_cases rule (told_padding count bytes)) [
+      | inr table ↦ elim (padding_cases rule (declared_padding count bytes)) [
         | inr broken ↦ inl (
           NonZeroPadding,
           past_lengths form rule limit NonZeroPadding bytes count first start counted some few lens
-              (inr (within_limit (told_lengths count bytes) limit keeps, inr (λ short. absurd (omega arith), inl (broken, refl)))),
+              (inr (within_limit (declared_lengths count bytes) limit keeps, inr (λ short. absurd (omega arith), inl (broken, refl)))),
         )
-        | inl kept ↦ elim (cases_lt (length bytes) (table_size count + 8 * sum (told_lengths count bytes))) [
+        | inl kept ↦ elim (cases_lt (length bytes) (table_size count + 8 * sum (declared_lengths count bytes))) [
           | inl short ↦ inl (
-            MessageEndsPrematurely (sum (told_lengths count bytes))
+            MessageEndsPrematurely (sum (declared_lengths count bytes))
                 ((length bytes - table_size count) / 8),
-            past_lengths form rule limit (MessageEndsPrematurely (sum (told_lengths count bytes))
+            past_lengths form rule limit (MessageEndsPrematurely (sum (declared_lengths count bytes))
                 ((length bytes - table_size count) / 8)) bytes count first start counted some few lens
-                (cut_segments form rule limit bytes count (sum (told_lengths count bytes)) keeps kept table refl short),
+                (cut_segments form rule limit bytes count (sum (declared_lengths count bytes)) keeps kept table refl short),
           )
-          | inr room ↦ inr (record { counted = told; few = few; keeps = keeps; kept = kept; room = room })
+          | inr room ↦ inr (record { counted = declared; few = few; keeps = keeps; kept = kept; room = room })
         ]
       ]
     ]
@@ -118,19 +118,19 @@ after_limit form rule limit bytes count first told few lens keeps =
 -- after the number of segments
 after_count : (form : FlatForm) (rule : Padding) (limit : Option ℕ) (bytes : List ℕ) (count : ℕ) → count_end form ≤ length bytes
     → number bytes + 1 ≡ count → count < 512 → Refused form rule limit bytes ⊎ Accepts rule limit bytes count
-after_count form rule limit bytes count first told few =
-    let counted : count_of form (number bytes) ≡ count = count_within form (number bytes) (omega arith) ∙ told in
+after_count form rule limit bytes count first declared few =
+    let counted : count_of form (number bytes) ≡ count = count_within form (number bytes) (omega arith) ∙ declared in
     let some : 0 < count = omega arith in
     let start = first_end_some form in
     elim (cases_lt (length bytes) (lengths_end form count)) [
       | inl short ↦ inl (cut_kind form (length bytes), cut_lengths form rule limit bytes count first start counted some few short)
-      | inr lens ↦ elim (limit_cases (told_lengths count bytes) limit) [
+      | inr lens ↦ elim (limit_cases (declared_lengths count bytes) limit) [
         | inl over ↦ inl (
-          MessageTooLarge (sum (told_lengths count bytes)),
-          past_lengths form rule limit (MessageTooLarge (sum (told_lengths count bytes))) bytes count first start counted
+          MessageTooLarge (sum (declared_lengths count bytes)),
+          past_lengths form rule limit (MessageTooLarge (sum (declared_lengths count bytes))) bytes count first start counted
               some few lens (inl (over, refl)),
         )
-        | inr keeps ↦ after_limit form rule limit bytes count first told few lens keeps
+        | inr keeps ↦ after_limit form rule limit bytes count first declared few lens keeps
       ]
     ]
 

@@ -23,7 +23,7 @@ pub Asked-ok : {S Y : Type 0} {unread : S → Option (List ℕ)} {failures : S �
     → Advances unread failures same b c → Asked unread failures same a c (Ok returned)
 Asked-ok {a = a} {b = b} {c = c} join first second = record { failed = tt; advances = Advances-join a b c join first second }
 
--- a call that is refused, after one that was returned
+-- a call that is rejected, after one that was returned
 pub Asked-err : {S X Y : Type 0} {unread : S → Option (List ℕ)} {failures : S → ℕ} {same : S → S → Type 0} {a b c : S}
     {error : Error} {result : Result Y Error} → (same a b → same b c → same a c) → IsErrAnd result (λ y. y ≡ error)
     → Advances unread failures same a b → Asked {X = X} unread failures same b c (Err error)

@@ -13,11 +13,11 @@ use Rattle.capnp_frame.specs.Limits.{KeepsLimit, IsWithin}
 use Rattle.capnp_frame.specs.Source.{Splits, RunsShort}
 use Rattle.capnp_frame.specs.Requests.{TableStands}
 use Rattle.capnp_frame.specs.Refusals.{Unless, Tells, CountStands, StopsBy, LacksRoom, RefusesAtLimit, RefusesRest, IsOutOfRange, IsTooLarge, BreaksPadding, RefusesTable}
-use Rattle.capnp_frame.specs.Front.{HasFrame, number, told_lengths, told_padding}
+use Rattle.capnp_frame.specs.Front.{HasFrame, number, declared_lengths, declared_padding}
 use Rattle.capnp_frame.specs.FlatRefusals.{FlatForm, by_words, by_fields, cut_kind, count_end, count_of, AcceptsCount, lengths_end, CutsSegments, RefusesLengths, RefusesCount, RefusesFlat}
-use Rattle.capnp_frame.proofs.TableLemmas.{count_told}
+use Rattle.capnp_frame.proofs.TableLemmas.{count_declared}
 use Rattle.capnp_frame.proofs.FrameLemmas.{length-table}
-use Rattle.capnp_frame.proofs.ToldTables.{number-field, table_is, Told, told_from_table}
+use Rattle.capnp_frame.proofs.DeclaredTables.{number-field, table_is, Declared, declared_from_table}
 use Rattle.capnp_frame.proofs.FrontMessages.{held_from_begins}
 use Rattle.capnp_frame.proofs.RefusalLemmas.{Unless-once, Unless-after, in_range, within_limit}
 
@@ -59,20 +59,20 @@ cut_lengths form rule limit bytes count there first is some few short = past_emp
 pub past_lengths : (form : FlatForm) (rule : Padding) (limit : Option ℕ) (kind : ErrorKind) (bytes : List ℕ) (count : ℕ)
     → count_end form ≤ length bytes → 0 < count_end form → count_of form (number bytes) ≡ count → 0 < count
     → count < 512 → lengths_end form count ≤ length bytes
-    → RefusesLengths form rule limit kind bytes count (told_lengths count bytes) → RefusesFlat form rule limit kind bytes
+    → RefusesLengths form rule limit kind bytes count (declared_lengths count bytes) → RefusesFlat form rule limit kind bytes
 past_lengths form rule limit kind bytes count there first is some few all after = past_empty form rule limit kind bytes there
     first (subst (RefusesCount form rule limit kind bytes) (sym is)
     (inr (in_range count some few, inr (λ short. absurd (omega arith), after))))
 
 -- the segments are cut
 pub cut_segments : (form : FlatForm) (rule : Padding) (limit : Option ℕ) (bytes : List ℕ) (count total : ℕ)
-    → KeepsLimit (told_lengths count bytes) limit → KeepsPadding rule (told_padding count bytes) → table_size count ≤ length bytes
-    → total ≡ sum (told_lengths count bytes) → length bytes < table_size count + 8 * total
+    → KeepsLimit (declared_lengths count bytes) limit → KeepsPadding rule (declared_padding count bytes) → table_size count ≤ length bytes
+    → total ≡ sum (declared_lengths count bytes) → length bytes < table_size count + 8 * total
     → RefusesLengths form rule limit (MessageEndsPrematurely total ((length bytes - table_size count) / 8)) bytes count
-    (told_lengths count bytes)
+    (declared_lengths count bytes)
 cut_segments form rule limit bytes count total keeps kept room is short =
     inr (
-      within_limit (told_lengths count bytes) limit keeps,
+      within_limit (declared_lengths count bytes) limit keeps,
       inr (
         λ cut. absurd (omega arith),
         inr (
@@ -83,33 +83,33 @@ cut_segments form rule limit bytes count total keeps kept room is short =
       ),
     )
 
--- a message that stands at the front and is accepted isn't refused
+-- a message that is at the front and is accepted isn't rejected
 pub RefusesFlat-apart : (form : FlatForm) (rule : Padding) (limit : Option ℕ) (kind : ErrorKind) (bytes : List ℕ)
     (segments : List (List ℕ)) (rest : List ℕ) → HasFrame rule bytes segments rest → IsWithin segments limit
     → RefusesFlat form rule limit kind bytes → ⊥
 RefusesFlat-apart form rule limit kind bytes segments rest begins within =
     let held = held_from_begins rule bytes segments rest limit begins within in
     let count = length segments in
-    let told = held.count in
+    let declared = held.count in
     let few = held.holds.table.few in
     let some = held.holds.table.some in
     let room = held.holds.room in
-    let told_count : count_of form (number bytes) ≡ count = counted form (number bytes) count told few in
-    let keeps : KeepsLimit (told_lengths count bytes) limit = subst (λ l. KeepsLimit l limit) (sym held.lengths_are) within.size in
+    let declared_count : count_of form (number bytes) ≡ count = counted form (number bytes) count declared few in
+    let keeps : KeepsLimit (declared_lengths count bytes) limit = subst (λ l. KeepsLimit l limit) (sym held.lengths_are) within.size in
     let fewest = first_end form count some in
     let less = within_table form count in
     Unless-after (λ none. absurd (omega (arith, ap length none)))
     (Unless-after (λ short. absurd (omega arith)) (λ x.
-    let counted_so : RefusesCount form rule limit kind bytes count = subst (RefusesCount form rule limit kind bytes) told_count x in
+    let counted_so : RefusesCount form rule limit kind bytes count = subst (RefusesCount form rule limit kind bytes) declared_count x in
     Unless-after (in_range count some few) (Unless-after (λ short. absurd (omega arith))
-    (Unless-after (within_limit (told_lengths count bytes) limit keeps)
+    (Unless-after (within_limit (declared_lengths count bytes) limit keeps)
     (Unless-after (λ short. absurd (omega arith)) (Unless-after (λ broken. broken held.padding)
     (λ cuts. let short = cuts.0 in absurd (omega arith))))))
     counted_so))
   where
     counted : (form : FlatForm) (last count : ℕ) → last + 1 ≡ count → count < 512 → count_of form last ≡ count
-    counted (by_words empty) last count told few = omega arith
-    counted by_fields last count told few = told
+    counted (by_words empty) last count declared few = omega arith
+    counted by_fields last count declared few = declared
 
     first_end : (form : FlatForm) (count : ℕ) → 0 < count → count_end form ≤ table_size count
     first_end (by_words empty) count some = omega arith
@@ -121,20 +121,20 @@ RefusesFlat-apart form rule limit kind bytes segments rest begins within =
 
 -- the stream reader's table over a slice
 
-pub told_by_requests : (rule : Padding) (bytes ns rest : List ℕ) → TableStands rule Splits ns bytes rest → length ns < 512 → Told rule bytes ns × (length bytes ≡ table_size (length ns) + length rest)
-told_by_requests rule bytes ns rest stands few =
+pub declared_by_requests : (rule : Padding) (bytes ns rest : List ℕ) → TableStands rule Splits ns bytes rest → length ns < 512 → Declared rule bytes ns × (length bytes ≡ table_size (length ns) + length rest)
+declared_by_requests rule bytes ns rest stands few =
     let table = stands.first ++ stands.others in
     let bytes_are : bytes ≡ table ++ rest = stands.first_given.0 ∙ ap (λ l. stands.first ++ l) stands.others_given.0 ∙ sym (append_assoc stands.first stands.others rest) in
     let long = length-table table ns stands.table in
-    (subst (λ l. Told rule l ns) (sym bytes_are) (told_from_table table rest ns stands.table few), ap length bytes_are ∙ length-append table rest ∙ omega arith)
+    (subst (λ l. Declared rule l ns) (sym bytes_are) (declared_from_table table rest ns stands.table few), ap length bytes_are ∙ length-append table rest ∙ omega arith)
 
 -- the table at the front keeps the rule where its padding there does
-front_table : (rule : Padding) (bytes table rest ns : List ℕ) → bytes ≡ table ++ rest → IsTable Any table ns → Told Any bytes ns
-    → KeepsPadding rule (told_padding (length ns) bytes) → IsTable rule table ns
-front_table rule bytes table rest ns is any told kept =
+front_table : (rule : Padding) (bytes table rest ns : List ℕ) → bytes ≡ table ++ rest → IsTable Any table ns → Declared Any bytes ns
+    → KeepsPadding rule (declared_padding (length ns) bytes) → IsTable rule table ns
+front_table rule bytes table rest ns is any declared kept =
     let size = table_size (length ns) in
     let front : take size bytes ≡ table = ap (take size) is ∙ take_at table rest size (omega (arith, length-table table ns any)) in
-    subst (IsTable rule table) told.lengths (subst (λ l. IsTable rule l (told_lengths (length ns) bytes)) front (table_is rule bytes (length ns) told.tells kept))
+    subst (IsTable rule table) declared.lengths (subst (λ l. IsTable rule l (declared_lengths (length ns) bytes)) front (table_is rule bytes (length ns) declared.tells kept))
 
 below_range : (count : ℕ) → (IsOutOfRange count → ⊥) → count < 512
 below_range count range = elim (cases_lt count 512) [ inl few ↦ few | inr many ↦ absurd (range (inr many)) ]
@@ -143,7 +143,7 @@ above_range : (count : ℕ) → (IsOutOfRange count → ⊥) → 0 < count
 above_range count range = elim (cases_lt 0 count) [ inl some ↦ some | inr none ↦ absurd (range (inl (omega arith))) ]
 
 counts : (last count many : ℕ) → count ≡ (last + 1) % 2 ^ 32 → last + 1 ≡ many → many ≤ 2 ^ 32 → count < 512 → 0 < count → count ≡ many
-counts last count many is told most few some = omega arith
+counts last count many is declared most few some = omega arith
 
 -- the number of segments that the first word at the front tells
 first_tells : (empty : ErrorKind) (bytes word left : List ℕ) (count : ℕ) → Splits bytes 8 word left → Tells word count
@@ -154,9 +154,9 @@ first_tells empty bytes word left count (split, long) (last, fits, read, is) =
 
 pub count_accepted : (empty : ErrorKind) (bytes left : List ℕ) → CountStands Splits bytes left → AcceptsCount (by_words empty) bytes
 count_accepted empty bytes left stands =
-    let told = first_tells empty bytes stands.word left stands.count stands.given stands.told in
-    let long = told.0 in
-    (omega arith, subst (λ k. IsOutOfRange k → ⊥) (sym told.1) stands.accepted)
+    let declared = first_tells empty bytes stands.word left stands.count stands.given stands.declared in
+    let long = declared.0 in
+    (omega arith, subst (λ k. IsOutOfRange k → ⊥) (sym declared.1) stands.accepted)
 
 pub words_refused : (empty : ErrorKind) (rule : Padding) (limit : Option ℕ) (kind : ErrorKind) (bytes left : List ℕ)
     → RefusesTable rule Splits RunsShort limit None kind bytes left → RefusesFlat (by_words empty) rule limit kind bytes
@@ -170,26 +170,26 @@ words_refused empty rule limit kind bytes left (inr (room, (some, inr (word, bet
   ),
 )
   where
-    told : (length bytes ≡ 8 + length between) × (count_of (by_words empty) (number bytes) ≡ count)
-    told = first_tells empty bytes word between count given tells
+    declared : (length bytes ≡ 8 + length between) × (count_of (by_words empty) (number bytes) ≡ count)
+    declared = first_tells empty bytes word between count given tells
 
     long : length bytes ≡ 8 + length between
-    long = told.0
+    long = declared.0
 
     same : count_of (by_words empty) (number bytes) ≡ count
-    same = told.1
+    same = declared.1
 
     -- the limit's line, and the padding's
-    lines : (ns others following : List ℕ) → (length bytes ≡ table_size (length ns) + length following) → Told Any bytes ns → count ≡ length ns
+    lines : (ns others following : List ℕ) → (length bytes ≡ table_size (length ns) + length following) → Declared Any bytes ns → count ≡ length ns
         → bytes ≡ (word ++ others) ++ following → IsTable Any (word ++ others) ns
         → Unless (IsTooLarge ns limit) (StopsBy (MessageTooLarge (sum ns)) kind following left)
         (Unless (BreaksPadding rule (word ++ others) ns) (StopsBy NonZeroPadding kind following left) ⊥)
         → RefusesLengths (by_words empty) rule limit kind bytes count ns
-    lines ns others following room told exact is any (inl (over, stops)) = inl (over, stops.0)
-    lines ns others following room told exact is any (inr (keeps, inr (taken, never))) = absurd never
-    lines ns others following room told exact is any (inr (keeps, inl (breaks, stops))) =
-        let table = λ (kept : KeepsPadding rule (told_padding count bytes)). front_table rule bytes (word ++ others) following ns is any told
-        (subst (λ k. KeepsPadding rule (told_padding k bytes)) exact kept) in
+    lines ns others following room declared exact is any (inl (over, stops)) = inl (over, stops.0)
+    lines ns others following room declared exact is any (inr (keeps, inr (taken, never))) = absurd never
+    lines ns others following room declared exact is any (inr (keeps, inl (breaks, stops))) =
+        let table = λ (kept : KeepsPadding rule (declared_padding count bytes)). front_table rule bytes (word ++ others) following ns is any declared
+        (subst (λ k. KeepsPadding rule (declared_padding k bytes)) exact kept) in
         inr (keeps, inr (λ short. absurd (omega arith), inl ((λ kept. breaks (table kept)), stops.0)))
 
     limited : (others following : List ℕ) → (IsOutOfRange count → ⊥) → Splits between (8 * (count / 2)) others following
@@ -197,7 +197,7 @@ words_refused empty rule limit kind bytes left (inr (room, (some, inr (word, bet
         → RefusesCount (by_words empty) rule limit kind bytes count
     limited others following range split (ns, table, met) =
         let few = below_range count range in
-        let many = count_told word others ns tells.0 table given.1 tells.2 tells.1 in
+        let many = count_declared word others ns tells.0 table given.1 tells.2 tells.1 in
         let exact : count ≡ length ns = counts tells.0 count (length ns) tells.3 many table.can.count few (above_range count range) in
         let stands : TableStands Any Splits ns bytes following = record {
           first = word;
@@ -208,11 +208,11 @@ words_refused empty rule limit kind bytes left (inr (room, (some, inr (word, bet
               (λ k. Splits between (8 * (k / 2)) others following) exact split;
           table = table;
         } in
-        let told = told_by_requests Any bytes ns following stands (omega arith) in
-        let lens : told_lengths count bytes ≡ ns = ap (λ k. told_lengths k bytes) exact ∙ told.0.lengths in
-        let room = told.1 in
+        let declared = declared_by_requests Any bytes ns following stands (omega arith) in
+        let lens : declared_lengths count bytes ≡ ns = ap (λ k. declared_lengths k bytes) exact ∙ declared.0.lengths in
+        let room = declared.1 in
         let bytes_are : bytes ≡ (word ++ others) ++ following = given.0 ∙ ap (λ l. word ++ l) split.0 ∙ sym (append_assoc word others following) in
-        inr (range, inr (λ short. absurd (omega arith), subst (RefusesLengths (by_words empty) rule limit kind bytes count) (sym lens) (lines ns others following told.1 told.0 exact bytes_are table met)))
+        inr (range, inr (λ short. absurd (omega arith), subst (RefusesLengths (by_words empty) rule limit kind bytes count) (sym lens) (lines ns others following declared.1 declared.0 exact bytes_are table met)))
 
     counted : Unless (IsOutOfRange count) (StopsBy (InvalidNumberOfSegments count) kind between left)
         (Unless (LacksRoom None (table_size count)) (StopsBy BufferNotLargeEnough kind between left)

@@ -8,13 +8,13 @@ use Rattle.capnp_frame.specs.declared.error.ErrorKind.TheVariants.{OutOfMemory}
 use Rattle.capnp_frame.specs.declared.serialize.segment_table.Padding.{Padding}
 use Rattle.capnp_frame.specs.SegmentTable.{table_size, KeepsPadding}
 use Rattle.capnp_frame.specs.Limits.{KeepsLimit}
-use Rattle.capnp_frame.specs.Front.{told_lengths, told_padding, told_segments, HoldsMessage}
+use Rattle.capnp_frame.specs.Front.{declared_lengths, declared_padding, declared_segments, HoldsMessage}
 use Rattle.capnp_frame.specs.FlatRefusals.{FlatForm, by_words, by_fields, AcceptsCount, RefusesFlat}
 use Rattle.capnp_frame.specs.FlatReaders.{FlatRules, StandsBy, RefusesBy, Leaves, OrLacksMemory, AcceptsFlat, ReadsFlat}
-use Rattle.capnp_frame.proofs.FrontMessages.{found_from_held, within_told}
+use Rattle.capnp_frame.proofs.FrontMessages.{found_from_held, within_declared}
 use Rattle.capnp_frame.proofs.FlatLemmas.{RefusesFlat-once, RefusesFlat-apart}
 
--- no line holds where a message stands
+-- no line holds where a message is
 stands_apart : (rules : FlatRules) (kind : ErrorKind) (bytes rest : List ℕ) (message : List (List ℕ)) → StandsBy rules message bytes rest → RefusesBy rules kind bytes → ⊥
 stands_apart rules kind bytes rest message begins =
     RefusesFlat-apart rules.form rules.padding rules.limit kind bytes message rest (begins.text, begins.is_text, begins.spelled) begins.within
@@ -49,7 +49,7 @@ reads_none {X} rules bytes left segments error (Err own) is stays refused =
       exact = λ kind line. first_line rules.form rules.padding rules.limit bytes error.kind kind refused line;
     })
 
--- where it finds a message, that stands there
+-- where it finds a message, that is there
 
 accepts : {X : Type 0} (form : FlatForm) (x : X) → AcceptsFlat form (Ok x)
 accepts (by_words empty) x = tt
@@ -60,17 +60,17 @@ leaves None stands rest is begins = (rest, begins)
 leaves (Some left) stands rest is begins = subst stands (sym is) begins
 
 pub reads_held : {X : Type 0} (rules : FlatRules) (bytes : List ℕ) (left : Option (List ℕ)) (segments : X → List (List ℕ)) (x : X)
-    (count : ℕ) → HoldsMessage bytes count → segments x ≡ told_segments count bytes
-    → KeepsLimit (told_lengths count bytes) rules.limit → KeepsPadding rules.padding (told_padding count bytes)
-    → IfSome left (λ left. left ≡ drop (table_size count + 8 * sum (told_lengths count bytes)) bytes)
+    (count : ℕ) → HoldsMessage bytes count → segments x ≡ declared_segments count bytes
+    → KeepsLimit (declared_lengths count bytes) rules.limit → KeepsPadding rules.padding (declared_padding count bytes)
+    → IfSome left (λ left. left ≡ drop (table_size count + 8 * sum (declared_lengths count bytes)) bytes)
     → ReadsFlat rules bytes left segments (Ok x)
 reads_held rules bytes left segments x count holds are keeps kept is =
-    let rest = drop (table_size count + 8 * sum (told_lengths count bytes)) bytes in
+    let rest = drop (table_size count + 8 * sum (declared_lengths count bytes)) bytes in
     let frame = (found_from_held rules.padding bytes count holds kept).begins in
     let begins : StandsBy rules (segments x) bytes rest = subst (λ l. StandsBy rules l bytes rest) (sym are) (record {
       text = frame.0;
       is_text = frame.1;
-      within = within_told bytes count rules.limit holds keeps;
+      within = within_declared bytes count rules.limit holds keeps;
       spelled = frame.2;
     }) in
     record {
@@ -86,15 +86,15 @@ reads_held rules bytes left segments x count holds are keeps kept is =
 pub reads_shown : {X Y : Type 0} (rules : FlatRules) (bytes : List ℕ) (left : Option (List ℕ)) (segments : X → List (List ℕ))
     (others : Y → List (List ℕ)) (x : X) (y : Y) → others y ≡ segments x → ReadsFlat rules bytes left segments (Ok x)
     → ReadsFlat rules bytes left others (Ok y)
-reads_shown rules bytes left segments others x y same told = record {
-  found = subst (λ l. Leaves left (StandsBy rules l bytes)) (sym same) told.found;
+reads_shown rules bytes left segments others x y same declared = record {
+  found = subst (λ l. Leaves left (StandsBy rules l bytes)) (sym same) declared.found;
   accepted = λ message rest begins. accepts rules.form y;
   unchanged = tt;
   refused = tt;
-  exact = told.exact;
+  exact = declared.exact;
 }
 
 pub reads_passed : {X Y : Type 0} (rules : FlatRules) (bytes : List ℕ) (left : Option (List ℕ)) (segments : X → List (List ℕ))
     (others : Y → List (List ℕ)) (error : Error) (result : Result Y Error) → IsErrAnd result (λ own. own ≡ error)
     → ReadsFlat rules bytes left segments (Err error) → ReadsFlat rules bytes left others result
-reads_passed rules bytes left segments others error result is told = reads_none rules bytes left others error result is told.unchanged told.refused
+reads_passed rules bytes left segments others error result is declared = reads_none rules bytes left others error result is declared.unchanged declared.refused

@@ -6,7 +6,7 @@ use Rattle.capnp_frame.specs.Message.{IsWholeWords, word_count, lengths, size_in
 use Rattle.capnp_frame.specs.declared.serialize.segment_table.Padding.{Padding}
 use Rattle.capnp_frame.specs.declared.serialize.segment_table.Padding.TheVariants.{Any, Zero}
 use Rattle.capnp_frame.specs.SegmentTable.{field, padding_len, zero_padded_table, HasTable, IsTable}
-use Rattle.capnp_frame.specs.Frame.{IsFrame, frame_text}
+use Rattle.capnp_frame.specs.Frame.{IsFrame, frame_bytes}
 use Rattle.capnp_frame.specs.Source.{Splits}
 use Rattle.capnp_frame.specs.Requests.{MessageStands}
 use Rattle.capnp_frame.proofs.TableLemmas.{length-fields, any_table, zero_table, zeros_kept}
@@ -28,7 +28,7 @@ length-segments (s ∷ ss) whole =
 pub MessageStands-from_frame : {rule : Padding} (text rest : List ℕ) (segments : List (List ℕ)) → IsFrame rule text segments → MessageStands rule Splits segments (text ++ rest) rest
 MessageStands-from_frame {rule} text rest segments frame =
     let head = frame.table in
-    let long = length-table head (lengths segments) frame.lengths_told in
+    let long = length-table head (lengths segments) frame.lengths_declared in
     let whole : take 8 head ++ drop 8 head ≡ head = take-append-drop 8 head in
     record {
       between = concat segments ++ rest;
@@ -43,7 +43,7 @@ MessageStands-from_frame {rule} text rest segments frame =
           length-take-le 8 head (omega arith),
         );
         others_given = (refl, omega (arith, length-drop 8 head));
-        table = subst (λ l. IsTable rule l (lengths segments)) (sym whole) frame.lengths_told;
+        table = subst (λ l. IsTable rule l (lengths segments)) (sym whole) frame.lengths_declared;
       };
       given = (refl, length-segments segments frame.whole);
       whole = frame.whole;
@@ -53,7 +53,7 @@ pub frame_from_requests : {rule : Padding} (raw rest : List ℕ) (segments : Lis
 frame_from_requests raw rest segments sent =
     let head = sent.table.first ++ sent.table.others in (
       head ++ concat segments,
-      record { table = head; lengths_told = sent.table.table; whole = sent.whole; spelled = refl },
+      record { table = head; lengths_declared = sent.table.table; whole = sent.whole; spelled = refl },
       sent.table.first_given.0 ∙ ap (λ l. sent.table.first ++ l) (sent.table.others_given.0 ∙ ap (λ l. sent.table.others ++ l) sent.given.0)
           ∙ sym (append_assoc sent.table.first sent.table.others (concat segments ++ rest)) ∙ sym (append_assoc head (concat segments) rest),
     )
@@ -69,10 +69,10 @@ zero_padded_is rule ns can = record {
 }
 
 -- the frame that is written is one
-pub frame_text_is : (rule : Padding) (segments : List (List ℕ)) → HasTable (lengths segments) → AllByRecursion IsWholeWords segments → IsFrame rule (frame_text segments) segments
-frame_text_is rule segments can whole = record {
+pub frame_bytes_are : (rule : Padding) (segments : List (List ℕ)) → HasTable (lengths segments) → AllByRecursion IsWholeWords segments → IsFrame rule (frame_bytes segments) segments
+frame_bytes_are rule segments can whole = record {
   table = zero_padded_table (lengths segments);
-  lengths_told = zero_padded_is rule (lengths segments) can;
+  lengths_declared = zero_padded_is rule (lengths segments) can;
   whole = whole;
   spelled = refl;
 }
@@ -94,11 +94,11 @@ zero_table_is text ns = (
 pub any_frame : {rule : Padding} (text : List ℕ) (segments : List (List ℕ)) → IsFrame rule text segments → IsFrame Any text segments
 any_frame text segments frame = record {
   table = frame.table;
-  lengths_told = any_table frame.table (lengths segments) frame.lengths_told;
+  lengths_declared = any_table frame.table (lengths segments) frame.lengths_declared;
   whole = frame.whole;
   spelled = frame.spelled;
 }
 
 -- and one of zero padding is the one that is written
-pub zero_frame : (text : List ℕ) (segments : List (List ℕ)) → IsFrame Zero text segments → text ≡ frame_text segments
-zero_frame text segments frame = frame.spelled ∙ ap (λ l. l ++ concat segments) (zero_table frame.table (lengths segments) frame.lengths_told)
+pub zero_frame : (text : List ℕ) (segments : List (List ℕ)) → IsFrame Zero text segments → text ≡ frame_bytes segments
+zero_frame text segments frame = frame.spelled ∙ ap (λ l. l ++ concat segments) (zero_table frame.table (lengths segments) frame.lengths_declared)

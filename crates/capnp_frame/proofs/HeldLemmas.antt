@@ -15,48 +15,48 @@ use Rattle.capnp_frame.specs.Limits.{KeepsLimit, AreWithin, IsWithin}
 use Rattle.capnp_frame.specs.Source.{Splits, RunsShort, IfKnown, Fails}
 use Rattle.capnp_frame.specs.Requests.{TableStands}
 use Rattle.capnp_frame.specs.Refusals.{CountStands, RefusesTable}
-use Rattle.capnp_frame.specs.Front.{HasFrame, IsDescribed, HaveSameNumbers, number, told_lengths, told_padding, told_segments, HoldsMessage}
+use Rattle.capnp_frame.specs.Front.{HasFrame, IsDescribed, HaveSameNumbers, number, declared_lengths, declared_padding, declared_segments, HoldsMessage}
 use Rattle.capnp_frame.specs.FlatRefusals.{by_words, by_fields, AcceptsCount, RefusesFlat}
 use Rattle.capnp_frame.proofs.AskLemmas.{never_fails}
 use Rattle.capnp_frame.proofs.Ranges.{widths}
-use Rattle.capnp_frame.proofs.FrontMessages.{found_from_held, held_from_begins, within_told, length-told_segments}
-use Rattle.capnp_frame.proofs.FlatLemmas.{RefusesFlat-apart, told_by_requests, count_accepted, words_refused, past_lengths, cut_segments}
+use Rattle.capnp_frame.proofs.FrontMessages.{found_from_held, held_from_begins, within_declared, length-declared_segments}
+use Rattle.capnp_frame.proofs.FlatLemmas.{RefusesFlat-apart, declared_by_requests, count_accepted, words_refused, past_lengths, cut_segments}
 
 -- the frame at the front
 
 pub begins_held : (rule : Padding) (bytes : List ℕ) (count : ℕ) (segments : List (List ℕ)) → HoldsMessage bytes count
-    → KeepsPadding rule (told_padding count bytes) → segments ≡ told_segments count bytes → (rest : List ℕ) × HasFrame rule bytes segments rest
+    → KeepsPadding rule (declared_padding count bytes) → segments ≡ declared_segments count bytes → (rest : List ℕ) × HasFrame rule bytes segments rest
 begins_held rule bytes count segments holds kept are =
-    let left = drop (table_size count + 8 * sum (told_lengths count bytes)) bytes in
+    let left = drop (table_size count + 8 * sum (declared_lengths count bytes)) bytes in
     (left, subst (λ l. HasFrame rule bytes l left) (sym are) (found_from_held rule bytes count holds kept).begins)
 
 -- a slice that moved past it
-pub moved : (bytes : List ℕ) (count size total : ℕ) → size ≡ table_size count → total ≡ 8 * sum (told_lengths count bytes)
-    → take (length bytes - (size + total)) (drop (size + total) bytes) ≡ drop (table_size count + 8 * sum (told_lengths count bytes)) bytes
+pub moved : (bytes : List ℕ) (count size total : ℕ) → size ≡ table_size count → total ≡ 8 * sum (declared_lengths count bytes)
+    → take (length bytes - (size + total)) (drop (size + total) bytes) ≡ drop (table_size count + 8 * sum (declared_lengths count bytes)) bytes
 moved bytes count size total table_is total_is =
-    let place : size + total ≡ table_size count + 8 * sum (told_lengths count bytes) = omega arith in
+    let place : size + total ≡ table_size count + 8 * sum (declared_lengths count bytes) = omega arith in
     take_rest bytes (size + total) ∙ ap (λ k. drop k bytes) place
 
 pub within_held : (bytes : List ℕ) (count : ℕ) (segments : List (List ℕ)) (limit : Option ℕ) → HoldsMessage bytes count
-    → segments ≡ told_segments count bytes → KeepsLimit (told_lengths count bytes) limit → IsWithin segments limit
-within_held bytes count segments limit holds are keeps = subst (λ l. IsWithin l limit) (sym are) (within_told bytes count limit holds keeps)
+    → segments ≡ declared_segments count bytes → KeepsLimit (declared_lengths count bytes) limit → IsWithin segments limit
+within_held bytes count segments limit holds are keeps = subst (λ l. IsWithin l limit) (sym are) (within_declared bytes count limit holds keeps)
 
 -- parts after a table
 
 pub parts_are : (bytes : List ℕ) (indices : List (ℕ × ℕ)) (ns : List ℕ) (size : ℕ) (segments : List (List ℕ))
-    → indices ≡ ranges ns → told_lengths (length ns) bytes ≡ ns → size ≡ table_size (length ns)
-    → segments ≡ cut (map range_len indices) (drop size bytes) → segments ≡ told_segments (length ns) bytes
-parts_are bytes indices ns size segments running told table_is are =
+    → indices ≡ ranges ns → declared_lengths (length ns) bytes ≡ ns → size ≡ table_size (length ns)
+    → segments ≡ cut (map range_len indices) (drop size bytes) → segments ≡ declared_segments (length ns) bytes
+parts_are bytes indices ns size segments running declared table_is are =
     are ∙ ap (λ l. cut (map range_len l) (drop size bytes)) running
-    ∙ ap (λ l. cut l (drop size bytes)) (widths 0 ns ∙ sym told)
-    ∙ ap (λ k. cut (told_lengths (length ns) bytes) (drop k bytes)) table_is
+    ∙ ap (λ l. cut l (drop size bytes)) (widths 0 ns ∙ sym declared)
+    ∙ ap (λ k. cut (declared_lengths (length ns) bytes) (drop k bytes)) table_is
 
-pub slice_parts_are : (bytes ns : List ℕ) (size : ℕ) (segments : List (List ℕ)) → told_lengths (length ns) bytes ≡ ns
-    → size ≡ table_size (length ns) → segments ≡ cut ns (drop size bytes) → segments ≡ told_segments (length ns) bytes
-slice_parts_are bytes ns size segments told table_is are = are ∙ ap (λ l. cut l (drop size bytes)) (sym told) ∙ ap (λ k. cut (told_lengths (length ns) bytes) (drop k bytes)) table_is
+pub slice_parts_are : (bytes ns : List ℕ) (size : ℕ) (segments : List (List ℕ)) → declared_lengths (length ns) bytes ≡ ns
+    → size ≡ table_size (length ns) → segments ≡ cut ns (drop size bytes) → segments ≡ declared_segments (length ns) bytes
+slice_parts_are bytes ns size segments declared table_is are = are ∙ ap (λ l. cut l (drop size bytes)) (sym declared) ∙ ap (λ k. cut (declared_lengths (length ns) bytes) (drop k bytes)) table_is
 
-pub keeps_told : (bytes ns : List ℕ) (limit : Option ℕ) → told_lengths (length ns) bytes ≡ ns → AreWithin ns limit → KeepsLimit (told_lengths (length ns) bytes) limit
-keeps_told bytes ns limit told within = subst (λ l. KeepsLimit l limit) (sym told) within.size
+pub keeps_declared : (bytes ns : List ℕ) (limit : Option ℕ) → declared_lengths (length ns) bytes ≡ ns → AreWithin ns limit → KeepsLimit (declared_lengths (length ns) bytes) limit
+keeps_declared bytes ns limit declared within = subst (λ l. KeepsLimit l limit) (sym declared) within.size
 
 -- the stream reader's table over a slice
 
@@ -71,29 +71,29 @@ slice_refused empty rule limit kind bytes left failed (inr (inr met)) = inr (wor
 
 pub slice_holds : (rule : Padding) (bytes ns left : List ℕ) (limit : Option ℕ) (total : ℕ) → TableStands rule Splits ns bytes left
     → AreWithin ns limit → total ≡ sum ns → 8 * total ≤ length left → HoldsMessage bytes (length ns)
-    × (told_lengths (length ns) bytes ≡ ns) × KeepsPadding rule (told_padding (length ns) bytes)
+    × (declared_lengths (length ns) bytes ≡ ns) × KeepsPadding rule (declared_padding (length ns) bytes)
 slice_holds rule bytes ns left limit total stands within is room =
-    let told = told_by_requests rule bytes ns left stands within.few in
-    let long = told.1 in
-    let sums : sum (told_lengths (length ns) bytes) ≡ sum ns = ap sum told.0.lengths in
-    (record { table = told.0.tells; room = omega arith }, told.0.lengths, told.0.padding)
+    let declared = declared_by_requests rule bytes ns left stands within.few in
+    let long = declared.1 in
+    let sums : sum (declared_lengths (length ns) bytes) ≡ sum ns = ap sum declared.0.lengths in
+    (record { table = declared.0.tells; room = omega arith }, declared.0.lengths, declared.0.padding)
 
 pub slice_cut : (empty : ErrorKind) (rule : Padding) (bytes ns left : List ℕ) (limit : Option ℕ) (total : ℕ)
     → TableStands rule Splits ns bytes left → AreWithin ns limit → total ≡ sum ns → length left < 8 * total
     → RefusesFlat (by_words empty) rule limit (MessageEndsPrematurely total (length left / 8)) bytes
 slice_cut empty rule bytes ns left limit total stands within is short =
-    let told = told_by_requests rule bytes ns left stands within.few in
+    let declared = declared_by_requests rule bytes ns left stands within.few in
     let count = length ns in
-    let long = told.1 in
+    let long = declared.1 in
     let some = within.some in
     let few = within.few in
-    let number_is = told.0.count in
+    let number_is = declared.0.count in
     let counted : (number bytes + 1) % 2 ^ 32 ≡ count = small (number bytes) count number_is few in
     let following : (length bytes - table_size count) / 8 ≡ length left / 8 = omega arith in
-    let sums : total ≡ sum (told_lengths count bytes) = is ∙ ap sum (sym told.0.lengths) in
+    let sums : total ≡ sum (declared_lengths count bytes) = is ∙ ap sum (sym declared.0.lengths) in
     subst (λ k. RefusesFlat (by_words empty) rule limit (MessageEndsPrematurely total k) bytes) following
     (past_lengths (by_words empty) rule limit (MessageEndsPrematurely total ((length bytes - table_size count) / 8)) bytes count (omega arith) (omega arith) counted some few (omega arith)
-    (cut_segments (by_words empty) rule limit bytes count total (keeps_told bytes ns limit told.0.lengths within) told.0.padding (omega arith) sums (omega arith)))
+    (cut_segments (by_words empty) rule limit bytes count total (keeps_declared bytes ns limit declared.0.lengths within) declared.0.padding (omega arith) sums (omega arith)))
   where
     small : (last count : ℕ) → last + 1 ≡ count → count < 512 → (last + 1) % 2 ^ 32 ≡ count
     small last count is few = omega arith
@@ -106,17 +106,17 @@ described_held bytes info d =
     subst (HoldsMessage bytes) (sym d.count) (held_from_begins Any bytes d.segments d.rest None d.begins d.within).holds
 
 pub held_described : (bytes : List ℕ) (info : NoAllocSegmentTableInfo) → HoldsMessage bytes info.segments_count
-    → info.total_segments_length_bytes ≡ 8 * sum (told_lengths info.segments_count bytes)
+    → info.total_segments_length_bytes ≡ 8 * sum (declared_lengths info.segments_count bytes)
     → info.segment_table_length_bytes ≡ table_size info.segments_count → IsDescribed bytes info
 held_described bytes info holds total table =
     let count = info.segments_count in
     let found = found_from_held Any bytes count holds tt in
-    let many : count ≡ length (told_segments count bytes) = sym (length-told_segments count bytes) in
+    let many : count ≡ length (declared_segments count bytes) = sym (length-declared_segments count bytes) in
     record {
-      segments = told_segments count bytes;
-      rest = drop (table_size count + 8 * sum (told_lengths count bytes)) bytes;
+      segments = declared_segments count bytes;
+      rest = drop (table_size count + 8 * sum (declared_lengths count bytes)) bytes;
       begins = found.begins;
-      within = within_told bytes count None holds tt;
+      within = within_declared bytes count None holds tt;
       count = many;
       table = table ∙ ap table_size many;
       total = total ∙ ap (λ l. 8 * sum l) (sym found.lengths_are);
@@ -128,7 +128,7 @@ described_once bytes found info d e =
     let one = held_from_begins Any bytes d.segments d.rest None d.begins d.within in
     let other = held_from_begins Any bytes e.segments e.rest None e.begins e.within in
     let many : length d.segments ≡ length e.segments = sym one.count ∙ other.count in
-    let same : d.segments ≡ e.segments = sym one.segments_are ∙ ap (λ k. told_segments k bytes) many ∙ other.segments_are in
+    let same : d.segments ≡ e.segments = sym one.segments_are ∙ ap (λ k. declared_segments k bytes) many ∙ other.segments_are in
     record {
       count = d.count ∙ many ∙ sym e.count;
       table = d.table ∙ ap table_size many ∙ sym e.table;
@@ -150,7 +150,7 @@ same_described bytes found info same d = record {
 pub describes_found : (bytes : List ℕ) (found info : NoAllocSegmentTableInfo) (b : Bool)
     → IsTrue b ↔ HaveSameNumbers found info → HoldsMessage bytes found.segments_count
     → found.segment_table_length_bytes ≡ table_size found.segments_count
-    → found.total_segments_length_bytes ≡ 8 * sum (told_lengths found.segments_count bytes)
+    → found.total_segments_length_bytes ≡ 8 * sum (declared_lengths found.segments_count bytes)
     → IsTrue b ↔ IsDescribed bytes info
 describes_found bytes found info b means holds table total =
     let described = held_described bytes found holds total table in

@@ -15,13 +15,13 @@ pub mod WorkedRows
 pub mod WritableLemmas
 pub mod WritingLemmas
 pub mod SizeLemmas
-pub mod ToldTables
+pub mod DeclaredTables
 pub mod FrontMessages
 pub mod FlatLemmas
 pub mod HeldLemmas
 pub mod FlatReaderLemmas
 pub mod ProvidedLemmas
-pub mod TextIntoLemmas
+pub mod FramedIntoLemmas
 pub mod TableReading
 pub mod AgreementLemmas
 pub mod ResultLemmas

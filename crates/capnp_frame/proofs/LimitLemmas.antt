@@ -1,4 +1,4 @@
--- What comes after a table that stands at the front: the limit of words, the padding, and the lines after these.
+-- What comes after a table that is at the front: the limit of words, the padding, and the lines after these.
 use Rattle.std.proofs.Common.{◌≡◌, ℕ, ◌+◌, ◌-◌, ◌%◌, ◌<◌, ◌^◌, Option, None, inl, inr, List, ◌++◌, length, take, refl, sym, ap, ◌∙◌, arith}
 use Rattle.std.proofs.lemmas.List.{length-map}
 use Rattle.std.specs.Prelude.{sum}
@@ -18,9 +18,9 @@ use Rattle.capnp_frame.proofs.RefusalLemmas.{in_range, within_limit, small_room,
 table_tells : {rule : Padding} (word others ns : List ℕ) → IsTable rule (word ++ others) ns → length ns < 512 → length word ≡ 8 → Tells word (length ns)
 table_tells word others ns table few long =
     let front : take 4 (word ++ others) ≡ take 4 word = take-append-le 4 word others (omega arith) in
-    let told : field (length ns - 1) ≡ take 4 (word ++ others) = ap (take 4) (sym table.spelled) in
+    let declared : field (length ns - 1) ≡ take 4 (word ++ others) = ap (take 4) (sym table.spelled) in
     let some = table.can.some in
-    (length ns - 1, omega arith, told ∙ front, same (length ns) some few)
+    (length ns - 1, omega arith, declared ∙ front, same (length ns) some few)
   where
     same : (k : ℕ) → 0 < k → k < 512 → k ≡ (k - 1 + 1) % 2 ^ 32
     same k some few = omega arith
@@ -34,12 +34,12 @@ RefusesAtStart-table : {gives : Giving} {refuses : Refusing} (rule : Padding) (l
     → RefusesAtStart rule gives refuses limit room kind A raw left
 RefusesAtStart-table {gives} {refuses} rule laws limit room kind A raw left ns following fits sent some few lines =
     let long = laws.gives_all raw 8 sent.first sent.between sent.first_given in
-    let told = table_tells sent.first sent.others ns sent.table few long in
+    let declared = table_tells sent.first sent.others ns sent.table few long in
     let unread = given_some laws raw 8 sent.first sent.between sent.first_given (omega arith) in
     let at_limit : RefusesAtLimit rule limit kind A left sent.first sent.others following =
     (ns, any_table (sent.first ++ sent.others) ns sent.table, lines) in
     let at_count : RefusesAtCount rule gives refuses limit room kind A left sent.first sent.between =
-    (length ns, told, inr (in_range (length ns) some few, inr (fits, inr (sent.others, following, sent.others_given, at_limit)))) in
+    (length ns, declared, inr (in_range (length ns) some few, inr (fits, inr (sent.others, following, sent.others_given, at_limit)))) in
     inr (small_room room 8 (table_size (length ns)) (omega arith) fits, (unread, inr (sent.first, sent.between, sent.first_given, at_count)))
 
 -- the lines after a table that is accepted

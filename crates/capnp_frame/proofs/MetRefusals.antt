@@ -1,4 +1,4 @@
--- Which line of the refusal table each part of a reader meets.
+-- Which line of the error table each part of a reader meets.
 use Rattle.std.proofs.Common.{◌≡◌, ℕ, ◌+◌, ◌-◌, ◌*◌, ◌/◌, ◌<◌, Option, Some, None, ◌⊎◌, inl, inr, List, [], ◌++◌, length, take, drop, refl, ap, ◌∙◌, subst, arith}
 use Rattle.std.specs.Prelude.{sum, IsSomeAnd}
 use Rattle.capnp_frame.specs.declared.error.ErrorKind.{ErrorKind}
@@ -6,11 +6,11 @@ use Rattle.capnp_frame.specs.declared.error.ErrorKind.TheVariants.{BufferNotLarg
 use Rattle.capnp_frame.specs.declared.serialize.segment_table.Padding.{Padding}
 use Rattle.capnp_frame.specs.declared.serialize.segment_table.Padding.TheVariants.{Any, Zero}
 use Rattle.capnp_frame.specs.SegmentTable.{table_size, KeepsPadding, IsTable}
-use Rattle.capnp_frame.specs.Front.{told_lengths, told_padding, TellsTable}
+use Rattle.capnp_frame.specs.Front.{declared_lengths, declared_padding, DeclaresTable}
 use Rattle.capnp_frame.specs.Limits.{KeepsLimit, AreWithin}
 use Rattle.capnp_frame.specs.Source.{Giving, Refusing, IsSource, IfKnown, IsTail, IsRefused}
 use Rattle.capnp_frame.specs.Requests.{TableStands}
-use Rattle.capnp_frame.specs.Refusals.{Tells, TellsAccepted, CountStands, TakesMemory, IsTooLarge, LacksRoom, IsTableKind, IsReaderKind, IsProvidedReaderKind}
+use Rattle.capnp_frame.specs.Refusals.{Tells, DeclaresAccepted, CountStands, TakesMemory, IsTooLarge, LacksRoom, IsTableKind, IsReaderKind, IsProvidedReaderKind}
 use Rattle.capnp_frame.specs.Refusals.{RefusesAtLimit, RefusesTable, RefusesStream}
 use Rattle.capnp_frame.specs.Steps.{StopsAtTable, RefusesComplete}
 use Rattle.capnp_frame.proofs.SourceLemmas.{IfKnown-join, IfKnown-weaker, IfKnown-refused}
@@ -21,15 +21,15 @@ use Rattle.capnp_frame.proofs.RefusalLemmas.{in_range, within_limit, small_room,
 -- the lines, as a reader meets them
 
 -- a count that is accepted is the one that the word tells
-Tells-accepted : (word : List ℕ) (count : ℕ) → TellsAccepted word count → Tells word count
+Tells-accepted : (word : List ℕ) (count : ℕ) → DeclaresAccepted word count → Tells word count
 Tells-accepted word count accepted =
     let some = accepted.some in
     let few = accepted.few in
-    (count - 1, omega arith, accepted.told, omega arith)
+    (count - 1, omega arith, accepted.declared, omega arith)
 
 -- the lines of a table that is completed
 
--- the source refuses the other words
+-- the source rejects the other words
 pub others_stop : (rule : Padding) (gives : Giving) (refuses : Refusing) (F : Type 0) (limit : Option ℕ) (kind : ErrorKind)
     (word : List ℕ) (count : ℕ) (old new : Option (List ℕ)) → IfKnown old new IsTail
     → F ⊎ IsRefused refuses (8 * (count / 2)) old kind
@@ -40,25 +40,25 @@ others_stop rule gives refuses F limit kind word count (Some raw) None tail (inr
 others_stop rule gives refuses F limit kind word count (Some raw) (Some left) tail (inr refused) = inr (inl refused)
 
 -- the table is one of any padding
-some_table : (table : List ℕ) (count : ℕ) → TellsTable table count → length table ≡ table_size count
-    → IsTable Any (take 8 table ++ drop 8 table) (told_lengths count table)
+some_table : (table : List ℕ) (count : ℕ) → DeclaresTable table count → length table ≡ table_size count
+    → IsTable Any (take 8 table ++ drop 8 table) (declared_lengths count table)
 some_table table count tells size = whole_table Any (take 8 table) table count refl size tells tt
 
 -- its segments pass the limit
-pub limit_refuses : (rule : Padding) (limit : Option ℕ) (kind : ErrorKind) (table : List ℕ) (count total : ℕ) → TellsTable table count
-    → length table ≡ table_size count → total ≡ sum (told_lengths count table)
+pub limit_refuses : (rule : Padding) (limit : Option ℕ) (kind : ErrorKind) (table : List ℕ) (count total : ℕ) → DeclaresTable table count
+    → length table ≡ table_size count → total ≡ sum (declared_lengths count table)
     → IsSomeAnd limit (λ most. most < total) × (kind ≡ MessageTooLarge total) → RefusesComplete rule limit kind table
 limit_refuses rule limit kind table count total tells size sums (over, is) =
-    let ns = told_lengths count table in
+    let ns = declared_lengths count table in
     let large : IsTooLarge ns limit = subst (λ k. IsSomeAnd limit (λ most. most < k)) sums over in
     λ following. (ns, some_table table count tells size, inl (large, (is ∙ ap MessageTooLarge sums, refl)))
 
 -- its padding is not taken
-pub padding_refuses : (rule : Padding) (limit : Option ℕ) (kind : ErrorKind) (table : List ℕ) (count : ℕ) → TellsTable table count
-    → length table ≡ table_size count → KeepsLimit (told_lengths count table) limit
-    → (KeepsPadding rule (told_padding count table) → ⊥) → kind ≡ NonZeroPadding → RefusesComplete rule limit kind table
+pub padding_refuses : (rule : Padding) (limit : Option ℕ) (kind : ErrorKind) (table : List ℕ) (count : ℕ) → DeclaresTable table count
+    → length table ≡ table_size count → KeepsLimit (declared_lengths count table) limit
+    → (KeepsPadding rule (declared_padding count table) → ⊥) → kind ≡ NonZeroPadding → RefusesComplete rule limit kind table
 padding_refuses rule limit kind table count tells size keeps broken is =
-    let ns = told_lengths count table in
+    let ns = declared_lengths count table in
     let breaks = broken_table rule (take 8 table) table count refl size broken in
     λ following. (ns, some_table table count tells size, inr (within_limit ns limit keeps, inl (breaks, (is, refl))))
 
@@ -88,11 +88,11 @@ complete_kind rule refuses limit kind table met = by_line rule (met [])
     by_line Zero (ns, is, inr (small, inl (breaks, (line, here)))) = (inr (inr (inl (refl, line))), λ device. cc)
     by_line own (ns, is, inr (small, inr (kept, never))) = absurd never
 
--- and these are lines of the whole table of refusals
+-- and these are lines of the whole table of errors
 pub rest_met : (rule : Padding) {gives : Giving} {refuses : Refusing} (laws : IsSource gives refuses) (F : Type 0)
     (limit room : Option ℕ) (kind : ErrorKind) (old mid new : Option (List ℕ)) (word : List ℕ) (count : ℕ)
     → (LacksRoom room (table_size count) → ⊥) → IfKnown old mid (λ raw rest. gives raw 8 word rest)
-    → TellsAccepted word count → F ⊎ IfKnown mid new (StopsAtTable rule gives refuses limit kind word count)
+    → DeclaresAccepted word count → F ⊎ IfKnown mid new (StopsAtTable rule gives refuses limit kind word count)
     → F ⊎ IfKnown old new (RefusesTable rule gives refuses limit room kind)
 rest_met rule laws F limit room kind old mid new word count table given accepted (inl failed) = inl failed
 rest_met rule {gives} {refuses} laws F limit room kind old mid new word count table given accepted (inr stops) =
@@ -123,7 +123,7 @@ pub provided_reader_kind : (rule : Padding) (refuses : Refusing) (kind : ErrorKi
 provided_reader_kind rule refuses kind (inl failed) = inl failed
 provided_reader_kind rule refuses kind (inr others) = inr (inr (inr others))
 
--- and a source's refusal is one of them
+-- and a source's error is one of them
 pub source_kind : (rule : Padding) (refuses : Refusing) (n : ℕ) (unread : Option (List ℕ)) (kind : ErrorKind) → (kind ≡ DeviceFailed) ⊎ IsRefused refuses n unread kind → IsTableKind rule refuses kind
 source_kind rule refuses n unread kind (inl p) = inl p
 source_kind rule refuses n None kind (inr p) = inr (inr (inr p))
@@ -159,7 +159,7 @@ segments_met {gives} {refuses} rule laws F limit room kind old mid new ns len fi
     (small_room room (table_size (length ns)) (table_size (length ns) + 8 * sum ns) (omega arith) fits) here
     accepts (inr (fits, subst (λ k. refuses mid k kind) long refused))) sent tail p)
 
--- the refusals of a reader that grows
+-- the errors of a reader that grows
 
 pub or_memory : {F G R : Type 0} → F ⊎ R → F ⊎ G ⊎ R
 or_memory (inl p) = inl p

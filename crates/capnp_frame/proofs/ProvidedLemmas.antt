@@ -19,11 +19,11 @@ use Rattle.capnp_frame.specs.declared.io.Read.{Ghosts}
 use Rattle.capnp_frame.specs.Streams.{framed_rules, ReadsStreamInto}
 use Rattle.capnp_frame.specs.Requests.{MessageStands}
 use Rattle.capnp_frame.specs.Steps.{FindsTable, FindsMessage}
-use Rattle.capnp_frame.specs.Front.{told_lengths, told_segments, TellsTable, HoldsMessage}
+use Rattle.capnp_frame.specs.Front.{declared_lengths, declared_segments, DeclaresTable, HoldsMessage}
 use Rattle.capnp_frame.proofs.RequestLemmas.{MessageStands-cut}
 use Rattle.capnp_frame.proofs.HeldLemmas.{within_held, begins_held}
 use Rattle.capnp_frame.proofs.MetRefusals.{body_met, segments_met}
-use Rattle.capnp_frame.proofs.ToldTables.{table_is, Told, told_from_table, length-told}
+use Rattle.capnp_frame.proofs.DeclaredTables.{table_is, Declared, declared_from_table, length-declared}
 use Rattle.capnp_frame.proofs.FrontMessages.{found_from_held, cut-take}
 use Rattle.capnp_frame.proofs.RefusalLemmas.{RefusesStream-apart, RefusesStream-once}
 use Rattle.capnp_frame.proofs.WritingLemmas.{length-lengths}
@@ -31,25 +31,25 @@ use Rattle.capnp_frame.proofs.WritingLemmas.{length-lengths}
 -- the segments put after a table
 record Filled (before body after : List ℕ) (count : ℕ) : Type 0 where
   holds : HoldsMessage after count
-  lengths_are : told_lengths count after ≡ told_lengths count before
-  segments_are : told_segments count after ≡ cut (told_lengths count before) body
+  lengths_are : declared_lengths count after ≡ declared_lengths count before
+  segments_are : declared_segments count after ≡ cut (declared_lengths count before) body
 
-body_put : (before body : List ℕ) (count size len : ℕ) → TellsTable before count → size ≡ table_size count
-    → len ≡ 8 * sum (told_lengths count before) → length body ≡ len → size + len ≤ length before
+body_put : (before body : List ℕ) (count size len : ℕ) → DeclaresTable before count → size ≡ table_size count
+    → len ≡ 8 * sum (declared_lengths count before) → length body ≡ len → size + len ≤ length before
     → Filled before body (put_mid size len before body) count
 body_put before body count size len tells size_is len_is long room =
-    let ns = told_lengths count before in
-    let many = length-told count before in
+    let ns = declared_lengths count before in
+    let many = length-declared count before in
     let front = take size before in
     let tail = body ++ post_of size len before in
     let after = front ++ tail in
     let front_len : length front ≡ size = length-take-le size before (omega arith) in
     let table : IsTable Any front ns = subst (λ k. IsTable Any (take k before) ns) (sym size_is) (table_is Any before count tells tt) in
     let few = tells.few in
-    let told : Told Any after ns = told_from_table front tail ns table (omega arith) in
-    let lens : told_lengths count after ≡ ns = subst (λ k. told_lengths k after ≡ ns) many told.lengths in
-    let again : TellsTable after count = subst (TellsTable after) many told.tells in
-    let sums : sum (told_lengths count after) ≡ sum ns = ap sum lens in
+    let declared : Declared Any after ns = declared_from_table front tail ns table (omega arith) in
+    let lens : declared_lengths count after ≡ ns = subst (λ k. declared_lengths k after ≡ ns) many declared.lengths in
+    let again : DeclaresTable after count = subst (DeclaresTable after) many declared.tells in
+    let sums : sum (declared_lengths count after) ≡ sum ns = ap sum lens in
     let following : drop (table_size count) after ≡ tail = ap (λ k. drop k after) (sym size_is) ∙ drop_at front tail size front_len in
     let part : take (8 * sum ns) tail ≡ body = take_at body (post_of size len before) (8 * sum ns) (omega arith) in
     record {
@@ -59,9 +59,9 @@ body_put before body count size len tells size_is len_is long room =
     }
 
 -- what the numbers of a table keep
-pub told_within : (buffer : List ℕ) (count : ℕ) (limit : Option ℕ) → TellsTable buffer count → KeepsLimit (told_lengths count buffer) limit → AreWithin (told_lengths count buffer) limit
-told_within buffer count limit tells keeps =
-    let many = length-told count buffer in
+pub declared_within : (buffer : List ℕ) (count : ℕ) (limit : Option ℕ) → DeclaresTable buffer count → KeepsLimit (declared_lengths count buffer) limit → AreWithin (declared_lengths count buffer) limit
+declared_within buffer count limit tells keeps =
+    let many = length-declared count buffer in
     let some = tells.some in
     let few = tells.few in
     record { some = omega arith; few = omega arith; each = tells.lengths.each; size = keeps }
@@ -76,7 +76,7 @@ body_read rule gives limit before body count total size len old mid new read siz
     let filled = body_put before body count size len read.tells size_is (omega arith) long room in
     record {
       found = subst (λ l. IfKnown old new (MessageStands rule gives l)) (sym filled.segments_are)
-          (MessageStands-cut rule gives (told_lengths count before) body old mid new (omega arith) read.found given);
+          (MessageStands-cut rule gives (declared_lengths count before) body old mid new (omega arith) read.found given);
       holds = filled.holds;
       total_is = ap (λ k. 8 * k) (sums ∙ ap sum (sym filled.lengths_are));
       within = subst (λ l. KeepsLimit l limit) (sym filled.lengths_are) read.within;
@@ -88,38 +88,38 @@ pub lacks_segments : {gives : Giving} {refuses : Refusing} (rule : Padding) (law
     → table_size count ≤ len → len < table_size count + 8 * total
     → IfKnown old mid (RefusesStream rule gives refuses limit (Some len) BufferNotLargeEnough)
 lacks_segments rule laws limit buffer count total len old mid read room lacks =
-    let many = length-told count buffer in
+    let many = length-declared count buffer in
     let sums = read.total_is in
-    body_met rule laws limit (Some len) old mid (told_lengths count buffer) (λ short. absurd (omega arith)) (omega arith)
-    read.found (told_within buffer count limit read.tells read.within)
+    body_met rule laws limit (Some len) old mid (declared_lengths count buffer) (λ short. absurd (omega arith)) (omega arith)
+    read.found (declared_within buffer count limit read.tells read.within)
 
--- the source refuses the segments
+-- the source rejects the segments
 pub segments_refused : {gives : Giving} {refuses : Refusing} (rule : Padding) (laws : IsSource gives refuses) (F : Type 0)
     (limit : Option ℕ) (kind : ErrorKind) (buffer : List ℕ) (count total len n : ℕ) (old mid new : Option (List ℕ))
     → FindsTable rule gives limit buffer count total old mid → table_size count + 8 * total ≤ len → n ≡ 8 * total
     → IfKnown mid new IsTail → F ⊎ IsRefused refuses n mid kind
     → F ⊎ IfKnown old new (RefusesStream rule gives refuses limit (Some len) kind)
 segments_refused rule laws F limit kind buffer count total len n old mid new read room asked tail =
-    let many = length-told count buffer in
+    let many = length-declared count buffer in
     let sums = read.total_is in
-    segments_met rule laws F limit (Some len) kind old mid new (told_lengths count buffer) n (λ short. absurd (omega arith))
-    read.found (told_within buffer count limit read.tells read.within) tail (omega arith)
+    segments_met rule laws F limit (Some len) kind old mid new (declared_lengths count buffer) n (λ short. absurd (omega arith))
+    read.found (declared_within buffer count limit read.tells read.within) tail (omega arith)
 
 -- a table put at the front of a buffer
 pub record IsPut (table after : List ℕ) (count : ℕ) : Type 0 where
-  pub tells : TellsTable after count
-  pub lengths_are : told_lengths count table ≡ told_lengths count after
+  pub tells : DeclaresTable after count
+  pub lengths_are : declared_lengths count table ≡ declared_lengths count after
 
-pub table_put : (before table : List ℕ) (count size : ℕ) → TellsTable table count → length table ≡ table_size count → IsPut table (put_mid 0 size before table) count
+pub table_put : (before table : List ℕ) (count size : ℕ) → DeclaresTable table count → length table ≡ table_size count → IsPut table (put_mid 0 size before table) count
 table_put before table count size tells long =
-    let ns = told_lengths count table in
-    let many = length-told count table in
+    let ns = declared_lengths count table in
+    let many = length-declared count table in
     let whole : IsTable Any table ns = subst (λ l. IsTable Any l ns) (take_all (table_size count) table (omega arith)) (table_is Any table count tells tt) in
     let few = tells.few in
-    let told : Told Any (table ++ post_of 0 size before) ns = told_from_table table (post_of 0 size before) ns whole (omega arith) in
+    let declared : Declared Any (table ++ post_of 0 size before) ns = declared_from_table table (post_of 0 size before) ns whole (omega arith) in
     record {
-      tells = subst (TellsTable (table ++ post_of 0 size before)) many told.tells;
-      lengths_are = sym (subst (λ k. told_lengths k (table ++ post_of 0 size before) ≡ ns) many told.lengths);
+      tells = subst (DeclaresTable (table ++ post_of 0 size before)) many declared.tells;
+      lengths_are = sym (subst (λ k. declared_lengths k (table ++ post_of 0 size before) ≡ ns) many declared.lengths);
     }
 
 -- what the results come to
@@ -150,25 +150,25 @@ provided_once rule laws limit len own (Some raw) (Some left) (inr p) = λ kind r
 
 pub provided_apart : {gives : Giving} {refuses : Refusing} (rule : Padding) (laws : IsSource gives refuses) (limit : Option ℕ)
     (buffer : List ℕ) (count len : ℕ) (segments : List (List ℕ)) (old new : Option (List ℕ))
-    → HoldsMessage buffer count → segments ≡ told_segments count buffer → length buffer ≡ len
+    → HoldsMessage buffer count → segments ≡ declared_segments count buffer → length buffer ≡ len
     → IfKnown old new (MessageStands rule gives segments) → IsWithin segments limit
     → IfSome old (λ raw. (kind : ErrorKind) (left : List ℕ)
     → RefusesStream rule gives refuses limit (Some len) kind raw left → ⊥)
 provided_apart rule laws limit buffer count len segments None new holds are long found within = tt
 provided_apart rule laws limit buffer count len segments (Some raw) None holds are long found within = absurd found
 provided_apart rule laws limit buffer count len segments (Some raw) (Some rest) holds are long found within = λ kind left met.
-    let lens : lengths segments ≡ told_lengths count buffer = ap lengths are ∙ (found_from_held Any buffer count holds tt).lengths_are in
-    let many : length (lengths segments) ≡ count = ap length lens ∙ length-told count buffer in
-    let total : size_in_words segments ≡ sum (told_lengths count buffer) = ap sum lens in
+    let lens : lengths segments ≡ declared_lengths count buffer = ap lengths are ∙ (found_from_held Any buffer count holds tt).lengths_are in
+    let many : length (lengths segments) ≡ count = ap length lens ∙ length-declared count buffer in
+    let total : size_in_words segments ≡ sum (declared_lengths count buffer) = ap sum lens in
     let room = holds.room in
     RefusesStream-apart rule laws limit (Some len) kind raw left rest segments found within (λ lacks. absurd (omega arith)) met
 
 -- what the reader returns, where it finds a message
 pub reads_into : {S : Type 0} (rule : Padding) (source : Ghosts S) (laws : IsSource source.gives source.refuses) (old new : S)
     (limit : Option ℕ) (room : ℕ) (buffer : List ℕ) (count : ℕ) (segments : List (List ℕ))
-    → HoldsMessage buffer count → segments ≡ told_segments count buffer → length buffer ≡ room
-    → KeepsLimit (told_lengths count buffer) limit
-    → IfKnown (source.unread old) (source.unread new) (MessageStands rule source.gives (told_segments count buffer))
+    → HoldsMessage buffer count → segments ≡ declared_segments count buffer → length buffer ≡ room
+    → KeepsLimit (declared_lengths count buffer) limit
+    → IfKnown (source.unread old) (source.unread new) (MessageStands rule source.gives (declared_segments count buffer))
     → (room < 8 → ⊥) → Advances source.unread source.failures source.same old new
     → ReadsStreamInto source old new (framed_rules rule source.gives source.refuses) limit room (Ok (Some segments))
 reads_into rule source laws old new limit room buffer count segments holds are long keeps stands enough advances =

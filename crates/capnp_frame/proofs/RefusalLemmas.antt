@@ -1,4 +1,4 @@
--- The refusal table: each line is the first that holds at most once.
+-- The error table: each line is the first that holds at most once.
 use Rattle.std.proofs.Common.{◌≡◌, ℕ, ◌+◌, ◌*◌, ◌/◌, ◌%◌, ◌<◌, ◌≤◌, ◌^◌, Option, Some, None, inl, inr, List, [], ◌++◌, length, sym, ap, ◌∙◌, subst, arith}
 use Rattle.std.specs.Prelude.{sum}
 use Rattle.std.specs.List.{concat}
@@ -12,7 +12,7 @@ use Rattle.capnp_frame.specs.Source.{Giving, Refusing, IsSource}
 use Rattle.capnp_frame.specs.Requests.{TableStands, MessageStands}
 use Rattle.capnp_frame.specs.Refusals.{Unless, Asks, Tells, IsOutOfRange, IsTooLarge, LacksRoom, StopsBy, BreaksPadding}
 use Rattle.capnp_frame.specs.Refusals.{RefusesAtLimit, RefusesRest, RefusesAtCount, RefusesAtStart, RefusesStream}
-use Rattle.capnp_frame.proofs.TableLemmas.{IsTable-once, field-once, count_told}
+use Rattle.capnp_frame.proofs.TableLemmas.{IsTable-once, field-once, count_declared}
 
 pub Unless-once : {S L A M B P : Type 0} → (L → M → P) → (A → B → P) → Unless S L A → Unless S M B → P
 Unless-once line after (inl p) (inl q) = line p.1 q.1
@@ -94,8 +94,8 @@ RefusesStream-once rule laws limit room kind other raw left rest = RefusesAtStar
 -- a table that is accepted comes to what is after it
 few_tells : {rule : Padding} (word others ns : List ℕ) (count : ℕ) → IsTable rule (word ++ others) ns → length word ≡ 8 → length ns < 512 → Tells word count → count ≡ length ns
 few_tells word others ns count table long few tells =
-    let told = count_told word others ns tells.0 table long tells.2 tells.1 in
-    tells.3 ∙ ap (λ k. k % 2 ^ 32) told ∙ small (length ns) few
+    let declared = count_declared word others ns tells.0 table long tells.2 tells.1 in
+    tells.3 ∙ ap (λ k. k % 2 ^ 32) declared ∙ small (length ns) few
   where
     small : (k : ℕ) → k < 512 → k % 2 ^ 32 ≡ k
     small k few = omega arith
@@ -148,7 +148,7 @@ pub RefusesStream-some : (rule : Padding) (gives : Giving) (refuses : Refusing) 
     (raw left : List ℕ) → RefusesStream rule gives refuses limit room kind raw left → (LacksRoom room 8 → ⊥) → raw ≡ [] → ⊥
 RefusesStream-some rule gives refuses limit room kind raw left refused fits none = Unless-after fits (λ x. absurd (x.0 none)) refused
 
--- a message that stands there and is accepted isn't refused
+-- a message that is there and is accepted isn't rejected
 pub RefusesStream-apart : {gives : Giving} {refuses : Refusing} (rule : Padding) (laws : IsSource gives refuses) (limit room : Option ℕ)
     (kind : ErrorKind) (raw left rest : List ℕ) (segments : List (List ℕ)) → MessageStands rule gives segments raw rest
     → IsWithin segments limit → (LacksRoom room (table_size (length (lengths segments)) + 8 * size_in_words segments)
@@ -173,7 +173,7 @@ Asks-map : {gives others : Giving} {refuses also : Refusing}
 Asks-map given refused kind raw n F G f (inl p) = inl (refused raw n kind p)
 Asks-map given refused kind raw n F G f (inr p) = inr (p.0, p.1, given raw n p.0 p.1 p.2, f p.0 p.1 p.3)
 
--- the lines of one source are those of another that gives and refuses what it does
+-- the lines of one source are those of another that gives and rejects what it does
 pub RefusesAtStart-map : (rule : Padding) {gives others : Giving} {refuses also : Refusing}
     (given : (raw : List ℕ) (n : ℕ) (bytes rest : List ℕ) → gives raw n bytes rest → others raw n bytes rest)
     (refused : (raw : List ℕ) (n : ℕ) (kind : ErrorKind) → refuses raw n kind → also raw n kind)

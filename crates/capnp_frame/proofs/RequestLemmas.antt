@@ -61,7 +61,7 @@ parts_once (x ∷ xs) (y ∷ ys) p q lens e =
     let parts = same_front x y (concat xs) (concat ys) (omega arith) e in
     ap (λ l. l ∷ xs) parts.0 ∙ ap (λ l. y ∷ l) (parts_once xs ys p.1 q.1 others parts.1)
 
--- a message stands at one front alone
+-- a message is at one front alone
 pub MessageStands-once : {rule other : Padding} (gives : Giving) (raw rest left : List ℕ) (segments others : List (List ℕ))
     → ((raw : List ℕ) (n : ℕ) (bytes rest others left : List ℕ) → gives raw n bytes rest → gives raw n others left
     → (bytes ≡ others) × (rest ≡ left)) → ((raw : List ℕ) (n : ℕ) (bytes rest : List ℕ) → gives raw n bytes rest
@@ -93,7 +93,7 @@ overwritten_parts ns items segments len w long same parts =
     let lens : lengths segments ≡ ns = ap lengths (sym parts) ∙ (lengths-cut ns items long).0 in
     ap (λ k. cut ns (take k (w ++ drop (length w) items))) same ∙ ap (λ l. cut ns (overwritten l w)) (sym bytes) ∙ ap (λ l. cut l (overwritten (concat segments) w)) (sym lens)
 
--- a message stands by the requests of one source where it does by another's
+-- a message is by the requests of one source where it does by another's
 pub MessageStands-map : {rule : Padding} {gives others : Giving}
     (given : (raw : List ℕ) (n : ℕ) (bytes rest : List ℕ) → gives raw n bytes rest → others raw n bytes rest)
     (segments : List (List ℕ)) (raw rest : List ℕ) → MessageStands rule gives segments raw rest

@@ -11,11 +11,11 @@ use Rattle.capnp_frame.specs.Asking.{FailsOr}
 use Rattle.capnp_frame.specs.Source.{IfKnown, IsFront, IsPreorder, Fails}
 use Rattle.capnp_frame.specs.Sink.{Appending, Leaving, AppendsSame, Adds, AppendsAll, LeavesSome, DeclinesSome, Grows}
 use Rattle.capnp_frame.specs.Writers.{WritesTo, WritesChunks, WritesSegments, KeepsCount, RefusesUnwritten}
-use Rattle.capnp_frame.specs.Writing.{HasFew, RefusesMany, chunks}
+use Rattle.capnp_frame.specs.Writing.{IsWithinSegmentLimit, RefusesMany, chunks}
 use Rattle.capnp_frame.proofs.SourceLemmas.{IfKnown-join, IfKnown-weaker, IfKnown-refl, Grows-join, Grows-refl, Fails-join}
 use Rattle.capnp_frame.proofs.WritingLemmas.{take-next, written_more, written_one, DeclinesSome-front, DeclinesSome-back, refused_at}
 
--- what is refused for one reason is refused for either
+-- what is rejected for one reason is rejected for either
 declined : {F P Q : Type 0} → F ⊎ P → F ⊎ (P ⊎ Q)
 declined (inl failed) = inl failed
 declined (inr refused) = inr (inl refused)
@@ -84,19 +84,19 @@ left_is_front leaves within (x ∷ xs) text (inr (inr p)) = let (tail, e) = left
 -- a call that only writes the chunks
 pub writes_chunks : {S X : Type 0} (sink : Ghosts S) (old new : S) (xs : List (List ℕ)) (lacks : ErrorKind → Type 0) (r : Result X Error)
     → WritesTo sink old new (AppendsAll sink.appends xs) (LeavesSome sink.appends sink.leaves xs) (DeclinesSome sink.refuses xs) r → WritesChunks sink old new xs lacks r
-writes_chunks sink old new xs lacks (Ok x) told = record { written = told.written; left = tt; refused = tt; untouched = tt; failed = tt; grows = told.grows }
-writes_chunks sink old new xs lacks (Err e) told = record { written = tt; left = told.left; refused = declined told.refused; untouched = declined told.refused; failed = told.failed; grows = told.grows }
+writes_chunks sink old new xs lacks (Ok x) declared = record { written = declared.written; left = tt; refused = tt; untouched = tt; failed = tt; grows = declared.grows }
+writes_chunks sink old new xs lacks (Err e) declared = record { written = tt; left = declared.left; refused = declined declared.refused; untouched = declined declared.refused; failed = declared.failed; grows = declared.grows }
 
 -- the first chunks are not all written
 pub front_refused : {S X : Type 0} (sink : Ghosts S) (old new : S) (xs ys : List (List ℕ)) (lacks other : ErrorKind → Type 0) (e : Error)
     → (lacks e.kind → other e.kind) → WritesChunks {X = X} sink old new xs lacks (Err e) → WritesChunks {X = X} sink old new (xs ++ ys) other (Err e)
-front_refused {X} sink old new xs ys lacks other e wider told = record {
+front_refused {X} sink old new xs ys lacks other e wider declared = record {
   written = tt;
-  left = left_more sink.appends sink.leaves xs ys (sink.written old) (sink.written new) told.left;
-  refused = more wider told.refused;
-  untouched = more (λ same. same) told.untouched;
-  failed = told.failed;
-  grows = told.grows;
+  left = left_more sink.appends sink.leaves xs ys (sink.written old) (sink.written new) declared.left;
+  refused = more wider declared.refused;
+  untouched = more (λ same. same) declared.untouched;
+  failed = declared.failed;
+  grows = declared.grows;
 }
   where
     more : {F P Q : Type 0} → (P → Q) → F ⊎ (DeclinesSome sink.refuses xs e.kind ⊎ P) → F ⊎ (DeclinesSome sink.refuses (xs ++ ys) e.kind ⊎ Q)
@@ -109,19 +109,19 @@ pub writes_after : {S X : Type 0} (sink : Ghosts S) (keeps : IsPreorder sink.sam
     → IfKnown (sink.written a) (sink.written b) (Adds (AppendsAll sink.appends xs)) → Grows sink.written sink.failures sink.same a b
     → WritesTo sink b c (AppendsAll sink.appends ys) (LeavesSome sink.appends sink.leaves ys) (DeclinesSome sink.refuses ys) r
     → WritesTo sink a c (AppendsAll sink.appends (xs ++ ys)) (LeavesSome sink.appends sink.leaves (xs ++ ys)) (DeclinesSome sink.refuses (xs ++ ys)) r
-writes_after sink keeps a b c xs ys (Ok x) before grows told = record {
-  written = written_more sink.appends xs ys _ _ _ before told.written;
+writes_after sink keeps a b c xs ys (Ok x) before grows declared = record {
+  written = written_more sink.appends xs ys _ _ _ before declared.written;
   left = tt;
   refused = tt;
   failed = tt;
-  grows = Grows-join a b c (keeps.transitive a b c) grows told.grows;
+  grows = Grows-join a b c (keeps.transitive a b c) grows declared.grows;
 }
-writes_after sink keeps a b c xs ys (Err e) before grows told = record {
+writes_after sink keeps a b c xs ys (Err e) before grows declared = record {
   written = tt;
-  left = left_following sink.appends sink.leaves xs ys (sink.written a) (sink.written b) (sink.written c) before told.left;
-  refused = more told.refused;
-  failed = λ device. Fails-join (sink.failures a) (sink.failures b) (sink.failures c) grows.counted (told.failed device);
-  grows = Grows-join a b c (keeps.transitive a b c) grows told.grows;
+  left = left_following sink.appends sink.leaves xs ys (sink.written a) (sink.written b) (sink.written c) before declared.left;
+  refused = more declared.refused;
+  failed = λ device. Fails-join (sink.failures a) (sink.failures b) (sink.failures c) grows.counted (declared.failed device);
+  grows = Grows-join a b c (keeps.transitive a b c) grows declared.grows;
 }
   where
     more : {F : Type 0} → F ⊎ DeclinesSome sink.refuses ys e.kind → F ⊎ DeclinesSome sink.refuses (xs ++ ys) e.kind
@@ -152,7 +152,7 @@ stopped_first sink old new chunk others e left refused failed grows = record {
   grows = grows;
 }
 
--- the chunk at an index is refused, after those before it
+-- the chunk at an index is rejected, after those before it
 pub stopped_at : {S X : Type 0} (sink : Ghosts S) (keeps : IsPreorder sink.same) (a b c : S) (segments : List (List ℕ)) (index : ℕ)
     (segment : List ℕ) (e : Error) → slice_get segments index ≡ Some segment
     → IfKnown (sink.written a) (sink.written b) (Adds (AppendsAll sink.appends (take index segments))) → Grows sink.written sink.failures sink.same a b
@@ -168,16 +168,16 @@ stopped_at sink keeps a b c segments index segment e here written before left re
 }
 
 -- a message with no more segments than a reader accepts never fails for their number
-pub count_kept : {X : Type 0} (segments : List (List ℕ)) (r : Result X Error) → HasFew segments → KeepsCount segments r
+pub count_kept : {X : Type 0} (segments : List (List ℕ)) (r : Result X Error) → IsWithinSegmentLimit segments → KeepsCount segments r
 count_kept segments (Ok x) few = record { few = few; many = λ many. absurd (omega arith) }
 count_kept segments (Err e) few = record { few = tt; many = λ many. absurd (omega arith) }
 
 -- so only its chunks stop it
-pub few_written : {S X : Type 0} (sink : Ghosts S) (old new : S) (segments : List (List ℕ)) (r : Result X Error) → HasFew segments
+pub few_written : {S X : Type 0} (sink : Ghosts S) (old new : S) (segments : List (List ℕ)) (r : Result X Error) → IsWithinSegmentLimit segments
     → WritesChunks sink old new (chunks segments) (RefusesUnwritten segments) r → WritesSegments sink old new segments r
-few_written sink old new segments r few told = record { count = count_kept segments r few; unwritten = λ many. absurd (omega arith); parts = told }
+few_written sink old new segments r few declared = record { count = count_kept segments r few; unwritten = λ many. absurd (omega arith); parts = declared }
 
--- and one with more is refused before the sink is asked
+-- and one with more is rejected before the sink is asked
 pub many_refused : {S X : Type 0} (sink : Ghosts S) (keeps : IsPreorder sink.same) (same : S) (segments : List (List ℕ)) (e : Error)
     → RefusesMany segments e.kind → WritesSegments {X = X} sink same same segments (Err e)
 many_refused sink keeps same segments e many = record {

@@ -10,11 +10,11 @@ use Rattle.capnp_frame.specs.declared.error.ErrorKind.{ErrorKind}
 use Rattle.capnp_frame.specs.declared.error.ErrorKind.TheVariants.{DeviceFailed, OutOfMemory}
 use Rattle.capnp_frame.specs.Message.{lengths, size_in_words}
 use Rattle.capnp_frame.specs.SegmentTable.{FitsField, zero_padded_table, HasTable}
-use Rattle.capnp_frame.specs.Frame.{frame_text}
+use Rattle.capnp_frame.specs.Frame.{frame_bytes}
 use Rattle.capnp_frame.specs.Source.{IfKnown, Fails}
 use Rattle.capnp_frame.specs.Sink.{Adds, AppendsAll, AppendsSame, ByKind, DeclinesSome}
 use Rattle.capnp_frame.specs.Writers.{RefusesUnwritten}
-use Rattle.capnp_frame.specs.Writing.{IsWritable, HasFew, RefusesMany, word_and_rest, chunks, serialized_words}
+use Rattle.capnp_frame.specs.Writing.{IsWritable, IsWithinSegmentLimit, RefusesMany, word_and_rest, chunks, serialized_words}
 use Rattle.capnp_frame.specs.declared.serialize.segment_table.Padding.TheVariants.{Zero}
 use Rattle.capnp_frame.proofs.FrameLemmas.{zero_padded_is, length-table, length-segments}
 use Rattle.capnp_frame.proofs.AskLemmas.{never_fails}
@@ -29,8 +29,8 @@ HasTable-writable segments writable =
     record { some = omega arith; count = omega arith; each = writable.each }
 
 -- a frame takes a given number of words
-pub length-frame_text : (segments : List (List ℕ)) → IsWritable segments → length (frame_text segments) ≡ 8 * serialized_words segments
-length-frame_text segments writable =
+pub length-frame_bytes : (segments : List (List ℕ)) → IsWritable segments → length (frame_bytes segments) ≡ 8 * serialized_words segments
+length-frame_bytes segments writable =
     let table = zero_padded_table (lengths segments) in
     let long = length-table table (lengths segments) (zero_padded_is Zero (lengths segments) (HasTable-writable segments writable)) in
     let body = length-segments segments writable.whole in
@@ -47,13 +47,13 @@ concat-word_and_rest table = elim (cases_lt 8 (length table)) [
 ]
 
 -- the chunks, joined, are the frame
-pub concat-chunks : (segments : List (List ℕ)) → concat (chunks segments) ≡ frame_text segments
+pub concat-chunks : (segments : List (List ℕ)) → concat (chunks segments) ≡ frame_bytes segments
 concat-chunks segments =
     let table = zero_padded_table (lengths segments) in
     concat-append (word_and_rest table) segments ∙ ap (λ l. l ++ concat segments) (concat-word_and_rest table)
 
 -- what a plain sink has after the chunks of a message
-pub written_frame : (segments : List (List ℕ)) (old new : List ℕ) → old ≡ [] → IfKnown (Some old) (Some new) (Adds (AppendsAll AppendsSame (chunks segments))) → new ≡ frame_text segments
+pub written_frame : (segments : List (List ℕ)) (old new : List ℕ) → old ≡ [] → IfKnown (Some old) (Some new) (Adds (AppendsAll AppendsSame (chunks segments))) → new ≡ frame_bytes segments
 written_frame segments old new empty p = p.2 ∙ ap (λ l. l ++ p.0) empty ∙ (chunks_joined (chunks segments) p.0).0 p.1 ∙ concat-chunks segments
 
 declines_memory : (xs : List (List ℕ)) (kind : ErrorKind) → DeclinesSome (ByKind OutOfMemory) xs kind → kind ≡ OutOfMemory
@@ -61,7 +61,7 @@ declines_memory [] kind p = absurd p
 declines_memory (x ∷ xs) kind (inl p) = p
 declines_memory (x ∷ xs) kind (inr p) = declines_memory xs kind p
 
--- a vector refuses a message for too many segments, or for want of memory
+-- a vector rejects a message for too many segments, or for want of memory
 pub lacks_memory_alone : (segments : List (List ℕ)) (kind : ErrorKind) → (kind ≡ DeviceFailed → Fails 0 0)
     → (kind ≡ DeviceFailed) ⊎ DeclinesSome (ByKind OutOfMemory) (chunks segments) kind ⊎ RefusesUnwritten segments kind
     → RefusesMany segments kind ⊎ (kind ≡ OutOfMemory)
@@ -80,5 +80,5 @@ sum_below (n ∷ ns) each =
     omega (arith, total, others, first)
 
 -- as many segments as a reader accepts have fewer than 2 ^ 64 bytes, with the table
-pub few_fit : (segments : List (List ℕ)) → IsWritable segments → HasFew segments → 8 * serialized_words segments < 2 ^ 64
+pub few_fit : (segments : List (List ℕ)) → IsWritable segments → IsWithinSegmentLimit segments → 8 * serialized_words segments < 2 ^ 64
 few_fit segments writable few = omega (arith, sum_below (lengths segments) writable.each, length-lengths segments)

@@ -51,7 +51,7 @@ read_dropped gives bytes a b plain = IfKnown-weaker a b (λ raw rest given.
     let joined : length raw ≡ length bytes + length rest = ap length (split.0) ∙ length-append bytes rest in
     (omega (arith, joined), sym (drop_at bytes rest (length bytes) refl) ∙ ap (drop (length bytes)) (sym (split.0))))
 
--- what is refused after some bytes is refused before them
+-- what is rejected after some bytes is rejected before them
 refused_after : (refuses : Refusing) (j m n : ℕ) (a b : Option (List ℕ)) (kind : ErrorKind) → RunShort refuses → j + m ≤ n
     → IfKnown a b (Drops j) → IsRefused refuses m b kind → IsRefused refuses n a kind
 refused_after refuses j m n None None kind plain both dropped refused = refused
@@ -95,7 +95,7 @@ LengthsStand-skipped rule gives ns n a b c plain all = IfKnown-join a b c (λ x 
       MessageStands-cut rule gives ns bytes (Some x) (Some y) (Some z) whole table given,
     ))
 
--- the message that stands there, and some message of these lengths where that isn't known
+-- the message that is there, and some message of these lengths where that isn't known
 standing : (rule : Padding) (gives : Giving) (ns : List ℕ) (a b : Option (List ℕ)) → IfKnown a b (LengthsStand rule gives ns)
     → (message : List (List ℕ)) × (lengths message ≡ ns) × AllByRecursion IsWholeWords message × IfKnown a b (MessageStands rule gives message)
 standing rule gives ns None b found =

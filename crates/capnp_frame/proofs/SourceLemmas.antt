@@ -23,7 +23,7 @@ pub IfKnown-refl : (P : List ℕ → List ℕ → Type 0) (a : Option (List ℕ)
 IfKnown-refl P None p = tt
 IfKnown-refl P (Some x) p = p x
 
--- what is refused after some bytes
+-- what is rejected after some bytes
 pub IfKnown-refused : {P R : List ℕ → List ℕ → Type 0} (a b c : Option (List ℕ)) (refuses : Refusing) (n : ℕ)
     (kind : ErrorKind) → ((x y z : List ℕ) → P x y → refuses y n kind → R x z) → IfKnown a b P → IfKnown b c IsTail
     → IsRefused refuses n b kind → IfKnown a c R
@@ -83,7 +83,7 @@ ReturnsPart-none {gives} {refuses} n raw =
           (λ h. subst (λ k. refuses raw k kind) (sym same) h, λ h. subst (λ k. refuses raw k kind) same h);
     }
 
--- a refusal of the rest of a request is one of the request
+-- an error of the rest of a request is one of the request
 pub IsRefused-join : (gives : Giving) (refuses : Refusing) (n : ℕ) (got : List ℕ) (a b : Option (List ℕ))
     (kind : ErrorKind) → IfKnown a b (ReturnsPart gives refuses n got) → IsRefused refuses (n - length got) b kind
     → IsRefused refuses n a kind
@@ -148,7 +148,7 @@ pub IfErr-vacuous : {X E A : Type 0} (Q : E → Type 0) (r : Result X E) → (A 
 IfErr-vacuous Q (Ok x) never = tt
 IfErr-vacuous Q (Err e) never = λ a. absurd (never a)
 
--- a refusal of the rest of a buffer
+-- an error of the rest of a buffer
 pub IsRefused-fill : (gives : Giving) (refuses : Refusing) (filled : ℕ) (buffer part : List ℕ)
     (old mid : Option (List ℕ)) (kind : ErrorKind) → filled ≤ length buffer → length part ≡ length buffer - filled
     → IfKnown old mid (ReturnsPart gives refuses (length buffer) (take filled buffer))
@@ -159,7 +159,7 @@ IsRefused-fill gives refuses filled buffer part old mid kind within fits taken r
     let left : length part ≡ length buffer - length (take filled buffer) = omega (arith, length-take-le filled buffer within) in
     subst (λ k. IsRefused refuses k old kind) (sym len) (IsRefused-join gives refuses (length buffer) (take filled buffer) old mid kind taken (subst (λ k. IsRefused refuses k mid kind) left refused))
 
--- the device's failure stays, and a refusal of the rest of a buffer is one of the whole
+-- the device's failure stays, and an error of the rest of a buffer is one of the whole
 pub refused_fill : (F : Type 0) (gives : Giving) (refuses : Refusing) (filled : ℕ) (buffer part : List ℕ)
     (old mid : Option (List ℕ)) (kind : ErrorKind) → filled ≤ length buffer → length part ≡ length buffer - filled
     → IfKnown old mid (ReturnsPart gives refuses (length buffer) (take filled buffer)) → F

@@ -88,14 +88,14 @@ pub asks_passed : {S X Y : Type 0} (source : Ghosts S) (old new : S) (rule : Pad
     → (error.kind ≡ DeviceFailed) ⊎ ((error.kind ≡ OutOfMemory) × IfKnown (source.unread old) (source.unread new) also)
     ⊎ IfKnown (source.unread old) (source.unread new) (others error.kind))
     → AsksNext {X = X} source old new rule takes lines (Err error) → AsksNext source old new rule also others result
-asks_passed source old new rule takes also lines others error (Ok found) is among told = absurd is
-asks_passed {Y = Y} source old new rule takes also lines others error (Err own) is among told =
+asks_passed source old new rule takes also lines others error (Ok found) is among declared = absurd is
+asks_passed {Y = Y} source old new rule takes also lines others error (Err own) is among declared =
     subst (λ e. AsksNext {X = Y} source old new rule also others (Err e)) (sym is) (record {
       none = tt;
-      refused = among told.refused;
-      kinds = told.kinds;
-      end = told.end;
-      asked = record { failed = told.asked.failed; advances = told.asked.advances };
+      refused = among declared.refused;
+      kinds = declared.kinds;
+      end = declared.end;
+      asked = record { failed = declared.asked.failed; advances = declared.asked.advances };
     })
 
 pub asks_passed_into : {S X Y : Type 0} (source : Ghosts S) (old new : S) (rule : Padding) (room : ℕ)
@@ -104,13 +104,13 @@ pub asks_passed_into : {S X Y : Type 0} (source : Ghosts S) (old new : S) (rule 
     → ((error.kind ≡ DeviceFailed) ⊎ IfKnown (source.unread old) (source.unread new) (lines error.kind)
     → (error.kind ≡ DeviceFailed) ⊎ IfKnown (source.unread old) (source.unread new) (others error.kind))
     → AsksNextInto {X = X} source old new rule room lines (Err error) → AsksNextInto source old new rule room others result
-asks_passed_into source old new rule room lines others error (Ok found) is among told = absurd is
-asks_passed_into {Y = Y} source old new rule room lines others error (Err own) is among told =
+asks_passed_into source old new rule room lines others error (Ok found) is among declared = absurd is
+asks_passed_into {Y = Y} source old new rule room lines others error (Err own) is among declared =
     subst (λ e. AsksNextInto {X = Y} source old new rule room others (Err e)) (sym is) (record {
       none = tt;
-      short = told.short;
-      refused = among told.refused;
-      kinds = told.kinds;
-      end = told.end;
-      asked = record { failed = told.asked.failed; advances = told.asked.advances };
+      short = declared.short;
+      refused = among declared.refused;
+      kinds = declared.kinds;
+      end = declared.end;
+      asked = record { failed = declared.asked.failed; advances = declared.asked.advances };
     })

@@ -9,7 +9,7 @@ use Rattle.std.proofs.lemmas.List.{drop_at, length-replicate}
 use Rattle.capnp_frame.specs.SplittingLaws.{same_front}
 use Rattle.capnp_frame.specs.declared.serialize.segment_table.Padding.{Padding}
 use Rattle.capnp_frame.specs.declared.serialize.segment_table.Padding.TheVariants.{Any, Zero}
-use Rattle.capnp_frame.specs.SegmentTable.{field, FitsField, table_text, zero_padded_table, KeepsPadding, IsTable}
+use Rattle.capnp_frame.specs.SegmentTable.{field, FitsField, table_bytes, zero_padded_table, KeepsPadding, IsTable}
 use Rattle.capnp_frame.specs.Source.{Giving}
 use Rattle.capnp_frame.specs.Requests.{TableStands}
 
@@ -33,19 +33,19 @@ fields_once (n ∷ ns) (m ∷ ms) p q e =
     ap (λ k. k ∷ ns) (field-once n m p.0 q.0 parts.0) ∙ ap (λ l. m ∷ l) (fields_once ns ms p.1 q.1 parts.1)
 
 -- the first field of a table is the number of its lengths less one
-pub count_told : {rule : Padding} (first others ns : List ℕ) (n : ℕ) → IsTable rule (first ++ others) ns → length first ≡ 8 → field n ≡ take 4 first → n < 2 ^ 32 → n + 1 ≡ length ns
-count_told first others ns n table word read fits =
+pub count_declared : {rule : Padding} (first others ns : List ℕ) (n : ℕ) → IsTable rule (first ++ others) ns → length first ≡ 8 → field n ≡ take 4 first → n < 2 ^ 32 → n + 1 ≡ length ns
+count_declared first others ns n table word read fits =
     let front : take 4 (first ++ others) ≡ take 4 first = take-append-le 4 first others (omega arith) in
-    let told : field (length ns - 1) ≡ take 4 (first ++ others) = ap (take 4) (sym table.spelled) in
+    let declared : field (length ns - 1) ≡ take 4 (first ++ others) = ap (take 4) (sym table.spelled) in
     let some = table.can.some in
     let most = table.can.count in
-    let same : n ≡ length ns - 1 = field-once n (length ns - 1) fits (omega arith) (read ∙ sym front ∙ sym told) in
+    let same : n ≡ length ns - 1 = field-once n (length ns - 1) fits (omega arith) (read ∙ sym front ∙ sym declared) in
     omega arith
 
 -- a text is a table of one list of lengths alone
 pub IsTable-once : {rule other : Padding} (text ns ms : List ℕ) → IsTable rule text ns → IsTable other text ms → ns ≡ ms
 IsTable-once text ns ms p q =
-    let whole : table_text ns p.padding ≡ table_text ms q.padding = sym p.spelled ∙ q.spelled in
+    let whole : table_bytes ns p.padding ≡ table_bytes ms q.padding = sym p.spelled ∙ q.spelled in
     let some = p.can.some in
     let others = q.can.some in
     let few = p.can.count in
@@ -57,7 +57,7 @@ IsTable-once text ns ms p q =
     let fields = same_front (flat_map field ns) (flat_map field ms) p.padding q.padding (omega (arith, length-fields ns, length-fields ms)) counts.1 in
     fields_once ns ms p.can.each q.can.each fields.0
 
--- the padding stands after the fields
+-- the padding is after the fields
 pub padding_at : {rule : Padding} (text ns : List ℕ) (count : ℕ) → (table : IsTable rule text ns) → count ≡ length ns → drop (4 * (count + 1)) text ≡ table.padding
 padding_at text ns count table many =
     let front = field (length ns - 1) ++ flat_map field ns in
@@ -76,14 +76,14 @@ zeros_kept Zero count = ap (λ k. replicate k 0) (sym (length-replicate count 0)
 
 -- and a table of zero padding is the one that is written
 pub zero_table : (text ns : List ℕ) → IsTable Zero text ns → text ≡ zero_padded_table ns
-zero_table text ns table = table.spelled ∙ ap (table_text ns) (table.kept ∙ ap (λ k. replicate k 0) table.padded)
+zero_table text ns table = table.spelled ∙ ap (table_bytes ns) (table.kept ∙ ap (λ k. replicate k 0) table.padded)
 
 -- the number in the first field
 abbrev number : List ℕ → ℕ
 number first = from_le_bytes w32 (take 4 first)
 
-told : {rule : Padding} (ns first others : List ℕ) → IsTable rule (first ++ others) ns → length first ≡ 8 → number first + 1 ≡ length ns
-told ns first others table size =
+declared : {rule : Padding} (ns first others : List ℕ) → IsTable rule (first ++ others) ns → length first ≡ 8 → number first + 1 ≡ length ns
+declared ns first others table size =
     let front : take 4 (first ++ others) ≡ take 4 first = take-append-le 4 first others (omega arith) in
     let spelled : field (length ns - 1) ≡ take 4 (first ++ others) = ap (take 4) (sym table.spelled) in
     let some = table.can.some in
@@ -91,16 +91,16 @@ told ns first others table size =
     let read : from_le_bytes w32 (take 4 first) ≡ length ns - 1 = ap (from_le_bytes w32) (sym front ∙ sym spelled) ∙ from_le_bytes-to_le_bytes_4 (length ns - 1) (omega arith) in
     omega arith
 
--- one table stands at a front
+-- one table is at a front
 pub TableStands-once : {rule other : Padding} (gives : Giving) (raw ns rest ms left : List ℕ)
     → ((raw : List ℕ) (n : ℕ) (bytes rest others left : List ℕ) → gives raw n bytes rest → gives raw n others left
     → (bytes ≡ others) × (rest ≡ left)) → ((raw : List ℕ) (n : ℕ) (bytes rest : List ℕ) → gives raw n bytes rest
     → length bytes ≡ n) → TableStands rule gives ns raw rest → TableStands other gives ms raw left → (ns ≡ ms) × (rest ≡ left)
 TableStands-once {rule} gives raw ns rest ms left unique all p q =
     let first = unique raw 8 p.first p.between q.first q.between p.first_given q.first_given in
-    let lens : length ns ≡ length ms = sym (told ns p.first p.others p.table
+    let lens : length ns ≡ length ms = sym (declared ns p.first p.others p.table
     (all raw 8 p.first p.between p.first_given)) ∙ ap (λ l. number l + 1) first.0
-    ∙ told ms q.first q.others q.table (all raw 8 q.first q.between q.first_given) in
+    ∙ declared ms q.first q.others q.table (all raw 8 q.first q.between q.first_given) in
     let rests = unique q.between (8 * (length ms / 2)) p.others rest q.others left
     (subst (λ k. gives q.between (8 * (k / 2)) p.others rest) lens
     (subst (λ l. gives l (8 * (length ns / 2)) p.others rest) first.1 p.others_given)) q.others_given in

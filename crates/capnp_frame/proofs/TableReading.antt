@@ -6,10 +6,10 @@ use Rattle.capnp_frame.specs.declared.serialize.segment_table.Padding.{Padding}
 use Rattle.capnp_frame.specs.SegmentTable.{table_size, KeepsPadding, IsTable}
 use Rattle.capnp_frame.specs.Source.{Giving, IfKnown}
 use Rattle.capnp_frame.specs.Requests.{RestStands, TableStands}
-use Rattle.capnp_frame.specs.Refusals.{TellsAccepted}
-use Rattle.capnp_frame.specs.Front.{told_lengths, told_padding, SpellsLengths, TellsTable}
+use Rattle.capnp_frame.specs.Refusals.{DeclaresAccepted}
+use Rattle.capnp_frame.specs.Front.{declared_lengths, declared_padding, SpellsLengths, DeclaresTable}
 use Rattle.capnp_frame.proofs.SourceLemmas.{IfKnown-join, IfKnown-weaker, length-put_mid, put_mid_front}
-use Rattle.capnp_frame.proofs.ToldTables.{length-told, table_is, padding_told}
+use Rattle.capnp_frame.proofs.DeclaredTables.{length-declared, table_is, padding_declared}
 
 -- the first word of a table, and then its other words
 pub completed : (word following chunk : List ℕ) → length word ≡ 8 → length chunk ≡ length (word ++ following) - 8 → put_mid 8 (length (word ++ following) - 8) (word ++ following) chunk ≡ word ++ chunk
@@ -32,42 +32,42 @@ completed_given gives word chunk after old new long is =
     IfKnown-weaker old new (λ raw rest given. subst (λ k. gives raw k (drop 8 after) rest) (sym size) (subst (λ l. gives raw (length chunk) l rest) (sym others) given))
 
 -- the bytes are a table of a given number of segments, where its first word tells so
-pub tells_complete : (table : List ℕ) (count : ℕ) → TellsAccepted (take 8 table) count → length table ≡ table_size count → SpellsLengths table count → TellsTable table count
+pub tells_complete : (table : List ℕ) (count : ℕ) → DeclaresAccepted (take 8 table) count → length table ≡ table_size count → SpellsLengths table count → DeclaresTable table count
 tells_complete table count accepted long spells = record {
   some = accepted.some;
   few = accepted.few;
-  counted = accepted.told ∙ take-take 4 8 table (omega arith);
+  counted = accepted.declared ∙ take-take 4 8 table (omega arith);
   lengths = spells;
   room = omega arith;
 }
 
 -- the first word and the others are a table
 pub whole_table : (rule : Padding) (word table : List ℕ) (count : ℕ) → take 8 table ≡ word → length table ≡ table_size count
-    → TellsTable table count → KeepsPadding rule (told_padding count table)
-    → IsTable rule (word ++ drop 8 table) (told_lengths count table)
+    → DeclaresTable table count → KeepsPadding rule (declared_padding count table)
+    → IsTable rule (word ++ drop 8 table) (declared_lengths count table)
 whole_table rule word table count front long tells kept =
-    let ns = told_lengths count table in
+    let ns = declared_lengths count table in
     let parts : table ≡ word ++ drop 8 table = sym (take-append-drop 8 table) ∙ ap (λ l. l ++ drop 8 table) front in
     let whole : IsTable rule table ns = subst (λ l. IsTable rule l ns) (take_all (table_size count) table (omega arith)) (table_is rule table count tells kept) in
     subst (λ l. IsTable rule l ns) parts whole
 
 -- of another padding they are none
 pub broken_table : (rule : Padding) (word table : List ℕ) (count : ℕ) → take 8 table ≡ word → length table ≡ table_size count
-    → (KeepsPadding rule (told_padding count table) → ⊥) → IsTable rule (word ++ drop 8 table) (told_lengths count table) → ⊥
+    → (KeepsPadding rule (declared_padding count table) → ⊥) → IsTable rule (word ++ drop 8 table) (declared_lengths count table) → ⊥
 broken_table rule word table count front long broken is =
     let parts : word ++ drop 8 table ≡ table = ap (λ l. l ++ drop 8 table) (sym front) ∙ take-append-drop 8 table in
-    let many = length-told count table in
-    let whole = subst (λ l. IsTable rule l (told_lengths count table)) (parts ∙ sym (take_all (table_size count) table (omega arith))) is in
-    broken (padding_told rule table count whole)
+    let many = length-declared count table in
+    let whole = subst (λ l. IsTable rule l (declared_lengths count table)) (parts ∙ sym (take_all (table_size count) table (omega arith))) is in
+    broken (padding_declared rule table count whole)
 
 -- and its other words are what the second request gave
 pub rest_stands : (rule : Padding) (gives : Giving) (word table : List ℕ) (count : ℕ) (old new : Option (List ℕ)) → take 8 table ≡ word
-    → length table ≡ table_size count → TellsTable table count → KeepsPadding rule (told_padding count table)
+    → length table ≡ table_size count → DeclaresTable table count → KeepsPadding rule (declared_padding count table)
     → IfKnown old new (λ raw rest. gives raw (length table - 8) (drop 8 table) rest)
-    → IfKnown old new (RestStands rule gives word (told_lengths count table))
+    → IfKnown old new (RestStands rule gives word (declared_lengths count table))
 rest_stands rule gives word table count old new front long tells kept =
-    let ns = told_lengths count table in
-    let many = length-told count table in
+    let ns = declared_lengths count table in
+    let many = length-declared count table in
     let size : length table - 8 ≡ 8 * (length ns / 2) = omega arith in
     IfKnown-weaker old new (λ raw rest given. record {
       others = drop 8 table;

@@ -7,7 +7,7 @@ use Rattle.capnp_frame.specs.declared.serialize.segment_table.Padding.TheVariant
 use Rattle.capnp_frame.specs.Source.{Giving, Refusing, IsSource}
 use Rattle.capnp_frame.specs.Requests.{MessageStands}
 use Rattle.capnp_frame.specs.Sink.{AppendsSame, AppendsAll}
-use Rattle.capnp_frame.specs.Texts.{Grammar, BeginsWith, AreTexts, EndsTexts}
+use Rattle.capnp_frame.specs.Texts.{Grammar, BeginsWith, AreEncodings, EndsEncodings}
 use Rattle.capnp_frame.specs.Frame.{IsFrame}
 use Rattle.capnp_frame.specs.SplittingLaws.{same_front, splitting}
 use Rattle.capnp_frame.proofs.FrameLemmas.{plain_requests, any_frame}
@@ -17,42 +17,42 @@ use Rattle.capnp_frame.proofs.RefusalLemmas.{given_some, RefusesStream-apart, Re
 -- What a grammar's texts have with its source's requests: one message begins a stream, and none does where it ends.
 pub record PartsStreams (IsText : Grammar) (rule : Padding) (gives : Giving) (refuses : Refusing) (limit : Option ℕ) : Type 0 where
   pub begins_once : (m n : List (List ℕ)) (raw rest left : List ℕ) → BeginsWith IsText limit m raw rest → BeginsWith IsText limit n raw left → (m ≡ n) × (rest ≡ left)
-  pub ends_apart : (ending : Option ErrorKind) (m : List (List ℕ)) (raw rest : List ℕ) → EndsTexts rule gives refuses limit ending raw → BeginsWith IsText limit m raw rest → ⊥
+  pub ends_apart : (ending : Option ErrorKind) (m : List (List ℕ)) (raw rest : List ℕ) → EndsEncodings rule gives refuses limit ending raw → BeginsWith IsText limit m raw rest → ⊥
 
 -- more texts are none after an end
-pub AreTexts-most : {IsText : Grammar} {rule : Padding} {gives : Giving} {refuses : Refusing} {limit : Option ℕ}
+pub AreEncodings-most : {IsText : Grammar} {rule : Padding} {gives : Giving} {refuses : Refusing} {limit : Option ℕ}
     (parts : PartsStreams IsText rule gives refuses limit) (ending : Option ErrorKind) (ms ns : List (List (List ℕ)))
-    (raw rest left : List ℕ) → AreTexts IsText limit ms raw rest → EndsTexts rule gives refuses limit ending rest
-    → AreTexts IsText limit ns raw left → length ns ≤ length ms
-AreTexts-most parts ending ms [] raw rest left texts ends others = omega arith
-AreTexts-most {rule = rule} {gives = gives} {refuses = refuses} {limit = limit} parts ending [] (n ∷ ns) raw rest left texts ends others =
-    absurd (parts.ends_apart ending n raw others.0 (subst (λ l. EndsTexts rule gives refuses limit ending l) texts ends) others.1)
-AreTexts-most {IsText} {limit = limit} parts ending (m ∷ ms) (n ∷ ns) raw rest left texts ends others =
+    (raw rest left : List ℕ) → AreEncodings IsText limit ms raw rest → EndsEncodings rule gives refuses limit ending rest
+    → AreEncodings IsText limit ns raw left → length ns ≤ length ms
+AreEncodings-most parts ending ms [] raw rest left texts ends others = omega arith
+AreEncodings-most {rule = rule} {gives = gives} {refuses = refuses} {limit = limit} parts ending [] (n ∷ ns) raw rest left texts ends others =
+    absurd (parts.ends_apart ending n raw others.0 (subst (λ l. EndsEncodings rule gives refuses limit ending l) texts ends) others.1)
+AreEncodings-most {IsText} {limit = limit} parts ending (m ∷ ms) (n ∷ ns) raw rest left texts ends others =
     let same = parts.begins_once n m raw others.0 texts.0 others.1 texts.1 in
-    let inner = AreTexts-most parts ending ms ns texts.0 rest left texts.2 ends (subst (λ l. AreTexts IsText limit ns l left) same.1 others.2) in
+    let inner = AreEncodings-most parts ending ms ns texts.0 rest left texts.2 ends (subst (λ l. AreEncodings IsText limit ns l left) same.1 others.2) in
     omega arith
 
 -- up to an end there is one list of messages
-pub AreTexts-once : {IsText : Grammar} {rule : Padding} {gives : Giving} {refuses : Refusing} {limit : Option ℕ}
+pub AreEncodings-once : {IsText : Grammar} {rule : Padding} {gives : Giving} {refuses : Refusing} {limit : Option ℕ}
     (parts : PartsStreams IsText rule gives refuses limit) (ending other : Option ErrorKind) (ms ns : List (List (List ℕ)))
-    (raw rest left : List ℕ) → AreTexts IsText limit ms raw rest → EndsTexts rule gives refuses limit ending rest
-    → AreTexts IsText limit ns raw left → EndsTexts rule gives refuses limit other left → (ms ≡ ns) × (rest ≡ left)
-AreTexts-once parts ending other [] [] raw rest left texts ends others also = (refl, texts ∙ sym others)
-AreTexts-once {rule = rule} {gives = gives} {refuses = refuses} {limit = limit} parts ending other [] (n ∷ ns) raw rest left texts ends others also =
-    absurd (parts.ends_apart ending n raw others.0 (subst (λ l. EndsTexts rule gives refuses limit ending l) texts ends) others.1)
-AreTexts-once {rule = rule} {gives = gives} {refuses = refuses} {limit = limit} parts ending other (m ∷ ms) [] raw rest left texts ends others also =
-    absurd (parts.ends_apart other m raw texts.0 (subst (λ l. EndsTexts rule gives refuses limit other l) others also) texts.1)
-AreTexts-once {IsText} {limit = limit} parts ending other (m ∷ ms) (n ∷ ns) raw rest left texts ends others also =
+    (raw rest left : List ℕ) → AreEncodings IsText limit ms raw rest → EndsEncodings rule gives refuses limit ending rest
+    → AreEncodings IsText limit ns raw left → EndsEncodings rule gives refuses limit other left → (ms ≡ ns) × (rest ≡ left)
+AreEncodings-once parts ending other [] [] raw rest left texts ends others also = (refl, texts ∙ sym others)
+AreEncodings-once {rule = rule} {gives = gives} {refuses = refuses} {limit = limit} parts ending other [] (n ∷ ns) raw rest left texts ends others also =
+    absurd (parts.ends_apart ending n raw others.0 (subst (λ l. EndsEncodings rule gives refuses limit ending l) texts ends) others.1)
+AreEncodings-once {rule = rule} {gives = gives} {refuses = refuses} {limit = limit} parts ending other (m ∷ ms) [] raw rest left texts ends others also =
+    absurd (parts.ends_apart other m raw texts.0 (subst (λ l. EndsEncodings rule gives refuses limit other l) others also) texts.1)
+AreEncodings-once {IsText} {limit = limit} parts ending other (m ∷ ms) (n ∷ ns) raw rest left texts ends others also =
     let same = parts.begins_once n m raw others.0 texts.0 others.1 texts.1 in
-    let inner = AreTexts-once parts ending other ms ns texts.0 rest left texts.2 ends (subst (λ l. AreTexts IsText limit ns l left) same.1 others.2) also in
+    let inner = AreEncodings-once parts ending other ms ns texts.0 rest left texts.2 ends (subst (λ l. AreEncodings IsText limit ns l left) same.1 others.2) also in
     (ap (λ x. x ∷ ms) (sym same.0) ∙ ap (λ l. n ∷ l) inner.0, inner.1)
 
 -- one more text
-pub AreTexts-push : (IsText : Grammar) (limit : Option ℕ) (ms : List (List (List ℕ))) (m : List (List ℕ))
-    (raw between rest : List ℕ) → AreTexts IsText limit ms raw between → BeginsWith IsText limit m between rest
-    → AreTexts IsText limit (ms ++ m ∷ []) raw rest
-AreTexts-push IsText limit [] m raw between rest texts begins = (rest, subst (λ l. BeginsWith IsText limit m l rest) texts begins, refl)
-AreTexts-push IsText limit (n ∷ ns) m raw between rest texts begins = (texts.0, texts.1, AreTexts-push IsText limit ns m texts.0 between rest texts.2 begins)
+pub AreEncodings-push : (IsText : Grammar) (limit : Option ℕ) (ms : List (List (List ℕ))) (m : List (List ℕ))
+    (raw between rest : List ℕ) → AreEncodings IsText limit ms raw between → BeginsWith IsText limit m between rest
+    → AreEncodings IsText limit (ms ++ m ∷ []) raw rest
+AreEncodings-push IsText limit [] m raw between rest texts begins = (rest, subst (λ l. BeginsWith IsText limit m l rest) texts begins, refl)
+AreEncodings-push IsText limit (n ∷ ns) m raw between rest texts begins = (texts.0, texts.1, AreEncodings-push IsText limit ns m texts.0 between rest texts.2 begins)
 
 -- a grammar's texts are what three requests of a source take
 abbrev pub AreRequested : Grammar → Padding → Giving → Type 0
@@ -64,7 +64,7 @@ requested rule texts m raw rest begins = (texts m raw rest).1 (begins.text, begi
 
 nothing_at_end : {IsText : Grammar} {gives : Giving} {refuses : Refusing} (rule : Padding) (laws : IsSource gives refuses)
     (texts : AreRequested IsText rule gives) (limit : Option ℕ) (ending : Option ErrorKind) (m : List (List ℕ))
-    (raw rest : List ℕ) → EndsTexts rule gives refuses limit ending raw → BeginsWith IsText limit m raw rest → ⊥
+    (raw rest : List ℕ) → EndsEncodings rule gives refuses limit ending raw → BeginsWith IsText limit m raw rest → ⊥
 nothing_at_end rule laws texts limit None m raw rest ends begins =
     let stands = requested rule texts m raw rest begins in
     given_some laws raw 8 stands.table.first stands.table.between stands.table.first_given (lit< tt) ends
@@ -104,10 +104,10 @@ chunks_joined (p ∷ ps) text = (
 )
 
 -- a stream ends in one way
-pub EndsTexts-once : {gives : Giving} {refuses : Refusing} (rule : Padding) (laws : IsSource gives refuses) (limit : Option ℕ)
-    (ending other : Option ErrorKind) (rest : List ℕ) → EndsTexts rule gives refuses limit ending rest
-    → EndsTexts rule gives refuses limit other rest → ending ≡ other
-EndsTexts-once rule laws limit None None rest p q = refl
-EndsTexts-once {gives} {refuses} rule laws limit None (Some kind) rest p q = absurd (RefusesStream-some rule gives refuses limit None kind rest q.0 q.1 (λ x. x) p)
-EndsTexts-once {gives} {refuses} rule laws limit (Some kind) None rest p q = absurd (RefusesStream-some rule gives refuses limit None kind rest p.0 p.1 (λ x. x) q)
-EndsTexts-once rule laws limit (Some kind) (Some other) rest p q = ap Some (RefusesStream-once rule laws limit None kind other rest p.0 q.0 p.1 q.1)
+pub EndsEncodings-once : {gives : Giving} {refuses : Refusing} (rule : Padding) (laws : IsSource gives refuses) (limit : Option ℕ)
+    (ending other : Option ErrorKind) (rest : List ℕ) → EndsEncodings rule gives refuses limit ending rest
+    → EndsEncodings rule gives refuses limit other rest → ending ≡ other
+EndsEncodings-once rule laws limit None None rest p q = refl
+EndsEncodings-once {gives} {refuses} rule laws limit None (Some kind) rest p q = absurd (RefusesStream-some rule gives refuses limit None kind rest q.0 q.1 (λ x. x) p)
+EndsEncodings-once {gives} {refuses} rule laws limit (Some kind) None rest p q = absurd (RefusesStream-some rule gives refuses limit None kind rest p.0 p.1 (λ x. x) q)
+EndsEncodings-once rule laws limit (Some kind) (Some other) rest p q = ap Some (RefusesStream-once rule laws limit None kind other rest p.0 q.0 p.1 q.1)

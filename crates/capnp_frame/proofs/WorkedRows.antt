@@ -4,7 +4,7 @@ use Rattle.std.specs.List.{concat}
 use Rattle.capnp_frame.specs.Message.{lengths}
 use Rattle.capnp_frame.specs.declared.serialize.segment_table.Padding.TheVariants.{Any, Zero}
 use Rattle.capnp_frame.specs.SegmentTable.{zero_padded_table}
-use Rattle.capnp_frame.specs.Frame.{IsFrame, frame_text}
+use Rattle.capnp_frame.specs.Frame.{IsFrame, frame_bytes}
 use Rattle.capnp_frame.specs.Source.{Splits, RunsShort}
 use Rattle.capnp_frame.specs.Refusals.{RefusesStream}
 use Rattle.capnp_frame.proofs.RefusalLemmas.{in_range}
@@ -17,7 +17,7 @@ eight = 1 ∷ 2 ∷ 3 ∷ 4 ∷ 5 ∷ 6 ∷ 7 ∷ 8 ∷ []
 pub padded_frame : IsFrame Any (1 ∷ 0 ∷ 0 ∷ 0 ∷ 0 ∷ 0 ∷ 0 ∷ 0 ∷ 1 ∷ 0 ∷ 0 ∷ 0 ∷ 9 ∷ 9 ∷ 9 ∷ 9 ∷ eight) ([] ∷ eight ∷ [])
 padded_frame = record {
   table = 1 ∷ 0 ∷ 0 ∷ 0 ∷ 0 ∷ 0 ∷ 0 ∷ 0 ∷ 1 ∷ 0 ∷ 0 ∷ 0 ∷ 9 ∷ 9 ∷ 9 ∷ 9 ∷ [];
-  lengths_told = record {
+  lengths_declared = record {
     can = record { some = lit< tt; count = lit≤ tt; each = (lit< tt, (lit< tt, tt)) };
     padding = 9 ∷ 9 ∷ 9 ∷ 9 ∷ [];
     padded = refl;
@@ -31,10 +31,10 @@ padded_frame = record {
 abbrev seven : List (List ℕ)
 seven = (123 ∷ replicate 7 0) ∷ (4 ∷ replicate 7 0 ++ 5 ∷ replicate 7 0) ∷ []
 
-pub two_flat : frame_text seven ≡ 1 ∷ 0 ∷ 0 ∷ 0 ∷ 1 ∷ 0 ∷ 0 ∷ 0 ∷ 2 ∷ 0 ∷ 0 ∷ 0 ∷ 0 ∷ 0 ∷ 0 ∷ 0 ∷ concat seven
+pub two_flat : frame_bytes seven ≡ 1 ∷ 0 ∷ 0 ∷ 0 ∷ 1 ∷ 0 ∷ 0 ∷ 0 ∷ 2 ∷ 0 ∷ 0 ∷ 0 ∷ 0 ∷ 0 ∷ 0 ∷ 0 ∷ concat seven
 two_flat = refl
 
-pub two_flat_length : length (frame_text seven) ≡ 40
+pub two_flat_length : length (frame_bytes seven) ≡ 40
 two_flat_length = refl
 
 -- the table of four lengths
@@ -43,7 +43,7 @@ pub four_lengths : zero_padded_table (lengths
     ∷ 0 ∷ 0 ∷ 0 ∷ 1 ∷ 0 ∷ 0 ∷ 0 ∷ 99 ∷ 0 ∷ 0 ∷ 0 ∷ 0 ∷ 0 ∷ 0 ∷ 0 ∷ []
 four_lengths = refl
 
--- the refusal table: a cut first word
+-- the error table: a cut first word
 pub cut_word : RefusesStream Zero Splits RunsShort (Some 8) None FailedToFillTheWholeBuffer (0 ∷ 0 ∷ 0 ∷ 0 ∷ []) []
 cut_word = inr (λ x. x, ((λ e. cc), inl (lit< tt, refl)))
 

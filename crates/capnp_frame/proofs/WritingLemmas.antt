@@ -136,7 +136,7 @@ filled_all count ns table filled all some =
     filled.spelled ∙ ap (λ k. field (k - 1) ++ flat_map field ns ++ replicate (table_size count - 4 * (length ns + 1))
     0) all ∙ ap (λ k. field (length ns - 1) ++ flat_map field ns ++ replicate k 0) following
 
--- the refusal of one chunk, and the device's
+-- the error of one chunk, and the device's
 pub refused_at : {F : Type 0} (refuses : Declining) (segments : List (List ℕ)) (index : ℕ) (segment : List ℕ)
     (kind : ErrorKind) → slice_get segments index ≡ Some segment → F ⊎ refuses segment kind → F
     ⊎ DeclinesSome refuses segments kind

@@ -5,7 +5,7 @@ use Rattle.capnp_frame.specs.declared.error.ErrorKind.{ErrorKind}
 use Rattle.capnp_frame.specs.declared.error.ErrorKind.TheVariants.{DeviceFailed}
 use Rattle.capnp_frame.specs.Source.{Fails, Advances}
 
--- a refusal is the device's, or of a kind of which P holds
+-- an error is the device's, or of a kind of which P holds
 abbrev pub FailsOr : {X : Type 0} → Result X Error → (ErrorKind → Type 0) → Type 0
 FailsOr result P = IfErr result (λ error. (error.kind ≡ DeviceFailed) ⊎ P error.kind)
 

@@ -1,11 +1,11 @@
--- Which refusal a call returns.
+-- Which error a call returns.
 use Rattle.std.specs.Prelude.{◌≡◌, ◌⊎◌, ◌↔◌, Result, IfErr}
 use Rattle.std.specs.Result.{IsErrAnd}
 use Rattle.capnp_frame.specs.declared.error.Error.{Error}
 use Rattle.capnp_frame.specs.declared.error.ErrorKind.{ErrorKind}
 use Rattle.capnp_frame.specs.declared.error.ErrorKind.TheVariants.{OutOfMemory, MessageSizeOverflow}
 
--- the call returns this refusal
+-- the call returns this error
 abbrev pub FailsWith : {X : Type 0} → Result X Error → ErrorKind → Type 0
 FailsWith result kind = IsErrAnd result (λ error. error.kind ≡ kind)
 

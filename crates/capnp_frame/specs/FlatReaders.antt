@@ -26,11 +26,11 @@ buffer_rules rule limit = record { form = by_words EmptyBuffer; padding = rule; 
 abbrev pub no_alloc_rules : Padding → Option ℕ → FlatRules
 no_alloc_rules rule limit = record { form = by_fields; padding = rule; limit = limit }
 
--- By these rules a text of the message stands at the front of the bytes, and `rest` after it.
+-- By these rules a text of the message is at the front of the bytes, and `rest` after it.
 abbrev pub StandsBy : FlatRules → List (List ℕ) → List ℕ → List ℕ → Type 0
 StandsBy rules message bytes rest = BeginsWith (IsFrame rules.padding) rules.limit message bytes rest
 
--- by these rules this line of the table of refusals is the first to hold
+-- by these rules this line of the table of errors is the first to hold
 abbrev pub RefusesBy : FlatRules → ErrorKind → List ℕ → Type 0
 RefusesBy rules kind bytes = RefusesFlat rules.form rules.padding rules.limit kind bytes
 
@@ -44,7 +44,7 @@ abbrev pub OrLacksMemory : FlatForm → Type 0 → Type 0 → Type 0
 OrLacksMemory (by_words empty) lacks other = lacks ⊎ other
 OrLacksMemory by_fields lacks other = other
 
--- where a message stands, only a reader that takes memory may fail, for want of it
+-- where a message is, only a reader that takes memory may fail, for want of it
 abbrev pub AcceptsFlat : {X : Type 0} → FlatForm → Result X Error → Type 0
 AcceptsFlat (by_words empty) result = IfErr result (λ error. error.kind ≡ OutOfMemory)
 AcceptsFlat by_fields result = IsOk result
@@ -53,9 +53,9 @@ AcceptsFlat by_fields result = IsOk result
 -- buffer, and `segments` sees the segments of what is returned.
 pub record ReadsFlat {X : Type 0} (rules : FlatRules) (bytes : List ℕ) (left : Option (List ℕ))
     (segments : X → List (List ℕ)) (result : Result X Error) : Type 0 where
-  -- the message that is returned stands at the front, within the limit, and a slice moves just past it
+  -- the message that is returned is at the front, within the limit, and a slice moves just past it
   pub found : IfOk result (λ found. Leaves left (StandsBy rules (segments found) bytes))
-  -- a message that stands there is returned, but where memory is lacking
+  -- a message that is there is returned, but where memory is lacking
   pub accepted : (message : List (List ℕ)) (rest : List ℕ) → StandsBy rules message bytes rest → AcceptsFlat rules.form result
   -- a failure leaves a slice as it was
   pub unchanged : OnErr result (IfSome left (λ left. left ≡ bytes))

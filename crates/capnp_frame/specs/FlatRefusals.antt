@@ -1,4 +1,4 @@
--- Which refusal a reader of a slice or a buffer returns: the lines of its table in their order
+-- Which error a reader of a slice or a buffer returns: the lines of its table in their order
 -- (docs/FORMAT.md, "Readers of slices and buffers").
 use Rattle.std.specs.Prelude.{◌≡◌, ℕ, ◌+◌, ◌-◌, ◌*◌, ◌/◌, ◌%◌, ◌^◌, ◌<◌, ◌≤◌, List, [], length, sum, Option}
 use Rattle.capnp_frame.specs.declared.error.ErrorKind.{ErrorKind}
@@ -6,7 +6,7 @@ use Rattle.capnp_frame.specs.declared.error.ErrorKind.TheVariants.{FailedToFillT
 use Rattle.capnp_frame.specs.declared.serialize.segment_table.Padding.{Padding}
 use Rattle.capnp_frame.specs.SegmentTable.{table_size, KeepsPadding}
 use Rattle.capnp_frame.specs.Refusals.{Unless, IsOutOfRange, IsTooLarge}
-use Rattle.capnp_frame.specs.Front.{number, told_lengths, told_padding}
+use Rattle.capnp_frame.specs.Front.{number, declared_lengths, declared_padding}
 
 -- How a table is taken.
 pub data FlatForm : Type 0 where
@@ -15,12 +15,12 @@ pub data FlatForm : Type 0 where
   -- field by field
   by_fields : FlatForm
 
--- the refusal where there are no bytes at all
+-- the error where there are no bytes at all
 abbrev pub empty_kind : FlatForm → ErrorKind
 empty_kind (by_words empty) = empty
 empty_kind by_fields = MessageEndsPrematurely 4 0
 
--- the refusal of a table that is cut, where a given number of bytes are there
+-- the error of a table that is cut, where a given number of bytes are there
 abbrev pub cut_kind : FlatForm → ℕ → ErrorKind
 cut_kind (by_words empty) there = FailedToFillTheWholeBuffer
 cut_kind by_fields there = MessageEndsPrematurely 4 (there % 4)
@@ -46,7 +46,7 @@ lengths_end by_fields count = 4 * (count + 1)
 
 -- Below, the lines from the last to the first.
 
--- The last line: the segments are cut, and the refusal tells how many words of them are there.
+-- The last line: the segments are cut, and the error tells how many words of them are there.
 abbrev pub CutsSegments : ErrorKind → List ℕ → ℕ → ℕ → Type 0
 CutsSegments kind bytes count total = (length bytes < table_size count + 8 * total)
     × (kind ≡ MessageEndsPrematurely total ((length bytes - table_size count) / 8))
@@ -56,7 +56,7 @@ abbrev pub RefusesLengths : FlatForm → Padding → Option ℕ → ErrorKind �
 RefusesLengths form rule limit kind bytes count ns =
     Unless (IsTooLarge ns limit) (kind ≡ MessageTooLarge (sum ns)) (
     Unless (length bytes < table_size count) (kind ≡ cut_kind form (length bytes)) (
-    Unless (KeepsPadding rule (told_padding count bytes) → ⊥) (kind ≡ NonZeroPadding) (
+    Unless (KeepsPadding rule (declared_padding count bytes) → ⊥) (kind ≡ NonZeroPadding) (
     CutsSegments kind bytes count (sum ns))))
 
 -- the lines once the number of segments is read: its range, the lengths, and what comes after them
@@ -64,9 +64,9 @@ abbrev pub RefusesCount : FlatForm → Padding → Option ℕ → ErrorKind → 
 RefusesCount form rule limit kind bytes count =
     Unless (IsOutOfRange count) (kind ≡ InvalidNumberOfSegments count) (
     Unless (length bytes < lengths_end form count) (kind ≡ cut_kind form (length bytes)) (
-    RefusesLengths form rule limit kind bytes count (told_lengths count bytes)))
+    RefusesLengths form rule limit kind bytes count (declared_lengths count bytes)))
 
--- All lines: a reader that takes the table in this form, its padding by the rule, refuses the bytes by this kind.
+-- All lines: a reader that takes the table in this form, its padding by the rule, rejects the bytes by this kind.
 abbrev pub RefusesFlat : FlatForm → Padding → Option ℕ → ErrorKind → List ℕ → Type 0
 RefusesFlat form rule limit kind bytes =
     Unless (bytes ≡ []) (kind ≡ empty_kind form) (

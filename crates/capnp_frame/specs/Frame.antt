@@ -8,10 +8,10 @@ use Rattle.capnp_frame.specs.SegmentTable.{IsTable, zero_padded_table}
 -- The text is a segment table with a padding that the rule takes, then the bytes of the segments in order.
 pub record IsFrame (rule : Padding) (text : List ℕ) (segments : List (List ℕ)) : Type 0 where
   pub table : List ℕ
-  pub lengths_told : IsTable rule table (lengths segments)
+  pub lengths_declared : IsTable rule table (lengths segments)
   pub whole : AllByRecursion IsWholeWords segments
   pub spelled : text ≡ table ++ concat segments
 
 -- the frame whose padding is zero, which is the one that is written
-abbrev pub frame_text : List (List ℕ) → List ℕ
-frame_text segments = zero_padded_table (lengths segments) ++ concat segments
+abbrev pub frame_bytes : List (List ℕ) → List ℕ
+frame_bytes segments = zero_padded_table (lengths segments) ++ concat segments

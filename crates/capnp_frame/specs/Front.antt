@@ -11,7 +11,7 @@ use Rattle.capnp_frame.specs.Frame.{IsFrame}
 use Rattle.capnp_frame.specs.Limits.{IsWithin}
 use Rattle.capnp_frame.specs.declared.serialize.segment_table_info.NoAllocSegmentTableInfo.{NoAllocSegmentTableInfo}
 
--- a frame of the message stands at the front, its padding by the rule, and `rest` after it
+-- a frame of the message is at the front, its padding by the rule, and `rest` after it
 abbrev pub HasFrame : Padding → List ℕ → List (List ℕ) → List ℕ → Type 0
 HasFrame rule bytes segments rest = (text : List ℕ) × IsFrame rule text segments × (bytes ≡ text ++ rest)
 
@@ -41,31 +41,31 @@ numbers zero bytes = []
 numbers (suc count) bytes = number bytes ∷ numbers count (drop 4 bytes)
 
 -- the lengths of a given number of segments, as the fields after the first tell them
-abbrev pub told_lengths : ℕ → List ℕ → List ℕ
-told_lengths count bytes = numbers count (drop 4 bytes)
+abbrev pub declared_lengths : ℕ → List ℕ → List ℕ
+declared_lengths count bytes = numbers count (drop 4 bytes)
 
 -- the padding after a given number of fields
-abbrev pub told_padding : ℕ → List ℕ → List ℕ
-told_padding count bytes = drop (4 * (count + 1)) (take (table_size count) bytes)
+abbrev pub declared_padding : ℕ → List ℕ → List ℕ
+declared_padding count bytes = drop (4 * (count + 1)) (take (table_size count) bytes)
 
 -- the segments of these lengths, cut from the bytes after the table
-abbrev pub told_segments : ℕ → List ℕ → List (List ℕ)
-told_segments count bytes = cut (told_lengths count bytes) (drop (table_size count) bytes)
+abbrev pub declared_segments : ℕ → List ℕ → List (List ℕ)
+declared_segments count bytes = cut (declared_lengths count bytes) (drop (table_size count) bytes)
 
 -- The lengths that a given number of fields tell fit their fields, and the fields are their spelling.
 pub record SpellsLengths (bytes : List ℕ) (count : ℕ) : Type 0 where
-  pub each : AllByRecursion FitsField (told_lengths count bytes)
-  pub spelled : flat_map field (told_lengths count bytes) ≡ take (4 * count) (drop 4 bytes)
+  pub each : AllByRecursion FitsField (declared_lengths count bytes)
+  pub spelled : flat_map field (declared_lengths count bytes) ≡ take (4 * count) (drop 4 bytes)
 
--- a table of a given number of segments stands at the front
-pub record TellsTable (bytes : List ℕ) (count : ℕ) : Type 0 where
+-- a table of a given number of segments is at the front
+pub record DeclaresTable (bytes : List ℕ) (count : ℕ) : Type 0 where
   pub some : 0 < count
   pub few : count < 512
   pub counted : field (count - 1) ≡ take 4 bytes
   pub lengths : SpellsLengths bytes count
   pub room : table_size count ≤ length bytes
 
--- a table of a given number of segments stands at the front, and all segments after it
+-- a table of a given number of segments is at the front, and all segments after it
 pub record HoldsMessage (bytes : List ℕ) (count : ℕ) : Type 0 where
-  pub table : TellsTable bytes count
-  pub room : table_size count + 8 * sum (told_lengths count bytes) ≤ length bytes
+  pub table : DeclaresTable bytes count
+  pub room : table_size count + 8 * sum (declared_lengths count bytes) ≤ length bytes

@@ -1,4 +1,4 @@
--- The numbers of the kinds of refusals, as they are listed (docs/FORMAT.md, "Errors").
+-- The numbers of the kinds of errors, as they are listed (docs/FORMAT.md, "Errors").
 use Rattle.std.specs.Prelude.{ℕ}
 use Rattle.capnp_frame.specs.declared.error.ErrorKind.{ErrorKind}
 use Rattle.capnp_frame.specs.declared.error.ErrorKind.TheVariants.{FailedToFillTheWholeBuffer, BufferNotLargeEnough, EmptyBuffer, EmptySlice}

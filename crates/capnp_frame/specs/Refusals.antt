@@ -1,4 +1,4 @@
--- Which refusal a stream reader returns: the lines of its table in their order (docs/FORMAT.md, "Readers of streams").
+-- Which error a stream reader returns: the lines of its table in their order (docs/FORMAT.md, "Readers of streams").
 use Rattle.std.specs.Prelude.{◌≡◌, ◌≢◌, ℕ, ◌+◌, ◌-◌, ◌*◌, ◌/◌, ◌%◌, ◌^◌, ◌<◌, ◌≤◌, ◌⊎◌, List, [], ◌++◌, length, take, sum, Option, IsSomeAnd}
 use Rattle.capnp_frame.specs.declared.error.ErrorKind.{ErrorKind}
 use Rattle.capnp_frame.specs.declared.error.ErrorKind.TheVariants.{DeviceFailed, OutOfMemory, BufferNotLargeEnough, InvalidNumberOfSegments, MessageTooLarge, NonZeroPadding}
@@ -13,7 +13,7 @@ use Rattle.capnp_frame.specs.Requests.{TableStands}
 abbrev pub Unless : Type 0 → Type 0 → Type 0 → Type 0
 Unless holds line after = (holds × line) ⊎ ((holds → ⊥) × after)
 
--- A request: the source's refusal, or else what comes after its bytes.
+-- A request: the source's error, or else what comes after its bytes.
 abbrev pub Asks : Giving → Refusing → ErrorKind → List ℕ → ℕ → (List ℕ → List ℕ → Type 0) → Type 0
 Asks gives refuses kind raw n after = refuses raw n kind ⊎ ((bytes rest : List ℕ) × gives raw n bytes rest × after bytes rest)
 
@@ -26,10 +26,10 @@ abbrev pub IsOutOfRange : ℕ → Type 0
 IsOutOfRange count = (count ≡ 0) ⊎ (512 ≤ count)
 
 -- the first word of a table tells this number of segments, and it is accepted
-pub record TellsAccepted (word : List ℕ) (count : ℕ) : Type 0 where
+pub record DeclaresAccepted (word : List ℕ) (count : ℕ) : Type 0 where
   pub some : 0 < count
   pub few : count < 512
-  pub told : field (count - 1) ≡ take 4 word
+  pub declared : field (count - 1) ≡ take 4 word
 
 -- more words than the limit, where there is one
 abbrev pub IsTooLarge : List ℕ → Option ℕ → Type 0
@@ -39,7 +39,7 @@ IsTooLarge ns limit = IsSomeAnd limit (λ most. most < sum ns)
 abbrev pub LacksRoom : Option ℕ → ℕ → Type 0
 LacksRoom room n = IsSomeAnd room (λ len. len < n)
 
--- A reader stops by a kind of its own, and leaves what stands here.
+-- A reader stops by a kind of its own, and leaves what is here.
 abbrev pub StopsBy : ErrorKind → ErrorKind → List ℕ → List ℕ → Type 0
 StopsBy own kind here left = (kind ≡ own) × (left ≡ here)
 
@@ -48,7 +48,7 @@ abbrev pub BreaksPadding : Padding → List ℕ → List ℕ → Type 0
 BreaksPadding rule text ns = IsTable rule text ns → ⊥
 
 -- Below, a reader stops by `kind` and leaves `left` unread, or goes on to `after`, the lines after a table of these
--- lengths. Where the source refuses, what it leaves is open.
+-- lengths. Where the source rejects, what it leaves is open.
 
 -- the lines of the limit and of the padding: both parts of the table are read, `word` and `others`
 abbrev pub RefusesAtLimit : Padding → Option ℕ → ErrorKind → (List ℕ → List ℕ → Type 0) → List ℕ → List ℕ → List ℕ → List ℕ → Type 0
@@ -74,23 +74,23 @@ RefusesAtStart rule gives refuses limit room kind after raw left =
     Unless (LacksRoom room 8) (StopsBy BufferNotLargeEnough kind raw left) (
     (raw ≢ []) × Asks gives refuses kind raw 8 (RefusesAtCount rule gives refuses limit room kind after left))
 
--- A reader of a table alone refuses by this kind: it ends after the padding's line.
+-- A reader of a table alone rejects by this kind: it ends after the padding's line.
 abbrev pub RefusesTable : Padding → Giving → Refusing → Option ℕ → Option ℕ → ErrorKind → List ℕ → List ℕ → Type 0
 RefusesTable rule gives refuses limit room kind raw left = RefusesAtStart rule gives refuses limit room kind (λ ns following. ⊥) raw left
 
--- All lines: a reader of a message refuses by this kind. After the table come the room for the segments and their
+-- All lines: a reader of a message rejects by this kind. After the table come the room for the segments and their
 -- request.
 abbrev pub RefusesStream : Padding → Giving → Refusing → Option ℕ → Option ℕ → ErrorKind → List ℕ → List ℕ → Type 0
 RefusesStream rule gives refuses limit room kind raw left = RefusesAtStart rule gives refuses limit room kind (λ ns following.
     Unless (LacksRoom room (table_size (length ns) + 8 * sum ns)) (StopsBy BufferNotLargeEnough kind following left) (
     refuses following (8 * sum ns) kind)) raw left
 
--- the first word of a table stands at the front, and the number of segments that it tells is accepted
+-- the first word of a table is at the front, and the number of segments that it tells is accepted
 pub record CountStands (gives : Giving) (raw rest : List ℕ) : Type 0 where
   pub word : List ℕ
   pub count : ℕ
   pub given : gives raw 8 word rest
-  pub told : Tells word count
+  pub declared : Tells word count
   pub accepted : IsOutOfRange count → ⊥
 
 -- Where a reader that grows takes memory: for the lengths once their number is accepted, and for the segments once
@@ -99,7 +99,7 @@ abbrev pub TakesMemory : Padding → Giving → Option ℕ → List ℕ → List
 TakesMemory rule gives limit raw left = CountStands gives raw left
     ⊎ ((lengths : List ℕ) × TableStands rule gives lengths raw left × AreWithin lengths limit)
 
--- the kind of a padding that the rule refuses
+-- the kind of a padding that the rule rejects
 abbrev pub IsPaddingKind : Padding → ErrorKind → Type 0
 IsPaddingKind rule kind = (rule ≡ Zero) × (kind ≡ NonZeroPadding)
 

@@ -7,13 +7,13 @@ use Rattle.capnp_frame.specs.declared.serialize.segment_table.Padding.{Padding}
 use Rattle.capnp_frame.specs.SegmentTable.{IsTable}
 use Rattle.capnp_frame.specs.Source.{Giving}
 
--- the words of a table of these lengths after its first word stand at the front, by one request
+-- the words of a table of these lengths after its first word are at the front, by one request
 pub record RestStands (rule : Padding) (gives : Giving) (first lengths raw rest : List ℕ) : Type 0 where
   pub others : List ℕ
   pub given : gives raw (8 * (length lengths / 2)) others rest
   pub table : IsTable rule (first ++ others) lengths
 
--- a table of these lengths stands at the front, by two requests
+-- a table of these lengths is at the front, by two requests
 pub record TableStands (rule : Padding) (gives : Giving) (lengths raw rest : List ℕ) : Type 0 where
   pub first : List ℕ
   pub others : List ℕ
@@ -22,7 +22,7 @@ pub record TableStands (rule : Padding) (gives : Giving) (lengths raw rest : Lis
   pub others_given : gives between (8 * (length lengths / 2)) others rest
   pub table : IsTable rule (first ++ others) lengths
 
--- the segments stand at the front: their table, and by a third request all of them
+-- the segments are at the front: their table, and by a third request all of them
 pub record MessageStands (rule : Padding) (gives : Giving) (segments : List (List ℕ)) (raw rest : List ℕ) : Type 0 where
   pub between : List ℕ
   pub table : TableStands rule gives (lengths segments) raw between

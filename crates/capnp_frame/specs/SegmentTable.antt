@@ -24,12 +24,12 @@ KeepsPadding Any padding = ⊤
 KeepsPadding Zero padding = padding ≡ replicate (length padding) 0
 
 -- the number of segments less one, the length of each, and padding
-abbrev pub table_text : List ℕ → List ℕ → List ℕ
-table_text lengths padding = field (length lengths - 1) ++ flat_map field lengths ++ padding
+abbrev pub table_bytes : List ℕ → List ℕ → List ℕ
+table_bytes lengths padding = field (length lengths - 1) ++ flat_map field lengths ++ padding
 
 -- the table whose padding is zero
 abbrev pub zero_padded_table : List ℕ → List ℕ
-zero_padded_table lengths = table_text lengths (replicate (padding_len lengths) 0)
+zero_padded_table lengths = table_bytes lengths (replicate (padding_len lengths) 0)
 
 -- how many bytes the table of a given number of segments takes
 abbrev pub table_size : ℕ → ℕ
@@ -47,4 +47,4 @@ pub record IsTable (rule : Padding) (text lengths : List ℕ) : Type 0 where
   pub padding : List ℕ
   pub padded : length padding ≡ padding_len lengths
   pub kept : KeepsPadding rule padding
-  pub spelled : text ≡ table_text lengths padding
+  pub spelled : text ≡ table_bytes lengths padding

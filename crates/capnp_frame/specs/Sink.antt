@@ -11,7 +11,7 @@ Appending = List ℕ → List ℕ → Type 0
 abbrev pub Leaving : Type 1
 Leaving = List ℕ → List ℕ → Type 0
 
--- A chunk may fail with a kind beside the device's: refuses chunk kind.
+-- A chunk may fail with a kind beside the device's: rejects chunk kind.
 abbrev pub Declining : Type 1
 Declining = List ℕ → ErrorKind → Type 0
 
@@ -27,7 +27,7 @@ LeavesNothing chunk text = text ≡ []
 abbrev pub LeavesFront : Leaving
 LeavesFront chunk text = IsFront text chunk
 
--- a sink refuses by its own kind alone, whatever the chunk
+-- a sink rejects by its own kind alone, whatever the chunk
 abbrev pub ByKind : ErrorKind → Declining
 ByKind own chunk kind = kind ≡ own
 

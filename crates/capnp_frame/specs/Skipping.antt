@@ -12,7 +12,7 @@ SkipsMessage Reads (Ok (Some ns)) = (message : List (List ℕ)) × (lengths mess
 SkipsMessage Reads (Ok None) = Reads (Ok None)
 SkipsMessage Reads (Err error) = Reads (Err error)
 
--- a message of these lengths stands at the front
+-- a message of these lengths is at the front
 abbrev pub LengthsStand : Padding → Giving → List ℕ → List ℕ → List ℕ → Type 0
 LengthsStand rule gives ns raw rest = (message : List (List ℕ)) × (lengths message ≡ ns) × MessageStands rule gives message raw rest
 

@@ -9,7 +9,7 @@ use Rattle.capnp_frame.specs.declared.error.ErrorKind.TheVariants.{FailedToFillT
 abbrev pub Giving : Type 1
 Giving = List ℕ → ℕ → List ℕ → List ℕ → Type 0
 
--- A request of n bytes fails with a kind where `raw` is unread: refuses raw n kind.
+-- A request of n bytes fails with a kind where `raw` is unread: rejects raw n kind.
 abbrev pub Refusing : Type 1
 Refusing = List ℕ → ℕ → ErrorKind → Type 0
 
@@ -34,7 +34,7 @@ pub record IsSource (gives : Giving) (refuses : Refusing) : Type 0 where
   pub gives_all : (raw : List ℕ) (n : ℕ) (bytes rest : List ℕ) → gives raw n bytes rest → length bytes ≡ n
   -- there is one result at most
   pub unique : (raw : List ℕ) (n : ℕ) (bytes rest others left : List ℕ) → gives raw n bytes rest → gives raw n others left → (bytes ≡ others) × (rest ≡ left)
-  -- what is given isn't refused, and nothing fails with two kinds
+  -- what is given isn't rejected, and nothing fails with two kinds
   pub apart : (raw : List ℕ) (n : ℕ) (bytes rest : List ℕ) (kind : ErrorKind) → gives raw n bytes rest → refuses raw n kind → ⊥
   pub one_kind : (raw : List ℕ) (n : ℕ) (kind other : ErrorKind) → refuses raw n kind → refuses raw n other → kind ≡ other
 

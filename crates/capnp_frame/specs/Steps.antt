@@ -9,19 +9,19 @@ use Rattle.capnp_frame.specs.declared.io.Read.{Ghosts}
 use Rattle.capnp_frame.specs.SegmentTable.{FitsField}
 use Rattle.capnp_frame.specs.SegmentLengths.{range_len, AreRanges}
 use Rattle.capnp_frame.specs.Limits.{KeepsLimit}
-use Rattle.capnp_frame.specs.Front.{told_lengths, told_segments, TellsTable, HoldsMessage}
+use Rattle.capnp_frame.specs.Front.{declared_lengths, declared_segments, DeclaresTable, HoldsMessage}
 use Rattle.capnp_frame.specs.Source.{Giving, Refusing, IfKnown}
 use Rattle.capnp_frame.specs.Requests.{RestStands, TableStands, MessageStands}
 use Rattle.capnp_frame.specs.Errors.{FailsWith}
 use Rattle.capnp_frame.specs.Refusals.{RefusesAtLimit, RefusesRest, IsTableKind, IsReaderKind, IsProvidedReaderKind}
 use Rattle.capnp_frame.specs.Asking.{Asked, FailsOr}
 
--- A step that completes a table of a given number of segments stops by a line of the table of refusals: by the request of its
+-- A step that completes a table of a given number of segments stops by a line of the table of errors: by the request of its
 -- other words, the limit, or the padding.
 abbrev pub StopsAtTable : Padding → Giving → Refusing → Option ℕ → ErrorKind → List ℕ → ℕ → List ℕ → List ℕ → Type 0
 StopsAtTable rule gives refuses limit kind first count raw left = RefusesRest rule gives refuses limit kind (λ ns following. ⊥) left first count raw
 
--- The limit or the padding refuses a table that is complete, whatever is unread after it.
+-- The limit or the padding rejects a table that is complete, whatever is unread after it.
 abbrev pub RefusesComplete : Padding → Option ℕ → ErrorKind → List ℕ → Type 0
 RefusesComplete rule limit kind table = (following : List ℕ) → RefusesAtLimit rule limit kind (λ ns rest. ⊥) following (take 8 table) (drop 8 table) following
 
@@ -29,7 +29,7 @@ RefusesComplete rule limit kind table = (following : List ℕ) → RefusesAtLimi
 -- each segment begins and ends.
 pub record ReadsLengths {S : Type 0} (source : Ghosts S) (old new : S) (rule : Padding) (limit : Option ℕ) (first : List ℕ)
     (indices : List (ℕ × ℕ)) (result : Result ℕ Error) : Type 0 where
-  -- the lengths between the indices are those of the table that stands there
+  -- the lengths between the indices are those of the table that is there
   pub table : OnOk result (IfKnown (source.unread old) (source.unread new) (RestStands rule source.gives first (map range_len indices)))
   pub ranges : IfOk result (AreRanges indices)
   pub bound : IfOk result (λ total. total < 2 ^ 42)
@@ -43,21 +43,21 @@ pub record ReadsLengths {S : Type 0} (source : Ghosts S) (old new : S) (rule : P
 
 -- What a step finds that reads a table to the front of a caller-provided buffer: of a given number of segments and words.
 pub record FindsTable (rule : Padding) (gives : Giving) (limit : Option ℕ) (buffer : List ℕ) (count total : ℕ) (old new : Option (List ℕ)) : Type 0 where
-  -- the table stands there, and just its bytes are consumed
-  pub found : IfKnown old new (TableStands rule gives (told_lengths count buffer))
-  pub tells : TellsTable buffer count
-  pub total_is : total ≡ sum (told_lengths count buffer)
-  pub within : KeepsLimit (told_lengths count buffer) limit
+  -- the table is there, and just its bytes are consumed
+  pub found : IfKnown old new (TableStands rule gives (declared_lengths count buffer))
+  pub tells : DeclaresTable buffer count
+  pub total_is : total ≡ sum (declared_lengths count buffer)
+  pub within : KeepsLimit (declared_lengths count buffer) limit
 
 -- what a step finds of a message: how many segments it has, and how many bytes after its table.
 pub record FindsMessage (rule : Padding) (gives : Giving) (limit : Option ℕ) (buffer : List ℕ) (count bytes : ℕ) (old new : Option (List ℕ)) : Type 0 where
-  pub found : IfKnown old new (MessageStands rule gives (told_segments count buffer))
+  pub found : IfKnown old new (MessageStands rule gives (declared_segments count buffer))
   pub holds : HoldsMessage buffer count
-  pub total_is : bytes ≡ 8 * sum (told_lengths count buffer)
-  pub within : KeepsLimit (told_lengths count buffer) limit
+  pub total_is : bytes ≡ 8 * sum (declared_lengths count buffer)
+  pub within : KeepsLimit (declared_lengths count buffer) limit
 
 -- What a step keeps beside what it finds, where it reads what comes next in a stream, or none at its end. Memory is
--- taken where `takes` holds, and `lines` are those of the table of refusals.
+-- taken where `takes` holds, and `lines` are those of the table of errors.
 pub record AsksNext {S X : Type 0} (source : Ghosts S) (old new : S) (rule : Padding) (takes : List ℕ → List ℕ → Type 0)
     (lines : ErrorKind → List ℕ → List ℕ → Type 0) (result : Result (Option X) Error) : Type 0 where
   pub none : IfOk result (λ found. IfNone found (IfSome (source.unread old) (λ raw. raw ≡ [])))

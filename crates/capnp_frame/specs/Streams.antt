@@ -16,7 +16,7 @@ use Rattle.capnp_frame.specs.Source.{Giving, Refusing, IfKnown, Advances, Fails}
 use Rattle.capnp_frame.specs.Errors.{FailsWith}
 use Rattle.capnp_frame.specs.Refusals.{RefusesStream, TakesMemory, IsReaderKind, IsProvidedReaderKind}
 
--- A message stands at the front of `raw`, and `rest` after it: stands segments raw rest.
+-- A message is at the front of `raw`, and `rest` after it: is segments raw rest.
 abbrev pub Standing : Type 1
 Standing = List (List ℕ) → List ℕ → List ℕ → Type 0
 
@@ -29,12 +29,12 @@ message_in segments result = result_map_both (λ held. Some (segments held)) (λ
 
 -- What a reader of streams goes by: the format, and in it the rule of padding.
 pub record StreamRules : Type 1 where
-  -- where a message stands
+  -- where a message is
   pub stands : Standing
   -- where a reader that grows takes memory, within a limit of words: takes_memory limit raw left
   pub takes_memory : Option ℕ → List ℕ → List ℕ → Type 0
-  -- the table of refusals, within a limit of words and the bytes of a caller-provided buffer: the first line that holds
-  -- fails with this kind, and leaves `left` unread: refuses limit room kind raw left
+  -- the table of errors, within a limit of words and the bytes of a caller-provided buffer: the first line that holds
+  -- fails with this kind, and leaves `left` unread: rejects limit room kind raw left
   pub refuses : Option ℕ → Option ℕ → ErrorKind → List ℕ → List ℕ → Type 0
   -- the kinds that a reader that grows fails with, also where the unread bytes aren't known
   pub kinds : ErrorKind → Type 0
@@ -55,7 +55,7 @@ framed_rules rule gives refuses = record {
 -- `old` and `new` are the source before the call and after it.
 pub record ReadsStream {S : Type 0} (source : Ghosts S) (old new : S) (rules : StreamRules) (limit : Option ℕ)
     (result : Result (Option (List (List ℕ))) Error) : Type 0 where
-  -- the message that is returned stands there, and just its bytes are consumed
+  -- the message that is returned is there, and just its bytes are consumed
   pub found : IfOk result (λ found. IfSome found (λ segments. IfKnown (source.unread old) (source.unread new) (rules.stands segments)))
   -- it has 1 to 511 segments and is within the limit of words
   pub within : IfOk result (λ found. IfSome found (λ segments. IsWithin segments limit))
@@ -63,12 +63,12 @@ pub record ReadsStream {S : Type 0} (source : Ghosts S) (old new : S) (rules : S
   pub whole : IfOk result (λ found. IfSome found (AllByRecursion IsWholeWords))
   -- None is returned only where nothing is unread
   pub none : IfOk result (λ found. IfNone found (IfSome (source.unread old) (λ raw. raw ≡ [])))
-  -- where a message stands, the call fails only with the device's failure or for want of memory
+  -- where a message is, the call fails only with the device's failure or for want of memory
   pub accepted : IfSome (source.unread old) (λ raw. (segments : List (List ℕ)) (rest : List ℕ) → rules.stands segments raw rest
       → IsWithin segments limit → IfErr result (λ error. (error.kind ≡ DeviceFailed) ⊎ (error.kind ≡ OutOfMemory)))
   -- where nothing is unread, only with the device's failure
   pub end : IfErr result (λ error. source.unread old ≡ Some [] → error.kind ≡ DeviceFailed)
-  -- it fails with the device's failure, for want of memory where memory is taken, or with a line of the table of refusals
+  -- it fails with the device's failure, for want of memory where memory is taken, or with a line of the table of errors
   pub refused : IfErr result (λ error. (error.kind ≡ DeviceFailed)
       ⊎ ((error.kind ≡ OutOfMemory) × IfKnown (source.unread old) (source.unread new) (rules.takes_memory limit))
       ⊎ IfKnown (source.unread old) (source.unread new) (rules.refuses limit None error.kind))
@@ -84,7 +84,7 @@ pub record ReadsStream {S : Type 0} (source : Ghosts S) (old new : S) (rules : S
 -- What each reader of a stream into a caller-provided buffer of `room` bytes returns. It takes no memory.
 pub record ReadsStreamInto {S : Type 0} (source : Ghosts S) (old new : S) (rules : StreamRules) (limit : Option ℕ) (room : ℕ)
     (result : Result (Option (List (List ℕ))) Error) : Type 0 where
-  -- the message that is returned stands there, and just its bytes are consumed
+  -- the message that is returned is there, and just its bytes are consumed
   pub found : IfOk result (λ found. IfSome found (λ segments. IfKnown (source.unread old) (source.unread new) (rules.stands segments)))
   -- it has 1 to 511 segments and is within the limit of words
   pub within : IfOk result (λ found. IfSome found (λ segments. IsWithin segments limit))
@@ -92,7 +92,7 @@ pub record ReadsStreamInto {S : Type 0} (source : Ghosts S) (old new : S) (rules
   pub whole : IfOk result (λ found. IfSome found (AllByRecursion IsWholeWords))
   -- None is returned only where nothing is unread
   pub none : IfOk result (λ found. IfNone found (IfSome (source.unread old) (λ raw. raw ≡ [])))
-  -- where a message stands and fits the buffer, the call fails only with the device's failure
+  -- where a message is and fits the buffer, the call fails only with the device's failure
   pub accepted : IfSome (source.unread old) (λ raw. (segments : List (List ℕ)) (rest : List ℕ) → rules.stands segments raw rest
       → IsWithin segments limit → table_size (length segments) + 8 * size_in_words segments ≤ room
       → IfErr result (λ error. error.kind ≡ DeviceFailed))
@@ -100,7 +100,7 @@ pub record ReadsStreamInto {S : Type 0} (source : Ghosts S) (old new : S) (rules
   pub end : IfErr result (λ error. source.unread old ≡ Some [] → 8 ≤ room → error.kind ≡ DeviceFailed)
   -- a buffer under 8 bytes asks the source for nothing
   pub short : room < 8 → (new ≡ old) × FailsWith result BufferNotLargeEnough
-  -- it fails with the device's failure, or with a line of the table of refusals
+  -- it fails with the device's failure, or with a line of the table of errors
   pub refused : IfErr result (λ error. (error.kind ≡ DeviceFailed)
       ⊎ IfKnown (source.unread old) (source.unread new) (rules.refuses limit (Some room) error.kind))
   -- where a line is the first to hold, the call fails with that line's kind, but for the device's failure

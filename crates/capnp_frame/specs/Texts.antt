@@ -10,19 +10,19 @@ use Rattle.capnp_frame.specs.Refusals.{RefusesStream}
 abbrev pub Grammar : Type 1
 Grammar = List ℕ → List (List ℕ) → Type 0
 
--- a text of the message stands at the front, and the message is within the limit
+-- a text of the message is at the front, and the message is within the limit
 pub record BeginsWith (IsText : Grammar) (limit : Option ℕ) (segments : List (List ℕ)) (raw rest : List ℕ) : Type 0 where
   pub text : List ℕ
   pub is_text : IsText text segments
   pub within : IsWithin segments limit
   pub spelled : raw ≡ text ++ rest
 
--- texts of these messages stand at the front, one after the other, and then the rest
-abbrev pub AreTexts : Grammar → Option ℕ → List (List (List ℕ)) → List ℕ → List ℕ → Type 0
-AreTexts IsText limit [] raw rest = rest ≡ raw
-AreTexts IsText limit (m ∷ ms) raw rest = (between : List ℕ) × BeginsWith IsText limit m raw between × AreTexts IsText limit ms between rest
+-- texts of these messages are at the front, one after the other, and then the rest
+abbrev pub AreEncodings : Grammar → Option ℕ → List (List (List ℕ)) → List ℕ → List ℕ → Type 0
+AreEncodings IsText limit [] raw rest = rest ≡ raw
+AreEncodings IsText limit (m ∷ ms) raw rest = (between : List ℕ) × BeginsWith IsText limit m raw between × AreEncodings IsText limit ms between rest
 
--- why no text of a message stands there: nothing is left, or a reader by the rule of padding refuses by this kind
-abbrev pub EndsTexts : Padding → Giving → Refusing → Option ℕ → Option ErrorKind → List ℕ → Type 0
-EndsTexts rule gives refuses limit None rest = rest ≡ []
-EndsTexts rule gives refuses limit (Some kind) rest = (left : List ℕ) × RefusesStream rule gives refuses limit None kind rest left
+-- why no text of a message is there: nothing is left, or a reader by the rule of padding rejects by this kind
+abbrev pub EndsEncodings : Padding → Giving → Refusing → Option ℕ → Option ErrorKind → List ℕ → Type 0
+EndsEncodings rule gives refuses limit None rest = rest ≡ []
+EndsEncodings rule gives refuses limit (Some kind) rest = (left : List ℕ) × RefusesStream rule gives refuses limit None kind rest left

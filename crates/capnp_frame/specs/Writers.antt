@@ -6,10 +6,10 @@ use Rattle.capnp_frame.specs.declared.error.ErrorKind.TheVariants.{DeviceFailed,
 use Rattle.capnp_frame.specs.declared.io.Write.{Ghosts}
 use Rattle.capnp_frame.specs.Asking.{FailsOr}
 use Rattle.capnp_frame.specs.Errors.{FailsWith}
-use Rattle.capnp_frame.specs.Frame.{frame_text}
+use Rattle.capnp_frame.specs.Frame.{frame_bytes}
 use Rattle.capnp_frame.specs.Sink.{Adds, AppendsAll, LeavesSome, DeclinesSome, Grows}
 use Rattle.capnp_frame.specs.Source.{IfKnown, Fails}
-use Rattle.capnp_frame.specs.Writing.{HasFew, HasMany, RefusesMany, chunks, serialized_words}
+use Rattle.capnp_frame.specs.Writing.{IsWithinSegmentLimit, ExceedsSegmentLimit, RefusesMany, chunks, serialized_words}
 
 -- What each function that writes does to its sink. `sink` is what is seen of the sink (the members of the trait Write),
 -- `old` and `new` are the sink before the call and after it. `adds` holds of what is added where the call succeeds, `leaves`
@@ -18,7 +18,7 @@ pub record WritesTo {S X : Type 0} (sink : Ghosts S) (old new : S) (adds leaves 
     (result : Result X Error) : Type 0 where
   -- where the call succeeds, this is added after what was written before
   pub written : OnOk result (IfKnown (sink.written old) (sink.written new) (Adds adds))
-  -- where it fails, that: nothing stands after a hole
+  -- where it fails, that: nothing is after a hole
   pub left : OnErr result (IfKnown (sink.written old) (sink.written new) (Adds leaves))
   -- it fails with the device's failure, or with a kind that is declined
   pub refused : FailsOr result declines
@@ -31,11 +31,11 @@ pub record WritesTo {S X : Type 0} (sink : Ghosts S) (old new : S) (adds leaves 
 -- anything is written.
 pub record WritesChunks {S X : Type 0} (sink : Ghosts S) (old new : S) (chunks : List (List ℕ)) (lacks : ErrorKind → Type 0)
     (result : Result X Error) : Type 0 where
-  -- where the call succeeds, what the chunks add stands after what was written before
+  -- where the call succeeds, what the chunks add is after what was written before
   pub written : OnOk result (IfKnown (sink.written old) (sink.written new) (Adds (AppendsAll sink.appends chunks)))
-  -- where it fails, the first chunks are written, and of the next one what the sink leaves of it; nothing stands after a hole
+  -- where it fails, the first chunks are written, and of the next one what the sink leaves of it; nothing is after a hole
   pub left : OnErr result (IfKnown (sink.written old) (sink.written new) (Adds (LeavesSome sink.appends sink.leaves chunks)))
-  -- it fails with the device's failure, as the sink refuses one of the chunks, or with a kind that is lacked
+  -- it fails with the device's failure, as the sink rejects one of the chunks, or with a kind that is lacked
   pub refused : FailsOr result (λ kind. DeclinesSome sink.refuses chunks kind ⊎ lacks kind)
   -- a failure that isn't the sink's leaves the sink as it was
   pub untouched : FailsOr result (λ kind. DeclinesSome sink.refuses chunks kind ⊎ (new ≡ old))
@@ -48,34 +48,34 @@ pub record WritesChunks {S X : Type 0} (sink : Ghosts S) (old new : S) (chunks :
 abbrev pub LacksTable : List (List ℕ) → ErrorKind → Type 0
 LacksTable segments kind = (4 ≤ length segments) × (kind ≡ OutOfMemory)
 
--- why a message is refused before anything of it is written: by the number of its segments, or for want of memory for its table
+-- why a message is rejected before anything of it is written: by the number of its segments, or for want of memory for its table
 abbrev pub RefusesUnwritten : List (List ℕ) → ErrorKind → Type 0
 RefusesUnwritten segments kind = RefusesMany segments kind ⊎ LacksTable segments kind
 
 -- What each function that writes a message keeps of the number of its segments.
 pub record KeepsCount {X : Type 0} (segments : List (List ℕ)) (result : Result X Error) : Type 0 where
   -- what is written has no more segments than a reader accepts
-  pub few : OnOk result (HasFew segments)
+  pub few : OnOk result (IsWithinSegmentLimit segments)
   -- where there are more the call fails for their number, before all else
-  pub many : HasMany segments → FailsWith result (InvalidNumberOfSegments (length segments))
+  pub many : ExceedsSegmentLimit segments → FailsWith result (InvalidNumberOfSegments (length segments))
 
 -- What each function that writes a message does to its sink.
 pub record WritesSegments {S X : Type 0} (sink : Ghosts S) (old new : S) (segments : List (List ℕ)) (result : Result X Error) : Type 0 where
   -- it fails by the number of segments exactly where there are more than a reader accepts, and then the sink stays as it was
   pub count : KeepsCount segments result
-  pub unwritten : HasMany segments → new ≡ old
+  pub unwritten : ExceedsSegmentLimit segments → new ≡ old
   -- else the chunks of the message are written, one after the other
   pub parts : WritesChunks sink old new (chunks segments) (RefusesUnwritten segments) result
 
--- What each function that returns the framed text of a message keeps, `bytes` being the text that is seen of it.
-pub record ReturnsText {X : Type 0} (segments : List (List ℕ)) (bytes : X → List ℕ) (result : Result X Error) : Type 0 where
-  pub text : IfOk result (λ text. bytes text ≡ frame_text segments)
+-- What each function that returns the framed encoding of a message keeps, `bytes` being the text that is seen of it.
+pub record ReturnsEncoding {X : Type 0} (segments : List (List ℕ)) (bytes : X → List ℕ) (result : Result X Error) : Type 0 where
+  pub text : IfOk result (λ text. bytes text ≡ frame_bytes segments)
   -- the call fails by the number of segments exactly where there are more than a reader accepts
   pub count : KeepsCount segments result
   -- with fewer it fails for want of memory alone
   pub kinds : IfErr result (λ error. RefusesMany segments error.kind ⊎ (error.kind ≡ OutOfMemory))
 
--- What each function that counts the words of a framed text keeps.
+-- What each function that counts the words of a framed encoding keeps.
 pub record CountsWords (segments : List (List ℕ)) (result : Result ℕ Error) : Type 0 where
   pub size : IfOk result (λ words. words ≡ serialized_words segments)
   -- the call fails exactly where the number of words does not fit

@@ -15,16 +15,16 @@ pub record IsWritable (segments : List (List ℕ)) : Type 0 where
   pub each : AllByRecursion FitsField (lengths segments)
 
 -- no more segments than a reader accepts
-abbrev pub HasFew : List (List ℕ) → Type 0
-HasFew segments = length segments < 512
+abbrev pub IsWithinSegmentLimit : List (List ℕ) → Type 0
+IsWithinSegmentLimit segments = length segments < 512
 
 -- more than that
-abbrev pub HasMany : List (List ℕ) → Type 0
-HasMany segments = 512 ≤ length segments
+abbrev pub ExceedsSegmentLimit : List (List ℕ) → Type 0
+ExceedsSegmentLimit segments = 512 ≤ length segments
 
 -- there are more, and the failure tells their number
 abbrev pub RefusesMany : List (List ℕ) → ErrorKind → Type 0
-RefusesMany segments kind = HasMany segments × (kind ≡ InvalidNumberOfSegments (length segments))
+RefusesMany segments kind = ExceedsSegmentLimit segments × (kind ≡ InvalidNumberOfSegments (length segments))
 
 -- the first word, and where there are more the other words
 abbrev pub word_and_rest : List ℕ → List (List ℕ)

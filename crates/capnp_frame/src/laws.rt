@@ -3,7 +3,7 @@ ghost use Rattle.std.specs.Prelude.{◌≡◌, ◌≢◌, ◌⊎◌, ℕ, ◌*�
 ghost use Rattle.std.specs.List.{AllByRecursion, concat};
 ghost use Rattle.capnp_frame.specs.Message.{IsWholeWords, lengths, size_in_words};
 ghost use Rattle.capnp_frame.specs.SegmentTable.{zero_padded_table, HasTable, IsTable};
-ghost use Rattle.capnp_frame.specs.Frame.{IsFrame, frame_text};
+ghost use Rattle.capnp_frame.specs.Frame.{IsFrame, frame_bytes};
 ghost use Rattle.capnp_frame.specs.Source.{Splits, IsFront, Fails};
 ghost use Rattle.capnp_frame.specs.Sink.{AppendsSame, AppendsAll, LeavesFront, LeavesSome, ByKind, DeclinesSome};
 ghost use Rattle.capnp_frame.specs.Requests.{MessageStands};
@@ -18,16 +18,16 @@ ghost use Rattle.capnp_frame.specs.declared.serialize.segment_table.Padding.{Pad
 use crate::io::{Read, Write};
 use crate::serialize::Padding;
 
-/// A message has a framed text: the one that is written.
+/// A message has a framed encoding: the one that is written.
 pub fn message_has_a_frame()
     ensures { (rule : Padding) (segments : List (List ℕ)) → HasTable (lengths segments) →
-        AllByRecursion IsWholeWords segments → IsFrame rule (frame_text segments) segments }
+        AllByRecursion IsWholeWords segments → IsFrame rule (frame_bytes segments) segments }
 {}
 
 /// By the rule of zero padding the text that is written is the only frame of a message.
 pub fn zero_padding_leaves_one_frame()
     ensures { (text : List ℕ) (segments : List (List ℕ)) →
-        IsFrame Padding.Zero text segments → text ≡ frame_text segments }
+        IsFrame Padding.Zero text segments → text ≡ frame_bytes segments }
 {}
 
 /// Zero padding is some padding: a table, and a message by its requests of any source, is one by
@@ -42,7 +42,7 @@ pub fn zero_padding_is_some_padding<R: Read>()
         × (any.table.first ++ any.table.others ≡ zero_padded_table (lengths m))) }
 {}
 
-/// No framed text begins a different one, by either rule of padding, and each is the text of one
+/// No framed encoding begins a different one, by either rule of padding, and each is the text of one
 /// message alone. So joined texts can be taken apart in one way only.
 pub fn frames_part_in_one_way()
     ensures { (rule also : Padding) (text other rest left : List ℕ)
@@ -51,7 +51,7 @@ pub fn frames_part_in_one_way()
         (text ≡ other) × (segments ≡ others) × (rest ≡ left) }
 {}
 
-/// The three requests of a plain source take just a framed text of the message.
+/// The three requests of a plain source take just a framed encoding of the message.
 pub fn plain_requests_take_a_frame()
     ensures { (rule : Padding) (segments : List (List ℕ)) (raw rest : List ℕ) →
         MessageStands rule Splits segments raw rest
@@ -73,25 +73,25 @@ pub fn plain_chunks_are_joined()
         ↔ (text ≡ concat chunks) }
 {}
 
-/// The chunks that are handed to a sink are the framed text, joined, and `serialized_size_in_words`
+/// The chunks that are handed to a sink are the framed encoding, joined, and `serialized_size_in_words`
 /// tells its length.
 pub fn chunks_are_the_frame()
-    ensures joined { (segments : List (List ℕ)) → concat (chunks segments) ≡ frame_text segments }
+    ensures joined { (segments : List (List ℕ)) → concat (chunks segments) ≡ frame_bytes segments }
     ensures size { (segments : List (List ℕ)) → IsWritable segments →
         length (concat (chunks segments)) ≡ 8 * serialized_words segments }
 {}
 
 /// A plain sink that keeps at most a front of a chunk where a call fails, keeps a front of the
-/// framed text.
+/// framed encoding.
 pub fn what_is_left_of_a_message_is_a_front<W: Write>()
     ensures { ((chunk text : List ℕ) → W.leaves chunk text → LeavesFront chunk text) →
         (segments : List (List ℕ)) (text : List ℕ) →
         LeavesSome AppendsSame W.leaves (chunks segments) text →
-        IsFront text (frame_text segments) }
+        IsFront text (frame_bytes segments) }
 {}
 
 /// The readers of slices and buffers accept the same bytes with the same segments: what one form
-/// refuses the other refuses, and only one message can be at a front.
+/// rejects the other rejects, and only one message can be at a front.
 pub fn flat_readers_agree()
     ensures refused { (form other : FlatForm) (rule : Padding) (limit : Option ℕ) (kind : ErrorKind)
         (bytes : List ℕ) → AllByRecursion (λ byte. byte < 256) bytes →

@@ -29,6 +29,7 @@
 //!
 //! [standard stream framing]: https://capnproto.org/encoding.html#serialization-over-a-stream
 mod buffer_segments;
+mod framed;
 mod no_alloc_buffer_segments;
 mod owned_segments;
 mod provided_stream;
@@ -37,11 +38,11 @@ mod segment_table;
 mod segment_table_info;
 mod skipping;
 mod stream;
-mod text;
 mod writable;
 mod writing;
 
 pub use buffer_segments::{BufferSegments, take_segments, take_segments_lenient};
+pub use framed::try_read_framed_into;
 pub use no_alloc_buffer_segments::{NoAllocBufferSegments, NoAllocSliceSegments};
 pub use owned_segments::OwnedSegments;
 pub use provided_stream::{try_read_segments_into, try_read_segments_into_lenient};
@@ -53,6 +54,5 @@ pub use stream::{
     try_read_segments, try_read_segments_lenient, try_read_segments_reusing,
     try_read_segments_reusing_lenient,
 };
-pub use text::try_read_text_into;
 pub use writable::is_writable;
 pub use writing::{segments_to_words, serialized_size_in_words, write_segments};

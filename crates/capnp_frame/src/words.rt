@@ -4,7 +4,7 @@ use std::alloc::Global;
 
 pub mod literal;
 
-/// Eight bytes, as they stand in a message.
+/// Eight bytes, as they are in a message.
 #[derive(Clone, Copy, Debug, PartialEq, Eq)]
 pub struct Word {
     bytes: [u8; 8],

@@ -96,8 +96,8 @@ pub ListsLengths-whole : (ns : List ℕ) (count : ℕ) (text : List ℕ) → Lis
 ListsLengths-whole ns count text listed none = listed.spelled ∙ ap (flat_map spaced) (take_all count ns (past_end ns count none))
 
 -- the line of a message is that of its lengths
-pub line_told : (index : ℕ) (message : List (List ℕ)) (ns : List ℕ) → lengths message ≡ ns → line_of index ns ≡ line index message
-line_told index message ns same =
+pub line_declared : (index : ℕ) (message : List (List ℕ)) (ns : List ℕ) → lengths message ≡ ns → line_of index ns ≡ line index message
+line_declared index message ns same =
     ap (line_of index) (sym same)
     ∙ ap (λ k. decimal index ++ spaced k ++ spaced (size_in_words message) ++ flat_map spaced (lengths message) ++ 10 ∷ []) (length-map message word_count)
 

@@ -6,7 +6,7 @@ use Rattle.capnp.specs.declared.streams.Format.TheVariants.{Framed}
 use Rattle.capnp.specs.Runs.{IsWritingFault, BreaksOffOr}
 use Rattle.capnp_ls.specs.declared.command.Command.TheVariants.{Listing}
 use Rattle.capnp_ls.specs.Output.{line, line_of, DeclinesPrinted}
-use Rattle.capnp_ls.proofs.LineLemmas.{line_told}
+use Rattle.capnp_ls.proofs.LineLemmas.{line_declared}
 use Rattle.capnp.proofs.Passed.{sum_below}
 
 pub small_message : (segments : List (List ℕ)) → IsWithin segments None → (length segments < 2 ^ 32) × (size_in_words segments < 2 ^ 64)
@@ -22,22 +22,22 @@ few_lengths message ns limit same within = let few = within.few in omega (arith,
 
 pub line_written : (appends : Appending) (index : ℕ) (message : List (List ℕ)) (ns : List ℕ) (a b : Option (List ℕ)) → lengths message ≡ ns
     → IfKnown a b (Adds (appends (line_of index ns))) → IfKnown a b (Adds (appends (line index message)))
-line_written appends index message ns a b same written = subst (λ l. IfKnown a b (Adds (appends l))) (line_told index message ns same) written
+line_written appends index message ns a b same written = subst (λ l. IfKnown a b (Adds (appends l))) (line_declared index message ns same) written
 
 pub line_left : (leaves : Leaving) (index : ℕ) (message : List (List ℕ)) (ns : List ℕ) (a b : Option (List ℕ)) → lengths message ≡ ns
     → IfKnown a b (Adds (λ part. (part ≡ []) ⊎ leaves (line_of index ns) part)) → IfKnown a b (Adds (λ part. (part ≡ []) ⊎ leaves (line index message) part))
-line_left leaves index message ns a b same left = subst (λ l. IfKnown a b (Adds (λ part. (part ≡ []) ⊎ leaves l part))) (line_told index message ns same) left
+line_left leaves index message ns a b same left = subst (λ l. IfKnown a b (Adds (λ part. (part ≡ []) ⊎ leaves l part))) (line_declared index message ns same) left
 
 pub line_refused : (appends : Appending) (leaves : Leaving) (refuses : Declining) (padding : Padding) (index : ℕ) (message : List (List ℕ)) (ns : List ℕ) (kind : ErrorKind)
     → lengths message ≡ ns → (kind ≡ DeviceFailed) ⊎ (kind ≡ OutOfMemory) ⊎ refuses (line_of index ns) kind
     → IsWritingFault (DeclinesPrinted (Listing Framed padding) appends leaves refuses) index message kind
 line_refused appends leaves refuses padding index message ns kind same (inl device) = inl device
 line_refused appends leaves refuses padding index message ns kind same (inr (inl memory)) = inr (inl (memory, tt))
-line_refused appends leaves refuses padding index message ns kind same (inr (inr refused)) = inr (inr (inr (subst (λ l. refuses l kind) (line_told index message ns same) refused)))
+line_refused appends leaves refuses padding index message ns kind same (inr (inr refused)) = inr (inr (inr (subst (λ l. refuses l kind) (line_declared index message ns same) refused)))
 
 pub line_untouched : (appends : Appending) (leaves : Leaving) (refuses : Declining) (padding : Padding) (index : ℕ) (message : List (List ℕ)) (ns : List ℕ) (kind : ErrorKind) (Same : Type 0)
     → lengths message ≡ ns → (kind ≡ DeviceFailed) ⊎ refuses (line_of index ns) kind ⊎ Same
     → BreaksOffOr (DeclinesPrinted (Listing Framed padding) appends leaves refuses) index message Same kind
 line_untouched appends leaves refuses padding index message ns kind Same same (inl device) = inl device
-line_untouched appends leaves refuses padding index message ns kind Same same (inr (inl refused)) = inr (inl (subst (λ l. refuses l kind) (line_told index message ns same) refused))
+line_untouched appends leaves refuses padding index message ns kind Same same (inr (inl refused)) = inr (inl (subst (λ l. refuses l kind) (line_declared index message ns same) refused))
 line_untouched appends leaves refuses padding index message ns kind Same same (inr (inr kept)) = inr (inr kept)

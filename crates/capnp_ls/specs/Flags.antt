@@ -1,4 +1,4 @@
--- The flags that stand in place of a command.
+-- The flags that are in place of a command.
 use Rattle.std.specs.Prelude.{◌≡◌, ◌⊎◌, ℕ, List, [], ◌∷◌, codes}
 use Rattle.capnp_ls.specs.declared.flags.Flag.{Flag}
 use Rattle.capnp_ls.specs.declared.flags.Flag.TheVariants.{Help, Version}

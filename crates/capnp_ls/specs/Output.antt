@@ -27,7 +27,7 @@ Prints (Listing format padding) appends index segments text = appends (line inde
 Prints (Transcoding way padding) appends index segments text = Transcodes way appends index segments text
 Prints (Canonical format) appends index segments text = AppendsForm (default_root segments) appends text
 
--- and how this message may fail to be printed: it has no canonical form, or the sink refuses a chunk of what is printed. Memory is taken
+-- and how this message may fail to be printed: it has no canonical form, or the sink rejects a chunk of what is printed. Memory is taken
 -- for a line and for a form, and the sink is left with nothing of them, or with what it leaves.
 abbrev pub DeclinesPrinted : Command → Appending → Leaving → Declining → DecliningWriting
 DeclinesPrinted (Listing format padding) appends leaves refuses = record {

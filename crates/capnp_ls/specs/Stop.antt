@@ -13,11 +13,11 @@ newline = 10 ∷ []
 abbrev pub usage_line : List ℕ
 usage_line = codes "usage: capnp_ls list [--packed] [--lenient] | pack [--lenient] | unpack [--lenient] | canon [--packed]" ++ newline
 
--- how the line of a refusal begins: the message's index and the number of the kind
+-- how the line of an error begins: the message's index and the number of the kind
 abbrev pub refusal_front : ℕ → ErrorKind → List ℕ
 refusal_front message kind = codes "capnp_ls: message " ++ (decimal message ++ (codes ": error " ++ (decimal (kind_number kind) ++ codes " ")))
 
--- `line` reports the stop; the text of a refusal's error is free
+-- `line` reports the stop; the text of an error's error is free
 abbrev pub IsLineOf : Stop → List ℕ → Type 0
 IsLineOf Usage line = line ≡ usage_line
 IsLineOf (Refused message error) line = (text : List ℕ) × (line ≡ refusal_front message error.kind ++ (text ++ newline))
@@ -31,6 +31,6 @@ abbrev pub status_of : Stop → ℕ
 status_of Usage = 2
 status_of (Refused message error) = 1
 
--- the stop is a refusal of this kind before the first message
+-- the stop is an error of this kind before the first message
 abbrev pub IsAtStart : Stop → ErrorKind → Type 0
 IsAtStart stop kind = (error : Error) × (stop ≡ Refused 0 error) × (error.kind ≡ kind)

@@ -26,7 +26,7 @@ pub enum Command {
 }
 
 impl Command {
-    /// The command of these words, which stand after the program's name.
+    /// The command of these words, which are after the program's name.
     pub fn from_words(words: &[String]) -> Option<Command>
         ensures some { IfSome result (λ command. map string_bytes words.now ≡ command_words command) }
         ensures none { IfNone result
@@ -45,7 +45,7 @@ impl Command {
         }
     }
 
-    /// How the messages stand that the command reads.
+    /// How the messages are that the command reads.
     pub fn input(self) -> Format
         ensures { result ≡ command_input self }
     {

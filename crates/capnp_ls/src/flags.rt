@@ -1,4 +1,4 @@
-//! The flags that stand in place of a command, and print what the program is.
+//! The flags that are in place of a command, and print what the program is.
 ghost use Rattle.std.specs.Prelude.{◌≡◌, ◌⊎◌, map, string_bytes, IfSome, IfNone, IfErr, OnOk};
 ghost use Rattle.capnp.specs.Passed.{ErrorKind, Fails, IfKnown, Adds, Grows};
 ghost use Rattle.capnp_ls.specs.declared.flags.Flag.{Flag};
@@ -36,7 +36,7 @@ Exit status:
 /// What `--version` prints.
 pub const VERSION: &str = "capnp_ls 0.1.0\n";
 
-/// A flag that stands alone, in place of a command.
+/// A flag that is alone, in place of a command.
 #[derive(Clone, Copy)]
 pub enum Flag {
     /// `--help`, and `-h`: what the program does, its commands and their options.
@@ -46,7 +46,7 @@ pub enum Flag {
 }
 
 impl Flag {
-    /// The flag of these words, which stand after the program's name.
+    /// The flag of these words, which are after the program's name.
     pub fn from_words(words: &[String]) -> Option<Flag>
         ensures some { IfSome result (λ flag. IsFlag flag (map string_bytes words.now)) }
         ensures none { IfNone result

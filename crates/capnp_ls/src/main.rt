@@ -60,7 +60,7 @@ fn run_on<R: Read, W: Write>(rt: HostRuntime, input: &mut R, output: &mut W) -> 
 /// Hands what is pending to the device, whatever the run returned.
 ///
 /// A run's own stop stays the result. How many messages' output a failed flush held back is not
-/// known, so it is refused at message 0.
+/// known, so it is rejected at message 0.
 fn flush_after<W: Write + Drop>(
     returned: Result<(), Stop>,
     sink: &mut Output<W>,

@@ -35,7 +35,7 @@ pub fn run<R: BufRead, W: Write>(
         → (source.new ≡ source.old) × (sink.new ≡ sink.old) }
 
     // Else they are a command's: what it reads and writes, and where it stops.
-    ensures told { IsErrOf result Stop.Usage
+    ensures declared { IsErrOf result Stop.Usage
         ⊎ ((command : Command) × (map string_bytes words.now ≡ command_words command)) }
     ensures runs { (command : Command) → map string_bytes words.now ≡ command_words command →
         ForCommand (WritesEach R.Read source.old source.new W.Write sink.old sink.new

@@ -35,7 +35,7 @@ impl Stop {
 
 /// Writes the stop as one line, in one chunk.
 ///
-/// It is refused as the sink refuses that chunk, or by `OutOfMemory` where the line has no room.
+/// It is rejected as the sink rejects that chunk, or by `OutOfMemory` where the line has no room.
 pub fn report<W: Write>(alloc: Global, stop: &Stop, sink: &mut W) -> Result<()>
     ensures line { OnOk result (IfKnown (W.written sink.old) (W.written sink.new)
         (Adds (λ text. (line : List ℕ) × IsLineOf stop.now line × W.appends line text))) }
@@ -72,7 +72,7 @@ fn refusal_line(
 
 /// Writes why the stream of this name failed as one line, in one chunk.
 ///
-/// It is refused as `report` is.
+/// It is rejected as `report` is.
 pub fn report_fault<W: Write>(
     alloc: Global,
     name: &str,

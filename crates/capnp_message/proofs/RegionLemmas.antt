@@ -76,8 +76,8 @@ comes_home_as region segment provided m list left is out removed =
     (subst (λ (s : ScratchSegment). Removed (record { length = length (scratch_bytes s); is_provided = scratch_provided s }) list left) is removed)
 
 -- what is put in is what is held
-pub held : (a x : MutBor (List ℕ)) → Some a ≡ Some x → a.now ≡ x.now
-held a x e = let same : a ≡ x = cc in ap (λ (m : MutBor (List ℕ)). m.now) same
+pub children : (a x : MutBor (List ℕ)) → Some a ≡ Some x → a.now ≡ x.now
+children a x e = let same : a ≡ x = cc in ap (λ (m : MutBor (List ℕ)). m.now) same
 
 -- a front that is filled keeps the length
 pub filled_length : (n : ℕ) (front bytes : List ℕ) → length front ≡ length (take n bytes) → n ≤ length bytes → length (front ++ drop n bytes) ≡ length bytes

@@ -1,7 +1,7 @@
 -- A canonical form is the canonical form of itself.
 use Rattle.std.proofs.Common.{◌≡◌, ℕ, ◌+◌, ◌<◌, ◌≤◌, ◌^◌, if◌then◌else◌, List, [], ◌∷◌, Option, Some, None, MatchOption, refl, sym, ◌∙◌, ap, subst, arith}
 use Rattle.capnp_wire.specs.Tree.{Form, null, struct, numbers, pointers, structs, Trees, none, tree, count, depth, is_null, total_words}
-use Rattle.capnp_wire.specs.Trim.{trim, trim_form, trim_held, cut_nulls, keep_tree, least_pointers}
+use Rattle.capnp_wire.specs.Trim.{trim, trim_form, trim_children, cut_nulls, keep_tree, least_pointers}
 use Rattle.capnp_wire.specs.Reached.{At, root}
 use Rattle.capnp_wire.specs.Layout.{canon, layout, AllHaveRoom}
 use Rattle.capnp_wire.specs.Traversed.{Within}
@@ -23,24 +23,24 @@ use Rattle.capnp_wire.specs.Readers.{nesting_of}
 use Rattle.capnp_wire.proofs.trees.FrontLemmas.{null_trimmed}
 
 -- what trimming keeps of trees is as deep at most
-kept_shallow : (nesting : ℕ) (rest : Trees) (form : Form) (held : Trees) → depth rest ≤ nesting → (if is_null form then 0 else depth held + 1) ≤ nesting → depth (keep_tree rest form held) ≤ nesting
-kept_shallow nesting (tree f h r) form held p q = omega arith
-kept_shallow nesting none null held p q = omega arith
-kept_shallow nesting none (struct words) held p q = omega arith
-kept_shallow nesting none (numbers code values) held p q = omega arith
-kept_shallow nesting none pointers held p q = omega arith
-kept_shallow nesting none (structs d n rows) held p q = omega arith
+kept_shallow : (nesting : ℕ) (rest : Trees) (form : Form) (children : Trees) → depth rest ≤ nesting → (if is_null form then 0 else depth children + 1) ≤ nesting → depth (keep_tree rest form children) ≤ nesting
+kept_shallow nesting (tree f h r) form children p q = omega arith
+kept_shallow nesting none null children p q = omega arith
+kept_shallow nesting none (struct words) children p q = omega arith
+kept_shallow nesting none (numbers code values) children p q = omega arith
+kept_shallow nesting none pointers children p q = omega arith
+kept_shallow nesting none (structs d n rows) children p q = omega arith
 
 cut_shallow : (nesting : ℕ) (t : Trees) → depth t ≤ nesting → depth (cut_nulls t) ≤ nesting
 cut_shallow nesting none p = omega arith
-cut_shallow nesting (tree form held rest) p = kept_shallow nesting (cut_nulls rest) form held (cut_shallow nesting rest (omega arith)) (omega arith)
+cut_shallow nesting (tree form children rest) p = kept_shallow nesting (cut_nulls rest) form children (cut_shallow nesting rest (omega arith)) (omega arith)
 
-held_shallow : (nesting : ℕ) (form : Form) (held : Trees) → depth held ≤ nesting → depth (trim_held form held) ≤ nesting
-held_shallow nesting null held p = p
-held_shallow nesting (struct words) held p = cut_shallow nesting held p
-held_shallow nesting (numbers code values) held p = p
-held_shallow nesting pointers held p = p
-held_shallow nesting (structs d n rows) held p = shallow_narrowed nesting (least_pointers n rows held) n rows held p
+children_shallow : (nesting : ℕ) (form : Form) (children : Trees) → depth children ≤ nesting → depth (trim_children form children) ≤ nesting
+children_shallow nesting null children p = p
+children_shallow nesting (struct words) children p = cut_shallow nesting children p
+children_shallow nesting (numbers code values) children p = p
+children_shallow nesting pointers children p = p
+children_shallow nesting (structs d n rows) children p = shallow_narrowed nesting (least_pointers n rows children) n rows children p
 
 one_shallow : (form : Form) (a b c d : Trees) → is_null (trim_form form c) ≡ is_null form → depth b ≤ depth a
     → (if is_null (trim_form form c) then 0 else depth b + 1) ≤ (if is_null form then 0 else depth a + 1)
@@ -52,16 +52,16 @@ one_shallow (structs n q rows) a b c d same p = omega arith
 
 pub trim_shallow : (t : Trees) → depth (trim t) ≤ depth t
 trim_shallow none = omega arith
-trim_shallow (tree form held rest) =
-    let inside : depth (trim_held form (trim held)) ≤ depth held = held_shallow (depth held) form (trim held) (trim_shallow held) in
-    let first = one_shallow form held (trim_held form (trim held)) (trim held) none (null_trimmed form (trim held)) inside in
+trim_shallow (tree form children rest) =
+    let inside : depth (trim_children form (trim children)) ≤ depth children = children_shallow (depth children) form (trim children) (trim_shallow children) in
+    let first = one_shallow form children (trim_children form (trim children)) (trim children) none (null_trimmed form (trim children)) inside in
     omega (arith, first, trim_shallow rest)
 
 -- one tree
-single : (t : Trees) → count t ≡ 1 → (form : Form) × (held : Trees) × (t ≡ tree form held none)
+single : (t : Trees) → count t ≡ 1 → (form : Form) × (children : Trees) × (t ≡ tree form children none)
 single none e = absurd (omega arith)
-single (tree form held none) e = (form, held, refl)
-single (tree form held (tree f h r)) e = absurd (omega arith)
+single (tree form children none) e = (form, children, refl)
+single (tree form children (tree f h r)) e = absurd (omega arith)
 
 depth_at : (o : Option Place) (m : List (List ℕ)) (nesting : ℕ) (limit : Option ℕ) (t : Trees) → MatchOption o (t ≡ tree null none none) (λ place. TreeAt m place nesting limit t) → depth t ≤ nesting
 depth_at None m nesting limit t is = let null_depth : depth t ≡ 0 = ap depth is in omega arith

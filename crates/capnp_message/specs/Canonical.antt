@@ -9,7 +9,7 @@ use Rattle.capnp_wire.specs.Trim.{trim}
 use Rattle.capnp_wire.specs.Views.{Pointer}
 use Rattle.capnp_wire.specs.Values.{LacksWords, LeadsToTree, StopsWalkFrom, IsCanonicalForm}
 
--- A message has a canonical form: a tree stands at its root, within the nesting depth left and the limit, and the form has at
+-- A message has a canonical form: a tree is at its root, within the nesting depth left and the limit, and the form has at
 -- most 2 ^ 29 words with its root pointer.
 pub record HasForm (pointer : Pointer) : Type 0 where
   pub trees : Trees

@@ -1,7 +1,7 @@
 -- What contracts see of heaps, and of a heap after one region (src/heap_allocator.rt, src/scratch_space.rt).
 use Rattle.std.specs.Prelude.{◌≡◌, ℕ, min, Bool, true, false}
 use Rattle.capnp_message.specs.Next.{size_of, next_after}
-use Rattle.capnp_message.specs.Region.{IsHome}
+use Rattle.capnp_message.specs.Region.{IsAvailable}
 use Rattle.capnp_message.specs.declared.heap_allocator.AllocationStrategy.{AllocationStrategy}
 use Rattle.capnp_message.specs.declared.heap_allocator.HeapAllocator.{HeapAllocator}
 use Rattle.capnp_message.specs.declared.scratch_space.ScratchSpaceHeapAllocator.{ScratchSpaceHeapAllocator}
@@ -29,7 +29,7 @@ StartsAnew old new = IsHeapOf (min 1024 old.max_segment_words) old.allocation_st
 
 -- a segment came back: a caller-provided one is the region, which is at home, any other one went to the heap
 abbrev pub ReturnsTo : Bool → ScratchSpaceHeapAllocator → ScratchSpaceHeapAllocator → Type 0
-ReturnsTo true old new = IsHome new.region old.size × KeepsHeap old.heap new.heap
+ReturnsTo true old new = IsAvailable new.region old.size × KeepsHeap old.heap new.heap
 ReturnsTo false old new = (new.region ≡ old.region) × StartsAnew old.heap new.heap
 
 -- the heap after a segment that was asked for by a given number of words: a caller-provided one leaves it as it was, one of

@@ -19,8 +19,8 @@ abbrev pub IsProvidedAlone : {X : Type 0} → Option X → ℕ → List Out → 
 IsProvidedAlone region size list = MatchOption region (provided_of list ≡ size ∷ []) (λ _. provided_of list ≡ [])
 
 -- it is at home, whole and all zero
-pub record IsHome (region : Option (MutBor (List ℕ))) (size : ℕ) : Type 0 where
-  pub home : IsSome region
+pub record IsAvailable (region : Option (MutBor (List ℕ))) (size : ℕ) : Type 0 where
+  pub available : IsSome region
   pub whole : IfSome region (λ r. length r.now ≡ size)
   pub zero : IfSome region (λ r. ZeroFrom 0 r.now)
 
@@ -28,7 +28,7 @@ pub record IsHome (region : Option (MutBor (List ℕ))) (size : ℕ) : Type 0 wh
 abbrev pub GrantsRegion : {X : Type 0} → Option X → ℕ → ℕ → ℕ → Type 0
 GrantsRegion region size asked words = IsSome region × (asked ≤ size / 8) × (words ≡ size / 8)
 
--- a request of more words than it has is refused, and while it is away any other one
+-- a request of more words than it has is rejected, and while it is away any other one
 abbrev pub RefusesRegion : {X : Type 0} → Option X → ℕ → ℕ → ErrorKind → Type 0
 RefusesRegion region size asked kind =
     ((size / 8 < asked) × (kind ≡ AllocationTooLarge asked)) ⊎ ((asked ≤ size / 8) × (region ≡ None) × (kind ≡ SegmentTaken))
@@ -45,5 +45,5 @@ some_provided (Some x) size = ([], refl)
 -- a caller-provided region is at home
 pub record HoldsRegion (region : Option (MutBor (List ℕ))) (bytes : ℕ) (provided : MutBor (List ℕ)) : Type 0 where
   pub same : IfSome region (λ r. r.ghost_name ≡ provided.ghost_name)
-  pub home : IsSome region
+  pub available : IsSome region
   pub size : bytes ≡ length provided.now

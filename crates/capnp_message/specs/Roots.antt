@@ -10,7 +10,7 @@ use Rattle.capnp_wire.specs.Faults.{NoWord}
 use Rattle.capnp_wire.specs.Views.{Pointer, IsInvalidPointer, MeetsLimit}
 use Rattle.capnp_message.specs.Seen.{ReadMessage, HasRoot}
 
--- What each view of the root keeps: it shows what stands there, or the root's own word does not stand, or the view fails for a
+-- What each view of the root keeps: it shows what is there, or the root's own word is not, or the view fails for a
 -- stated cause.
 pub record ReadsRoot {V : Type 0} (pointer : Pointer) (shows : V → Type 0) (accepts : Type 0)
     (refuses declines : ErrorKind → Type 0) (result : Result V Error) : Type 0 where
@@ -19,12 +19,12 @@ pub record ReadsRoot {V : Type 0} (pointer : Pointer) (shows : V → Type 0) (ac
   -- without a limit it is had of what it accepts, and no limit is met
   pub found : pointer.limit ≡ None → HasRoot pointer → accepts → IsOk result
   pub unlimited : pointer.limit ≡ None → IfErr result (λ error. error.kind ≢ ReadLimitExceeded)
-  -- where no object stands, and the root itself is no view, whatever was read before
+  -- where no object is, and the root itself is no view, whatever was read before
   pub exact : (kind : ErrorKind) → IsInvalidPointer pointer kind → (accepts → ⊥) → IsErrAnd result (λ error. error.kind ≡ kind)
-  -- where an object stands that is no such view
+  -- where an object is that is no such view
   pub declined : (kind : ErrorKind) → HasRoot pointer → declines kind
       → IsErrAnd result (λ error. (error.kind ≡ kind) ⊎ MeetsLimit pointer error.kind)
-  -- where the root's own word does not stand
+  -- where the root's own word is not
   pub nowhere : (kind : ErrorKind) → NoWord pointer.message root kind → IsErrAnd result (λ error. error.kind ≡ kind)
 
 -- These segments are read without a traversal limit, and with objects nested up to 2 ^ 31 - 1 deep.

@@ -20,6 +20,6 @@ root_of segments reader = record {
   limit = reader.options.traversal_limit_in_words;
 }
 
--- its word stands
+-- its word is
 abbrev pub HasRoot : Pointer → Type 0
 HasRoot pointer = (word : ℕ) × (word_at pointer.message root ≡ Some word)

@@ -2,8 +2,8 @@
 ghost use Rattle.std.specs.Prelude.{◌≡◌, ◌<◌, ◌^◌, ◌-◌, ◌↔◌, [], false, IsTrue, length, map, None};
 ghost use Rattle.capnp_frame.specs.Writing.{IsWritable};
 ghost use Rattle.capnp_wire.specs.Readers.{unlimited_root};
-ghost use Rattle.capnp_build.specs.Held.{used_of};
-ghost use Rattle.capnp_build.specs.Built.{Built, held_of, size_in_words};
+ghost use Rattle.capnp_build.specs.BuilderState.{used_of};
+ghost use Rattle.capnp_build.specs.Built.{Built, state_of, size_in_words};
 ghost use Rattle.capnp_build.specs.Outcomes.{SetsRoot, SetsRootCanonical, IsNewMessage, GivesBack};
 ghost use Rattle.capnp_wire.specs.Views.{IsViewOf};
 ghost use Rattle.capnp_message.specs.Roots.{IsReadUnlimited};
@@ -136,7 +136,7 @@ impl<A: Allocator> Builder<A> {
 
     /// The allocator, after each segment went back to it with its used words.
     pub fn into_allocator(self) -> A
-        ensures { GivesBack A.Allocator (held_of self) result }
+        ensures { GivesBack A.Allocator (state_of self) result }
     {
         let Builder { arena } = self;
         arena.into_allocator()

@@ -9,7 +9,7 @@ ghost use Rattle.capnp_wire.specs.Values.{IsCanonicalForm};
 ghost use Rattle.capnp_message.specs.Seen.{root_of};
 ghost use Rattle.capnp_wire.specs.Block.{numbers_of};
 ghost use Rattle.capnp_message.specs.Canonical.{LacksForm};
-ghost use Rattle.capnp_message.specs.Region.{IsOutAlone, IsProvidedAlone, IsHome};
+ghost use Rattle.capnp_message.specs.Region.{IsOutAlone, IsProvidedAlone, IsAvailable};
 
 use crate::reader::Reader;
 use crate::scratch_space::ScratchSpaceHeapAllocator;
@@ -87,11 +87,11 @@ fn canonicalize_form(
 /// A single region of which nothing is out is at home, and all zero.
 pub fn a_single_region_comes_home(allocator: &SingleSegmentAllocator<'_>)
     ensures { IsOutAlone allocator.now.region allocator.now.size [] →
-        IsHome allocator.now.region allocator.now.size }
+        IsAvailable allocator.now.region allocator.now.size }
 {}
 
 /// The region before a heap is at home where nothing caller-provided is out.
 pub fn a_scratch_region_comes_home(allocator: &ScratchSpaceHeapAllocator<'_>)
     ensures { IsProvidedAlone allocator.now.region allocator.now.size [] →
-        IsHome allocator.now.region allocator.now.size }
+        IsAvailable allocator.now.region allocator.now.size }
 {}

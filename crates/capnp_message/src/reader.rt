@@ -8,7 +8,7 @@ ghost use Rattle.capnp_wire.specs.Reached.{root};
 ghost use Rattle.capnp_wire.specs.Pointer.{words_of};
 ghost use Rattle.capnp_wire.specs.Tree.{Trees};
 ghost use Rattle.capnp_wire.specs.Canonical.{IsCanonical};
-ghost use Rattle.capnp_wire.specs.Tested.{Unsaid};
+ghost use Rattle.capnp_wire.specs.Tested.{RejectsCanonicity};
 ghost use Rattle.capnp_wire.specs.Values.{LeadsToTree, StopsWalkFrom, IsCanonicalForm};
 ghost use Rattle.capnp_message.specs.Seen.{root_of};
 ghost use Rattle.capnp_wire.specs.Block.{numbers_of};
@@ -80,9 +80,9 @@ impl<S: ReaderSegments> Reader<S> {
     pub fn is_canonical(&self) -> Result<bool>
         ensures returned { let pointer = root_of S.segments self.now in
             MatchResult result (λ is. IsTrue is ↔ IsCanonical pointer.message)
-            (λ error. Unsaid pointer.message pointer.nesting pointer.limit error.kind) }
+            (λ error. RejectsCanonicity pointer.message pointer.nesting pointer.limit error.kind) }
         ensures exact { let pointer = root_of S.segments self.now in
-            (kind : ErrorKind) → Unsaid pointer.message pointer.nesting pointer.limit kind →
+            (kind : ErrorKind) → RejectsCanonicity pointer.message pointer.nesting pointer.limit kind →
             IsErrAnd result (λ error. error.kind ≡ kind) }
         ensures found { (trees : Trees) → LeadsToTree (root_of S.segments self.now) trees → IsOk result }
         ensures stops { IfErr result (λ error.

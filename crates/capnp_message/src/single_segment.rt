@@ -48,7 +48,7 @@ impl<'a> Allocator for SingleSegmentAllocator<'a> {
 
     ghost use Rattle.std.specs.Prelude.{refl};
     ghost use Rattle.std.proofs.Common.{◌∙◌};
-    ghost use Rattle.capnp_message.specs.Region.{some_out, IsHome};
+    ghost use Rattle.capnp_message.specs.Region.{some_out, IsAvailable};
 
     ghost out = { λ allocator list. IsOutAlone allocator.region allocator.size list };
 
@@ -58,7 +58,7 @@ impl<'a> Allocator for SingleSegmentAllocator<'a> {
 
     ghost refuses = { λ allocator. RefusesRegion allocator.region allocator.size };
 
-    ghost returns = { λ old segment words new. IsHome new.region old.size };
+    ghost returns = { λ old segment words new. IsAvailable new.region old.size };
 
     // Beside what any allocator ensures: when it fails, and with which kind.
     fn allocate_segment(&mut self, minimum_size: u32) -> Result<&'a mut [u8]>

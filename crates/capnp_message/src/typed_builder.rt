@@ -2,7 +2,7 @@
 ghost use Rattle.std.specs.Prelude.{◌≡◌, ◌+◌, ◌^◌, ◌-◌, length, map};
 ghost use Rattle.std.specs.Borrow.{RestsIfErr, sem};
 ghost use Rattle.capnp_wire.specs.Readers.{unlimited_root};
-ghost use Rattle.capnp_build.specs.Held.{used_of};
+ghost use Rattle.capnp_build.specs.BuilderState.{used_of};
 ghost use Rattle.capnp_build.specs.Built.{Built, message};
 ghost use Rattle.capnp_build.specs.Placed.{IsCleared, IsLookedAt};
 ghost use Rattle.capnp_build.specs.Outcomes.{SetsRoot, IsNewMessage};

@@ -6,10 +6,10 @@ use capnp_wire::arena::ReaderArena;
 use capnp_wire::traits::FromPointerReader;
 use capnp_wire::{any_pointer, text};
 
-/// What a call returns, a refusal by its kind.
+/// What a call returns, an error by its kind.
 pub type Walked<T> = std::result::Result<T, ErrorKind>;
 
-/// What a call returns, a refusal by its number.
+/// What a call returns, an error by its number.
 pub type Numbered<T> = std::result::Result<T, u8>;
 
 /// Segments that are read.
@@ -44,7 +44,7 @@ pub fn text_at<'a, S: ReaderSegments>(pointer: &any_pointer::Reader<'a, S>) -> N
     }
 }
 
-/// The kind of a refusal.
+/// The kind of an error.
 pub fn kind_of<T: Drop>(returned: Result<T>) -> Option<ErrorKind> {
     match returned {
         Ok(_) => None,

@@ -22,7 +22,7 @@ pub fn expect<R: Debug + Drop, T: PartialEq + Debug + Drop>(
     assert!(rt; found == wanted, "at {row:?}: {found:?} is not {wanted:?}");
 }
 
-/// The number of the refusal of a view of the root, and 0 where there is one.
+/// The number of the error of a view of the root, and 0 where there is one.
 pub fn root_refusal<'a, S: ReaderSegments, T: FromPointerReader<'a, S> + Drop>(
     arena: &'a ReaderArena<S>,
 ) -> u8 {
@@ -54,7 +54,7 @@ pub fn root_as_any<S: ReaderSegments>(
     root_as(arena)
 }
 
-/// Whether these bytes stand at a pointer as a text.
+/// Whether these bytes are at a pointer as a text.
 pub fn has_text<S: ReaderSegments>(
     pointer: &any_pointer::Reader<'_, S>,
     wanted: &[u8],
@@ -65,7 +65,7 @@ pub fn has_text<S: ReaderSegments>(
     }
 }
 
-/// The refusals as text, as data, as a list of words and as a struct, each of an arena of which nothing
+/// The errors as text, as data, as a list of words and as a struct, each of an arena of which nothing
 /// has been read.
 pub fn refusals_of(
     segments: &[&[u8]],
@@ -100,7 +100,7 @@ pub fn is_canonical<S: ReaderSegments>(arena: &ReaderArena<S>) -> Walked<bool> {
     }
 }
 
-/// What a walk returns, a refusal by its number.
+/// What a walk returns, an error by its number.
 pub fn by_number<T>(walked: Walked<T>) -> Numbered<T> {
     match walked {
         Ok(found) => Ok(found),

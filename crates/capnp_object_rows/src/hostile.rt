@@ -75,7 +75,7 @@ fn expect_refused(rt: &impl Abort, row: &Refused) {
     expect(rt, (segments, nesting), found, (Err(kind), canonical));
 }
 
-// Row read-limit: each read is counted against the traversal limit, and a refused one counts
+// Row read-limit: each read is counted against the traversal limit, and a rejected one counts
 // nothing; a pointer that is only looked at, and a walk, are not counted against the traversal
 // limit.
 #[test]

@@ -3,7 +3,7 @@ use crate::fixtures::Walked;
 use capnp_frame::ErrorKind;
 use capnp_rows::limits::{DEFAULT_LIMIT, NO_LIMIT};
 
-/// Segments and a traversal limit; and of an arena of which nothing has been read the refusals as
+/// Segments and a traversal limit; and of an arena of which nothing has been read the errors as
 /// text, as data, as a list of words and as a struct, the bytes of the text and of the data, the words
 /// of the target, and whether it is canonical.
 pub type Root = (
@@ -16,7 +16,7 @@ pub type Root = (
     Walked<bool>,
 );
 
-/// Segments and a nesting limit; and the refusal as each view and as a target, and of the question
+/// Segments and a nesting limit; and the error as each view and as a target, and of the question
 /// whether it is canonical.
 pub type Refused = (&'static [&'static [u8]], i32, ErrorKind, Walked<bool>);
 

@@ -10,9 +10,9 @@ use Rattle.capnp_message.specs.Canonical.{ReturnsForm}
 use Rattle.capnp_wire.specs.Tree.{Form, struct, Trees, none, tree}
 use Rattle.capnp_orphan_rows.specs.Uses.{binary}
 
-pub in_front : (depth number : ℕ) (form : Form) (held rest : Trees) → tree form held none ≡ binary depth number none → tree form held rest ≡ binary depth number rest
-in_front zero number form held rest is = cc
-in_front (suc depth) number form held rest is = cc
+pub in_front : (depth number : ℕ) (form : Form) (children rest : Trees) → tree form children none ≡ binary depth number none → tree form children rest ≡ binary depth number rest
+in_front zero number form children rest is = cc
+in_front (suc depth) number form children rest is = cc
 
 -- the canonical form of a message whose root is known
 pub form_of : {T : Type 0} (m : List (List ℕ)) (nesting : ℕ) (limit : Option ℕ) (words : T → List ℕ) (result : Result T Error) (t : Trees) (x : ℕ)

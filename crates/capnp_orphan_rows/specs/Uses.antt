@@ -23,4 +23,4 @@ IsText text trees = IsTextTree text.now trees
 
 -- the tree of a list of texts
 abbrev pub IsTextList : List (Bor (List ℕ)) → Trees → Type 0
-IsTextList texts trees = (held : Trees) × AreTrees IsText texts held × (trees ≡ tree pointers held none)
+IsTextList texts trees = (children : Trees) × AreTrees IsText texts children × (trees ≡ tree pointers children none)

@@ -45,7 +45,7 @@ pub fn build<S: GrowingSegment>(
         Built::Texts => texts(objects),
         Built::Lists => lists(objects),
         Built::Structs => structs(objects),
-        Built::MadeStructs => Ok(objects.made_struct_list(&Squares)?.of_type()),
+        Built::MadeStructs => Ok(objects.lazy_struct_list(&Squares)?.of_type()),
         Built::NoStructs => no_structs(objects),
         Built::Value => value(objects),
     }

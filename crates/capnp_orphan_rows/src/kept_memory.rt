@@ -1,6 +1,6 @@
 //! Messages that are built in the memory of the one before.
 //!
-//! A message that is no longer takes no more of it: whichever growth is refused, only the first one may
+//! A message that is no longer takes no more of it: whichever growth fails, only the first one may
 //! lack it.
 use crate::built::{Built, build};
 use crate::fixtures::{empty, expect};

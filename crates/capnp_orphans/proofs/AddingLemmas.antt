@@ -28,9 +28,9 @@ length-body_of segment is = omega (arith, length-words_of segment.bytes, length-
 
 -- all orphans hold what they held
 pub keeps_after : (old new : Segment) (words : ℕ) → IsSegment old → Appends words old new → Keeps old new
-keeps_after old new words is appends word form held h =
-    subst (λ (l : List ℕ). IsOrphan l word form held) (sym appends.body_is)
-    (still_orphan (body_of old) (words_of appends.block) word form held h)
+keeps_after old new words is appends word form children h =
+    subst (λ (l : List ℕ). IsOrphan l word form children) (sym appends.body_is)
+    (still_orphan (body_of old) (words_of appends.block) word form children h)
 
 -- a segment that an object is appended to is one
 pub still_segment : (old new : Segment) (words : ℕ) → IsSegment old → length old.bytes / 8 + words < 2 ^ 29 → Appends words old new → IsSegment new
@@ -44,10 +44,10 @@ pub sets_root : (old new : Segment) (word : ℕ) → PutsRoot (link word 0) old 
 sets_root old new word is = record {
   body_is = ap (λ (l : List ℕ). drop 1 l) is.words_are;
   words_are = is.words_are;
-  root_is = λ form held h.
+  root_is = λ form children h.
       let whole : link word 0 ∷ (body_of old ++ []) ≡ words_of new.bytes = ap (λ (l : List ℕ). link word 0 ∷ l) (append-nil (body_of old)) ∙ sym is.words_are in
       let there = h.leads (link word 0) [] 0 (omega arith) refl in
-      (there.0, subst (λ (l : List ℕ). Root (l ∷ []) form held there.0) whole there.1);
+      (there.0, subst (λ (l : List ℕ). Root (l ∷ []) form children there.0) whole there.1);
   len = is.len;
   most = is.most;
   memory = is.memory;
@@ -65,7 +65,7 @@ adds_one holds words old new word number object is appends same = record {
 pub appended : (holds : List ℕ → List ℕ → ℕ → Type 0) (words : ℕ) (old new : Segment) (block : List ℕ) (word : ℕ) → IsSegment old → new.bytes ≡ old.bytes ++ block → length block ≡ 8 * words
     → new.most ≡ old.most → ¬ (ExceedsMost words old) → old.capacity ≤ new.capacity → length new.bytes ≤ new.capacity
     → ((body : List ℕ) → length old.bytes / 8 ≡ 1 + length body → holds body (body ++ words_of block) word) → AppendsObject holds words old new (Ok word)
-appended holds words old new block word is bytes_are len most room memory held h = record {
+appended holds words old new block word is bytes_are len most room memory children h = record {
   appended = record { block = block; len = len; bytes_are = bytes_are; body_is = body_after old block new.bytes is bytes_are };
   holds_is = subst (λ (l : List ℕ). holds (body_of old) l word) (sym (body_after old block new.bytes is bytes_are)) (h (body_of old) (length-body_of old is));
   unchanged = tt;
@@ -74,18 +74,18 @@ appended holds words old new block word is bytes_are len most room memory held h
   lacks = room;
   most = most;
   memory = memory;
-  held = held;
+  children = children;
 }
 
 -- over the bytes after the used ones
 pub over_appended : (holds : List ℕ → List ℕ → ℕ → Type 0) (words used : ℕ) (old new : Segment) (bytes over : List ℕ) (word : ℕ) → IsSegment old → take used bytes ≡ old.bytes → used ≤ length bytes
     → IsWrittenOver used words holds word bytes over → new.bytes ≡ take (used + 8 * words) over → new.most ≡ old.most → ¬ (ExceedsMost words old) → old.capacity ≤ new.capacity
     → length bytes ≤ new.capacity → AppendsObject holds words old new (Ok word)
-over_appended holds words used old new bytes over word is old_is within written new_is most room memory held =
+over_appended holds words used old new bytes over word is old_is within written new_is most room memory children =
     let used_long : length old.bytes ≡ used = omega (arith, ap (λ (l : List ℕ). length l) old_is, length-take used bytes, within) in
     let whole : new.bytes ≡ old.bytes ++ written.block = new_is ∙ written.bytes_are ∙ ap (λ (l : List ℕ). l ++ written.block) old_is in
     let short : length new.bytes ≤ length bytes = omega (arith, ap (λ (l : List ℕ). length l) new_is, length-take (used + 8 * words) over, written.len) in
-    appended holds words old new written.block word is whole written.block_long most room memory (omega (arith, short, held))
+    appended holds words old new written.block word is whole written.block_long most room memory (omega (arith, short, children))
     (λ body start. written.holds_is body (ap (λ (n : ℕ). n / 8) (sym used_long) ∙ start))
 
 -- a region of which the first bytes are used
@@ -123,11 +123,11 @@ heap_appended holds words used size capacity more old bytes longer seen new word
 pub adds_root : (takes : ℕ → Type 0) (holds : List ℕ → ℕ → Type 0) (old between new : Segment) (word : ℕ) → Keeps old between → holds (body_of between) word
     → ((words : ℕ) × takes words × Appends words old between) → between.most ≡ old.most → old.capacity ≤ between.capacity → length between.bytes ≤ between.capacity → SetsRoot word between new
     → AddsRoot takes holds old new (Ok tt)
-adds_root takes holds old between new word keeps held long most memory filled sets = record {
+adds_root takes holds old between new word keeps children long most memory filled sets = record {
   keeps = λ w form inner h. subst (λ (l : List ℕ). IsOrphan l w form inner) (sym sets.body_is) (keeps w form inner h);
   root_is = (
     word,
-    subst (λ (l : List ℕ). holds l word) (sym sets.body_is) held,
+    subst (λ (l : List ℕ). holds l word) (sym sets.body_is) children,
     λ form inner h. sets.root_is form inner (subst (λ (l : List ℕ). IsOrphan l word form inner) sets.body_is h),
     sets.words_are ∙ ap (λ (l : List ℕ). link word 0 ∷ l) (sym sets.body_is),
   );
@@ -144,5 +144,5 @@ adds_root takes holds old between new word keeps held long most memory filled se
   unchanged = tt;
   most = sets.most ∙ most;
   memory = omega (arith, memory, sets.memory);
-  held = omega (arith, filled, sets.memory, sets.len);
+  children = omega (arith, filled, sets.memory, sets.len);
 }

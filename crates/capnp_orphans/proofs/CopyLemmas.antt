@@ -1,4 +1,4 @@
--- Copies of what a reader shows (src/copied.rt): their words, and a pointer that is copied or refused.
+-- Copies of what a reader shows (src/copied.rt): their words, and a pointer that is copied or rejected.
 use Rattle.std.proofs.Common.{◌≡◌, ℕ, zero, suc, ◌+◌, ◌*◌, ◌/◌, ◌^◌, ◌<◌, ◌≤◌, ◌⊎◌, inl, inr, length, take, List, [], ◌∷◌, ◌++◌, Option, Some, MatchOption, Result, refl, sym, ◌∙◌, ap, subst, arith, append_assoc, length-append}
 use Rattle.std.specs.Prelude.{slice_set, slice_index, replicate, true, false, ◌-◌, ◌%◌, ◌==◌, if◌then◌else◌}
 use Rattle.std.specs.Result.{IsErrAnd}
@@ -12,13 +12,13 @@ use Rattle.capnp_wire.specs.Tree.{Form, Trees, none, tree, total_words, is_null}
 use Rattle.capnp_wire.specs.Object.{Shape, PointsTo, word_at, is_object, is_null as null_there, nothing}
 use Rattle.capnp_wire.specs.declared.layout.place.Place.{Place}
 use Rattle.capnp_wire.specs.Reached.{At, at}
-use Rattle.capnp_wire.specs.Layout.{formed}
+use Rattle.capnp_wire.specs.Layout.{output}
 use Rattle.capnp_wire.specs.Values.{LeadsToTree, starts_with_null}
 use Rattle.capnp_wire.specs.Views.{Struct, Pointer, Denotes, pointer_in}
 use Rattle.capnp_wire.proofs.pointers.FaultLemmas.{not_null}
 use Rattle.capnp_wire.proofs.layouts.LayoutLemmas.{if_positive}
 use Rattle.capnp_wire.proofs.views.OneValueLemmas.{one_of_pointer}
-use Rattle.capnp_wire.proofs.views.PartWordLemmas.{null_told}
+use Rattle.capnp_wire.proofs.views.PartWordLemmas.{null_declared}
 use Rattle.capnp_wire.proofs.words.PutLemmas.{words_split}
 use Rattle.capnp_orphans.specs.Orphans.{link, IsOrphan}
 use Rattle.capnp_orphans.specs.Segments.{Segment, body_of, Appends, ExceedsMost}
@@ -49,7 +49,7 @@ next_word shown words count i v within few is same =
 -- the words of a copy are of one number, and so are those of copies
 pub one_copy : (pointer : Pointer) (a b : ℕ) → TakesCopy pointer a → TakesCopy pointer b → a ≡ b
 one_copy pointer a b x y =
-    x.words_are ∙ ap (λ (t : Trees). total_words t) (ap (λ (t : Trees). formed false t) ((one_of_pointer pointer).same_tree x.trees y.trees x.tree_is y.tree_is)) ∙ sym y.words_are
+    x.words_are ∙ ap (λ (t : Trees). total_words t) (ap (λ (t : Trees). output false t) ((one_of_pointer pointer).same_tree x.trees y.trees x.tree_is y.tree_is)) ∙ sym y.words_are
 
 pub same_copies : (fields : Struct) (count a b : ℕ) → TakesCopies fields count a → TakesCopies fields count b → a ≡ b
 same_copies fields zero a b x y = x ∙ sym y
@@ -103,7 +103,7 @@ Stops pointer before segment kind = RefusesCopy pointer kind
     ⊎ ((words : ℕ) × TakesCopy pointer words × (kind ≡ AllocationTooLarge words)
     × ((2 ^ 29 ≤ length segment.bytes / 8 + before + words) ⊎ ExceedsMost (before + words) segment))
 
--- it is refused
+-- it is rejected
 pub stopped : {T : Type 0} (pointer : Pointer) (before : ℕ) (kind : ErrorKind) (old between : Segment) (result : Result T Error) → Appends before old between → between.most ≡ old.most
     → Fails (TakesCopy pointer) (RefusesCopy pointer) between result → Stops pointer before old kind → IsErrAnd result (λ error. error.kind ≡ kind)
 stopped pointer before kind old between result appends most fails (inl refused) = fails.exact kind refused
@@ -137,11 +137,11 @@ no_link word is =
           sym there ∙ is)
     ]
 
-null_word : (body : List ℕ) (word : ℕ) (form : Form) (held : Trees) → IsOrphan body word form held → is_null form ≡ true → word ≡ 0
-null_word body word form held is null_is =
+null_word : (body : List ℕ) (word : ℕ) (form : Form) (children : Trees) → IsOrphan body word form children → is_null form ≡ true → word ≡ 0
+null_word body word form children is null_is =
     let there = is.leads (link word 0) [] 0 (omega arith) refl in
-    no_link word (some_zero (link word 0) (zero_stands ((link word 0 ∷ (body ++ [])) ∷ []) (record { segment = 0; word = 0 }) (tree form held none) there.0 there.1 null_is))
+    no_link word (some_zero (link word 0) (zero_stands ((link word 0 ∷ (body ++ [])) ∷ []) (record { segment = 0; word = 0 }) (tree form children none) there.0 there.1 null_is))
 
 pub null_copied : (pointer : Pointer) (body : List ℕ) (word : ℕ) → Denotes pointer nothing → HoldsValue (LeadsToTree pointer) body word → word ≡ 0
 null_copied pointer body word null_is holds =
-    null_word body word holds.0 holds.1 holds.3 (sym (null_told pointer (tree holds.0 holds.1 none) true ((λ yes. null_is), (λ there. refl)) holds.2))
+    null_word body word holds.0 holds.1 holds.3 (sym (null_declared pointer (tree holds.0 holds.1 none) true ((λ yes. null_is), (λ there. refl)) holds.2))

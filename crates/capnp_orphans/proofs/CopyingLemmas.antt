@@ -9,7 +9,7 @@ use Rattle.capnp_frame.specs.declared.error.ErrorKind.{ErrorKind}
 use Rattle.capnp_frame.specs.declared.error.ErrorKind.TheVariants.{AllocationTooLarge}
 use Rattle.capnp_wire.specs.Tree.{Trees, total_words}
 use Rattle.capnp_wire.specs.Object.{nothing}
-use Rattle.capnp_wire.specs.Layout.{formed}
+use Rattle.capnp_wire.specs.Layout.{output}
 use Rattle.capnp_wire.specs.Values.{LeadsToTree, too_large}
 use Rattle.capnp_wire.specs.Views.{Struct, Pointer, Denotes, pointer_in}
 use Rattle.capnp_orphans.specs.Segments.{Segment, body_of, Appends}
@@ -37,7 +37,7 @@ none_copied fields old pointers = record {
   words = 0;
   taken = refl;
   appended = appends_none old;
-  keeps = λ word form held h. h;
+  keeps = λ word form children h. h;
   copies = tt;
   nulls = λ index low null_is. absurd (omega (arith, low));
   unstopped = λ index before kind low taken stops. absurd (omega (arith, low));
@@ -83,7 +83,7 @@ one_copied {T} fields count old between new pointers pointer word object same wi
 
 -- a copy of too many words
 abbrev IsLargeCopy : Pointer → ErrorKind → Type 0
-IsLargeCopy pointer kind = (trees : Trees) × LeadsToTree pointer trees × (2 ^ 29 ≤ total_words (formed false trees)) × (kind ≡ too_large false (total_words (formed false trees)))
+IsLargeCopy pointer kind = (trees : Trees) × LeadsToTree pointer trees × (2 ^ 29 ≤ total_words (output false trees)) × (kind ≡ too_large false (total_words (output false trees)))
 
 large_copy : (pointer : Pointer) (trees : Trees) → LeadsToTree pointer trees → 2 ^ 29 ≤ total_words trees → IsLargeCopy pointer (AllocationTooLarge (min (total_words trees) (2 ^ 32 - 1)))
 large_copy pointer trees leads many = (trees, leads, many, refl)

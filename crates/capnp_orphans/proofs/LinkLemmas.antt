@@ -1,9 +1,9 @@
--- Pointers to orphans: what is read where they stand.
+-- Pointers to orphans: what is read where they are.
 use Rattle.std.proofs.Common.{◌≡◌, ℕ, zero, suc, ◌+◌, ◌-◌, ◌*◌, ◌/◌, ◌%◌, ◌^◌, ◌<◌, ◌≤◌, List, [], ◌∷◌, ◌++◌, length, Some, None, Option, slice_get, refl, ◌∙◌, ap, arith}
 use Rattle.capnp_wire.specs.Tree.{Form, null, struct, numbers, pointers, structs}
 use Rattle.capnp_wire.specs.Object.{is_null}
 use Rattle.capnp_wire.specs.Layout.{pointer, struct_pointer, list_pointer, minus_one, own, HasRoom}
-use Rattle.capnp_wire.proofs.words.StretchLemmas.{Holds, holds_none}
+use Rattle.capnp_wire.proofs.words.SubsliceLemmas.{Holds, holds_none}
 use Rattle.capnp_wire.proofs.pointers.TagLemmas.{struct_fields, list_fields}
 use Rattle.capnp_wire.proofs.layouts.LayoutLemmas.{if_positive}
 use Rattle.capnp_wire.proofs.layouts.SizeLemmas.{rows_even}
@@ -34,13 +34,13 @@ struct_points : (segment : List ℕ) (start place d p : ℕ) → start < 2 ^ 29 
     → slice_get segment place ≡ Some (link (struct_pointer start d p) place) → Points segment place (struct_pointer (offset_to start place) d p) start
 struct_points segment start place d p small low some few stand =
     let f = struct_fields (offset_to start place) d p (omega arith) few in
-    record { stands = stand ∙ ap Some (struct_link start place d p small low few some); positive = omega (arith, some); is_near = omega (arith, f.kind_is); target = omega (arith, f.offset_is) }
+    record { stands = stand ∙ ap Some (struct_link start place d p small low few some); positive = omega (arith, some); is_local = omega (arith, f.kind_is); target = omega (arith, f.offset_is) }
 
 list_points : (segment : List ℕ) (start place c n : ℕ) → start < 2 ^ 29 → place < 2 ^ 29 → c < 8
     → slice_get segment place ≡ Some (link (list_pointer start c n) place) → Points segment place (list_pointer (offset_to start place) c n) start
 list_points segment start place c n small low few stand =
     let f = list_fields (offset_to start place) c n (omega arith) few in
-    record { stands = stand ∙ ap Some (list_link start place c n small low few); positive = omega arith; is_near = omega (arith, f.kind_is); target = omega (arith, f.offset_is) }
+    record { stands = stand ∙ ap Some (list_link start place c n small low few); positive = omega arith; is_local = omega (arith, f.kind_is); target = omega (arith, f.offset_is) }
 
 some_struct : (segment : List ℕ) (place start : ℕ) (words links : List ℕ) → place < 2 ^ 29 → start < 2 ^ 29 → 0 < length words + length links → HasRoom (struct words) (length links)
     → slice_get segment place ≡ Some (link (pointer (struct words) (length links) start) place) → Holds segment start (words ++ links) → Read (segment ∷ []) 0 segment place start (struct words) links
@@ -55,9 +55,9 @@ some_struct segment place start words links low small some room stand h =
     (struct_points segment start place d p small low some room.0 stand') (struct_fields (offset_to start place) d p (omega arith) room.0) h
 
 empty_points : (segment : List ℕ) (word : ℕ) → slice_get segment word ≡ Some (struct_pointer minus_one 0 0) → Points segment word (struct_pointer minus_one 0 0) word
-empty_points segment word stand = record { stands = stand; positive = omega arith; is_near = omega arith; target = omega arith }
+empty_points segment word stand = record { stands = stand; positive = omega arith; is_local = omega arith; target = omega arith }
 
--- an object is read where its words stand, wherever the pointer to it stands
+-- an object is read where its words are, wherever the pointer to it is
 pub read_link : (segment : List ℕ) (place start : ℕ) (form : Form) (links : List ℕ) → place < 2 ^ 29 → start < 2 ^ 29 → place ≤ length segment → HasRoom form (length links)
     → slice_get segment place ≡ Some (link (pointer form (length links) start) place) → Holds segment start (own form links) → Read (segment ∷ []) 0 segment place start form links
 read_link segment place start null [] low small within room stand h = record { traversed = 0; object = is_null stand; linked = refl }

@@ -13,7 +13,7 @@ use Rattle.capnp_wire.specs.Reached.{At, nowhere, at}
 use Rattle.capnp_wire.specs.Layout.{pointer, struct_pointer, list_pointer, woven, placed, row_run}
 use Rattle.capnp_wire.specs.Block.{put}
 use Rattle.capnp_wire.specs.declared.layout.place.Place.{Place}
-use Rattle.capnp_wire.proofs.words.StretchLemmas.{Holds, holds_left, holds_right, holds_same}
+use Rattle.capnp_wire.proofs.words.SubsliceLemmas.{Holds, holds_left, holds_right, holds_same}
 use Rattle.capnp_wire.proofs.pointers.SlotLemmas.{placed-row_run}
 use Rattle.capnp_wire.proofs.trees.StandLemmas.{at_both}
 use Rattle.capnp_wire.proofs.layouts.BlockLemmas.{put_both}
@@ -137,11 +137,11 @@ record Split (body a b : List ℕ) (trees : Trees) : Type 0 where
 split_orphans : (body a b : List ℕ) (trees : Trees) → AreOrphans body (a ++ b) trees → Split body a b trees
 split_orphans body [] b trees are = record { front = none; rest = trees; whole = refl; front_are = refl; rest_are = are }
 split_orphans body (word ∷ a) b none are = absurd are
-split_orphans body (word ∷ a) b (tree form held others) are =
+split_orphans body (word ∷ a) b (tree form children others) are =
     let s = split_orphans body a b others are.1 in
-    record { front = tree form held s.front; rest = s.rest; whole = ap (λ (t : Trees). tree form held t) s.whole; front_are = (are.0, s.front_are); rest_are = s.rest_are }
+    record { front = tree form children s.front; rest = s.rest; whole = ap (λ (t : Trees). tree form children t) s.whole; front_are = (are.0, s.front_are); rest_are = s.rest_are }
 
--- the trees that the structs hold stand at their pointers
+-- the trees that the structs hold are at their pointers
 rows_stand : {T : Type 0} {D P : ℕ} (first : ℕ) (body more : List ℕ) (xs : List (StructDraft T D P)) (trees : Trees) (place : ℕ) → AreSized xs → AreOrphans body (adopted_by xs) trees
     → place + length xs * (D + P) ≤ 2 ^ 29 → Holds (first ∷ (body ++ more)) place (elements xs place)
     → (traversed : ℕ) × At ((first ∷ (body ++ more)) ∷ []) (row_places 0 place D P (length xs)) trees traversed
@@ -166,33 +166,33 @@ rows_stand {T} {D} {P} first body more (x ∷ xs) trees place sized are room h =
     )
 
 -- a list of structs that hold orphans is one orphan more
-pub structs_are_orphan : {T : Type 0} {D P : ℕ} (body : List ℕ) (xs : List (StructDraft T D P)) (held : Trees) (start : ℕ) → start ≡ 1 + length body → D < 2 ^ 16 → P < 2 ^ 16 → length xs < 2 ^ 29
-    → start + 1 + length xs * (D + P) < 2 ^ 29 → AreSized xs → AreOrphans body (adopted_by xs) held
-    → IsOrphan (body ++ (struct_pointer (length xs) D P ∷ elements xs (start + 1))) (list_pointer start 7 (length xs * (D + P))) (structs D P (rows_of xs)) held
-structs_are_orphan {T} {D} {P} body xs held start is few_words few_pointers many room sized are = record {
+pub structs_are_orphan : {T : Type 0} {D P : ℕ} (body : List ℕ) (xs : List (StructDraft T D P)) (children : Trees) (start : ℕ) → start ≡ 1 + length body → D < 2 ^ 16 → P < 2 ^ 16 → length xs < 2 ^ 29
+    → start + 1 + length xs * (D + P) < 2 ^ 29 → AreSized xs → AreOrphans body (adopted_by xs) children
+    → IsOrphan (body ++ (struct_pointer (length xs) D P ∷ elements xs (start + 1))) (list_pointer start 7 (length xs * (D + P))) (structs D P (rows_of xs)) children
+structs_are_orphan {T} {D} {P} body xs children start is few_words few_pointers many room sized are = record {
   leads = λ first more place low stand.
       let rows : List (List ℕ) = rows_of xs in
       let ls : List ℕ = element_links xs (start + 1) in
-      let own_words : List ℕ = struct_pointer (length xs) D P ∷ elements xs (start + 1) in
+      let object_size : List ℕ = struct_pointer (length xs) D P ∷ elements xs (start + 1) in
       let segment : List ℕ = first ∷ ((body ++ (struct_pointer (length xs) D P ∷ elements xs (start + 1))) ++ more) in
       let rows_many : length (rows_of xs) ≡ length xs = length-rows_of xs in
       let long : length (element_links xs (start + 1)) ≡ length xs * P = length-element_links xs (start + 1) sized in
-      let there : Holds segment start own_words = words_appended first body own_words more start is in
+      let there : Holds segment start object_size = words_appended first body object_size more start is in
       let own_is : struct_pointer (length xs) D P ∷ elements xs (start + 1) ≡ struct_pointer (length (rows_of xs)) D P ∷ woven P (rows_of xs) (element_links xs (start + 1)) =
       ap (λ (l : List ℕ). struct_pointer (length xs) D P ∷ l) (elements_woven xs (start + 1) sized)
       ∙ ap (λ (n : ℕ). struct_pointer n D P ∷ woven P (rows_of xs) (element_links xs (start + 1))) (sym rows_many) in
       let stand' : slice_get segment place ≡ Some (link (pointer (structs D P (rows_of xs)) (length (element_links xs (start + 1))) start) place) =
       subst (λ (n : ℕ). slice_get segment place ≡ Some (link (list_pointer start 7 (n * (D + P))) place)) (sym rows_many) stand in
       let size_is : length (rows_of xs) * (D + P) ≡ length xs * (D + P) = ap (λ (n : ℕ). n * (D + P)) rows_many in
-      let held_many : length (element_links xs (start + 1)) ≡ length (rows_of xs) * P = long ∙ ap (λ (n : ℕ). n * P) (sym rows_many) in
+      let children_many : length (element_links xs (start + 1)) ≡ length (rows_of xs) * P = long ∙ ap (λ (n : ℕ). n * P) (sym rows_many) in
       let read = read_link segment place start (structs D P rows) ls low (omega (arith, room)) (omega (arith, slice_get_within segment place _ stand))
-      (few_words, few_pointers, omega (arith, rows_many, many), omega (arith, size_is, room), held_many, rows_fit xs sized) stand' (holds_same segment start own_words _ own_is there) in
-      let onward : segment ≡ first ∷ (body ++ (own_words ++ more)) = ap (λ (l : List ℕ). first ∷ l) (append_assoc body own_words more) in
+      (few_words, few_pointers, omega (arith, rows_many, many), omega (arith, size_is, room), children_many, rows_fit xs sized) stand' (holds_same segment start object_size _ own_is there) in
+      let onward : segment ≡ first ∷ (body ++ (object_size ++ more)) = ap (λ (l : List ℕ). first ∷ l) (append_assoc body object_size more) in
       let rest : Holds segment (start + 1) (elements xs (start + 1)) = holds_right segment start 1 (struct_pointer (length xs) D P ∷ []) (elements xs (start + 1)) refl there in
-      let held_there = rows_stand first body (own_words ++ more) xs held (start + 1) sized are (omega (arith, room)) (subst (λ (l : List ℕ). Holds l (start + 1) (elements xs (start + 1))) onward rest) in
-      let held_here : At (segment ∷ []) (row_places 0 (start + 1) D P (length xs)) held held_there.0 =
-      subst (λ (l : List ℕ). At (l ∷ []) (row_places 0 (start + 1) D P (length xs)) held held_there.0) (sym onward) held_there.1 in
+      let children_there = rows_stand first body (object_size ++ more) xs children (start + 1) sized are (omega (arith, room)) (subst (λ (l : List ℕ). Holds l (start + 1) (elements xs (start + 1))) onward rest) in
+      let children_here : At (segment ∷ []) (row_places 0 (start + 1) D P (length xs)) children children_there.0 =
+      subst (λ (l : List ℕ). At (l ∷ []) (row_places 0 (start + 1) D P (length xs)) children children_there.0) (sym onward) children_there.1 in
       let run_is : placed 0 start (row_run 1 D P (rows_of xs)) ≡ row_places 0 (start + 1) D P (length xs) =
       placed-row_run 0 start (start + 1) 1 D P (rows_of xs) refl ∙ ap (λ (n : ℕ). row_places 0 (start + 1) D P n) rows_many in
-      (read.traversed + held_there.0 + 0, at read.object (subst (λ (there : List Place). At (segment ∷ []) there held held_there.0) (sym run_is) held_here) nowhere);
+      (read.traversed + children_there.0 + 0, at read.object (subst (λ (there : List Place). At (segment ∷ []) there children children_there.0) (sym run_is) children_here) nowhere);
 }

@@ -77,12 +77,12 @@ tail_is x y xs ys e = cc
 -- a value over a block of its words
 pub record ValueWritten (has_tree : Trees → Type 0) (number : ℕ) (block : List ℕ) (words : ℕ) : Type 0 where
   pub form : Form
-  pub held : Trees
-  pub tree_is : has_tree (tree form held none)
-  pub rooms : AllHaveRoom (tree form held none)
-  pub size : words ≡ total_words (tree form held none)
-  pub pointer_is : number ≡ pointer form (count held) 0
-  pub body_is : words_of block ≡ body (tree form held none)
+  pub children : Trees
+  pub tree_is : has_tree (tree form children none)
+  pub rooms : AllHaveRoom (tree form children none)
+  pub size : words ≡ total_words (tree form children none)
+  pub pointer_is : number ≡ pointer form (count children) 0
+  pub body_is : words_of block ≡ body (tree form children none)
 
 pub value_written : (has_tree : Trees → Type 0) (words : ℕ) (old block : List ℕ) (copied : Copied) → HasWords has_tree false words → ((trees : Trees) → has_tree trees → count trees ≡ 1)
     → length (words_of old) ≡ words → ((trees : Trees) → has_tree trees → IsCopied trees (0 - 0) 0 (words_of old) (words_of block) copied)
@@ -93,7 +93,7 @@ value_written has_tree words old block copied w one long is sizes =
     whole_written w.trees (words_of old) (words_of block) copied (sizes w.trees w.tree_is ∙ sym w.words_are ∙ sym long) (is w.trees w.tree_is) ∙ ap layout a.2 in
     record {
       form = a.0;
-      held = a.1;
+      children = a.1;
       tree_is = subst has_tree a.2 w.tree_is;
       rooms = subst AllHaveRoom a.2 w.rooms;
       size = w.words_are ∙ ap total_words a.2;
@@ -102,58 +102,58 @@ value_written has_tree words old block copied w one long is sizes =
     }
 
 -- it is an orphan
-pub value_held : (has_tree : Trees → Type 0) (body block : List ℕ) (start words w number : ℕ) (v : ValueWritten has_tree number block words) → start ≡ 1 + length body → start + words < 2 ^ 29
+pub value_children : (has_tree : Trees → Type 0) (body block : List ℕ) (start words w number : ℕ) (v : ValueWritten has_tree number block words) → start ≡ 1 + length body → start + words < 2 ^ 29
     → ((form : Form) (n : ℕ) → HasRoom form n → number ≡ pointer form n 0 → w ≡ pointer form n start) → HoldsValue has_tree (body ++ words_of block) w
-value_held has_tree body block start words w number v is room moved =
-    let word_is : w ≡ pointer v.form (count v.held) start = moved v.form (count v.held) v.rooms.0 v.pointer_is in (
+value_children has_tree body block start words w number v is room moved =
+    let word_is : w ≡ pointer v.form (count v.children) start = moved v.form (count v.children) v.rooms.0 v.pointer_is in (
       v.form,
-      v.held,
+      v.children,
       v.tree_is,
-      subst (λ (x : ℕ). IsOrphan (body ++ words_of block) x v.form v.held) (sym word_is)
-          (subst (λ (l : List ℕ). IsOrphan (body ++ l) (pointer v.form (count v.held) start) v.form v.held) (sym v.body_is)
-          (value_is_orphan body v.form v.held start is v.rooms (omega (arith, room, v.size)))),
+      subst (λ (x : ℕ). IsOrphan (body ++ words_of block) x v.form v.children) (sym word_is)
+          (subst (λ (l : List ℕ). IsOrphan (body ++ l) (pointer v.form (count v.children) start) v.form v.children) (sym v.body_is)
+          (value_is_orphan body v.form v.children start is v.rooms (omega (arith, room, v.size)))),
     )
 
 -- so is a struct
-pub struct_held : (body words adopted block : List ℕ) (start d p w : ℕ) → start ≡ 1 + length body → length words ≡ d → length adopted ≡ p → d < 2 ^ 16 → p < 2 ^ 16 → All (λ x. x < 2 ^ 64) words
+pub struct_children : (body words adopted block : List ℕ) (start d p w : ℕ) → start ≡ 1 + length body → length words ≡ d → length adopted ≡ p → d < 2 ^ 16 → p < 2 ^ 16 → All (λ x. x < 2 ^ 64) words
     → start + d + p < 2 ^ 29 → words_of block ≡ words ++ links adopted (start + length words) → w ≡ struct_pointer (if d + p == 0 then minus_one else start) d p
     → HoldsStruct body words adopted (body ++ words_of block) w
-struct_held body words adopted block start d p w is words_long adopted_long few_words few_pointers all room block_is word_is =
+struct_children body words adopted block start d p w is words_long adopted_long few_words few_pointers all room block_is word_is =
     let own_is : w ≡ pointer (struct words) (length adopted) start =
     word_is ∙ ap (λ (n : ℕ). struct_pointer (if n + p == 0 then minus_one else start) n p) (sym words_long)
     ∙ ap (λ (n : ℕ). struct_pointer (if length words + n == 0 then minus_one else start) (length words) n) (sym adopted_long) in
     record {
-      tree_is = λ held are.
-          subst (λ (x : ℕ). IsOrphan (body ++ words_of block) x (struct words) held) (sym own_is)
-          (subst (λ (l : List ℕ). IsOrphan (body ++ l) (pointer (struct words) (length adopted) start) (struct words) held) (sym block_is)
-          (struct_is_orphan body words adopted held start is (omega (arith, words_long, few_words)) (omega (arith, adopted_long, few_pointers)) all (omega (arith, words_long, adopted_long, room)) are));
+      tree_is = λ children are.
+          subst (λ (x : ℕ). IsOrphan (body ++ words_of block) x (struct words) children) (sym own_is)
+          (subst (λ (l : List ℕ). IsOrphan (body ++ l) (pointer (struct words) (length adopted) start) (struct words) children) (sym block_is)
+          (struct_is_orphan body words adopted children start is (omega (arith, words_long, few_words)) (omega (arith, adopted_long, few_pointers)) all (omega (arith, words_long, adopted_long, room)) are));
       words_are = ap (λ (l : List ℕ). body ++ l) block_is ∙ ap (λ (n : ℕ). body ++ (words ++ links adopted (n + length words))) is;
       word_is = own_is ∙ ap (λ (n : ℕ). pointer (struct words) (length adopted) n) is;
     }
 
 -- a list of pointers
-pub pointers_held : (body words block : List ℕ) (start n w : ℕ) → start ≡ 1 + length body → length words ≡ n → start + n < 2 ^ 29 → words_of block ≡ links words start
+pub pointers_children : (body words block : List ℕ) (start n w : ℕ) → start ≡ 1 + length body → length words ≡ n → start + n < 2 ^ 29 → words_of block ≡ links words start
     → w ≡ list_pointer start 6 n → HoldsPointers body words (body ++ words_of block) w
-pointers_held body words block start n w is long room block_is word_is =
+pointers_children body words block start n w is long room block_is word_is =
     let own_is : w ≡ pointer pointers (length words) start = word_is ∙ ap (λ (k : ℕ). list_pointer start 6 k) (sym long) in
     record {
-      tree_is = λ held are.
-          subst (λ (x : ℕ). IsOrphan (body ++ words_of block) x pointers held) (sym own_is)
-          (subst (λ (l : List ℕ). IsOrphan (body ++ l) (pointer pointers (length words) start) pointers held) (sym block_is)
-          (pointers_are_orphan body words held start is (omega (arith, long, room)) are));
+      tree_is = λ children are.
+          subst (λ (x : ℕ). IsOrphan (body ++ words_of block) x pointers children) (sym own_is)
+          (subst (λ (l : List ℕ). IsOrphan (body ++ l) (pointer pointers (length words) start) pointers children) (sym block_is)
+          (pointers_are_orphan body words children start is (omega (arith, long, room)) are));
       words_are = ap (λ (l : List ℕ). body ++ l) block_is ∙ ap (λ (n : ℕ). body ++ links words n) is;
       word_is = own_is ∙ ap (λ (n : ℕ). list_pointer n 6 (length words)) is;
     }
 
 -- a list of structs
-pub structs_held : {T : Type 0} {D P : ℕ} (body block : List ℕ) (xs : List (StructDraft T D P)) (start w : ℕ) → start ≡ 1 + length body → D < 2 ^ 16 → P < 2 ^ 16 → length xs < 2 ^ 29
+pub structs_children : {T : Type 0} {D P : ℕ} (body block : List ℕ) (xs : List (StructDraft T D P)) (start w : ℕ) → start ≡ 1 + length body → D < 2 ^ 16 → P < 2 ^ 16 → length xs < 2 ^ 29
     → start + 1 + length xs * (D + P) < 2 ^ 29 → AreSized xs → words_of block ≡ struct_pointer (length xs) D P ∷ elements xs (start + 1) → w ≡ list_pointer start 7 (length xs * (D + P))
     → HoldsStructs body xs (body ++ words_of block) w
-structs_held {T} {D} {P} body block xs start w is few_words few_pointers many room sized block_is word_is = record {
-  tree_is = λ held are.
-      subst (λ (x : ℕ). IsOrphan (body ++ words_of block) x (structs D P (rows_of xs)) held) (sym word_is)
-      (subst (λ (l : List ℕ). IsOrphan (body ++ l) (list_pointer start 7 (length xs * (D + P))) (structs D P (rows_of xs)) held) (sym block_is)
-      (structs_are_orphan body xs held start is few_words few_pointers many room sized are));
+structs_children {T} {D} {P} body block xs start w is few_words few_pointers many room sized block_is word_is = record {
+  tree_is = λ children are.
+      subst (λ (x : ℕ). IsOrphan (body ++ words_of block) x (structs D P (rows_of xs)) children) (sym word_is)
+      (subst (λ (l : List ℕ). IsOrphan (body ++ l) (list_pointer start 7 (length xs * (D + P))) (structs D P (rows_of xs)) children) (sym block_is)
+      (structs_are_orphan body xs children start is few_words few_pointers many room sized are));
   words_are = ap (λ (l : List ℕ). body ++ l) block_is ∙ ap (λ (n : ℕ). body ++ (struct_pointer (length xs) D P ∷ elements xs n)) (omega (arith, is));
   word_is = word_is ∙ ap (λ (n : ℕ). list_pointer n 7 (length xs * (D + P))) is;
 }

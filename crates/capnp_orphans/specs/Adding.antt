@@ -14,7 +14,7 @@ use Rattle.capnp_orphans.specs.Segments.{Segment, body_of, Appends, GrantsWords,
 
 -- what was an orphan of a tree, is one still
 abbrev pub Keeps : Segment → Segment → Type 0
-Keeps old new = (word : ℕ) (form : Form) (held : Trees) → IsOrphan (body_of old) word form held → IsOrphan (body_of new) word form held
+Keeps old new = (word : ℕ) (form : Form) (children : Trees) → IsOrphan (body_of old) word form children → IsOrphan (body_of new) word form children
 
 -- What a call, or several, have added: an orphan of which this holds by the body and its word.
 pub record Adds {T : Type 0} (holds : List ℕ → ℕ → Type 0) (old new : Segment) (word : T → ℕ) (result : Result T Error) : Type 0 where
@@ -32,15 +32,15 @@ LacksRoom words segment kind = ((2 ^ 29 ≤ length segment.bytes / 8 + words) ×
 abbrev pub HasRoom : ℕ → Segment → Type 0
 HasRoom words segment = (length segment.bytes / 8 + words < 2 ^ 29) × GrantsWords words segment
 
--- When a call fails that writes an object: of the words that `takes` says, or refused as `refuses` says.
+-- When a call fails that writes an object: of the words that `takes` says, or rejected as `refuses` says.
 pub record Fails {T : Type 0} (takes : ℕ → Type 0) (refuses : ErrorKind → Type 0) (old : Segment) (result : Result T Error) : Type 0 where
-  -- it fails as the object is refused, or for want of room for its words
+  -- it fails as the object is rejected, or for want of room for its words
   pub kind : IfErr result (λ error. refuses error.kind ⊎ ((words : ℕ) × takes words × LacksRoom words old error.kind))
-  -- what is refused is not written
+  -- what is rejected is not written
   pub exact : (kind : ErrorKind) → refuses kind → IsErrAnd result (λ error. error.kind ≡ kind)
   -- an object is written where there is room in the memory that is there
   pub fits : (words : ℕ) → takes words → HasRoom words old → IsOk result
-  -- it is refused by its words where a segment would have 2 ^ 29, or a region more than it has room for
+  -- it is rejected by its words where a segment would have 2 ^ 29, or a region more than it has room for
   pub long : (words : ℕ) → takes words → 2 ^ 29 ≤ length old.bytes / 8 + words → IsErrAnd result (λ error. error.kind ≡ AllocationTooLarge words)
   pub full : (words : ℕ) → takes words → ExceedsMost words old → IsErrAnd result (λ error. error.kind ≡ AllocationTooLarge words)
 
@@ -54,7 +54,7 @@ pub record Writes {T : Type 0} (takes : ℕ → Type 0) (refuses : ErrorKind →
   pub most : new.most ≡ old.most
   -- the memory that is there stays, and holds the bytes
   pub memory : old.capacity ≤ new.capacity
-  pub held : OnOk result (length new.bytes ≤ new.capacity)
+  pub children : OnOk result (length new.bytes ≤ new.capacity)
 
 -- What setting the root to an orphan keeps: to that of a given word.
 pub record SetsRoot (word : ℕ) (old new : Segment) : Type 0 where
@@ -63,8 +63,8 @@ pub record SetsRoot (word : ℕ) (old new : Segment) : Type 0 where
   -- the root's word is the pointer to the orphan, whatever that holds
   pub words_are : words_of new.bytes ≡ link word 0 ∷ body_of old
   -- the root is the orphan's tree
-  pub root_is : (form : Form) (held : Trees) → IsOrphan (body_of old) word form held
-      → (traversed : ℕ) × Root (message_of (new.bytes ∷ [])) form held traversed
+  pub root_is : (form : Form) (children : Trees) → IsOrphan (body_of old) word form children
+      → (traversed : ℕ) × Root (message_of (new.bytes ∷ [])) form children traversed
   pub len : length new.bytes ≡ length old.bytes
   pub most : new.most ≡ old.most
   pub memory : new.capacity ≡ old.capacity
@@ -75,7 +75,7 @@ pub record AddsRoot (takes : ℕ → Type 0) (holds : List ℕ → ℕ → Type 
   pub keeps : Keeps old new
   -- the root is the tree of an orphan of which this holds, and its word the pointer to it, whatever that holds
   pub root_is : OnOk result ((word : ℕ) × holds (body_of new) word
-      × ((form : Form) (held : Trees) → IsOrphan (body_of new) word form held → (traversed : ℕ) × Root (message_of (new.bytes ∷ [])) form held traversed)
+      × ((form : Form) (children : Trees) → IsOrphan (body_of new) word form children → (traversed : ℕ) × Root (message_of (new.bytes ∷ [])) form children traversed)
       × (words_of new.bytes ≡ link word 0 ∷ body_of new))
   -- just the object's words are appended, and of the others only the root's may change
   pub appended : OnOk result ((words : ℕ) × takes words × ((block : List ℕ) × (length block ≡ words) × (body_of new ≡ body_of old ++ block)))
@@ -85,4 +85,4 @@ pub record AddsRoot (takes : ℕ → Type 0) (holds : List ℕ → ℕ → Type 
   pub most : new.most ≡ old.most
   -- the memory that is there stays, and holds the bytes
   pub memory : old.capacity ≤ new.capacity
-  pub held : OnOk result (length new.bytes ≤ new.capacity)
+  pub children : OnOk result (length new.bytes ≤ new.capacity)

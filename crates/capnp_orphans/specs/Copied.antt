@@ -34,7 +34,7 @@ TakesCopies fields zero words = words ≡ 0
 TakesCopies fields (suc count) words =
     (before last : ℕ) × TakesCopies fields count before × TakesCopy (pointer_in fields count) last × (words ≡ before + last)
 
--- Where copying fails: the pointers before this one are copied, and it is refused, or there is no room for its words.
+-- Where copying fails: the pointers before this one are copied, and it is rejected, or there is no room for its words.
 pub record StopsAt (fields : Struct) (count : ℕ) (old new : Segment) (kind : ErrorKind) : Type 0 where
   pub index : ℕ
   pub before : ℕ
@@ -52,7 +52,7 @@ pub record Copies {T : Type 0} (fields : Struct) (count : ℕ) (old new : Segmen
   pub keeps : Keeps old new
   -- just the copies are appended
   pub appended : OnOk result ((words : ℕ) × TakesCopies fields count words × Appends words old new)
-  -- it fails at the first pointer that is refused, or whose copy there is no room for
+  -- it fails at the first pointer that is rejected, or whose copy there is no room for
   pub kind : IfErr result (λ error. StopsAt fields count old new error.kind)
   -- it succeeds where there is room for the copies in the memory that is there
   pub fits : (words : ℕ) → TakesCopies fields count words → HasRoom words old → IsOk result

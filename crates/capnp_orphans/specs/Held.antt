@@ -14,12 +14,12 @@ word_of orphan = orphan.word
 
 -- it is the tree of a value
 abbrev pub HoldsValue : (Trees → Type 0) → List ℕ → ℕ → Type 0
-HoldsValue has_tree body word = (form : Form) × (held : Trees) × has_tree (tree form held none) × IsOrphan body word form held
+HoldsValue has_tree body word = (form : Form) × (children : Trees) × has_tree (tree form children none) × IsOrphan body word form children
 
 -- It is a struct of these data words, written right after the old body, which has adopted the orphans of these words.
 pub record HoldsStruct (old words adopted body : List ℕ) (word : ℕ) : Type 0 where
   -- it holds what these are
-  pub tree_is : (held : Trees) → AreOrphans old adopted held → IsOrphan body word (struct words) held
+  pub tree_is : (children : Trees) → AreOrphans old adopted children → IsOrphan body word (struct words) children
   -- whatever they are, its words are these
   pub words_are : body ≡ old ++ (words ++ links adopted (1 + length old + length words))
   pub word_is : word ≡ pointer (struct words) (length adopted) (1 + length old)
@@ -27,7 +27,7 @@ pub record HoldsStruct (old words adopted body : List ℕ) (word : ℕ) : Type 0
 -- It is a list of the pointers to these orphans, written right after the old body.
 pub record HoldsPointers (old adopted body : List ℕ) (word : ℕ) : Type 0 where
   -- it holds what these are
-  pub tree_is : (held : Trees) → AreOrphans old adopted held → IsOrphan body word pointers held
+  pub tree_is : (children : Trees) → AreOrphans old adopted children → IsOrphan body word pointers children
   -- whatever they are, its words are these
   pub words_are : body ≡ old ++ links adopted (1 + length old)
   pub word_is : word ≡ list_pointer (1 + length old) 6 (length adopted)
@@ -54,7 +54,7 @@ elements {D = D} {P = P} (draft ∷ drafts) place = (draft.words ++ links draft.
 -- It is the list of these structs, written right after the old body: their tag, and then their words.
 pub record HoldsStructs {T : Type 0} {D P : ℕ} (old : List ℕ) (drafts : List (StructDraft T D P)) (body : List ℕ) (word : ℕ) : Type 0 where
   -- it holds what the orphans are that they have adopted
-  pub tree_is : (held : Trees) → AreOrphans old (adopted_by drafts) held → IsOrphan body word (structs D P (rows_of drafts)) held
+  pub tree_is : (children : Trees) → AreOrphans old (adopted_by drafts) children → IsOrphan body word (structs D P (rows_of drafts)) children
   -- whatever these are, its words are these
   pub words_are : body ≡ old ++ (struct_pointer (length drafts) D P ∷ elements drafts (2 + length old))
   pub word_is : word ≡ list_pointer (1 + length old) 7 (length drafts * (D + P))
@@ -75,7 +75,7 @@ AreValues has_tree body (value ∷ values) (word ∷ words) = HoldsValue (has_tr
 abbrev pub AreTrees : {A : Type 0} → (A → Trees → Type 0) → List A → Trees → Type 0
 AreTrees has_tree [] trees = trees ≡ none
 AreTrees has_tree (value ∷ values) none = ⊥
-AreTrees has_tree (value ∷ values) (tree form held rest) = has_tree value (tree form held none) × AreTrees has_tree values rest
+AreTrees has_tree (value ∷ values) (tree form children rest) = has_tree value (tree form children none) × AreTrees has_tree values rest
 
 -- the sections of a struct fit its pointer
 abbrev pub FitsPointer : ℕ → ℕ → Type 0

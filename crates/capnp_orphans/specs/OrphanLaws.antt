@@ -13,24 +13,24 @@ use Rattle.capnp_orphans.specs.Held.{HoldsValue, HoldsStruct, HoldsPointers, Hol
 use Rattle.capnp_orphans.specs.Adding.{Keeps, SetsRoot}
 
 -- what is held stays held when words are appended
-pub still_orphan : (body more : List ℕ) (word : ℕ) (form : Form) (held : Trees) → IsOrphan body word form held → IsOrphan (body ++ more) word form held
-still_orphan body more word form held h = record {
+pub still_orphan : (body more : List ℕ) (word : ℕ) (form : Form) (children : Trees) → IsOrphan body word form children → IsOrphan (body ++ more) word form children
+still_orphan body more word form children h = record {
   leads = λ first others place low stand.
       let same : first ∷ ((body ++ more) ++ others) ≡ first ∷ (body ++ (more ++ others)) = ap (λ (l : List ℕ). first ∷ l) (append_assoc body more others) in
       let there : slice_get (first ∷ (body ++ (more ++ others))) place ≡ Some (link word place) =
       subst (λ (l : List ℕ). slice_get l place ≡ Some (link word place)) same stand in
-      subst (λ (l : List ℕ). StandsAt l place form held) (sym same) (h.leads first (more ++ others) place low there);
+      subst (λ (l : List ℕ). StandsAt l place form children) (sym same) (h.leads first (more ++ others) place low there);
 }
 
 -- two steps
 pub keeps_on : (first second third : Segment) → Keeps first second → Keeps second third → Keeps first third
-keeps_on first second third one two = λ word form held h. two word form held (one word form held h)
+keeps_on first second third one two = λ word form children h. two word form children (one word form children h)
 
 -- orphans in order stay, where each stays
 pub kept_orphans : (old new : Segment) (words : List ℕ) (trees : Trees) → Keeps old new → AreOrphans (body_of old) words trees → AreOrphans (body_of new) words trees
 kept_orphans old new [] trees keeps is = is
 kept_orphans old new (word ∷ words) none keeps is = is
-kept_orphans old new (word ∷ words) (tree form held rest) keeps is = (keeps word form held is.0, kept_orphans old new words rest keeps is.1)
+kept_orphans old new (word ∷ words) (tree form children rest) keeps is = (keeps word form children is.0, kept_orphans old new words rest keeps is.1)
 
 pub kept_value : (has_tree : Trees → Type 0) (old new : Segment) (word : ℕ) → Keeps old new → HoldsValue has_tree (body_of old) word → HoldsValue has_tree (body_of new) word
 kept_value has_tree old new word keeps is = (is.0, is.1, is.2, keeps word is.0 is.1 is.3)
@@ -69,7 +69,7 @@ pushed_value {A} {B} has_tree old new values i d word items pushed object within
 
 -- the trees of values
 pub their_trees : {A : Type 0} (has_tree : A → Trees → Type 0) (body : List ℕ) (values : List A) (words : List ℕ) → AreValues has_tree body values words
-    → (held : Trees) × AreOrphans body words held × AreTrees has_tree values held
+    → (children : Trees) × AreOrphans body words children × AreTrees has_tree values children
 their_trees has_tree body [] [] are = (none, refl, refl)
 their_trees has_tree body [] (word ∷ words) are = absurd are
 their_trees has_tree body (value ∷ values) [] are = absurd are
@@ -78,21 +78,21 @@ their_trees has_tree body (value ∷ values) (word ∷ words) are =
     (tree are.0.0 are.0.1 r.0, (are.0.3, r.1), (are.0.2, r.2))
 
 -- what is added is a value, once it is known what the orphans are that it has adopted: a struct, a list of pointers, of structs
-pub struct_value : {T : Type 0} (old new words adopted : List ℕ) (held : Trees) (has_tree : Trees → Type 0) (word : T → ℕ) (result : Result T Error) → AreOrphans old adopted held
-    → has_tree (tree (struct words) held none) → IfOk result (λ object. HoldsStruct old words adopted new (word object)) → IfOk result (λ object. HoldsValue has_tree new (word object))
-struct_value old new words adopted held has_tree word (Ok object) are is h = (struct words, held, is, h.tree_is held are)
-struct_value old new words adopted held has_tree word (Err error) are is h = tt
+pub struct_value : {T : Type 0} (old new words adopted : List ℕ) (children : Trees) (has_tree : Trees → Type 0) (word : T → ℕ) (result : Result T Error) → AreOrphans old adopted children
+    → has_tree (tree (struct words) children none) → IfOk result (λ object. HoldsStruct old words adopted new (word object)) → IfOk result (λ object. HoldsValue has_tree new (word object))
+struct_value old new words adopted children has_tree word (Ok object) are is h = (struct words, children, is, h.tree_is children are)
+struct_value old new words adopted children has_tree word (Err error) are is h = tt
 
-pub pointers_value : {T : Type 0} (old new adopted : List ℕ) (held : Trees) (has_tree : Trees → Type 0) (word : T → ℕ) (result : Result T Error) → AreOrphans old adopted held
-    → has_tree (tree pointers held none) → IfOk result (λ object. HoldsPointers old adopted new (word object)) → IfOk result (λ object. HoldsValue has_tree new (word object))
-pointers_value old new adopted held has_tree word (Ok object) are is h = (pointers, held, is, h.tree_is held are)
-pointers_value old new adopted held has_tree word (Err error) are is h = tt
+pub pointers_value : {T : Type 0} (old new adopted : List ℕ) (children : Trees) (has_tree : Trees → Type 0) (word : T → ℕ) (result : Result T Error) → AreOrphans old adopted children
+    → has_tree (tree pointers children none) → IfOk result (λ object. HoldsPointers old adopted new (word object)) → IfOk result (λ object. HoldsValue has_tree new (word object))
+pointers_value old new adopted children has_tree word (Ok object) are is h = (pointers, children, is, h.tree_is children are)
+pointers_value old new adopted children has_tree word (Err error) are is h = tt
 
-pub structs_value : {T S : Type 0} {D P : ℕ} (old new : List ℕ) (drafts : List (StructDraft S D P)) (held : Trees) (has_tree : Trees → Type 0) (word : T → ℕ) (result : Result T Error)
-    → AreOrphans old (adopted_by drafts) held → has_tree (tree (structs D P (rows_of drafts)) held none) → IfOk result (λ object. HoldsStructs old drafts new (word object))
+pub structs_value : {T S : Type 0} {D P : ℕ} (old new : List ℕ) (drafts : List (StructDraft S D P)) (children : Trees) (has_tree : Trees → Type 0) (word : T → ℕ) (result : Result T Error)
+    → AreOrphans old (adopted_by drafts) children → has_tree (tree (structs D P (rows_of drafts)) children none) → IfOk result (λ object. HoldsStructs old drafts new (word object))
     → IfOk result (λ object. HoldsValue has_tree new (word object))
-structs_value {D = D} {P = P} old new drafts held has_tree word (Ok object) are is h = (structs D P (rows_of drafts), held, is, h.tree_is held are)
-structs_value old new drafts held has_tree word (Err error) are is h = tt
+structs_value {D = D} {P = P} old new drafts children has_tree word (Ok object) are is h = (structs D P (rows_of drafts), children, is, h.tree_is children are)
+structs_value old new drafts children has_tree word (Err error) are is h = tt
 
 -- the root is the value that it is set to
 pub root_of_value : (has_tree : Trees → Type 0) (word : ℕ) (old new : Segment) → HoldsValue has_tree (body_of old) word → SetsRoot word old new

@@ -1,5 +1,5 @@
 -- Objects of one segment that no pointer needs to lead to yet (src/orphan.rt). Each is written once, when all that it holds is
--- written, and no word of it changes after that; of the segment only its first word, the root's, does. What stands after that
+-- written, and no word of it changes after that; of the segment only its first word, the root's, does. What is after that
 -- one is here the body of the segment.
 use Rattle.std.specs.Prelude.{◌≡◌, ℕ, ◌+◌, ◌-◌, ◌*◌, ◌/◌, ◌%◌, ◌^◌, ◌<◌, ◌==◌, if◌then◌else◌, List, [], ◌∷◌, ◌++◌, Some, slice_get}
 use Rattle.capnp_wire.specs.Tree.{Form, Trees, none, tree}
@@ -19,17 +19,17 @@ links (word ∷ words) place = link word place ∷ links words (place + 1)
 
 -- a tree stands for the pointer at a word of the segment
 abbrev pub StandsAt : List ℕ → ℕ → Form → Trees → Type 0
-StandsAt segment place form held =
-    (traversed : ℕ) × At (segment ∷ []) (record { segment = 0; word = place } ∷ []) (tree form held none) traversed
+StandsAt segment place form children =
+    (traversed : ℕ) × At (segment ∷ []) (record { segment = 0; word = place } ∷ []) (tree form children none) traversed
 
--- Wherever the pointer to the orphan stands in the segment, and whatever the root's word is and comes after the words that were
+-- Wherever the pointer to the orphan is in the segment, and whatever the root's word is and comes after the words that were
 -- written so far, it stands for this tree.
-pub record IsOrphan (body : List ℕ) (word : ℕ) (form : Form) (held : Trees) : Type 0 where
+pub record IsOrphan (body : List ℕ) (word : ℕ) (form : Form) (children : Trees) : Type 0 where
   pub leads : (first : ℕ) (more : List ℕ) (place : ℕ) → place < 2 ^ 29 → slice_get (first ∷ (body ++ more)) place ≡ Some (link word place)
-      → StandsAt (first ∷ (body ++ more)) place form held
+      → StandsAt (first ∷ (body ++ more)) place form children
 
 -- orphans in order are these trees
 abbrev pub AreOrphans : List ℕ → List ℕ → Trees → Type 0
 AreOrphans body [] trees = trees ≡ none
 AreOrphans body (word ∷ words) none = ⊥
-AreOrphans body (word ∷ words) (tree form held rest) = IsOrphan body word form held × AreOrphans body words rest
+AreOrphans body (word ∷ words) (tree form children rest) = IsOrphan body word form children × AreOrphans body words rest

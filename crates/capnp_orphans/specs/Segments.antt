@@ -41,7 +41,7 @@ GrantsWords words segment = length segment.bytes + 8 * words ≤ segment.capacit
 abbrev pub ExceedsMost : ℕ → Segment → Type 0
 ExceedsMost words segment = MatchOption segment.most ⊥ (λ most. most < length segment.bytes + 8 * words)
 
--- why it does not take as many: a region is full, or on the heap more memory was needed, and refused
+-- why it does not take as many: a region is full, or on the heap more memory was needed, and rejected
 abbrev pub RefusesWords : ℕ → Segment → ErrorKind → Type 0
 RefusesWords words segment kind = (segment.capacity < length segment.bytes + 8 * words)
     × MatchOption segment.most (kind ≡ OutOfMemory) (λ most. (most < length segment.bytes + 8 * words) × (kind ≡ AllocationTooLarge words))
@@ -56,7 +56,7 @@ pub record AppendsObject (holds : List ℕ → List ℕ → ℕ → Type 0) (wor
   pub lacks : ExceedsMost words old → IsErrAnd result (λ error. error.kind ≡ AllocationTooLarge words)
   pub most : new.most ≡ old.most
   pub memory : old.capacity ≤ new.capacity
-  pub held : OnOk result (length new.bytes ≤ new.capacity)
+  pub children : OnOk result (length new.bytes ≤ new.capacity)
 
 -- the root's word is another one
 pub record PutsRoot (word : ℕ) (old new : Segment) : Type 0 where

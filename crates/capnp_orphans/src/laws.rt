@@ -14,8 +14,8 @@ use capnp_wire::traits::SetterInput;
 
 /// What a segment holds, it holds after words are appended to it, too.
 pub fn orphans_stay()
-    ensures { (body more : List ℕ) (word : ℕ) (form : Form) (held : Trees) →
-        IsOrphan body word form held → IsOrphan (body ++ more) word form held }
+    ensures { (body more : List ℕ) (word : ℕ) (form : Form) (children : Trees) →
+        IsOrphan body word form children → IsOrphan (body ++ more) word form children }
 {}
 
 /// Null is an orphan of every segment.
@@ -54,7 +54,7 @@ pub fn next_value<T, V: SetterInput<T>>()
 pub fn values_are_trees<T, V: SetterInput<T>>()
     ensures { (body : List ℕ) (values : List V) (words : List ℕ) →
         AreValues V.has_tree body values words →
-        (held : Trees) × AreOrphans body words held × AreTrees V.has_tree values held }
+        (children : Trees) × AreOrphans body words children × AreTrees V.has_tree values children }
 {}
 
 /// A field of the data words of a struct is the same where these words are cut after it, or filled

@@ -19,7 +19,7 @@ pub trait Object {
     /// It can't be written, and this is the error.
     ghost refuses: { Self → ErrorKind → Type 0 };
 
-    /// It is written over zeros alone, and not over whatever stands there.
+    /// It is written over zeros alone, and not over whatever is there.
     ghost wants_zeros: { Self → Bool };
 
     /// How many words it has. Fails with a kind that `refuses` names.
@@ -46,7 +46,7 @@ pub trait Object {
 }
 
 /// The error for too many elements or words, which it tells as far as 32 bits hold them.
-pub(crate) fn too_many(number: usize) -> Error
+pub(crate) fn allocation_too_large(number: usize) -> Error
     ensures { result.kind ≡ AllocationTooLarge (min number (2 ^ 32 - 1)) }
 {
     let told = if number < u32::MAX as usize {

@@ -235,11 +235,11 @@ impl<S: GrowingSegment> Orphanage<S> {
         ensures writes { Writes (TakesStructs D P (length items.now))
             (ManyStructs D P (length items.now)) self.old self.new result }
     {
-        self.made_struct_list::<T, D, P, &[StructDraft<T, D, P>]>(&items)
+        self.lazy_struct_list::<T, D, P, &[StructDraft<T, D, P>]>(&items)
     }
 
     /// Writes a list of structs that a source makes, one by one. It fails as `struct_list` does.
-    pub fn made_struct_list<T, const D: usize, const P: usize, M: DraftSource<T, D, P>>(
+    pub fn lazy_struct_list<T, const D: usize, const P: usize, M: DraftSource<T, D, P>>(
         &mut self,
         source: &M,
     ) -> Result<Orphan<struct_list::Owned>>

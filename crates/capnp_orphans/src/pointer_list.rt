@@ -1,7 +1,7 @@
 //! Lists of pointers as objects.
 ghost use Rattle.std.specs.Prelude.{◌≡◌};
 
-use crate::object::{Object, too_many};
+use crate::object::{Object, allocation_too_large};
 use crate::orphan::Orphan;
 use crate::written::put_links;
 use capnp_frame::Result;
@@ -38,7 +38,7 @@ impl<'a, T> Object for PointerList<'a, T> {
     fn measure(&self) -> Result<u32> {
         let count = self.items.len();
         if count >= 1 << 29 {
-            return Err(too_many(count));
+            return Err(allocation_too_large(count));
         }
         Ok(count as u32)
     }

@@ -5,7 +5,7 @@ ghost use Rattle.capnp_orphans.specs.Held.{AreSized, elements};
 
 use crate::draft::writing::draft_fits;
 use crate::draft_source::DraftSource;
-use crate::object::{Object, too_many};
+use crate::object::{Object, allocation_too_large};
 use crate::written::put_struct;
 use capnp_frame::{Error, ErrorKind, Result};
 use capnp_values::put_words;
@@ -52,11 +52,11 @@ impl<'a, T, const D: usize, const P: usize, S: DraftSource<T, D, P>> Object
         }
         let count = self.source.len();
         if count >= 1 << 29 {
-            return Err(too_many(count));
+            return Err(allocation_too_large(count));
         }
         let words = 1 + count * (D + P);
         if words >= 1 << 29 {
-            return Err(too_many(words));
+            return Err(allocation_too_large(words));
         }
         Ok(words as u32)
     }

@@ -4,7 +4,7 @@ use Rattle.std.proofs.lemmas.List.{drop_all, take_all, length-drop}
 use Rattle.capnp_frame.proofs.SourceLemmas.{IfKnown-join}
 use Rattle.capnp_frame.specs.Sink.{Appending}
 use lib.Count.{ones, ones-le}
-use Rattle.capnp_pack.specs.Group.{Group, IsWord, group_text}
+use Rattle.capnp_pack.specs.Group.{Group, IsWord, group_encoding}
 use Rattle.capnp_pack.specs.Packed.{IfFirst}
 use Rattle.capnp_pack.specs.PackedWords.{PacksWords, PacksTo, HandsTo}
 use Rattle.capnp_pack.specs.Steps.{IsGroupOf, IsZero, tag_of, nonzero}
@@ -15,13 +15,13 @@ use Rattle.capnp_pack.proofs.HandingLemmas.{Hands-join}
 pub tagged_group : (word : List ℕ) (os : List (List ℕ)) (tag used end size : ℕ) (old new : List ℕ) → IsWord word → tag ≡ tag_of word → tag < 255
     → (tag ≡ 0 → IfFirst os (λ w. IsZero w → ⊥)) → take end new ≡ old ++ tag ∷ nonzero word → (tag ≡ 0 → take (end + 1) new ≡ take end new ++ 0 ∷ [])
     → end ≡ used + 1 + ones tag → (tag ≡ 0 → size ≡ 2) → (0 < tag → size ≡ 1 + ones tag)
-    → (g : Group) × IsGroupOf word os 0 g × (take (used + size) new ≡ old ++ group_text g)
+    → (g : Group) × IsGroupOf word os 0 g × (take (used + size) new ≡ old ++ group_encoding g)
 tagged_group word os tag used end size old new is tagged_by low next fill zero_after ended two more = by_tag tag refl
   where
     filled : take end new ≡ old ++ tag_of word ∷ nonzero word
     filled = filled_by word tag old (take end new) tagged_by fill
 
-    by_tag : (t : ℕ) → tag ≡ t → (g : Group) × IsGroupOf word os 0 g × (take (used + size) new ≡ old ++ group_text g)
+    by_tag : (t : ℕ) → tag ≡ t → (g : Group) × IsGroupOf word os 0 g × (take (used + size) new ≡ old ++ group_encoding g)
     by_tag zero none =
         let no : ones tag ≡ 0 = omega (arith, ones-le 0 tag (omega (arith, none))) in
         let last : used + size ≡ end + 1 = omega (arith, two none, ended, no) in
@@ -43,12 +43,12 @@ last_word words count P past = subst (λ l. IfFirst l P) (sym (other_words words
 -- one more group
 pub buffered_more : (words : List (List ℕ)) (count n : ℕ) (w : List ℕ) (os : List (List ℕ)) (old buffer new : List ℕ) → drop count words ≡ w ∷ os → os ≡ drop (count + 1) words
     → ((text : List ℕ) × PacksTo words text (drop count words) × (buffer ≡ old ++ text))
-    → ((g : Group) × IsGroupOf w os n g × (new ≡ buffer ++ group_text g))
+    → ((g : Group) × IsGroupOf w os n g × (new ≡ buffer ++ group_encoding g))
     → (text : List ℕ) × PacksTo words text (drop (count + (1 + n)) words) × (new ≡ old ++ text)
 buffered_more words count n w os old buffer new front rest (text, to, is) (g, made, more) = (
-  text ++ group_text g,
+  text ++ group_encoding g,
   PacksTo-more words text count (count + (1 + n)) n w os g front (words_after words count n os rest) made to,
-  more ∙ ap (λ l. l ++ group_text g) is ∙ append_assoc old text (group_text g),
+  more ∙ ap (λ l. l ++ group_encoding g) is ∙ append_assoc old text (group_encoding g),
 )
 
 HandsTo-join : (appends : Appending) (words next left : List (List ℕ)) (old buffer new : List ℕ) (a b c : Option (List ℕ))

@@ -44,12 +44,12 @@ hands_ok sink old new stops hands x handed grows = record { handed = handed; lef
 pub hands_passed : {S X Y : Type 0} (sink : Sink S) (old new : S) (stops more : List ℕ → Type 0) (first : X → Type 0) (hands : Y → Type 0) (e : Error)
     (r : Result Y Error) → IsErrAnd r (λ y. y ≡ e) → (LeavesOf sink old new stops → LeavesOf sink old new more)
     → HandsOn sink old new stops first (Err e) → HandsOn sink old new more hands r
-hands_passed sink old new stops more first hands e (Ok y) is turn told = absurd is
-hands_passed sink old new stops more first hands e (Err own) is turn told =
+hands_passed sink old new stops more first hands e (Ok y) is turn declared = absurd is
+hands_passed sink old new stops more first hands e (Err own) is turn declared =
     subst (λ y. HandsOn sink old new more hands (Err y)) (sym is)
-    (record { handed = tt; left = turn told.left; refused = told.refused; failed = told.failed; grows = told.grows })
+    (record { handed = tt; left = turn declared.left; refused = declared.refused; failed = declared.failed; grows = declared.grows })
 
--- a chunk that the sink refuses, after a call that returned
+-- a chunk that the sink rejects, after a call that returned
 pub hands_err : {S X : Type 0} (sink : Sink S) (keeps : IsPreorder sink.same) (a b c : S) (stops : List ℕ → Type 0) (hands : X → Type 0) (chunk : List ℕ)
     (e : Error) (r : Result X Error) → IsErrAnd r (λ y. y ≡ e) → LeavesOf sink a c stops → (e.kind ≡ DeviceFailed) ⊎ sink.refuses chunk e.kind
     → (e.kind ≡ DeviceFailed → Fails (sink.failures b) (sink.failures c)) → Grows sink.written sink.failures sink.same a b
@@ -69,23 +69,23 @@ pub hands_stopped : {S X Y : Type 0} (sink : Sink S) (keeps : IsPreorder sink.sa
     (adds leaves : List ℕ → Type 0) (e : Error) (r : Result Y Error) → IsErrAnd r (λ y. y ≡ e)
     → (LeavesOf sink b c stops → IfKnown (sink.written a) (sink.written c) (Adds leaves)) → Grows sink.written sink.failures sink.same a b
     → HandsOn sink b c stops hands (Err e) → WritesTo sink a c adds leaves (DeclinesAny sink.refuses) r
-hands_stopped sink keeps a b c stops hands adds leaves e (Ok y) is turn before told = absurd is
-hands_stopped {Y = Y} sink keeps a b c stops hands adds leaves e (Err own) is turn before told =
+hands_stopped sink keeps a b c stops hands adds leaves e (Ok y) is turn before declared = absurd is
+hands_stopped {Y = Y} sink keeps a b c stops hands adds leaves e (Err own) is turn before declared =
     subst (λ y. WritesTo {X = Y} sink a c adds leaves (DeclinesAny sink.refuses) (Err y)) (sym is) (record {
       written = tt;
-      left = turn told.left;
-      refused = told.refused;
-      failed = λ device. Fails-join (sink.failures a) (sink.failures b) (sink.failures c) before.counted (told.failed device);
-      grows = Grows-join a b c (keeps.transitive a b c) before told.grows;
+      left = turn declared.left;
+      refused = declared.refused;
+      failed = λ device. Fails-join (sink.failures a) (sink.failures b) (sink.failures c) before.counted (declared.failed device);
+      grows = Grows-join a b c (keeps.transitive a b c) before declared.grows;
     })
 
 -- the last call of a packer
 pub hands_last : {S X : Type 0} (sink : Sink S) (keeps : IsPreorder sink.same) (a b c : S) (P : Type 0) (stops adds leaves : List ℕ → Type 0) (r : Result X Error)
     → (P → IfKnown (sink.written a) (sink.written c) (Adds adds)) → (LeavesOf sink b c stops → IfKnown (sink.written a) (sink.written c) (Adds leaves))
     → Grows sink.written sink.failures sink.same a b → HandsOn sink b c stops (λ _. P) r → WritesTo sink a c adds leaves (DeclinesAny sink.refuses) r
-hands_last sink keeps a b c P stops adds leaves (Ok x) all turn before told =
-    record { written = all told.handed; left = tt; refused = tt; failed = tt; grows = Grows-join a b c (keeps.transitive a b c) before told.grows }
-hands_last sink keeps a b c P stops adds leaves (Err e) all turn before told = hands_stopped sink keeps a b c stops (λ _. P) adds leaves e (Err e) refl turn before told
+hands_last sink keeps a b c P stops adds leaves (Ok x) all turn before declared =
+    record { written = all declared.handed; left = tt; refused = tt; failed = tt; grows = Grows-join a b c (keeps.transitive a b c) before declared.grows }
+hands_last sink keeps a b c P stops adds leaves (Err e) all turn before declared = hands_stopped sink keeps a b c stops (λ _. P) adds leaves e (Err e) refl turn before declared
 
 -- Taking
 
@@ -93,13 +93,13 @@ hands_last sink keeps a b c P stops adds leaves (Err e) all turn before told = h
 pub takes_passed : {S X Y : Type 0} (source : Source S) (old new : S) (finds : Y → Type 0) (refuses : ErrorKind → Type 0) (e : Error) (r : Result Y Error)
     → IsErrAnd r (λ y. y ≡ e) → (e.kind ≡ DeviceFailed) ⊎ refuses e.kind → Asked {X = X} source.unread source.failures source.same old new (Err e)
     → TakesFrom source old new finds refuses r
-takes_passed source old new finds refuses e (Ok y) is refused told = absurd is
-takes_passed source old new finds refuses e (Err y) is refused told = record {
+takes_passed source old new finds refuses e (Ok y) is refused declared = absurd is
+takes_passed source old new finds refuses e (Err y) is refused declared = record {
   found = tt;
   refused = subst (λ (o : Error). (o.kind ≡ DeviceFailed) ⊎ refuses o.kind) (sym is) refused;
   asked = record {
-    failed = subst (λ (o : Error). o.kind ≡ DeviceFailed → Fails (source.failures old) (source.failures new)) (sym is) told.failed;
-    advances = told.advances;
+    failed = subst (λ (o : Error). o.kind ≡ DeviceFailed → Fails (source.failures old) (source.failures new)) (sym is) declared.failed;
+    advances = declared.advances;
   };
 }
 

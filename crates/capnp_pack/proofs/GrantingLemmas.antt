@@ -3,7 +3,7 @@ use Rattle.std.proofs.Common.{◌≡◌, ℕ, ◌+◌, ◌<◌, ◌≤◌, List,
 use Rattle.std.specs.List.{concat, flat_map, AllByRecursion}
 use Rattle.std.proofs.lemmas.List.{length-take-le}
 use Rattle.std.proofs.lemmas.List.Concat.{concat_is}
-use Rattle.capnp_pack.specs.Group.{Group, literal, IsWord, group_text}
+use Rattle.capnp_pack.specs.Group.{Group, literal, IsWord, group_encoding}
 use Rattle.capnp_pack.specs.Steps.{HasFewZeros, IsRun, IsGroupOf, tag_of}
 use Rattle.capnp_pack.proofs.AllLemmas.{AllByRecursion-drop}
 use Rattle.capnp_pack.proofs.Chunks.{each_word}
@@ -30,10 +30,10 @@ run_granted before after count words end used more flat os Flushed run own all p
     let (done, left) = flush (bytes + more) (subst before same granted) in
     (done, subst (λ k. after (k + more)) (run_flat count words flat os run own all) left)
 
--- a buffer of 64 bytes with a word that goes as it stands: what was granted for its group is granted for what it holds with the count and the words
+-- a buffer of 64 bytes with a word that goes as it is: what was granted for its group is granted for what it holds with the count and the words
 pub literal_granted : (grants : ℕ → Type 0) (word : List ℕ) (os : List (List ℕ)) (count more start end : ℕ) (made : Group) (old new : List ℕ)
     → IsWord word → AllByRecursion IsWord os → tag_of word ≡ 255 → length old ≡ 64 → length new ≡ 64 → start ≤ 54 → end < 64
-    → take end new ≡ take start old ++ 255 ∷ word → IsGroupOf word os count made → grants (start + (length (group_text made) + more))
+    → take end new ≡ take start old ++ 255 ∷ word → IsGroupOf word os count made → grants (start + (length (group_encoding made) + more))
     → (k : ℕ) × IsRun HasFewZeros os k × grants (end + (1 + (length (concat (take k os)) + more)))
 literal_granted grants word os count more start end made old new is all full old_long new_long room within fill theirs granted =
     let run : (k : ℕ) × IsRun HasFewZeros os k = IsRun-some HasFewZeros few_or_not os in
@@ -41,12 +41,12 @@ literal_granted grants word os count more start end made old new is all full old
     let own = literal word further in
     let same : own ≡ made = (IsGroupOf-once word os run.0 count own made (IsGroupOf-literal word os run.0 is all full run.1) theirs).1 in
     let head : length (take end new) ≡ length (take start old) + length (255 ∷ word) = ap length fill ∙ length-append (take start old) (255 ∷ word) in
-    let text : length (group_text own) ≡ length (255 ∷ word) + length (length further ∷ concat further) =
+    let text : length (group_encoding own) ≡ length (255 ∷ word) + length (length further ∷ concat further) =
     length-append (255 ∷ word) (length further ∷ concat further) in
     let begun : length (take start old) ≡ start = length-take-le start old (omega (arith, old_long)) in
     let ended : length (take end new) ≡ end = length-take-le end new (omega (arith, new_long)) in
-    let both : start + (length (group_text own) + more) ≡ end + (1 + (length (concat further) + more)) = omega (arith, head, text, begun, ended) in
-    (run.0, run.1, subst grants (ap (λ g. start + (length (group_text g) + more)) (sym same) ∙ both) granted)
+    let both : start + (length (group_encoding own) + more) ≡ end + (1 + (length (concat further) + more)) = omega (arith, head, text, begun, ended) in
+    (run.0, run.1, subst grants (ap (λ g. start + (length (group_encoding g) + more)) (sym same) ∙ both) granted)
 
 -- what is granted for the text of words is granted for what a buffer of 64 bytes holds once it took some of them, and the rest
 pub granted_taken : (grants : ℕ → Type 0) (words : List (List ℕ)) (n used end more : ℕ) (old new whole : List ℕ) → ((i : ℕ) → i < length words → length (get_or words i []) ≡ 8)
@@ -72,21 +72,21 @@ granted_flushed before after words used more Flushed (rest, packs, granted) flus
 -- the next group is granted, and the rest
 granted_group : (grants : ℕ → Type 0) (words : List (List ℕ)) (n used count more : ℕ) (w : List ℕ) (os : List (List ℕ)) (g : Group) → AllByRecursion IsWord words
     → drop n words ≡ w ∷ os → IsGroupOf w os count g → GrantsTo grants (drop n words) used more
-    → (rest : List ℕ) × PacksWords (drop count os) rest × grants (used + (length (group_text g) + (length rest + more)))
+    → (rest : List ℕ) × PacksWords (drop count os) rest × grants (used + (length (group_encoding g) + (length rest + more)))
 granted_group grants words n used count more w os g all front made (whole, packs, granted) =
     let each : AllByRecursion IsWord (w ∷ os) = subst (AllByRecursion IsWord) front (AllByRecursion-drop IsWord n words all) in
     let (rest, left) = PacksWords-some (drop count os) (AllByRecursion-drop IsWord count os each.1) in
-    let own : PacksWords (drop n words) (group_text g ++ rest) = subst (λ l. PacksWords l (group_text g ++ rest)) (sym front) (PacksWords-more w os count g rest made left) in
-    let same : used + (length whole + more) ≡ used + (length (group_text g) + (length rest + more)) =
-    omega (arith, ap length (PacksWords-once (drop n words) whole (group_text g ++ rest) packs own), length-append (group_text g) rest) in
+    let own : PacksWords (drop n words) (group_encoding g ++ rest) = subst (λ l. PacksWords l (group_encoding g ++ rest)) (sym front) (PacksWords-more w os count g rest made left) in
+    let same : used + (length whole + more) ≡ used + (length (group_encoding g) + (length rest + more)) =
+    omega (arith, ap length (PacksWords-once (drop n words) whole (group_encoding g ++ rest) packs own), length-append (group_encoding g) rest) in
     (rest, left, subst grants same granted)
 
 -- so the call that hands it on returns
 pub group_granted : (grants : ℕ → Type 0) (words : List (List ℕ)) (n used more : ℕ) (w : List ℕ) (os : List (List ℕ))
     → ((i : ℕ) → i < length words → length (get_or words i []) ≡ 8) → drop n words ≡ w ∷ os → GrantsTo grants (drop n words) used more
-    → (group : Group) × (count others : ℕ) × IsGroupOf w os count group × grants (used + (length (group_text group) + others))
-group_granted grants words n used more w os told front granted =
-    let all = each_word words told in
+    → (group : Group) × (count others : ℕ) × IsGroupOf w os count group × grants (used + (length (group_encoding group) + others))
+group_granted grants words n used more w os declared front granted =
+    let all = each_word words declared in
     let each : AllByRecursion IsWord (w ∷ os) = subst (AllByRecursion IsWord) front (AllByRecursion-drop IsWord n words all) in
     let (count, (group, made)) = IsGroupOf-some w os each.0 each.1 in
     let (rest, left, given) = granted_group grants words n used count more w os group all front made granted in
@@ -96,7 +96,7 @@ group_granted grants words n used more w os told front granted =
 pub granted_more : (before after : ℕ → Type 0) (words : List (List ℕ)) (n count used end more : ℕ) (w : List ℕ) (os : List (List ℕ)) (P : Group → Type 0)
     → ((i : ℕ) → i < length words → length (get_or words i []) ≡ 8) → drop n words ≡ w ∷ os → os ≡ drop (n + 1) words
     → (k : ℕ) × (count ≡ 1 + k) × (g : Group) × IsGroupOf w os k g × P g → GrantsTo before (drop n words) used more
-    → ((group : Group) (k others : ℕ) → IsGroupOf w os k group → before (used + (length (group_text group) + others)) → after (end + others))
+    → ((group : Group) (k others : ℕ) → IsGroupOf w os k group → before (used + (length (group_encoding group) + others)) → after (end + others))
     → GrantsTo after (drop (n + count) words) end more
 granted_more before after words n count used end more w os P each front others (k, counted, g, made, handed) granted step =
     let (rest, left, given) = granted_group before words n used k more w os g (each_word words each) front made granted in

@@ -6,11 +6,11 @@ use Rattle.std.proofs.lemmas.List.Folds.{concat-append}
 use Rattle.std.specs.List.{concat, AllByRecursion}
 use Rattle.capnp_frame.specs.Source.{IfKnown, ReturnsPart}
 use Rattle.capnp_frame.proofs.SourceLemmas.{IfKnown-join, IfKnown-weaker}
-use Rattle.capnp_pack.specs.Group.{Group, zeros, IsGroup, zero_word, group_text, group_words}
+use Rattle.capnp_pack.specs.Group.{Group, zeros, IsGroup, zero_word, group_encoding, group_words}
 use Rattle.capnp_pack.specs.Chunk.{text_of, words_of_groups}
 use Rattle.capnp_pack.specs.PackedSource.{Unpacks, MeetsFault}
 use Rattle.capnp_pack.specs.Steps.{GroupAt, TakesGroups}
-use Rattle.capnp_pack.proofs.TakenLemmas.{group_taken}
+use Rattle.capnp_pack.proofs.ProgressLemmas.{group_taken}
 use Rattle.capnp_pack.specs.UnpackingLaws.{group_len, same_group}
 use Rattle.capnp_pack.specs.RefusingLaws.{fault_later, fault_after}
 
@@ -20,14 +20,14 @@ group_takes n tag bytes raw left at fits =
     let g = at.0 in
     record {
       joins = λ more rest h. (
-        group_text g ++ h.0,
+        group_encoding g ++ h.0,
         record {
           groups = g ∷ h.1.groups;
           each = (at.1, h.1.each);
-          spelled = ap (λ l. group_text g ++ l) h.1.spelled;
+          spelled = ap (λ l. group_encoding g ++ l) h.1.spelled;
           unpacked = ap (λ l. l ++ more) at.2 ∙ ap (λ l. concat (group_words g) ++ l) h.1.unpacked ∙ sym (concat-append (group_words g) (words_of_groups h.1.groups));
         },
-        at.3 ∙ ap (λ l. group_text g ++ l) h.2 ∙ sym (append_assoc (group_text g) h.0 rest),
+        at.3 ∙ ap (λ l. group_encoding g ++ l) h.2 ∙ sym (append_assoc (group_encoding g) h.0 rest),
         length-append bytes more ∙ add_left bytes more n fits h.3,
       );
       refusals = λ kind. (
@@ -40,11 +40,11 @@ group_takes n tag bytes raw left at fits =
     add_left : (bytes more : List ℕ) (n : ℕ) → length bytes ≤ n → length more ≡ n - length bytes → length bytes + length more ≡ n
     add_left bytes more n fits e = omega arith
 
-    split : (gs : List Group) (all rest : List ℕ) → AllByRecursion IsGroup gs → group_text at.0 ++ left ≡ text_of gs ++ rest →
+    split : (gs : List Group) (all rest : List ℕ) → AllByRecursion IsGroup gs → group_encoding at.0 ++ left ≡ text_of gs ++ rest →
         all ≡ concat (words_of_groups gs) → length all ≡ n → (more : List ℕ) × (all ≡ bytes ++ more) × Unpacks left (n - length bytes) more rest
     split [] all rest each e unpacked len = let long = group_len at.0 at.1 in absurd (omega (arith, ap length at.2, long.1, ap length unpacked))
     split (k ∷ ks) all rest each e unpacked len =
-        let same = same_group at.0 k left (text_of ks ++ rest) at.1 each.0 (e ∙ append_assoc (group_text k) (text_of ks) rest) in
+        let same = same_group at.0 k left (text_of ks ++ rest) at.1 each.0 (e ∙ append_assoc (group_encoding k) (text_of ks) rest) in
         let parts : all ≡ bytes ++ concat (words_of_groups ks) = unpacked ∙ concat-append (group_words k) (words_of_groups ks) ∙ ap (λ l. l ++ concat (words_of_groups ks)) (sym same.0 ∙ sym at.2) in (
           concat (words_of_groups ks),
           parts,

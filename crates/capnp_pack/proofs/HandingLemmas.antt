@@ -18,7 +18,7 @@ pub Hands-join : (appends : Appending) (old s mid t new x y z : List ℕ) → Ha
 Hands-join appends old s mid t new x y z p q = record {
   parts = p.parts ++ q.parts;
   handed = p.handed ++ q.handed;
-  told = AppendsAll-append appends p.parts q.parts p.handed q.handed p.told q.told;
+  declared = AppendsAll-append appends p.parts q.parts p.handed q.handed p.declared q.declared;
   added = q.added ∙ ap (λ l. l ++ q.handed) p.added ∙ append_assoc x p.handed q.handed;
   kept = sym (append_assoc old s t) ∙ ap (λ l. l ++ t) p.kept ∙ append_assoc (concat p.parts) mid t ∙ ap (λ l. concat p.parts ++ l) q.kept
       ∙ sym (append_assoc (concat p.parts) (concat q.parts) new) ∙ ap (λ l. l ++ new) (sym (concat-append p.parts q.parts));
@@ -26,7 +26,7 @@ Hands-join appends old s mid t new x y z p q = record {
 
 -- bytes that the buffer takes
 pub Hands-none : (appends : Appending) (old text new x : List ℕ) → new ≡ old ++ text → Hands appends old text new x x
-Hands-none appends old text new x e = record { parts = []; handed = []; told = refl; added = sym (append-nil x); kept = sym e }
+Hands-none appends old text new x e = record { parts = []; handed = []; declared = refl; added = sym (append-nil x); kept = sym e }
 
 -- nothing, of what the buffer holds
 pub Hands-same : (appends : Appending) (old : List ℕ) (a : Option (List ℕ)) → IfKnown a a (Hands appends old [] old)
@@ -38,7 +38,7 @@ pub Hands-one : (appends : Appending) (old text chunk x y : List ℕ) → old ++
 Hands-one appends old text chunk x y e added = record {
   parts = chunk ∷ [];
   handed = added.0;
-  told = (added.0, [], added.1, refl, sym (append-nil added.0));
+  declared = (added.0, [], added.1, refl, sym (append-nil added.0));
   added = added.2;
   kept = e ∙ sym (append-nil chunk) ∙ sym (append-nil (chunk ++ []));
 }
@@ -55,7 +55,7 @@ IfKnown-literal appends count old pushed left flat words a b c push none all flu
     let chunk : Hands appends left (concat words) [] y z = Hands-one appends left (concat words) flat y z (ap (λ l. l ++ concat words) none ∙ concat_is words ∙ sym all) q in
     subst (λ l. Hands appends old (count ∷ concat words) l x z) (sym none) (Hands-join appends old (count ∷ []) left (concat words) [] x y z first chunk)) flushed added
 
--- what a sink refuses
+-- what a sink rejects
 pub declines_any : (F : Type 0) (refuses : Declining) (part : List ℕ) (kind : ErrorKind) → F ⊎ refuses part kind → F ⊎ DeclinesAny refuses kind
 declines_any F refuses part kind (inl failed) = inl failed
 declines_any F refuses part kind (inr refused) = inr (part, refused)

@@ -25,7 +25,7 @@ marks_lanes n w is few = bitmask_splat w8 (λ a b. not (eqb a b)) w n 0 is few �
 pub zeros_lanes : (n : ℕ) (w : List ℕ) → length w ≡ n → n ≤ 64 → count_ones (mask_l (map (top 7) (zip2 (λ a b. cond (eqb a b) 255 0) w (replicate n 0))) % 2 ^ 64) ≡ zero_bytes w
 zeros_lanes n w is few = ap count_ones (bitmask_splat w8 eqb w n 0 is few) ∙ ones-mask_l (λ x. eqb x 0) w
 
--- the lowest mark stands after the zeros at the front
+-- the lowest mark is after the zeros at the front
 pub trailing_tag : (bytes : List ℕ) → length bytes ≡ 64 → 0 < tag_of bytes → count_trailing_zeros 64 (tag_of bytes) ≡ prefix_len (λ x. not (not (eqb x 0))) bytes
 trailing_tag bytes long some = ap (count_trailing_zeros 64) (sym (mask_tag bytes))
     ∙ trailing_mask_l (λ x. not (eqb x 0)) 64 bytes (omega (arith, long)) (subst (λ n. 0 < n) (sym (mask_tag bytes)) some)

@@ -8,7 +8,7 @@ use Rattle.capnp_frame.specs.Source.{IfKnown}
 use Rattle.capnp_frame.specs.Sink.{Appending, Leaving, Adds}
 use Rattle.capnp_frame.proofs.SourceLemmas.{IfKnown-join, IfKnown-weaker}
 use Rattle.capnp_frame.proofs.SinkLemmas.{left_front, left_after}
-use Rattle.capnp_pack.specs.Group.{literal, IsWord, group_text}
+use Rattle.capnp_pack.specs.Group.{literal, IsWord, group_encoding}
 use Rattle.capnp_pack.specs.Packed.{Packs}
 use Rattle.capnp_pack.specs.PackedSink.{LeavesPacked}
 use Rattle.capnp_pack.specs.Steps.{HasFewZeros, IsRun, Hands, LeavesParts, LiteralAfter, GroupAfter, tag_of}
@@ -44,7 +44,7 @@ parts_after appends leaves old text new more x y z h (left, (parts, joined, stop
   (
     h.parts ++ parts,
     concat-append h.parts parts ∙ ap (λ l. concat h.parts ++ l) joined ∙ sym (append_assoc (concat h.parts) new more) ∙ ap (λ l. l ++ more) (sym h.kept),
-    left_after appends leaves h.parts parts h.handed left h.told stopped,
+    left_after appends leaves h.parts parts h.handed left h.declared stopped,
   ),
   added ∙ ap (λ l. l ++ left) h.added ∙ append_assoc x h.handed left,
 )
@@ -83,7 +83,7 @@ left_words appends leaves count old pushed flat others a b c run push all handed
 
 -- A group
 
--- it is one of words that go as they stand
+-- it is one of words that go as they are
 pub left_literal : (appends : Appending) (leaves : Leaving) (word : List ℕ) (os : List (List ℕ)) (old roomy filled : List ℕ) (a b c : Option (List ℕ))
     → IsWord word → AllByRecursion IsWord os → tag_of word ≡ 255 → filled ≡ roomy ++ 255 ∷ word → IfKnown a b (Hands appends old [] roomy)
     → (text : List ℕ) × LiteralAfter filled os text × IfKnown b c (Adds (LeavesParts appends leaves text))
@@ -92,12 +92,12 @@ left_literal appends leaves word os old roomy filled a b c is all full fill room
     let further = take count os in
     let long : length further ≡ count = length-take-le count os run.within in
     let group = literal word further in
-    let text_is : text ≡ roomy ++ group_text group = spelled ∙ ap (λ k. filled ++ k ∷ concat further) (sym long)
+    let text_is : text ≡ roomy ++ group_encoding group = spelled ∙ ap (λ k. filled ++ k ∷ concat further) (sym long)
     ∙ ap (λ l. l ++ length further ∷ concat further) fill ∙ append_assoc roomy (255 ∷ word) (length further ∷ concat further) in (
-      old ++ group_text group,
+      old ++ group_encoding group,
       (count, group, IsGroupOf-literal word os count is all full run, refl),
-      left_after_handed appends leaves old [] roomy (group_text group) (old ++ group_text group) a b c
-          (ap (λ l. l ++ group_text group) (sym (append-nil old))) roomed
+      left_after_handed appends leaves old [] roomy (group_encoding group) (old ++ group_encoding group) a b c
+          (ap (λ l. l ++ group_encoding group) (sym (append-nil old))) roomed
           (subst (λ l. IfKnown b c (Adds (LeavesParts appends leaves l))) text_is left),
     )
 
@@ -108,8 +108,8 @@ pub left_buffer : (appends : Appending) (leaves : Leaving) (words : List (List �
     → ((i : ℕ) → i < length words → length (get_or words i []) ≡ 8) → ((text : List ℕ) × PacksTo words text (drop n words) × (buffer ≡ old ++ text))
     → (s : List ℕ) × (s ≡ buffer) × IfKnown a b (Adds (LeavesParts appends leaves s))
     → (whole : List ℕ) × RestAfter old words whole × IfKnown a b (Adds (LeavesParts appends leaves whole))
-left_buffer appends leaves words n old buffer a b told (text, to, is) (s, same, left) =
-    let (rest, packs) = PacksWords-some (drop n words) (AllByRecursion-drop IsWord n words (each_word words told)) in
+left_buffer appends leaves words n old buffer a b declared (text, to, is) (s, same, left) =
+    let (rest, packs) = PacksWords-some (drop n words) (AllByRecursion-drop IsWord n words (each_word words declared)) in
     let whole : old ++ (text ++ rest) ≡ s ++ rest = sym (append_assoc old text rest) ∙ ap (λ l. l ++ rest) (sym (same ∙ is)) in
     (old ++ (text ++ rest), (text ++ rest, to rest packs, refl), left_longer appends leaves s rest (old ++ (text ++ rest)) a b whole left)
 
@@ -118,13 +118,13 @@ pub left_group : (appends : Appending) (leaves : Leaving) (words : List (List �
     → ((i : ℕ) → i < length words → length (get_or words i []) ≡ 8) → drop n words ≡ w ∷ os → ((text : List ℕ) × PacksTo words text (drop n words) × (buffer ≡ old ++ text))
     → (s : List ℕ) × GroupAfter buffer w os s × IfKnown a b (Adds (LeavesParts appends leaves s))
     → (whole : List ℕ) × RestAfter old words whole × IfKnown a b (Adds (LeavesParts appends leaves whole))
-left_group appends leaves words n w os old buffer a b told front (text, to, is) (s, (count, group, made, spelled), left) =
-    let each : AllByRecursion IsWord (w ∷ os) = subst (AllByRecursion IsWord) front (AllByRecursion-drop IsWord n words (each_word words told)) in
+left_group appends leaves words n w os old buffer a b declared front (text, to, is) (s, (count, group, made, spelled), left) =
+    let each : AllByRecursion IsWord (w ∷ os) = subst (AllByRecursion IsWord) front (AllByRecursion-drop IsWord n words (each_word words declared)) in
     let (more, others) = PacksWords-some (drop count os) (AllByRecursion-drop IsWord count os each.1) in
-    let rest = group_text group ++ more in
+    let rest = group_encoding group ++ more in
     let packs : PacksWords (drop n words) rest = subst (λ l. PacksWords l rest) (sym front) (PacksWords-more w os count group more made others) in
     let whole : old ++ (text ++ rest) ≡ s ++ more = sym (append_assoc old text rest) ∙ ap (λ l. l ++ rest) (sym is)
-    ∙ sym (append_assoc buffer (group_text group) more) ∙ ap (λ l. l ++ more) (sym spelled) in
+    ∙ sym (append_assoc buffer (group_encoding group) more) ∙ ap (λ l. l ++ more) (sym spelled) in
     (old ++ (text ++ rest), (text ++ rest, to rest packs, refl), left_longer appends leaves s more (old ++ (text ++ rest)) a b whole left)
 
 -- A chunk

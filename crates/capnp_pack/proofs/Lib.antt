@@ -9,14 +9,14 @@ pub mod WordGroups
 pub mod UnpackedLemmas
 pub mod TableRows
 pub mod PlaceLemmas
-pub mod LoneLemmas
+pub mod SingleWordLemmas
 pub mod MarkLemmas
 pub mod FrontLemmas
 pub mod SizeLemmas
 pub mod RunFaults
 pub mod StoredLemmas
 pub mod LaneLemmas
-pub mod TakenLemmas
+pub mod ProgressLemmas
 pub mod OverrunLemmas
 pub mod LeavingLemmas
 pub mod GrantingLemmas
@@ -27,7 +27,7 @@ pub mod PackerGroups
 pub mod PackerLemmas
 pub mod SizeBound
 pub mod PackedFrameLemmas
-pub mod PackedTextLemmas
+pub mod PackedEncodingLemmas
 pub mod HandingLemmas
 pub mod PackingLemmas
 pub mod BufferedLemmas

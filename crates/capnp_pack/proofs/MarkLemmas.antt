@@ -12,7 +12,7 @@ use lib.Count.{ones, ones_step, ones-le}
 use mir.Val.{zeroes}
 use borrow.Rule.Simd.Moves.{SwzOk, swz_l}
 use Rattle.capnp_pack.proofs.TableRows.{rows, row_at}
-use Rattle.capnp_pack.specs.declared.marks.TheConstants.{MARKS}
+use Rattle.capnp_pack.specs.declared.compact_shuffle.TheConstants.{COMPACT_SHUFFLE}
 use Rattle.capnp_pack.specs.Group.{IsWord, marked}
 use Rattle.capnp_pack.specs.Steps.{tag_of, nonzero}
 use Rattle.capnp_pack.proofs.TagLemmas.{marked_tag, tag_below, top_word, tag_suc, nonzero_suc}
@@ -29,11 +29,11 @@ abbrev pub mark_row : ℕ → List ℕ
 mark_row tag = marks 8 0 tag ++ replicate (16 - length (marks 8 0 tag)) 128
 
 -- the table has each tag's row
-table : MARKS ≡ rows mark_row 0 256
+table : COMPACT_SHUFFLE ≡ rows mark_row 0 256
 table = refl
 
-pub mark_row_of : (tag : ℕ) (none : List ℕ) → tag < 256 → get_or MARKS tag none ≡ mark_row tag
-mark_row_of tag none low = row_at mark_row MARKS tag none table low
+pub mark_row_of : (tag : ℕ) (none : List ℕ) → tag < 256 → get_or COMPACT_SHUFFLE tag none ≡ mark_row tag
+mark_row_of tag none low = row_at mark_row COMPACT_SHUFFLE tag none table low
 
 fillers_ok : (m : ℕ) → Each1 IsPlace (replicate m 128)
 fillers_ok zero = tt

@@ -1,4 +1,4 @@
--- What the requests of a message say of its packed text.
+-- What the requests of a message say of its packed encoding.
 use Rattle.std.proofs.Common.{◌≡◌, ◌++◌, ℕ, Option, Some, None, IfSome, Result, Ok, Err, IfOk, List}
 use Rattle.capnp_frame.specs.declared.error.Error.{Error}
 use Rattle.capnp_frame.specs.declared.serialize.segment_table.Padding.{Padding}
@@ -15,7 +15,7 @@ use Rattle.capnp_pack.specs.PackedSource.{Unpacks}
 use Rattle.capnp_pack.specs.RefusingLaws.{unpacking}
 use Rattle.capnp_pack.proofs.PackedFrameLemmas.{packed_requests}
 
--- the engine over a packed source, in packed texts
+-- the engine over a packed source, in packed encodings
 pub found_packed : (rule : Padding) (r : Result (Option (List (List ℕ))) Error) (old new : Option (List ℕ))
     → IfOk r (λ found. IfSome found (λ segments. IfKnown old new (MessageStands rule Unpacks segments)))
     → IfOk r (λ found. IfSome found (λ segments. IfKnown old new (PackedStands rule segments)))
@@ -29,7 +29,7 @@ pub accepted_packed : (rule : Padding) (limit : Option ℕ) (F : List (List ℕ)
 accepted_packed rule limit F None accepted = tt
 accepted_packed rule limit F (Some raw) accepted = λ m rest stands within. accepted m rest ((packed_requests rule m raw rest).1 stands) within
 
--- a packed text by a rule is one of any padding
+-- a packed encoding by a rule is one of any padding
 any_packed : {rule : Padding} (text : List ℕ) (segments : List (List ℕ)) → IsPackedFrame rule text segments → IsPackedFrame Any text segments
 any_packed text segments frame = record {
   first = frame.first;
@@ -39,14 +39,14 @@ any_packed text segments frame = record {
   whole = frame.whole;
   first_text = frame.first_text;
   others_text = frame.others_text;
-  segments_text = frame.segments_text;
+  segments_encoding = frame.segments_encoding;
   first_packed = frame.first_packed;
   others_packed = frame.others_packed;
   segments_packed = frame.segments_packed;
   spelled = frame.spelled;
 }
 
--- no packed text begins a different one
+-- no packed encoding begins a different one
 pub packed_frames_part : (rule also : Padding) (text other rest left : List ℕ) (segments others : List (List ℕ))
     → IsPackedFrame rule text segments → IsPackedFrame also other others → text ++ rest ≡ other ++ left
     → (text ≡ other) × (segments ≡ others) × (rest ≡ left)

@@ -7,10 +7,10 @@ use Rattle.capnp_frame.specs.declared.error.ErrorKind.{ErrorKind}
 use Rattle.capnp_frame.specs.declared.error.ErrorKind.TheVariants.{DeviceFailed, PackedInputDidNotEndCleanlyOnASegmentBoundary}
 use Rattle.capnp_frame.specs.Source.{IfKnown, IsRefused, RunsShort}
 use Rattle.capnp_frame.proofs.SourceLemmas.{IfKnown-join, IfKnown-weaker}
-use Rattle.capnp_pack.specs.Group.{IsGroup, zeros, literal, IsWord, group_text, group_words, marked, zero_word}
+use Rattle.capnp_pack.specs.Group.{IsGroup, zeros, literal, IsWord, group_encoding, group_words, marked, zero_word}
 use Rattle.capnp_pack.specs.Chunk.{text_of, words_of_groups}
-use Rattle.capnp_pack.specs.PackedSource.{LeavesOverrun, head_text}
-use Rattle.capnp_pack.specs.Steps.{HasTaken, HeadOver, CountOver, MarkedAt, Lacks}
+use Rattle.capnp_pack.specs.PackedSource.{LeavesOverrun, head_encoding}
+use Rattle.capnp_pack.specs.Steps.{HasProgress, HeadOver, CountOver, MarkedAt, Lacks}
 use Rattle.capnp_pack.proofs.AllLemmas.{AllByRecursion-append}
 use Rattle.capnp_pack.proofs.FaultLemmas.{literal_head, literal_size, zeros_size}
 use Rattle.capnp_pack.proofs.WordLemmas.{full_word}
@@ -71,14 +71,14 @@ first_over n tag a b c some = IfKnown-join a b c (λ x y z at (group, is, long, 
 })
 
 -- those that are taken
-pub over_after : (n k m : ℕ) (a b c : Option (List ℕ)) → n ≡ k + m → IfKnown a b (HasTaken k) → IfKnown b c (LeavesOverrun m) → IfKnown a c (LeavesOverrun n)
+pub over_after : (n k m : ℕ) (a b c : Option (List ℕ)) → n ≡ k + m → IfKnown a b (HasProgress k) → IfKnown b c (LeavesOverrun m) → IfKnown a c (LeavesOverrun n)
 over_after n k m a b c both = IfKnown-join a b c (λ x y z (groups, each, spelled, counted) over.
     let words : length (concat (words_of_groups (groups ++ over.groups))) ≡ k + length (concat (words_of_groups over.groups)) =
     ap (λ l. length (concat l)) (flat_map-append group_words groups over.groups) ∙ ap length (concat-append (words_of_groups groups) (words_of_groups over.groups))
     ∙ length-append (concat (words_of_groups groups)) (concat (words_of_groups over.groups)) ∙ ap (λ j. j + length (concat (words_of_groups over.groups))) counted in
-    let head = head_text over.group ++ z in
+    let head = head_encoding over.group ++ z in
     let joined : text_of groups ++ (text_of over.groups ++ head) ≡ text_of (groups ++ over.groups) ++ head =
-    sym (append_assoc (text_of groups) (text_of over.groups) head) ∙ ap (λ l. l ++ head) (sym (flat_map-append group_text groups over.groups)) in
+    sym (append_assoc (text_of groups) (text_of over.groups) head) ∙ ap (λ l. l ++ head) (sym (flat_map-append group_encoding groups over.groups)) in
     let fewer = over.fewer in
     let long = over.long in
     record {

@@ -12,10 +12,10 @@ use Rattle.capnp_frame.specs.Requests.{MessageStands}
 use Rattle.capnp_frame.specs.Sink.{AppendsAll}
 use Rattle.capnp_frame.proofs.TableLemmas.{length-fields, zero_table}
 use Rattle.capnp_frame.proofs.FrameLemmas.{zero_padded_is, length-table, length-segments}
-use Rattle.capnp_pack.specs.Group.{IsGroup, group_text, group_words}
+use Rattle.capnp_pack.specs.Group.{IsGroup, group_encoding, group_words}
 use Rattle.capnp_pack.specs.Chunk.{IsChunk, text_of, words_of_groups}
 use Rattle.capnp_pack.specs.Packed.{Packs}
-use Rattle.capnp_pack.specs.PackedFrame.{IsPackedFrame, IsPackedText}
+use Rattle.capnp_pack.specs.PackedFrame.{IsPackedFrame, IsPackedEncoding}
 use Rattle.capnp_pack.specs.PackedSource.{Unpacks}
 use Rattle.capnp_pack.proofs.AllLemmas.{AllByRecursion-append}
 use Rattle.capnp_pack.proofs.PackerLemmas.{Packs-some, Packs-whole}
@@ -36,7 +36,7 @@ frame_from_requests raw rest segments stands =
         whole = stands.whole;
         first_text = first.0;
         others_text = others.0;
-        segments_text = all.0;
+        segments_encoding = all.0;
         first_packed = first.1;
         others_packed = others.1;
         segments_packed = all.1;
@@ -52,7 +52,7 @@ MessageStands-from_packed text rest segments frame =
     let one = frame.one_word in
     let a = frame.first_text in
     let b = frame.others_text in
-    let c = frame.segments_text in
+    let c = frame.segments_encoding in
     record {
       between = c ++ rest;
       table = record {
@@ -73,7 +73,7 @@ packed_requests rule segments raw rest = (
   λ (text, frame, e). subst (λ l. MessageStands rule Unpacks segments l rest) (sym e) (MessageStands-from_packed text rest segments frame),
 )
 
--- what is written is a packed text of the message
+-- what is written is a packed encoding of the message
 
 packed_chunk : (bytes text : List ℕ) → Packs bytes text → IsChunk text bytes
 packed_chunk bytes text p = record { groups = p.groups; each = p.each; spelled = p.spelled; unpacked = p.unpacked }
@@ -82,7 +82,7 @@ IsChunk-join : (s t a b : List ℕ) → IsChunk s a → IsChunk t b → IsChunk 
 IsChunk-join s t a b p q = record {
   groups = p.groups ++ q.groups;
   each = AllByRecursion-append IsGroup p.groups q.groups p.each q.each;
-  spelled = ap (λ l. l ++ t) p.spelled ∙ ap (λ l. text_of p.groups ++ l) q.spelled ∙ sym (flat_map-append group_text p.groups q.groups);
+  spelled = ap (λ l. l ++ t) p.spelled ∙ ap (λ l. text_of p.groups ++ l) q.spelled ∙ sym (flat_map-append group_encoding p.groups q.groups);
   unpacked = ap (λ l. l ++ b) p.unpacked ∙ ap (λ l. concat (words_of_groups p.groups) ++ l) q.unpacked
       ∙ sym (concat-append (words_of_groups p.groups) (words_of_groups q.groups)) ∙ ap concat (sym (flat_map-append group_words p.groups q.groups));
 }
@@ -93,13 +93,13 @@ chunks_join (s ∷ ss) text (first, others, packed, more, e) =
     let rest = chunks_join ss others more in
     (subst (λ l. IsChunk l (s ++ concat ss)) (sym e) (IsChunk-join first others s (concat ss) (packed_chunk s first packed) rest.0), (Packs-whole s first packed, rest.1))
 
-pub packed_text_is : (rule : Padding) (text : List ℕ) (segments : List (List ℕ)) → HasTable (lengths segments) → IsPackedText text segments → IsPackedFrame rule text segments
+pub packed_text_is : (rule : Padding) (text : List ℕ) (segments : List (List ℕ)) → HasTable (lengths segments) → IsPackedEncoding text segments → IsPackedFrame rule text segments
 packed_text_is rule text segments can packed =
     let head = zero_padded_table (lengths segments) in
     let table = zero_padded_is rule (lengths segments) can in
     let long = length-table head (lengths segments) table in
     let whole : take 8 head ++ drop 8 head ≡ head = take-append-drop 8 head in
-    let body = chunks_join segments packed.segments_text packed.each_packed in
+    let body = chunks_join segments packed.segments_encoding packed.each_packed in
     record {
       first = take 8 head;
       others = drop 8 head;
@@ -108,7 +108,7 @@ packed_text_is rule text segments can packed =
       whole = body.1;
       first_text = packed.first_text;
       others_text = packed.others_text;
-      segments_text = packed.segments_text;
+      segments_encoding = packed.segments_encoding;
       first_packed = packed_chunk (take 8 head) packed.first_text packed.first_packed;
       others_packed = packed_chunk (drop 8 head) packed.others_text packed.others_packed;
       segments_packed = body.0;
@@ -138,7 +138,7 @@ length-zero_padded ns = omega (
   length-replicate {A = ℕ} (padding_len ns) 0,
 )
 
-pub packed_text_some : (segments : List (List ℕ)) → AllByRecursion IsWholeWords segments → (text : List ℕ) × IsPackedText text segments
+pub packed_text_some : (segments : List (List ℕ)) → AllByRecursion IsWholeWords segments → (text : List ℕ) × IsPackedEncoding text segments
 packed_text_some segments whole =
     let head = zero_padded_table (lengths segments) in
     let long = length-zero_padded (lengths segments) in
@@ -146,5 +146,5 @@ packed_text_some segments whole =
     let others : (text : List ℕ) × Packs (drop 8 head) text = Packs-some (drop 8 head) (ap (λ k. k % 8) (length-drop 8 head) ∙ omega arith) in
     let body : (text : List ℕ) × AppendsAll Packs segments text = all_packed segments whole in (
       first.0 ++ others.0 ++ body.0,
-      record { first_text = first.0; others_text = others.0; segments_text = body.0; first_packed = first.1; others_packed = others.1; each_packed = body.1; spelled = refl },
+      record { first_text = first.0; others_text = others.0; segments_encoding = body.0; first_packed = first.1; others_packed = others.1; each_packed = body.1; spelled = refl },
     )

@@ -1,4 +1,4 @@
--- The engine's readers over a packed source, in packed texts.
+-- The engine's readers over a packed source, in packed encodings.
 use Rattle.std.proofs.Common.{◌≡◌, ◌⊎◌, ℕ, ◌+◌, ◌*◌, ◌≤◌, ap, Option, Result, IfErr, List, length}
 use Rattle.capnp_frame.specs.declared.error.Error.{Error}
 use Rattle.capnp_frame.specs.declared.error.ErrorKind.TheVariants.{DeviceFailed, OutOfMemory}
@@ -25,36 +25,36 @@ pub packed_reads : {S T : Type 0} (rule : Padding) (following : T → S) (source
     (limit : Option ℕ) (r : Result (Option (List (List ℕ))) Error) → source.same (following old) (following new)
     → ReadsStream (unpacked following source same) old new (framed_rules rule Unpacks RefusesChunk) limit r
     → ReadsStream source (following old) (following new) (packed_rules rule) limit r
-packed_reads rule following source same old new limit r same_source told = record {
-  found = found_packed rule r _ _ told.found;
-  within = told.within;
-  whole = told.whole;
-  none = told.none;
-  accepted = accepted_packed rule limit (λ m. IfErr r (λ error. (error.kind ≡ DeviceFailed) ⊎ (error.kind ≡ OutOfMemory))) _ told.accepted;
-  end = told.end;
-  refused = told.refused;
-  exact = told.exact;
-  kinds = told.kinds;
-  failed = told.failed;
-  advances = record { tail = told.advances.tail; counted = told.advances.counted; same_source = same_source };
+packed_reads rule following source same old new limit r same_source declared = record {
+  found = found_packed rule r _ _ declared.found;
+  within = declared.within;
+  whole = declared.whole;
+  none = declared.none;
+  accepted = accepted_packed rule limit (λ m. IfErr r (λ error. (error.kind ≡ DeviceFailed) ⊎ (error.kind ≡ OutOfMemory))) _ declared.accepted;
+  end = declared.end;
+  refused = declared.refused;
+  exact = declared.exact;
+  kinds = declared.kinds;
+  failed = declared.failed;
+  advances = record { tail = declared.advances.tail; counted = declared.advances.counted; same_source = same_source };
 }
 
 pub packed_reads_into : {S T : Type 0} (rule : Padding) (following : T → S) (source : Ghosts S) (same : T → T → Type 0) (old new : T)
     (limit : Option ℕ) (room : ℕ) (r : Result (Option (List (List ℕ))) Error) → source.same (following old) (following new)
     → ReadsStreamInto (unpacked following source same) old new (framed_rules rule Unpacks RefusesChunk) limit room r
     → ReadsStreamInto source (following old) (following new) (packed_rules rule) limit room r
-packed_reads_into rule following source same old new limit room r same_source told = record {
-  found = found_packed rule r _ _ told.found;
-  within = told.within;
-  whole = told.whole;
-  none = told.none;
+packed_reads_into rule following source same old new limit room r same_source declared = record {
+  found = found_packed rule r _ _ declared.found;
+  within = declared.within;
+  whole = declared.whole;
+  none = declared.none;
   accepted = accepted_packed rule limit (λ m. table_size (length m) + 8 * size_in_words m ≤ room
-      → IfErr r (λ error. error.kind ≡ DeviceFailed)) _ told.accepted;
-  end = told.end;
-  short = λ few. (ap following (told.short few).0, (told.short few).1);
-  refused = told.refused;
-  exact = told.exact;
-  kinds = told.kinds;
-  failed = told.failed;
-  advances = record { tail = told.advances.tail; counted = told.advances.counted; same_source = same_source };
+      → IfErr r (λ error. error.kind ≡ DeviceFailed)) _ declared.accepted;
+  end = declared.end;
+  short = λ few. (ap following (declared.short few).0, (declared.short few).1);
+  refused = declared.refused;
+  exact = declared.exact;
+  kinds = declared.kinds;
+  failed = declared.failed;
+  advances = record { tail = declared.advances.tail; counted = declared.advances.counted; same_source = same_source };
 }

@@ -4,7 +4,7 @@ use Rattle.std.specs.List.{concat, AllByRecursion}
 use Rattle.std.specs.Simd.{first_chunks}
 use Rattle.std.proofs.lemmas.List.{length-drop, take-append-drop, take_at, drop_at}
 use Rattle.capnp_frame.specs.SplittingLaws.{same_front}
-use Rattle.capnp_pack.specs.Group.{Group, tagged, zeros, literal, IsGroup, IsWord, zero_word, group_text, group_words}
+use Rattle.capnp_pack.specs.Group.{Group, tagged, zeros, literal, IsGroup, IsWord, zero_word, group_encoding, group_words}
 use Rattle.capnp_pack.specs.Chunk.{text_of, words_of_groups}
 use Rattle.capnp_pack.specs.Packed.{Packs, IsLongest, AreLongest}
 use Rattle.capnp_pack.specs.Steps.{IsGroupOf}
@@ -15,12 +15,12 @@ use Rattle.capnp_pack.proofs.AllLemmas.{AllByRecursion-append, AllByRecursion-dr
 use Rattle.capnp_pack.proofs.PackerGroups.{IsGroupOf-some, IsGroupOf-once, first_is}
 use Rattle.capnp_pack.proofs.Chunks.{chunks_whole}
 
-pub PacksWords-more : (w : List ℕ) (os : List (List ℕ)) (n : ℕ) (g : Group) (text : List ℕ) → IsGroupOf w os n g → PacksWords (drop n os) text → PacksWords (w ∷ os) (group_text g ++ text)
+pub PacksWords-more : (w : List ℕ) (os : List (List ℕ)) (n : ℕ) (g : Group) (text : List ℕ) → IsGroupOf w os n g → PacksWords (drop n os) text → PacksWords (w ∷ os) (group_encoding g ++ text)
 PacksWords-more w os n g text made p = record {
   groups = g ∷ p.groups;
   each = (made.is, p.each);
   longest = (subst (IsLongest g) (sym p.unpacked) made.longest, p.longest);
-  spelled = ap (λ l. group_text g ++ l) p.spelled;
+  spelled = ap (λ l. group_encoding g ++ l) p.spelled;
   unpacked = ap (λ l. group_words g ++ l) p.unpacked ∙ ap (λ l. l ++ drop n os) made.words ∙ ap (λ l. w ∷ l) (take-append-drop n os);
 }
 
@@ -33,9 +33,9 @@ PacksWords-fuel zero (w ∷ ws) short all = absurd (omega arith)
 PacksWords-fuel (suc fuel) (w ∷ ws) short all =
     let made : (n : ℕ) × ((g : Group) × IsGroupOf w ws n g) = IsGroupOf-some w ws all.0 all.1 in
     let left : (text : List ℕ) × PacksWords (drop made.0 ws) text = PacksWords-fuel fuel (drop made.0 ws) (omega (arith, length-drop made.0 ws)) (AllByRecursion-drop IsWord made.0 ws all.1) in
-    (group_text made.1.0 ++ left.0, PacksWords-more w ws made.0 made.1.0 left.0 made.1.1 left.1)
+    (group_encoding made.1.0 ++ left.0, PacksWords-more w ws made.0 made.1.0 left.0 made.1.1 left.1)
 
--- there is a packed text
+-- there is a packed encoding
 pub PacksWords-some : (ws : List (List ℕ)) → AllByRecursion IsWord ws → (text : List ℕ) × PacksWords ws text
 PacksWords-some ws all = PacksWords-fuel (length ws) ws (omega arith) all
 

@@ -6,7 +6,7 @@ use Rattle.capnp_frame.specs.Source.{IfKnown}
 use Rattle.capnp_frame.specs.Sink.{Appending, Adds}
 use Rattle.capnp_frame.proofs.SourceLemmas.{IfKnown-join, IfKnown-weaker}
 use Rattle.capnp_frame.specs.declared.error.Error.{Error}
-use Rattle.capnp_pack.specs.Group.{Group, tagged, zeros, literal, IsWord, group_text, zero_bytes, zero_word}
+use Rattle.capnp_pack.specs.Group.{Group, tagged, zeros, literal, IsWord, group_encoding, zero_bytes, zero_word}
 use Rattle.capnp_pack.specs.Packed.{IfFirst, Packs}
 use Rattle.capnp_pack.specs.PackedSink.{AppendsPacked}
 use Rattle.capnp_pack.specs.Steps.{IsZero, HasFewZeros, tag_of, nonzero, IsRun, IsGroupOf, EndsGroup, Hands}
@@ -55,7 +55,7 @@ ends_tagged word os tag filled is tagged_by some low = (
 pub filled_by : (word : List ℕ) (tag : ℕ) (roomy filled : List ℕ) → tag ≡ tag_of word → filled ≡ roomy ++ tag ∷ nonzero word → filled ≡ roomy ++ tag_of word ∷ nonzero word
 filled_by word tag roomy filled tagged_by fill = fill ∙ ap (λ k. roomy ++ k ∷ nonzero word) tagged_by
 
--- the tag of a word that goes as it stands, and the word
+-- the tag of a word that goes as it is, and the word
 pub literal_front : (word : List ℕ) (tag : ℕ) (roomy filled : List ℕ) → IsWord word → tag ≡ tag_of word → tag ≡ 255
     → filled ≡ roomy ++ tag ∷ nonzero word → filled ≡ roomy ++ 255 ∷ word
 literal_front word tag roomy filled is tagged_by full fill =
@@ -68,7 +68,7 @@ pub made_literal : {X : Type 0} (words : X → ℕ) (new : X → List ℕ) (appe
     (r : Result X Error) → IsWord word → AllByRecursion IsWord os → tag_of word ≡ 255 → filled ≡ roomy ++ 255 ∷ word →
     IfKnown a b (Hands appends old [] roomy) → IfOk r (λ v. IsRun HasFewZeros os (words v)) →
     IfOk r (λ v. IfKnown b c (Hands appends filled (words v ∷ concat (take (words v) os)) (new v))) →
-    IfOk r (λ v. (g : Group) × IsGroupOf word os (words v) g × IfKnown a c (Hands appends old (group_text g) (new v)))
+    IfOk r (λ v. (g : Group) × IsGroupOf word os (words v) g × IfKnown a c (Hands appends old (group_encoding g) (new v)))
 made_literal words new appends word os old roomy filled a b c (Err e) is all full_tag fill roomed run handed = tt
 made_literal words new appends word os old roomy filled a b c (Ok v) is all full_tag fill roomed run handed =
     let first = buffered appends old roomy filled (255 ∷ word) a b fill roomed in
@@ -83,11 +83,11 @@ made_literal words new appends word os old roomy filled a b c (Ok v) is all full
 -- the whole chunk
 
 pub PacksTo-more : (words : List (List ℕ)) (text : List ℕ) (done next n : ℕ) (w : List ℕ) (os : List (List ℕ)) (g : Group) →
-    drop done words ≡ w ∷ os → drop n os ≡ drop next words → IsGroupOf w os n g → PacksTo words text (drop done words) → PacksTo words (text ++ group_text g) (drop next words)
+    drop done words ≡ w ∷ os → drop n os ≡ drop next words → IsGroupOf w os n g → PacksTo words text (drop done words) → PacksTo words (text ++ group_encoding g) (drop next words)
 PacksTo-more words text done next n w os g front left made to = λ more p.
-    let step : PacksWords (drop done words) (group_text g ++ more) =
-    subst (λ l. PacksWords l (group_text g ++ more)) (sym front) (PacksWords-more w os n g more made (subst (λ l. PacksWords l more) (sym left) p)) in
-    subst (PacksWords words) (sym (append_assoc text (group_text g) more)) (to (group_text g ++ more) step)
+    let step : PacksWords (drop done words) (group_encoding g ++ more) =
+    subst (λ l. PacksWords l (group_encoding g ++ more)) (sym front) (PacksWords-more w os n g more made (subst (λ l. PacksWords l more) (sym left) p)) in
+    subst (PacksWords words) (sym (append_assoc text (group_encoding g) more)) (to (group_encoding g ++ more) step)
 
 -- the words after one, as a slice of them
 pub other_words : (words : List (List ℕ)) (done : ℕ) → take (length words - (done + 1)) (drop (done + 1) words) ≡ drop (done + 1) words
@@ -109,13 +109,13 @@ words_after words done n os rest =
 pub packed_more : (appends : Appending) (words : List (List ℕ)) (done count : ℕ) (w : List ℕ) (os : List (List ℕ)) (old buffer new : List ℕ)
     (a b : Option (List ℕ)) → drop done words ≡ w ∷ os → os ≡ drop (done + 1) words
     → ((text : List ℕ) × PacksTo words text (drop done words) × (buffer ≡ old ++ text))
-    → (n : ℕ) × (count ≡ 1 + n) × (g : Group) × IsGroupOf w os n g × IfKnown a b (Hands appends buffer (group_text g) new)
+    → (n : ℕ) × (count ≡ 1 + n) × (g : Group) × IsGroupOf w os n g × IfKnown a b (Hands appends buffer (group_encoding g) new)
     → HandsTo appends words (drop (done + count) words) old new a b
 packed_more appends words done count w os old buffer new a b front rest (text, to, is) (n, counted, g, made, more) =
     let left : drop n os ≡ drop (done + count) words = words_after words done n os rest ∙ ap (λ k. drop (done + k) words) (sym counted) in (
-      text ++ group_text g,
+      text ++ group_encoding g,
       PacksTo-more words text done (done + count) n w os g front left made to,
-      IfKnown-weaker a b (λ x y p. Hands-join appends old text buffer (group_text g) new x x y (Hands-none appends old text buffer x is) p) more,
+      IfKnown-weaker a b (λ x y p. Hands-join appends old text buffer (group_encoding g) new x x y (Hands-none appends old text buffer x is) p) more,
     )
 
 -- the last bytes of a chunk
@@ -129,7 +129,7 @@ packed_all appends chunk words rest buffer left a b c whole over none (text, to,
     IfKnown-join a b c (λ x y z p q.
     let h = Hands-join appends [] text buffer [] left x y z p q in
     let parts : concat h.parts ≡ text = sym (h.kept ∙ ap (λ l. concat h.parts ++ l) none ∙ append-nil (concat h.parts)) ∙ append-nil text in
-    (h.handed, (h.parts, subst (Packs chunk) (sym parts) packed, h.told), h.added)) handed last
+    (h.handed, (h.parts, subst (Packs chunk) (sym parts) packed, h.declared), h.added)) handed last
 
 -- a run of no word
 pub run_of_none : (os : List (List ℕ)) → IfFirst os (λ word. IsZero word → ⊥) → IsRun IsZero os 0

@@ -13,7 +13,7 @@ use lib.Count.{ones, ones_step, ones-le}
 use mir.Val.{zeroes}
 use borrow.Rule.Simd.Moves.{SwzOk, swz_l}
 use Rattle.capnp_pack.proofs.TableRows.{rows, row_at}
-use Rattle.capnp_pack.specs.declared.places.TheConstants.{PLACES}
+use Rattle.capnp_pack.specs.declared.expand_shuffle.TheConstants.{EXPAND_SHUFFLE}
 use Rattle.capnp_pack.specs.Group.{marked}
 use Rattle.capnp_pack.specs.Steps.{MarkedAt}
 use Rattle.capnp_pack.proofs.WordLemmas.{byte_joins}
@@ -28,11 +28,11 @@ abbrev pub row : ℕ → List ℕ
 row tag = places 8 0 tag ++ replicate 8 128
 
 -- the table has each tag's row
-table : PLACES ≡ rows row 0 256
+table : EXPAND_SHUFFLE ≡ rows row 0 256
 table = refl
 
-pub row_of : (tag : ℕ) (none : List ℕ) → tag < 256 → get_or PLACES tag none ≡ row tag
-row_of tag none low = row_at row PLACES tag none table low
+pub row_of : (tag : ℕ) (none : List ℕ) → tag < 256 → get_or EXPAND_SHUFFLE tag none ≡ row tag
+row_of tag none low = row_at row EXPAND_SHUFFLE tag none table low
 
 -- each place is one of 16, or 128
 

@@ -1,9 +1,9 @@
--- How long a packed text is.
+-- How long a packed encoding is.
 use Rattle.std.proofs.Common.{◌≡◌, ℕ, zero, suc, ◌+◌, ◌*◌, ◌/◌, ◌<◌, ◌≤◌, inl, inr, List, [], ◌∷◌, length, replicate, refl, sym, ap, ◌∙◌, arith, length-append}
 use Rattle.std.proofs.lemmas.Bool.{cases_lt}
 use Rattle.std.specs.List.{concat, AllByRecursion}
 use Rattle.std.proofs.lemmas.List.{length-replicate}
-use Rattle.capnp_pack.specs.Group.{Group, tagged, zeros, literal, IsGroup, zero_word, zero_bytes, group_text, marked}
+use Rattle.capnp_pack.specs.Group.{Group, tagged, zeros, literal, IsGroup, zero_word, zero_bytes, group_encoding, marked}
 use Rattle.capnp_pack.specs.Chunk.{text_of, words_of_groups}
 use Rattle.capnp_pack.specs.Packed.{Packs, IsLongest, AreLongest, IfFirst}
 use Rattle.capnp_pack.specs.Steps.{tag_of, nonzero}
@@ -43,7 +43,7 @@ bound (tagged t w ∷ gs) each longest =
     (omega (arith, more.0, long.1), λ first. let two : 2 ≤ zero_bytes w = first in omega (arith, more.0, long.0))
   where
     tag_and : ℕ → List ℕ → List ℕ
-    tag_and t w = group_text (tagged t w)
+    tag_and t w = group_encoding (tagged t w)
 bound (zeros k ∷ gs) each longest =
     let more = bound gs each.1 longest.1 in
     let text : length (text_of (zeros k ∷ gs)) ≡ 2 + length (text_of gs) = omega arith in
@@ -57,7 +57,7 @@ bound (literal w fs ∷ gs) each longest =
     let few : length fs < 256 = each.0.2 in
     let none : zero_bytes w ≡ 0 = longest.0.0 in
     let text : length (text_of (literal w fs ∷ gs)) ≡ 10 + 8 * length fs + length (text_of gs) =
-    length-append (group_text (literal w fs)) (text_of gs) ∙ omega (arith, length-append (255 ∷ w) (length fs ∷ concat fs)) in
+    length-append (group_encoding (literal w fs)) (text_of gs) ∙ omega (arith, length-append (255 ∷ w) (length fs ∷ concat fs)) in
     let words : length (words_of_groups (literal w fs ∷ gs)) ≡ 1 + length fs + length (words_of_groups gs) = length-append (w ∷ fs) (words_of_groups gs) ∙ omega arith in (
       elim (cases_lt (length fs) 255) [
         | inl less ↦ let left : 2 * length (text_of gs) ≤ 17 * length (words_of_groups gs) = more.1 (longest.0.2 less) in omega arith

@@ -10,7 +10,7 @@ use Rattle.std.specs.List.{concat, AllByRecursion}
 use borrow.Rule.Slice.PartMut.{put_mid}
 use Rattle.capnp_frame.specs.Source.{IfKnown, IsFront, ReturnsPart}
 use Rattle.capnp_frame.proofs.SourceLemmas.{ReturnsPart-join, ReturnsPart-none, length-put_mid}
-use Rattle.capnp_pack.specs.Group.{Group, tagged, zeros, literal, IsGroup, IsWord, AreZero, group_text, group_words, marked, unmarked}
+use Rattle.capnp_pack.specs.Group.{Group, tagged, zeros, literal, IsGroup, IsWord, AreZero, group_encoding, group_words, marked, unmarked}
 use Rattle.capnp_pack.specs.Chunk.{text_of, words_of_groups}
 use Rattle.capnp_pack.specs.PackedSource.{Unpacks, MeetsFault}
 use Rattle.capnp_pack.specs.Steps.{MarkedAt, RunAt, GroupFollowing, Unpacked}
@@ -99,9 +99,9 @@ zeros_are [] all = refl
 zeros_are (b ∷ w) all = ap (λ k. k ∷ w) all.0 ∙ ap (λ l. 0 ∷ l) (zeros_are w all.1)
 
 -- a zero word alone, filled as one of which nothing is marked
-pub lone_zero_after : (tag used : ℕ) (following word buffer : List ℕ) → tag ≡ 0 → get_or following 0 0 ≡ 0 → IsWord word → 9 ≤ length following →
+pub zero_after_single_word : (tag used : ℕ) (following word buffer : List ℕ) → tag ≡ 0 → get_or following 0 0 ≡ 0 → IsWord word → 9 ≤ length following →
     8 ≤ length buffer → take 8 buffer ≡ word → used ≤ 8 → MarkedAt tag word following (drop used following) → GroupFollowing tag following buffer (used + 1) 8
-lone_zero_after tag used following word buffer none count is long room same few at =
+zero_after_single_word tag used following word buffer none count is long room same few at =
     let here : MarkedAt 0 word following (drop used following) = subst (λ t. MarkedAt t word following (drop used following)) none at in
     let all : following ≡ drop used following = here.0 ∙ ap (λ l. l ++ drop used following) (marked_none word) in
     let one : 1 ≡ used + 1 = omega (arith, ap length all, length-drop used following) in
@@ -131,9 +131,9 @@ literal_after run following buffer long byte count room same =
 pub group_unpacked : (tag used filled : ℕ) (shown following buffer : List ℕ) → shown ≡ tag ∷ following → GroupFollowing tag following buffer used filled → Unpacked shown buffer (1 + used) filled
 group_unpacked tag used filled shown following buffer e g =
     let at = g.group in
-    let spelled : shown ≡ group_text at.0 ++ drop used following = e ∙ at.3 in
+    let spelled : shown ≡ group_encoding at.0 ++ drop used following = e ∙ at.3 in
     let within : used ≤ length following = g.used_within in
-    let len : length (group_text at.0) ≡ 1 + used = omega (arith, ap length at.3, length-append (group_text at.0) (drop used following), length-drop used following) in
+    let len : length (group_encoding at.0) ≡ 1 + used = omega (arith, ap length at.3, length-append (group_encoding at.0) (drop used following), length-drop used following) in
     record {
       used_within = omega (arith, ap length e);
       some = λ _. omega arith;
@@ -142,7 +142,7 @@ group_unpacked tag used filled shown following buffer e g =
       chunk = record {
         groups = at.0 ∷ [];
         each = (at.1, tt);
-        spelled = ap (take (1 + used)) spelled ∙ take_at (group_text at.0) (drop used following) (1 + used) len ∙ sym (append-nil (group_text at.0));
+        spelled = ap (take (1 + used)) spelled ∙ take_at (group_encoding at.0) (drop used following) (1 + used) len ∙ sym (append-nil (group_encoding at.0));
         unpacked = at.2 ∙ ap concat (sym (append-nil (group_words at.0)));
       };
     }
@@ -174,7 +174,7 @@ unpacked_more used filled more count shown rest buffer part e fits p q =
         groups = gs ++ hs;
         each = AllByRecursion-append IsGroup gs hs p.chunk.each q.chunk.each;
         spelled = take-add used more shown ∙ ap (λ l. take used shown ++ take more l) (sym e) ∙ ap (λ l. l ++ take more rest) p.chunk.spelled
-            ∙ ap (λ l. text_of gs ++ l) q.chunk.spelled ∙ sym (flat_map-append group_text gs hs);
+            ∙ ap (λ l. text_of gs ++ l) q.chunk.spelled ∙ sym (flat_map-append group_encoding gs hs);
         unpacked = put_mid_front filled (length buffer - filled) count buffer part before inside ∙ ap (λ l. l ++ take count part) p.chunk.unpacked
             ∙ ap (λ l. concat (words_of_groups gs) ++ l) q.chunk.unpacked ∙ sym (concat-append (words_of_groups gs) (words_of_groups hs))
             ∙ ap concat (sym (flat_map-append group_words gs hs));
@@ -183,7 +183,7 @@ unpacked_more used filled more count shown rest buffer part e fits p q =
 
 -- groups at the front return a part of each request that they fit into
 
-group_first : (g : Group) (n : ℕ) (left : List ℕ) → IsGroup g → length (concat (group_words g)) ≤ n → ReturnsPart Unpacks MeetsFault n (concat (group_words g)) (group_text g ++ left) left
+group_first : (g : Group) (n : ℕ) (left : List ℕ) → IsGroup g → length (concat (group_words g)) ≤ n → ReturnsPart Unpacks MeetsFault n (concat (group_words g)) (group_encoding g ++ left) left
 group_first (tagged tag word) n left is fits = group_takes n tag _ (marked tag word ++ left) left (tagged tag word, is, refl, refl) fits
 group_first (zeros further) n left is fits = group_takes n 0 _ (further ∷ left) left (zeros further, is, refl, refl) fits
 group_first (literal word further) n left is fits = group_takes n 255 _ ((word ++ length further ∷ concat further) ++ left) left (literal word further, is, refl, refl) fits
@@ -198,7 +198,7 @@ chunk_takes (g ∷ gs) n left each fits =
     let first = group_first g n (text_of gs ++ left) each.0 (omega arith) in
     let others = chunk_takes gs (n - length (concat (group_words g))) left each.1 (omega arith) in
     subst (λ l. ReturnsPart Unpacks MeetsFault n l (text_of (g ∷ gs) ++ left) left) (sym parts)
-    (subst (λ l. ReturnsPart Unpacks MeetsFault n (concat (group_words g) ++ concat (words_of_groups gs)) l left) (sym (append_assoc (group_text g) (text_of gs) left))
+    (subst (λ l. ReturnsPart Unpacks MeetsFault n (concat (group_words g) ++ concat (words_of_groups gs)) l left) (sym (append_assoc (group_encoding g) (text_of gs) left))
     (ReturnsPart-join n (concat (group_words g)) (concat (words_of_groups gs)) _ (text_of gs ++ left) left first others))
 
 taken_from : (used filled : ℕ) (shown buffer : List ℕ) (old new : Option (List ℕ)) → IfSome old (IsFront shown) →

@@ -10,7 +10,7 @@ use Rattle.capnp_pack.specs.Group.{IsWord, AreZero, marked, unmarked}
 use Rattle.capnp_pack.specs.Steps.{MarkedAt, marked_count, Lacks}
 use Rattle.capnp_pack.proofs.AllLemmas.{AllByRecursion-append}
 
--- Of the bytes of a word under a tag these are known, and the others stand under these bits.
+-- Of the bytes of a word under a tag these are known, and the others are under these bits.
 pub record MarksTo (tag bits : ℕ) (front raw left : List ℕ) : Type 0 where
   pub joins : (others after : List ℕ) → MarkedAt bits others left after → MarkedAt tag (front ++ others) raw after
   pub counts : (n : ℕ) → marked_count tag (length front + n) + length left ≡ length raw + marked_count bits n

@@ -61,7 +61,7 @@ five_packed = record {
   whole = (refl, (refl, (refl, (refl, (refl, tt)))));
   first_text = 0x11 ∷ 4 ∷ 1 ∷ [];
   others_text = 0 ∷ 1 ∷ [];
-  segments_text = 0 ∷ 0 ∷ [];
+  segments_encoding = 0 ∷ 0 ∷ [];
   first_packed = record {
     groups = tagged 0x11 (4 ∷ 0 ∷ 0 ∷ 0 ∷ 1 ∷ 0 ∷ 0 ∷ 0 ∷ []) ∷ [];
     each = ((lit< tt, lit< tt, refl, (refl, (refl, (refl, (refl, (refl, (refl, tt))))))), tt);
@@ -73,7 +73,7 @@ five_packed = record {
   spelled = refl;
 }
 
--- the refusal table of a chunk
+-- the error table of a chunk
 
 -- a fault in the first group
 first : (raw : List ℕ) (n : ℕ) (kind : ErrorKind) → n % 8 ≡ 0 → (raw ≡ [] → ⊥) → 0 < n → IsGroupFault raw n kind → RefusesChunk raw n kind

@@ -22,7 +22,7 @@ pub record HandsOn {S X : Type 0} (sink : Sink S) (old new : S) (stops : List �
   pub handed : IfOk result hands
   -- where the call fails, no more than a front is handed on, and nothing after a hole
   pub left : OnErr result (LeavesOf sink old new stops)
-  -- the call fails with the device's failure, or as the sink refuses some chunk
+  -- the call fails with the device's failure, or as the sink rejects some chunk
   pub refused : FailsOr result (DeclinesAny sink.refuses)
   -- the device is blamed only where it failed
   pub failed : IfErr result (λ error. error.kind ≡ DeviceFailed → Fails (sink.failures old) (sink.failures new))

@@ -1,10 +1,10 @@
 -- A chunk: groups, one after another. Encoding document, "Packing".
 use Rattle.std.specs.Prelude.{◌≡◌, ℕ, List}
 use Rattle.std.specs.List.{flat_map, concat, AllByRecursion}
-use Rattle.capnp_pack.specs.Group.{Group, IsGroup, group_text, group_words}
+use Rattle.capnp_pack.specs.Group.{Group, IsGroup, group_encoding, group_words}
 
 abbrev pub text_of : List Group → List ℕ
-text_of groups = flat_map group_text groups
+text_of groups = flat_map group_encoding groups
 
 abbrev pub words_of_groups : List Group → List (List ℕ)
 words_of_groups groups = flat_map group_words groups

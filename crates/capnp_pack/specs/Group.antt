@@ -1,4 +1,4 @@
--- The groups of a packed text. Encoding document, "Packing".
+-- The groups of a packed encoding. Encoding document, "Packing".
 use Rattle.std.specs.Prelude.{◌≡◌, ℕ, ◌/◌, ◌%◌, ◌<◌, List, [], ◌∷◌, ◌++◌, length, replicate, count_by, ◌==◌, if◌then◌else◌}
 use Rattle.std.specs.List.{concat, AllByRecursion}
 
@@ -12,13 +12,13 @@ zero_word = replicate 8 0
 abbrev pub zero_bytes : List ℕ → ℕ
 zero_bytes word = count_by (λ byte. byte == 0) word
 
--- One step of a packed text.
+-- One step of a packed encoding.
 pub data Group : Type 0 where
   -- a tag, and a word of which it marks some bytes
   tagged : (tag : ℕ) (word : List ℕ) → Group
   -- tag 0: a zero word, and a given number of further ones
   zeros : (further : ℕ) → Group
-  -- tag 255: a word and further ones, as they stand
+  -- tag 255: a word and further ones, as they are
   literal : (word : List ℕ) (further : List (List ℕ)) → Group
 
 -- the bytes whose bits of the tag, least significant first, are this bit
@@ -41,10 +41,10 @@ IsGroup (tagged tag word) = (0 < tag) × (tag < 255) × IsWord word × AreZero (
 IsGroup (zeros further) = further < 256
 IsGroup (literal word further) = IsWord word × AllByRecursion IsWord further × (length further < 256)
 
-abbrev pub group_text : Group → List ℕ
-group_text (tagged tag word) = tag ∷ marked tag word
-group_text (zeros further) = 0 ∷ further ∷ []
-group_text (literal word further) = 255 ∷ word ++ length further ∷ concat further
+abbrev pub group_encoding : Group → List ℕ
+group_encoding (tagged tag word) = tag ∷ marked tag word
+group_encoding (zeros further) = 0 ∷ further ∷ []
+group_encoding (literal word further) = 255 ∷ word ++ length further ∷ concat further
 
 abbrev pub group_words : Group → List (List ℕ)
 group_words (tagged tag word) = word ∷ []

@@ -19,11 +19,11 @@ pub record IsPackedFrame (rule : Padding) (text : List ℕ) (segments : List (Li
   pub whole : AllByRecursion IsWholeWords segments
   pub first_text : List ℕ
   pub others_text : List ℕ
-  pub segments_text : List ℕ
+  pub segments_encoding : List ℕ
   pub first_packed : IsChunk first_text first
   pub others_packed : IsChunk others_text others
-  pub segments_packed : IsChunk segments_text (concat segments)
-  pub spelled : text ≡ first_text ++ others_text ++ segments_text
+  pub segments_packed : IsChunk segments_encoding (concat segments)
+  pub spelled : text ≡ first_text ++ others_text ++ segments_encoding
 
 -- the table whose padding is zero: its first word, and its other words
 abbrev pub table_first : List (List ℕ) → List ℕ
@@ -33,15 +33,15 @@ abbrev pub table_others : List (List ℕ) → List ℕ
 table_others segments = drop 8 (zero_padded_table (lengths segments))
 
 -- The text that is written: what a packer makes of the first word of this table, of its other words, and of each segment.
-pub record IsPackedText (text : List ℕ) (segments : List (List ℕ)) : Type 0 where
+pub record IsPackedEncoding (text : List ℕ) (segments : List (List ℕ)) : Type 0 where
   pub first_text : List ℕ
   pub others_text : List ℕ
-  pub segments_text : List ℕ
+  pub segments_encoding : List ℕ
   pub first_packed : Packs (table_first segments) first_text
   pub others_packed : Packs (table_others segments) others_text
-  pub each_packed : AppendsAll Packs segments segments_text
-  pub spelled : text ≡ first_text ++ others_text ++ segments_text
+  pub each_packed : AppendsAll Packs segments segments_encoding
+  pub spelled : text ≡ first_text ++ others_text ++ segments_encoding
 
--- a packed text of the message stands at the front
+-- a packed encoding of the message is at the front
 abbrev pub PackedStands : Padding → List (List ℕ) → List ℕ → List ℕ → Type 0
 PackedStands rule segments raw rest = (text : List ℕ) × IsPackedFrame rule text segments × (raw ≡ text ++ rest)

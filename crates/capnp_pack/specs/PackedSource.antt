@@ -1,4 +1,4 @@
--- Which packed request is given, and which is refused and by which kind.
+-- Which packed request is given, and which is rejected and by which kind.
 use Rattle.std.specs.Prelude.{◌≡◌, ◌≢◌, ℕ, ◌+◌, ◌-◌, ◌%◌, ◌<◌, ◌≤◌, ◌⊎◌, List, [], ◌∷◌, ◌++◌, length, Option, Result, IfErr}
 use Rattle.std.specs.List.{concat, AllByRecursion}
 use Rattle.capnp_frame.specs.declared.error.Error.{Error}
@@ -14,32 +14,32 @@ abbrev pub Unpacks : Giving
 Unpacks raw n bytes rest = (text : List ℕ) × IsChunk text bytes × (raw ≡ text ++ rest) × (length bytes ≡ n)
 
 -- A group's text is its head, and after the count of a literal group its run.
-abbrev pub head_text : Group → List ℕ
-head_text (tagged tag word) = tag ∷ marked tag word
-head_text (zeros further) = 0 ∷ further ∷ []
-head_text (literal word further) = 255 ∷ word ++ length further ∷ []
+abbrev pub head_encoding : Group → List ℕ
+head_encoding (tagged tag word) = tag ∷ marked tag word
+head_encoding (zeros further) = 0 ∷ further ∷ []
+head_encoding (literal word further) = 255 ∷ word ++ length further ∷ []
 
-abbrev pub run_text : Group → List ℕ
-run_text (tagged tag word) = []
-run_text (zeros further) = []
-run_text (literal word further) = concat further
+abbrev pub run_encoding : Group → List ℕ
+run_encoding (tagged tag word) = []
+run_encoding (zeros further) = []
+run_encoding (literal word further) = concat further
 
 -- how many bytes a group's words have
 abbrev pub group_size : Group → ℕ
 group_size group = length (concat (group_words group))
 
--- The end stands in a group's head, or before it: a marked byte, a count or the group is missing.
+-- The end is in a group's head, or before it: a marked byte, a count or the group is missing.
 pub record IsHeadCut (left : List ℕ) : Type 0 where
   pub group : Group
   pub is : IsGroup group
   pub missing : List ℕ
   pub some : 0 < length missing
-  pub spelled : left ++ missing ≡ head_text group
+  pub spelled : left ++ missing ≡ head_encoding group
 
--- a group's head stands at the front
+-- a group's head is at the front
 pub record IsHeadAt (group : Group) (left following : List ℕ) : Type 0 where
   pub is : IsGroup group
-  pub spelled : left ≡ head_text group ++ following
+  pub spelled : left ≡ head_encoding group ++ following
 
 -- its count is larger than what is still asked
 pub record Overruns (n : ℕ) (left : List ℕ) : Type 0 where
@@ -54,7 +54,7 @@ pub record IsRunCut (n : ℕ) (left : List ℕ) : Type 0 where
   pub following : List ℕ
   pub head : IsHeadAt group left following
   pub fits : group_size group ≤ n
-  pub short : length following < length (run_text group)
+  pub short : length following < length (run_encoding group)
 
 -- no group can be taken here, where n bytes are still asked
 abbrev pub IsGroupFault : List ℕ → ℕ → ErrorKind → Type 0
@@ -80,13 +80,13 @@ pub record LeavesOverrun (n : ℕ) (raw left : List ℕ) : Type 0 where
   pub group : Group
   pub is : IsGroup group
   pub long : n < length (concat (words_of_groups groups)) + group_size group
-  pub spelled : raw ≡ text_of groups ++ (head_text group ++ left)
+  pub spelled : raw ≡ text_of groups ++ (head_encoding group ++ left)
 
 -- where a call fails by such a count, this holds of what was unread before it and after it
 abbrev pub Overran : {X : Type 0} → Result X Error → Option (List ℕ) → Option (List ℕ) → (List ℕ → List ℕ → Type 0) → Type 0
 Overran result old new leaves = IfErr result (λ error. error.kind ≡ PackedInputDidNotEndCleanlyOnASegmentBoundary → IfKnown old new leaves)
 
--- a packed request is refused: the lines of the table of a chunk (docs/FORMAT.md, "Packed requests")
+-- a packed request is rejected: the lines of the table of a chunk (docs/FORMAT.md, "Packed requests")
 abbrev pub RefusesChunk : Refusing
 RefusesChunk raw n kind =
     Unless (n % 8 ≢ 0) (kind ≡ NotWholeWords) (

@@ -1,4 +1,4 @@
--- The laws of the packed refusals, and with them those of a packed source.
+-- The laws of the packed errors, and with them those of a packed source.
 use Rattle.std.proofs.Common.{◌≡◌, ℕ, ◌+◌, ◌-◌, ◌<◌, ◌≤◌, inl, inr, List, [], ◌∷◌, ◌++◌, length, refl, sym, ap, ◌∙◌, subst, arith, length-append, append_assoc}
 use Rattle.std.proofs.lemmas.List.{append-nil}
 use Rattle.std.proofs.lemmas.List.Folds.{concat-append}
@@ -6,12 +6,12 @@ use Rattle.std.specs.List.{concat, AllByRecursion}
 use Rattle.capnp_frame.specs.declared.error.ErrorKind.{ErrorKind}
 use Rattle.capnp_frame.specs.Source.{IsSource}
 use Rattle.capnp_frame.specs.SplittingLaws.{same_front}
-use Rattle.capnp_pack.specs.Group.{Group, tagged, zeros, literal, IsGroup, AreZero, group_text, group_words, marked, unmarked}
+use Rattle.capnp_pack.specs.Group.{Group, tagged, zeros, literal, IsGroup, AreZero, group_encoding, group_words, marked, unmarked}
 use Rattle.capnp_pack.specs.Chunk.{text_of, words_of_groups}
-use Rattle.capnp_pack.specs.PackedSource.{Unpacks, head_text, run_text, group_size, IsHeadCut, IsHeadAt, IsGroupFault, MeetsFault, RefusesChunk}
+use Rattle.capnp_pack.specs.PackedSource.{Unpacks, head_encoding, run_encoding, group_size, IsHeadCut, IsHeadAt, IsGroupFault, MeetsFault, RefusesChunk}
 use Rattle.capnp_pack.specs.UnpackingLaws.{length-words, same_word, same_group, unpack_whole, unpack_once, none_unpacked, takes_no_group}
 
-text_parts : (g : Group) → group_text g ≡ head_text g ++ run_text g
+text_parts : (g : Group) → group_encoding g ≡ head_encoding g ++ run_encoding g
 text_parts (tagged tag word) = sym (append-nil (tag ∷ marked tag word))
 text_parts (zeros more) = refl
 text_parts (literal word further) = ap (λ l. 255 ∷ l) (sym (append_assoc word (length further ∷ []) (concat further)))
@@ -20,10 +20,10 @@ text_parts (literal word further) = ap (λ l. 255 ∷ l) (sym (append_assoc word
 record SameHead (g h : Group) (x y : List ℕ) : Type 0 where
   pub following : x ≡ y
   pub size : group_size g ≡ group_size h
-  pub run : length (run_text g) ≡ length (run_text h)
+  pub run : length (run_encoding g) ≡ length (run_encoding h)
 
 -- no head begins another
-same_head : (g h : Group) (x y : List ℕ) → IsGroup g → IsGroup h → head_text g ++ x ≡ head_text h ++ y → SameHead g h x y
+same_head : (g h : Group) (x y : List ℕ) → IsGroup g → IsGroup h → head_encoding g ++ x ≡ head_encoding h ++ y → SameHead g h x y
 same_head (tagged t w) (tagged u v) x y p q e =
     let tags : t ≡ u = cc in
     let texts : marked t w ++ x ≡ marked u v ++ y = cc in
@@ -45,11 +45,11 @@ same_head (zeros m) (literal v hs) x y p q e = let tags : ◌≡◌ {A = ℕ} 0 
 same_head (literal w fs) (tagged u v) x y p q e = let tags : 255 ≡ u = cc in absurd (omega (arith, q.1))
 same_head (literal w fs) (zeros n) x y p q e = let tags : ◌≡◌ {A = ℕ} 255 0 = cc in absurd (omega arith)
 
--- where a head is cut none stands
+-- where a head is cut none is
 cut_head : (left following : List ℕ) (g : Group) → IsHeadCut left → IsHeadAt g left following → ⊥
 cut_head left following g cut at =
     let same = same_head g cut.group (following ++ cut.missing) [] at.is cut.is
-    (sym (append_assoc (head_text g) following cut.missing) ∙ ap (λ l. l ++ cut.missing) (sym at.spelled) ∙ cut.spelled ∙ sym (append-nil (head_text cut.group))) in
+    (sym (append_assoc (head_encoding g) following cut.missing) ∙ ap (λ l. l ++ cut.missing) (sym at.spelled) ∙ cut.spelled ∙ sym (append-nil (head_encoding cut.group))) in
     absurd (omega (arith, cut.some, ap length same.following, length-append following cut.missing))
 
 same_at : (left x y : List ℕ) (g h : Group) → IsHeadAt g left x → IsHeadAt h left y → SameHead g h x y
@@ -71,24 +71,24 @@ IsGroupFault-once left n kind other (inr (inr p)) (inr (inl q)) =
     let same = same_at left p.0.following q.0.following p.0.group q.0.group p.0.head q.0.head in
     absurd (omega (arith, q.0.long, p.0.fits, same.size))
 
--- where a whole group stands and fits there is no fault
-no_fault : (g : Group) (left rest : List ℕ) (n : ℕ) (kind : ErrorKind) → IsGroup g → left ≡ group_text g ++ rest → group_size g ≤ n → IsGroupFault left n kind → ⊥
+-- where a whole group is and fits there is no fault
+no_fault : (g : Group) (left rest : List ℕ) (n : ℕ) (kind : ErrorKind) → IsGroup g → left ≡ group_encoding g ++ rest → group_size g ≤ n → IsGroupFault left n kind → ⊥
 no_fault g left rest n kind is e fits fault = elim fault [
-  | inl p ↦ cut_head left (run_text g ++ rest) g p.0 at
+  | inl p ↦ cut_head left (run_encoding g ++ rest) g p.0 at
   | inr more ↦ elim more [
-    | inl p ↦ (let same = same_at left (run_text g ++ rest) p.0.following g p.0.group at p.0.head in absurd (omega (arith, p.0.long, same.size)))
-    | inr p ↦ (let same = same_at left (run_text g ++ rest) p.0.following g p.0.group at p.0.head in absurd (omega (arith, p.0.short, same.run, ap length same.following, length-append (run_text g) rest)))
+    | inl p ↦ (let same = same_at left (run_encoding g ++ rest) p.0.following g p.0.group at p.0.head in absurd (omega (arith, p.0.long, same.size)))
+    | inr p ↦ (let same = same_at left (run_encoding g ++ rest) p.0.following g p.0.group at p.0.head in absurd (omega (arith, p.0.short, same.run, ap length same.following, length-append (run_encoding g) rest)))
   ]
 ]
   where
-    at : IsHeadAt g left (run_text g ++ rest)
-    at = record { is = is; spelled = e ∙ ap (λ l. l ++ rest) (text_parts g) ∙ append_assoc (head_text g) (run_text g) rest }
+    at : IsHeadAt g left (run_encoding g ++ rest)
+    at = record { is = is; spelled = e ∙ ap (λ l. l ++ rest) (text_parts g) ∙ append_assoc (head_encoding g) (run_encoding g) rest }
 
 words_size : (g : Group) (gs : List Group) → length (concat (words_of_groups (g ∷ gs))) ≡ group_size g + length (concat (words_of_groups gs))
 words_size g gs = ap length (concat-append (group_words g) (words_of_groups gs)) ∙ length-append (concat (group_words g)) (concat (words_of_groups gs))
 
 -- a whole group before the first fault
-pub fault_later : (g : Group) (rest : List ℕ) (n : ℕ) (kind : ErrorKind) → IsGroup g → MeetsFault rest (n - group_size g) kind → MeetsFault (group_text g ++ rest) n kind
+pub fault_later : (g : Group) (rest : List ℕ) (n : ℕ) (kind : ErrorKind) → IsGroup g → MeetsFault rest (n - group_size g) kind → MeetsFault (group_encoding g ++ rest) n kind
 fault_later g rest n kind is p =
     let size = words_size g p.groups in
     let len : (n - group_size g) - length (concat (words_of_groups p.groups)) ≡ n - length (concat (words_of_groups (g ∷ p.groups))) = omega (arith, size) in
@@ -97,19 +97,19 @@ fault_later g rest n kind is p =
       groups = g ∷ p.groups;
       each = (is, p.each);
       left = p.left;
-      spelled = ap (λ l. group_text g ++ l) p.spelled ∙ sym (append_assoc (group_text g) (text_of p.groups) p.left);
+      spelled = ap (λ l. group_encoding g ++ l) p.spelled ∙ sym (append_assoc (group_encoding g) (text_of p.groups) p.left);
       fewer = omega (arith, size, fewer);
       fault = subst (λ k. IsGroupFault p.left k kind) len p.fault;
     }
 
-pub fault_after : (g : Group) (rest : List ℕ) (n : ℕ) (kind : ErrorKind) → IsGroup g → group_size g ≤ n → MeetsFault (group_text g ++ rest) n kind → MeetsFault rest (n - group_size g) kind
+pub fault_after : (g : Group) (rest : List ℕ) (n : ℕ) (kind : ErrorKind) → IsGroup g → group_size g ≤ n → MeetsFault (group_encoding g ++ rest) n kind → MeetsFault rest (n - group_size g) kind
 fault_after g rest n kind is fits p = after p.groups p.each p.spelled p.fewer p.fault
   where
-    after : (gs : List Group) → AllByRecursion IsGroup gs → group_text g ++ rest ≡ text_of gs ++ p.left → length (concat (words_of_groups gs)) < n →
+    after : (gs : List Group) → AllByRecursion IsGroup gs → group_encoding g ++ rest ≡ text_of gs ++ p.left → length (concat (words_of_groups gs)) < n →
         IsGroupFault p.left (n - length (concat (words_of_groups gs))) kind → MeetsFault rest (n - group_size g) kind
     after [] each e fewer fault = absurd (no_fault g p.left rest (n - 0) kind is (sym e) (omega arith) fault)
     after (h ∷ hs) each e fewer fault =
-        let same = same_group g h rest (text_of hs ++ p.left) is each.0 (e ∙ append_assoc (group_text h) (text_of hs) p.left) in
+        let same = same_group g h rest (text_of hs ++ p.left) is each.0 (e ∙ append_assoc (group_encoding h) (text_of hs) p.left) in
         let size = words_size h hs in
         let sizes : group_size g ≡ group_size h = ap length same.0 in
         let len : n - length (concat (words_of_groups (h ∷ hs))) ≡ (n - group_size g) - length (concat (words_of_groups hs)) = omega (arith, size, sizes) in
@@ -122,7 +122,7 @@ fault_apart [] raw rest n kind each e len p = absurd (omega (arith, p.fewer))
 fault_apart (g ∷ gs) raw rest n kind each e len p =
     let size = words_size g gs in
     fault_apart gs (text_of gs ++ rest) rest (n - group_size g) kind each.1 refl (omega (arith, size))
-    (fault_after g (text_of gs ++ rest) n kind each.0 (omega (arith, size)) (subst (λ l. MeetsFault l n kind) (e ∙ append_assoc (group_text g) (text_of gs) rest) p))
+    (fault_after g (text_of gs ++ rest) n kind each.0 (omega (arith, size)) (subst (λ l. MeetsFault l n kind) (e ∙ append_assoc (group_encoding g) (text_of gs) rest) p))
 
 -- the first fault is one
 fault_once : (gs : List Group) (raw left : List ℕ) (n : ℕ) (kind other : ErrorKind) → AllByRecursion IsGroup gs → raw ≡ text_of gs ++ left →
@@ -134,12 +134,12 @@ fault_once [] raw left n kind other each e fewer fault q = first q.groups q.each
     first [] each spelled fewer found = IsGroupFault-once left (n - 0) kind other fault (subst (λ l. IsGroupFault l (n - 0) other) (sym spelled ∙ e) found)
     first (h ∷ hs) each spelled fewer found =
         let size = words_size h hs in
-        absurd (no_fault h left (text_of hs ++ q.left) (n - 0) kind each.0 (sym e ∙ spelled ∙ append_assoc (group_text h) (text_of hs) q.left) (omega (arith, size, fewer)) fault)
+        absurd (no_fault h left (text_of hs ++ q.left) (n - 0) kind each.0 (sym e ∙ spelled ∙ append_assoc (group_encoding h) (text_of hs) q.left) (omega (arith, size, fewer)) fault)
 fault_once (g ∷ gs) raw left n kind other each e fewer fault q =
     let size = words_size g gs in
     let len : n - length (concat (words_of_groups (g ∷ gs))) ≡ (n - group_size g) - length (concat (words_of_groups gs)) = omega (arith, size) in
     fault_once gs (text_of gs ++ left) left (n - group_size g) kind other each.1 refl (omega (arith, size, fewer)) (subst (λ k. IsGroupFault left k kind) len fault)
-    (fault_after g (text_of gs ++ left) n other each.0 (omega (arith, size, fewer)) (subst (λ l. MeetsFault l n other) (e ∙ append_assoc (group_text g) (text_of gs) left) q))
+    (fault_after g (text_of gs ++ left) n other each.0 (omega (arith, size, fewer)) (subst (λ l. MeetsFault l n other) (e ∙ append_assoc (group_encoding g) (text_of gs) left) q))
 
 pub MeetsFault-once : (raw : List ℕ) (n : ℕ) (kind other : ErrorKind) → MeetsFault raw n kind → MeetsFault raw n other → kind ≡ other
 MeetsFault-once raw n kind other p q = fault_once p.groups raw p.left n kind other p.each p.spelled p.fewer p.fault q

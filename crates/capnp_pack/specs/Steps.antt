@@ -5,22 +5,22 @@ use Rattle.capnp_frame.specs.declared.error.ErrorKind.{ErrorKind}
 use Rattle.capnp_frame.specs.declared.error.ErrorKind.TheVariants.{PrematureEndOfPackedInput, PackedInputDidNotEndCleanlyOnASegmentBoundary}
 use Rattle.capnp_frame.specs.Sink.{Appending, Leaving, AppendsAll, LeavesSome}
 use Rattle.capnp_frame.specs.Source.{Refusing, RunsShort, IfKnown, ReturnsPart}
-use Rattle.capnp_pack.specs.Group.{Group, IsGroup, AreZero, group_text, group_words, marked, unmarked, zero_bytes, zero_word}
+use Rattle.capnp_pack.specs.Group.{Group, IsGroup, AreZero, group_encoding, group_words, marked, unmarked, zero_bytes, zero_word}
 use Rattle.capnp_pack.specs.Chunk.{IsChunk, text_of, words_of_groups}
 use Rattle.capnp_pack.specs.Packed.{IfFirst, IsLongest}
-use Rattle.capnp_pack.specs.PackedSource.{Unpacks, MeetsFault, head_text, group_size}
+use Rattle.capnp_pack.specs.PackedSource.{Unpacks, MeetsFault, head_encoding, group_size}
 
 -- Reading
 
--- a group of this tag and these bytes stands at the front, of which the tag is taken
+-- a group of this tag and these bytes is at the front, of which the tag is taken
 abbrev pub GroupAt : ℕ → List ℕ → List ℕ → List ℕ → Type 0
-GroupAt tag bytes raw left = (group : Group) × IsGroup group × (bytes ≡ concat (group_words group)) × (tag ∷ raw ≡ group_text group ++ left)
+GroupAt tag bytes raw left = (group : Group) × IsGroup group × (bytes ≡ concat (group_words group)) × (tag ∷ raw ≡ group_encoding group ++ left)
 
 -- the first fault, where the tag of the first group is taken
 abbrev pub FaultAfter : ℕ → Refusing
 FaultAfter tag raw n kind = MeetsFault (tag ∷ raw) n kind
 
--- the bytes of a word that a tag marks stand at the front, and its others are zero
+-- the bytes of a word that a tag marks are at the front, and its others are zero
 abbrev pub MarkedAt : ℕ → List ℕ → List ℕ → List ℕ → Type 0
 MarkedAt tag word raw left = (raw ≡ marked tag word ++ left) × AreZero (unmarked tag word)
 
@@ -37,7 +37,7 @@ marked_count tag n = length (marked tag (replicate n 0))
 abbrev pub Lacks : ℕ → Option (List ℕ) → ErrorKind → Type 0
 Lacks n unread kind = IfSome unread (λ raw. length raw < n) × (kind ≡ PrematureEndOfPackedInput)
 
--- a count of words and their bytes stand at the front
+-- a count of words and their bytes are at the front
 abbrev pub RunAt : List ℕ → List ℕ → List ℕ → Type 0
 RunAt run raw left = (further : ℕ) × (further < 256) × (length run ≡ 8 * further) × (raw ≡ further ∷ run ++ left)
 
@@ -64,15 +64,15 @@ pub record Unpacked (text buffer : List ℕ) (used filled : ℕ) : Type 0 where
   pub chunk : IsChunk (take used text) (take filled buffer)
 
 -- whole groups, whose words have a given number of bytes, are taken from the front
-abbrev pub HasTaken : ℕ → List ℕ → List ℕ → Type 0
-HasTaken count raw left = (groups : List Group) × AllByRecursion IsGroup groups × (raw ≡ text_of groups ++ left)
+abbrev pub HasProgress : ℕ → List ℕ → List ℕ → Type 0
+HasProgress count raw left = (groups : List Group) × AllByRecursion IsGroup groups × (raw ≡ text_of groups ++ left)
     × (length (concat (words_of_groups groups)) ≡ count)
 
--- the head of a group stands at the front, of which the tag is taken, and its words have more than n bytes
+-- the head of a group is at the front, of which the tag is taken, and its words have more than n bytes
 abbrev pub HeadOver : ℕ → ℕ → List ℕ → List ℕ → Type 0
-HeadOver tag n raw left = (group : Group) × IsGroup group × (n < group_size group) × (tag ∷ raw ≡ head_text group ++ left)
+HeadOver tag n raw left = (group : Group) × IsGroup group × (n < group_size group) × (tag ∷ raw ≡ head_encoding group ++ left)
 
--- a count of words stands at the front that have more than n bytes
+-- a count of words is at the front that have more than n bytes
 abbrev pub CountOver : ℕ → List ℕ → List ℕ → Type 0
 CountOver n raw left = (further : ℕ) × (further < 256) × (n < 8 * further) × (raw ≡ further ∷ left)
 
@@ -81,7 +81,7 @@ CountOver n raw left = (further : ℕ) × (further < 256) × (n < 8 * further) �
 abbrev pub TakesGroups : Option (List ℕ) → Option (List ℕ) → List ℕ → ℕ → Type 0
 TakesGroups old new buffer count = (0 < count) × (count ≤ length buffer) × (count % 8 ≡ 0)
     × IfSome old (λ raw. raw ≡ [] → ⊥)
-    × IfKnown old new (HasTaken count)
+    × IfKnown old new (HasProgress count)
     × IfKnown old new (ReturnsPart Unpacks MeetsFault (length buffer) (take count buffer))
 
 -- Packing
@@ -117,13 +117,13 @@ pub record IsGroupOf (word : List ℕ) (others : List (List ℕ)) (count : ℕ) 
 -- A buffer held a word's tag and its bytes that aren't zero, at the end; now it holds the group of the word there.
 abbrev pub EndsGroup : List ℕ → List (List ℕ) → ℕ → List ℕ → List ℕ → Type 0
 EndsGroup word others count old new = (group : Group) × IsGroupOf word others count group
-    × ((front : List ℕ) → old ≡ front ++ tag_of word ∷ nonzero word → new ≡ front ++ group_text group)
+    × ((front : List ℕ) → old ≡ front ++ tag_of word ∷ nonzero word → new ≡ front ++ group_encoding group)
 
 -- Of a buffer's bytes and a text after them, some parts are handed on, and the buffer keeps the rest.
 pub record Hands (appends : Appending) (old text new before after : List ℕ) : Type 0 where
   pub parts : List (List ℕ)
   pub handed : List ℕ
-  pub told : AppendsAll appends parts handed
+  pub declared : AppendsAll appends parts handed
   pub added : after ≡ before ++ handed
   pub kept : old ++ text ≡ concat parts ++ new
 
@@ -138,4 +138,4 @@ LiteralAfter buffer others text = (count : ℕ) × IsRun HasFewZeros others coun
 
 -- what a buffer holds, and after it the group of a word and some of those after it
 abbrev pub GroupAfter : List ℕ → List ℕ → List (List ℕ) → List ℕ → Type 0
-GroupAfter buffer word others text = (count : ℕ) × (group : Group) × IsGroupOf word others count group × (text ≡ buffer ++ group_text group)
+GroupAfter buffer word others text = (count : ℕ) × (group : Group) × IsGroupOf word others count group × (text ≡ buffer ++ group_encoding group)

@@ -7,7 +7,7 @@ use Rattle.std.specs.Prelude.{◌==◌, if◌then◌else◌}
 use Rattle.std.specs.List.{concat, AllByRecursion}
 use Rattle.capnp_frame.specs.Source.{IsPlain}
 use Rattle.capnp_frame.specs.SplittingLaws.{same_front}
-use Rattle.capnp_pack.specs.Group.{Group, tagged, zeros, literal, IsGroup, IsWord, AreZero, zero_word, group_text, group_words, marked, unmarked}
+use Rattle.capnp_pack.specs.Group.{Group, tagged, zeros, literal, IsGroup, IsWord, AreZero, zero_word, group_encoding, group_words, marked, unmarked}
 use Rattle.capnp_pack.specs.Chunk.{text_of, words_of_groups}
 use Rattle.capnp_pack.specs.PackedSource.{Unpacks}
 
@@ -98,7 +98,7 @@ same_word (b ∷ w) (c ∷ v) tag x y len p q e =
     (ap (λ k. k ∷ w) step.0 ∙ ap (λ l. c ∷ l) step.1.0, step.1.1)
 
 -- no group's text begins another's
-pub same_group : (g h : Group) (x y : List ℕ) → IsGroup g → IsGroup h → group_text g ++ x ≡ group_text h ++ y → (concat (group_words g) ≡ concat (group_words h)) × (x ≡ y)
+pub same_group : (g h : Group) (x y : List ℕ) → IsGroup g → IsGroup h → group_encoding g ++ x ≡ group_encoding h ++ y → (concat (group_words g) ≡ concat (group_words h)) × (x ≡ y)
 same_group (tagged t w) (tagged u v) x y p q e =
     let tags : t ≡ u = cc in
     let texts : marked t w ++ x ≡ marked u v ++ y = cc in
@@ -128,7 +128,7 @@ same_chunk [] [] x y p q e len = (refl, e)
 same_chunk [] (h ∷ hs) x y p q e len = let whole = words_len (h ∷ hs) q in absurd (omega (arith, whole.1))
 same_chunk (g ∷ gs) [] x y p q e len = let whole = words_len (g ∷ gs) p in absurd (omega (arith, whole.1))
 same_chunk (g ∷ gs) (h ∷ hs) x y p q e len =
-    let first = same_group g h (text_of gs ++ x) (text_of hs ++ y) p.0 q.0 (sym (append_assoc (group_text g) (text_of gs) x) ∙ e ∙ append_assoc (group_text h) (text_of hs) y) in
+    let first = same_group g h (text_of gs ++ x) (text_of hs ++ y) p.0 q.0 (sym (append_assoc (group_encoding g) (text_of gs) x) ∙ e ∙ append_assoc (group_encoding h) (text_of hs) y) in
     let left : concat (words_of_groups (g ∷ gs)) ≡ concat (group_words g) ++ concat (words_of_groups gs) = concat-append (group_words g) (words_of_groups gs) in
     let right : concat (words_of_groups (h ∷ hs)) ≡ concat (group_words h) ++ concat (words_of_groups hs) = concat-append (group_words h) (words_of_groups hs) in
     let others = same_chunk gs hs x y p.1 q.1 first.1 (omega (

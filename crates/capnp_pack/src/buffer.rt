@@ -7,7 +7,7 @@ ghost use Rattle.capnp_frame.specs.Source.{IfKnown};
 ghost use Rattle.capnp_pack.specs.Calls.{HandsOn};
 ghost use Rattle.capnp_pack.specs.Steps.{Hands, nonzero, tag_of};
 
-use crate::marks::MARKS;
+use crate::compact_shuffle::COMPACT_SHUFFLE;
 use capnp_frame::Result;
 use capnp_frame::io::Write;
 use std::simd::prelude::*;
@@ -71,6 +71,6 @@ fn nonzero_front(tag: u8, word: &[u8; 8]) -> u8x8
         0, 0,
     ]);
     bytes
-        .swizzle_dyn(u8x16::from_array(MARKS[tag as usize]))
+        .swizzle_dyn(u8x16::from_array(COMPACT_SHUFFLE[tag as usize]))
         .extract::<0, 8>()
 }

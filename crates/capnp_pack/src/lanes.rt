@@ -4,7 +4,7 @@ ghost use Rattle.std.specs.Int.RustNames.{count_ones};
 ghost use Rattle.capnp_pack.specs.Steps.{TakesMarked};
 
 use crate::copies::copy_bytes;
-use crate::places::PLACES;
+use crate::expand_shuffle::EXPAND_SHUFFLE;
 use std::simd::prelude::*;
 
 // Fills a word with the bytes that a tag marks, where eight bytes are shown, and returns how many
@@ -16,7 +16,7 @@ pub(crate) fn unpack_word(tag: u8, text: &[u8], word: &mut [u8]) -> usize
     ensures count { result ≡ count_ones tag }
     ensures taken { TakesMarked tag text.now word.new result }
 {
-    let places = u8x16::from_array(PLACES[tag as usize]);
+    let places = u8x16::from_array(EXPAND_SHUFFLE[tag as usize]);
     let bytes = u8x16::from_array([
         text[0], text[1], text[2], text[3], text[4], text[5], text[6], text[7], 0, 0, 0, 0, 0, 0,
         0, 0,

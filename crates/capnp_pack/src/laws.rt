@@ -1,4 +1,4 @@
-//! Facts about packed texts, each the contract of a function that does nothing.
+//! Facts about packed encodings, each the contract of a function that does nothing.
 ghost use Rattle.std.specs.Prelude.{◌≡◌, ℕ, ◌+◌, ◌*◌, ◌/◌, ◌<◌, ◌≤◌, List, [], ◌∷◌, ◌++◌, length, ◌↔◌};
 ghost use Rattle.std.specs.List.{AllByRecursion};
 ghost use Rattle.capnp_frame.specs.Message.{IsWholeWords, lengths};
@@ -9,7 +9,7 @@ ghost use Rattle.capnp_frame.specs.Source.{IsFront};
 ghost use Rattle.capnp_frame.specs.Sink.{AppendsAll, AppendsSame, LeavesFront};
 ghost use Rattle.capnp_frame.specs.Writing.{chunks};
 ghost use Rattle.capnp_pack.specs.Packed.{Packs};
-ghost use Rattle.capnp_pack.specs.PackedFrame.{IsPackedFrame, IsPackedText, PackedStands};
+ghost use Rattle.capnp_pack.specs.PackedFrame.{IsPackedFrame, IsPackedEncoding, PackedStands};
 ghost use Rattle.capnp_pack.specs.PackedSource.{Unpacks};
 ghost use Rattle.capnp_pack.specs.PackedSink.{AppendsPacked, LeavesPacked};
 
@@ -22,13 +22,13 @@ pub fn packed_request_has_one_result()
         Unpacks raw n bytes rest → Unpacks raw n others left → (bytes ≡ others) × (rest ≡ left) }
 {}
 
-/// The three requests of a packed source take just a packed text of the message.
+/// The three requests of a packed source take just a packed encoding of the message.
 pub fn packed_requests_take_a_packed_frame()
     ensures { (rule : Padding) (segments : List (List ℕ)) (raw rest : List ℕ) →
         MessageStands rule Unpacks segments raw rest ↔ PackedStands rule segments raw rest }
 {}
 
-/// No packed text of a message begins a different one, by either rule of padding, and each is the
+/// No packed encoding of a message begins a different one, by either rule of padding, and each is the
 /// text of one message alone. So joined texts can be taken apart in one way only.
 pub fn packed_frames_part_in_one_way()
     ensures { (rule also : Padding) (text other rest left : List ℕ)
@@ -37,13 +37,13 @@ pub fn packed_frames_part_in_one_way()
         (text ≡ other) × (segments ≡ others) × (rest ≡ left) }
 {}
 
-/// What is written of a message is a packed text of it.
-pub fn packed_text_is_a_packed_frame()
+/// What is written of a message is a packed encoding of it.
+pub fn packed_encoding_is_a_packed_frame()
     ensures { (rule : Padding) (text : List ℕ) (segments : List (List ℕ)) →
-        HasTable (lengths segments) → IsPackedText text segments → IsPackedFrame rule text segments }
+        HasTable (lengths segments) → IsPackedEncoding text segments → IsPackedFrame rule text segments }
 {}
 
-/// By the rule of zero padding the table that a packed text holds is the one that is written. Its
+/// By the rule of zero padding the table that a packed encoding holds is the one that is written. Its
 /// chunks may still be packed in more ways than the one that a writer takes.
 pub fn zero_padding_leaves_one_table()
     ensures { (text : List ℕ) (segments : List (List ℕ)) →
@@ -51,53 +51,53 @@ pub fn zero_padding_leaves_one_table()
         frame.first ++ frame.others ≡ zero_padded_table (lengths segments) }
 {}
 
-/// Each message of whole words has the packed text that is written.
-pub fn message_has_a_packed_text()
+/// Each message of whole words has the packed encoding that is written.
+pub fn message_has_a_packed_encoding()
     ensures { (segments : List (List ℕ)) → AllByRecursion IsWholeWords segments →
-        (text : List ℕ) × IsPackedText text segments }
+        (text : List ℕ) × IsPackedEncoding text segments }
 {}
 
-/// Whole words have a packed text.
-pub fn words_have_a_packed_text()
+/// Whole words have a packed encoding.
+pub fn words_have_a_packed_encoding()
     ensures { (bytes : List ℕ) → IsWholeWords bytes → (text : List ℕ) × Packs bytes text }
 {}
 
-/// Whole words have only one packed text.
-pub fn packed_text_is_one()
+/// Whole words have only one packed encoding.
+pub fn packed_encoding_is_one()
     ensures { (bytes text other : List ℕ) → Packs bytes text → Packs bytes other → text ≡ other }
 {}
 
 /// A request for as many bytes as were packed gives these, whatever follows, and takes their text
 /// alone.
-pub fn packed_text_unpacks()
+pub fn packed_encoding_unpacks()
     ensures given { (bytes text rest : List ℕ) → Packs bytes text →
         Unpacks (text ++ rest) (length bytes) bytes rest }
     ensures alone { (bytes text rest others left : List ℕ) → Packs bytes text →
         Unpacks (text ++ rest) (length bytes) others left → (others ≡ bytes) × (left ≡ rest) }
 {}
 
-/// Of n words, at least one, the packed text has at most `8 * n + (n + 3) / 2` bytes.
-pub fn packed_text_is_short()
+/// Of n words, at least one, the packed encoding has at most `8 * n + (n + 3) / 2` bytes.
+pub fn packed_encoding_is_short()
     ensures { (bytes text : List ℕ) (n : ℕ) → Packs bytes text → length bytes ≡ 8 * n → 0 < n →
         length text ≤ 8 * n + (n + 3) / 2 }
 {}
 
-/// A plain sink that is written packed gets just the packed text of each chunk.
-pub fn plain_sink_gets_the_packed_text()
+/// A plain sink that is written packed gets just the packed encoding of each chunk.
+pub fn plain_sink_gets_the_packed_encoding()
     ensures { (chunk text : List ℕ) → AppendsPacked AppendsSame chunk text ↔ Packs chunk text }
 {}
 
 /// A plain sink that keeps at most a front of a chunk where a call fails, keeps a front of the
-/// packed text of what was to be written.
+/// packed encoding of what was to be written.
 pub fn what_is_left_of_packed_words_is_a_front<W: Write>()
     ensures { ((chunk text : List ℕ) → W.leaves chunk text → LeavesFront chunk text) →
         (chunk text packed : List ℕ) → LeavesPacked AppendsSame W.leaves chunk text →
         Packs chunk packed → IsFront text packed }
 {}
 
-/// A plain sink gets the packed text of a message whose chunks are handed to it one after another,
+/// A plain sink gets the packed encoding of a message whose chunks are handed to it one after another,
 /// as `write_segments` does.
 pub fn plain_sink_gets_the_packed_message()
     ensures { (segments : List (List ℕ)) (text : List ℕ) →
-        AppendsAll (AppendsPacked AppendsSame) (chunks segments) text ↔ IsPackedText text segments }
+        AppendsAll (AppendsPacked AppendsSame) (chunks segments) text ↔ IsPackedEncoding text segments }
 {}

@@ -1,6 +1,6 @@
 //! Packing of Cap'n Proto messages.
 //!
-//! Packing leaves out zero bytes. A packed text is groups, one after another: `specs/Group.antt`
+//! Packing leaves out zero bytes. A packed encoding is groups, one after another: `specs/Group.antt`
 //! and `specs/Chunk.antt` say so in the words of the [encoding document], "Packing", and
 //! `specs/Packed.antt` says which of the texts of some words is the one that is written.
 //!
@@ -8,16 +8,16 @@
 #![tactic(auto)]
 
 mod buffer;
+mod compact_shuffle;
 mod copies;
+mod expand_shuffle;
 mod group;
 mod lanes;
 pub mod laws;
-mod lone;
-mod marks;
 mod packed_read;
 mod packed_write;
-mod places;
 mod runs;
+mod single_word;
 mod sizes;
 pub mod stream;
 mod unpack;

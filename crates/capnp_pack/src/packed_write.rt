@@ -9,7 +9,7 @@ ghost use Rattle.capnp_frame.specs.Source.{IfKnown, Fails};
 ghost use Rattle.capnp_frame.specs.Sink.{DeclinesAny, Adds, Grows};
 ghost use Rattle.capnp_frame.specs.Writers.{WritesTo};
 ghost use Rattle.capnp_pack.specs.Calls.{HandsOn};
-ghost use Rattle.capnp_pack.specs.Group.{Group, group_text};
+ghost use Rattle.capnp_pack.specs.Group.{Group, group_encoding};
 ghost use Rattle.capnp_pack.specs.Packed.{IfFirst, Packs};
 ghost use Rattle.capnp_pack.specs.PackedWords.{PacksWords, PacksTo, HandsTo, RestAfter, GrantsTo};
 ghost use Rattle.capnp_pack.specs.PackedSink.{AppendsPacked, LeavesPacked, DeclinesPacked};
@@ -67,7 +67,7 @@ impl<'a, W: Write> Write for PackedWrite<'a, W> {
         ensures added { OnOk result (IfKnown (W.written self.old.sink.now) (W.written self.new.sink.now)
             (Adds (AppendsPacked W.appends chunk.now))) }
         ensures granted { (more : ℕ) → ⊥ → IsOk result × ⊥ }
-        // No more than a front of the packed text is written, and nothing after a hole.
+        // No more than a front of the packed encoding is written, and nothing after a hole.
         ensures left { OnErr result (IfKnown (W.written self.old.sink.now) (W.written self.new.sink.now)
             (Adds (LeavesPacked W.appends W.leaves chunk.now))) }
         ensures failed { IfErr result (λ error. error.kind ≡ ErrorKind.DeviceFailed →
@@ -81,7 +81,7 @@ impl<'a, W: Write> Write for PackedWrite<'a, W> {
         ensures part { (IsWholeWords chunk.now → ⊥) →
             IsErrAnd result (λ error. error.kind ≡ ErrorKind.NotWholeWords)
             × (self.new.sink.now ≡ self.old.sink.now) }
-        // Where the sink grants the packed text, it is written.
+        // Where the sink grants the packed encoding, it is written.
         ensures packed_granted { (text : List ℕ) (more : ℕ) → Packs chunk.now text →
             W.grants self.old.sink.now (length text + more) →
             IsOk result × W.grants self.new.sink.now more }
@@ -170,7 +170,7 @@ fn pack_next<W: Write>(
     })
 }
 
-// Packs groups that need only the buffer, while it has room: up to a word that goes as it stands.
+// Packs groups that need only the buffer, while it has room: up to a word that goes as it is.
 #[inline(always)]
 fn pack_buffered(bytes: &mut [u8; 64], used: usize, words: &[[u8; 8]]) -> Packed
     requires { used ≤ 64 }
@@ -180,7 +180,7 @@ fn pack_buffered(bytes: &mut [u8; 64], used: usize, words: &[[u8; 8]]) -> Packed
     ensures few { result.used ≤ used + 10 * result.words }
     ensures packed { (text : List ℕ) × PacksTo words.now text (drop result.words words.now)
         × (take result.used bytes.new ≡ take used bytes.old ++ text) }
-    // Where room is left, the next word goes as it stands.
+    // Where room is left, the next word goes as it is.
     ensures literal { result.used ≤ 54 →
         IfFirst (drop result.words words.now) (λ word. tag_of word ≡ 255) }
 {
@@ -239,7 +239,7 @@ fn pack_stretch(bytes: &mut [u8; 64], used: usize, words: &[[u8; 8]]) -> Packed
     }
 }
 
-// Packs a word that goes as it stands, and hands on those after it that do.
+// Packs a word that goes as it is, and hands on those after it that do.
 #[inline(always)]
 fn pack_literal<W: Write>(
     sink: &mut W,
@@ -255,10 +255,10 @@ fn pack_literal<W: Write>(
         (GroupAfter (take used bytes.old) word.now others.now) (λ packed. (further : ℕ)
         × (packed.words ≡ 1 + further) × (group : Group) × IsGroupOf word.now others.now further group
         × IfKnown (W.written sink.old) (W.written sink.new)
-        (Hands W.appends (take used bytes.old) (group_text group)
+        (Hands W.appends (take used bytes.old) (group_encoding group)
         (take packed.used bytes.new))) result }
     ensures granted { (group : Group) (count more : ℕ) → IsGroupOf word.now others.now count group →
-        W.grants sink.old (used + (length (group_text group) + more)) →
+        W.grants sink.old (used + (length (group_encoding group) + more)) →
         IsOkAnd result (λ packed. W.grants sink.new (packed.used + more)) }
 {
     let end = push_word(bytes, used, 255, word);
@@ -269,7 +269,7 @@ fn pack_literal<W: Write>(
     })
 }
 
-// Hands on the words after one that go as they stand.
+// Hands on the words after one that go as they are.
 #[inline(always)]
 fn pack_run<W: Write>(
     sink: &mut W,

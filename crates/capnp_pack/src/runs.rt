@@ -46,7 +46,7 @@ pub(crate) fn literal_run(words: &[[u8; 8]]) -> usize
     let most = words.len().min(255);
     let mut count = 0;
     while count < most && zeros(&words[count]) <= 1 {
-        // Speed: eights are looked for where two words go as they stand, and then once in eight
+        // Speed: eights are looked for where two words go as they are, and then once in eight
         // words (`capnp_ls pack` of short runs without a zero byte).
         if count % 8 == 1 {
             count += full_eights(&words[count..most]).max(1);

@@ -2,8 +2,8 @@
 ghost use Rattle.capnp_frame.specs.Streams.{ReadsStream};
 ghost use Rattle.capnp_pack.specs.PackedStreams.{packed_rules};
 
+mod framed;
 mod provided;
-mod text;
 
 use crate::packed_read::PackedRead;
 use capnp_frame::Result;
@@ -13,9 +13,9 @@ use capnp_frame::serialize::{
     OwnedSegments, Padding, try_read_segments, try_read_segments_lenient,
     try_read_segments_reusing, try_read_segments_reusing_lenient,
 };
+pub use framed::try_read_packed_framed_into;
 pub use provided::{try_read_packed_segments_into, try_read_packed_segments_into_lenient};
 use std::alloc::Global;
-pub use text::try_read_packed_text_into;
 
 /// Reads the next packed message of a source, or returns `None` where nothing is unread.
 ///

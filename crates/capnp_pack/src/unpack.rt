@@ -7,12 +7,12 @@ ghost use Rattle.capnp_pack.specs.Steps.{GroupFollowing, Unpacked};
 
 use crate::copies::{clear_front, copy_run, move_front};
 use crate::lanes::unpack_short_word;
-use crate::lone::{REACH, unpack_lone_groups};
+use crate::single_word::{REACH, unpack_single_words};
 use crate::sizes::group_bytes;
 
 // How many bytes of a text are taken, and how many bytes of words they fill.
 #[derive(Clone, Copy)]
-pub(crate) struct Taken {
+pub(crate) struct Progress {
     pub used: usize,
     pub filled: usize,
 }
@@ -21,7 +21,7 @@ pub(crate) struct Taken {
 // Speed: where a source shows few bytes at a time, these are seldom a whole group, so that is
 // tested before all else (workload `trickle`).
 #[inline(always)]
-pub(crate) fn unpack_shown(shown: &[u8], buffer: &mut [u8]) -> Taken
+pub(crate) fn unpack_shown(shown: &[u8], buffer: &mut [u8]) -> Progress
     ensures { Unpacked shown.now buffer.new result.used result.filled }
 {
     if shown.len() >= REACH {
@@ -30,7 +30,7 @@ pub(crate) fn unpack_shown(shown: &[u8], buffer: &mut [u8]) -> Taken
     if shows_a_group(shown) {
         return unpack_short_groups(shown, buffer);
     }
-    Taken { used: 0, filled: 0 }
+    Progress { used: 0, filled: 0 }
 }
 
 // Whether the first tag and its word are shown, and the count after tags 0 and 255.
@@ -44,21 +44,21 @@ fn shows_a_group(shown: &[u8]) -> bool {
 
 // Unpacks groups where many bytes are shown: groups of one word, runs between them, and at last
 // short groups.
-fn unpack_groups(shown: &[u8], buffer: &mut [u8]) -> Taken
+fn unpack_groups(shown: &[u8], buffer: &mut [u8]) -> Progress
     ensures { Unpacked shown.now buffer.new result.used result.filled }
 {
     let mut used = 0;
     let mut filled = 0;
     while buffer.len() - filled >= 8 {
-        let lone = unpack_lone_groups(&shown[used..], &mut buffer[filled..]);
-        used += lone.used;
-        filled += lone.filled;
+        let single = unpack_single_words(&shown[used..], &mut buffer[filled..]);
+        used += single.used;
+        filled += single.filled;
         if buffer.len() - filled < 8 {
             break;
         }
         let Some(group) = unpack_run(&shown[used..], &mut buffer[filled..]) else {
             let last = unpack_short_groups(&shown[used..], &mut buffer[filled..]);
-            return Taken {
+            return Progress {
                 used: used + last.used,
                 filled: filled + last.filled,
             };
@@ -66,12 +66,12 @@ fn unpack_groups(shown: &[u8], buffer: &mut [u8]) -> Taken
         used += group.used;
         filled += group.filled;
     }
-    Taken { used, filled }
+    Progress { used, filled }
 }
 
 // Unpacks groups of zeros and marked groups at the end of what is shown, one by one.
 #[inline(never)]
-fn unpack_short_groups(shown: &[u8], buffer: &mut [u8]) -> Taken
+fn unpack_short_groups(shown: &[u8], buffer: &mut [u8]) -> Progress
     ensures { Unpacked shown.now buffer.new result.used result.filled }
 {
     let mut used = 0;
@@ -83,13 +83,13 @@ fn unpack_short_groups(shown: &[u8], buffer: &mut [u8]) -> Taken
         used += group.used;
         filled += group.filled;
     }
-    Taken { used, filled }
+    Progress { used, filled }
 }
 
 // Fills the front of a buffer with the first group, where that isn't a literal one, which is never
 // short.
 #[inline(always)]
-fn unpack_short_group(shown: &[u8], buffer: &mut [u8]) -> Option<Taken>
+fn unpack_short_group(shown: &[u8], buffer: &mut [u8]) -> Option<Progress>
     requires { 8 ≤ length buffer.old }
     ensures some { IfSome result (λ taken. 0 < taken.filled) }
     ensures group { IfSome result (λ taken.
@@ -97,14 +97,14 @@ fn unpack_short_group(shown: &[u8], buffer: &mut [u8]) -> Option<Taken>
 {
     let (tag, following) = shown.split_first()?;
     let rest = unpack_short_after(*tag, following, buffer)?;
-    Some(Taken {
+    Some(Progress {
         used: 1 + rest.used,
         filled: rest.filled,
     })
 }
 
 #[inline(always)]
-fn unpack_short_after(tag: u8, following: &[u8], buffer: &mut [u8]) -> Option<Taken>
+fn unpack_short_after(tag: u8, following: &[u8], buffer: &mut [u8]) -> Option<Progress>
     requires { 8 ≤ length buffer.old }
     ensures { IfSome result (λ taken.
         GroupFollowing tag following.now buffer.new taken.used taken.filled) }
@@ -116,12 +116,12 @@ fn unpack_short_after(tag: u8, following: &[u8], buffer: &mut [u8]) -> Option<Ta
         return None;
     }
     let used = unpack_short_word(tag, following, &mut buffer[..8]);
-    Some(Taken { used, filled: 8 })
+    Some(Progress { used, filled: 8 })
 }
 
 // Fills the front of a buffer with the first group, where that is a run.
 #[inline(always)]
-fn unpack_run(shown: &[u8], buffer: &mut [u8]) -> Option<Taken>
+fn unpack_run(shown: &[u8], buffer: &mut [u8]) -> Option<Progress>
     requires { 8 ≤ length buffer.old }
     ensures some { IfSome result (λ taken. 0 < taken.filled) }
     ensures group { IfSome result (λ taken.
@@ -129,14 +129,14 @@ fn unpack_run(shown: &[u8], buffer: &mut [u8]) -> Option<Taken>
 {
     let (tag, following) = shown.split_first()?;
     let rest = unpack_run_after(*tag, following, buffer)?;
-    Some(Taken {
+    Some(Progress {
         used: 1 + rest.used,
         filled: rest.filled,
     })
 }
 
 #[inline(always)]
-fn unpack_run_after(tag: u8, following: &[u8], buffer: &mut [u8]) -> Option<Taken>
+fn unpack_run_after(tag: u8, following: &[u8], buffer: &mut [u8]) -> Option<Progress>
     requires { 8 ≤ length buffer.old }
     ensures { IfSome result (λ taken.
         GroupFollowing tag following.now buffer.new taken.used taken.filled) }
@@ -152,7 +152,7 @@ fn unpack_run_after(tag: u8, following: &[u8], buffer: &mut [u8]) -> Option<Take
 // Speed: one word by one store and two to four by two, which may overlap, without a call and
 // without a loop; only more of them by one fill (`capnp_ls unpack` of short zero runs).
 #[inline(always)]
-fn unpack_zeros(following: &[u8], buffer: &mut [u8]) -> Option<Taken>
+fn unpack_zeros(following: &[u8], buffer: &mut [u8]) -> Option<Progress>
     ensures { IfSome result (λ taken.
         GroupFollowing 0 following.now buffer.new taken.used taken.filled) }
 {
@@ -165,20 +165,20 @@ fn unpack_zeros(following: &[u8], buffer: &mut [u8]) -> Option<Taken>
     }
     if filled == 8 {
         clear_front(8, buffer);
-        return Some(Taken { used: 1, filled });
+        return Some(Progress { used: 1, filled });
     }
     if filled > 32 {
         clear_front(filled, buffer);
-        return Some(Taken { used: 1, filled });
+        return Some(Progress { used: 1, filled });
     }
     clear_front(16, buffer);
     clear_front(16, &mut buffer[filled - 16..]);
-    Some(Taken { used: 1, filled })
+    Some(Progress { used: 1, filled })
 }
 
 // Copies a word and the words after its count.
 #[inline(always)]
-fn unpack_literal(following: &[u8], buffer: &mut [u8]) -> Option<Taken>
+fn unpack_literal(following: &[u8], buffer: &mut [u8]) -> Option<Progress>
     requires { 8 ≤ length buffer.old }
     ensures { IfSome result (λ taken.
         GroupFollowing 255 following.now buffer.new taken.used taken.filled) }
@@ -192,7 +192,7 @@ fn unpack_literal(following: &[u8], buffer: &mut [u8]) -> Option<Taken>
     }
     move_front::<8>(following, buffer);
     copy_run(run, &following[9..], &mut buffer[8..]);
-    Some(Taken {
+    Some(Progress {
         used: 9 + run,
         filled: 8 + run,
     })

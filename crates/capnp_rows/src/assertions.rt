@@ -1,8 +1,8 @@
 //! Assertions that tell the row at which they fail.
 //!
 //! Each is proved once, and a test that calls these is quick to prove: an assertion of two values
-//! with a message takes some three seconds wherever it stands, a call of one of these a tenth of that.
-//! They stand in each crate that calls them, since no library may end the process.
+//! with a message takes some three seconds wherever it is, a call of one of these a tenth of that.
+//! They are in each crate that calls them, since no library may end the process.
 use capnp_frame::{ErrorKind, Result};
 use std::process::Abort;
 
@@ -55,7 +55,7 @@ pub fn assert_calls(rt: &impl Abort, found: u64, wanted: u64, at: At<'_>) {
     );
 }
 
-/// A call was refused, and by this kind.
+/// A call was rejected, and by this kind.
 pub fn assert_refused<T: Drop>(rt: &impl Abort, returned: Result<T>, kind: ErrorKind, at: At<'_>) {
     let At { row, number } = at;
     match returned {
@@ -67,7 +67,7 @@ pub fn assert_refused<T: Drop>(rt: &impl Abort, returned: Result<T>, kind: Error
     }
 }
 
-/// A call was refused by this kind, or by none.
+/// A call was rejected by this kind, or by none.
 pub fn assert_kind(
     rt: &impl Abort,
     found: Option<ErrorKind>,

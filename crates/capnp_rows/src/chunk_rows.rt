@@ -1,6 +1,6 @@
 //! The worked rows of chunks that are packed by themselves.
 
-/// Chunks, and their packed texts after one another.
+/// Chunks, and their packed encodings after one another.
 #[derive(Drop)]
 pub struct Packed {
     pub name: &'static str,

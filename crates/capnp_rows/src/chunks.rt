@@ -215,7 +215,7 @@ fn write_parts(rt: &(impl Abort + AllocGlobal)) -> Result<()> {
     Ok(())
 }
 
-// Packed texts of three words, one of them written by another packer.
+// Packed encodings of three words, one of them written by another packer.
 const THREE_WORDS: [(&str, &[u8]); 2] = [
     ("three words", &[1, 7, 0, 1]),
     ("three words of another packer", &[0x81, 7, 0, 0, 0, 0, 0]),

@@ -32,7 +32,7 @@ pub fn write_packed<W: Write>(
     write(rt, &mut PackedWrite::new(sink), segments)
 }
 
-/// A message's framed text.
+/// A message's framed encoding.
 pub fn text_of(rt: &(impl Abort + AllocGlobal), segments: &[&[u8]]) -> Result<Vec<u8>> {
     let array = SegmentArray::new(segments);
     assert!(rt; is_writable(&array));

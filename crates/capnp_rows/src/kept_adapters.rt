@@ -1,4 +1,4 @@
-//! One adapter that is kept through refusals: it goes on as if there had been none.
+//! One adapter that is kept through errors: it goes on as if there had been none.
 use crate::assertions::{At, assert_bytes, assert_calls, assert_count, assert_kind};
 use crate::refusals::kind_of;
 use crate::retried;
@@ -9,10 +9,10 @@ use capnp_frame::{ErrorKind, Result};
 use capnp_pack::{PackedRead, PackedWrite};
 use std::process::Abort;
 
-// Chunks, and the kind of each one's refusal.
+// Chunks, and the kind of each one's error.
 type Chunk = (&'static [u8], Option<ErrorKind>);
 
-// A part of a word is refused, and then the sink refuses a chunk, which is its second.
+// A part of a word is rejected, and then the sink rejects a chunk, which is its second.
 const CHUNKS: [Chunk; 5] = [
     (&[5, 0, 0, 0, 0, 0, 0, 0], None),
     (&[1; 7], Some(ErrorKind::NotWholeWords)),
@@ -43,11 +43,11 @@ fn write_each<W: Write>(rt: &impl Abort, packed: &mut W) -> Result<()> {
     Ok(())
 }
 
-// How many bytes are asked for, by `read_exact`, the kind of the refusal, and the first byte that is
+// How many bytes are asked for, by `read_exact`, the kind of the error, and the first byte that is
 // read.
 type Request = (usize, Option<ErrorKind>, u8);
 
-// A part of a word is refused, and then the source fails, at its second call.
+// A part of a word is rejected, and then the source fails, at its second call.
 const REQUESTS: [Request; 5] = [
     (8, None, 5),
     (7, Some(ErrorKind::NotWholeWords), 0xaa),

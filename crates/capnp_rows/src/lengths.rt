@@ -52,7 +52,7 @@ const LENGTHS: [Lengths; 5] = [
         indices: &[(0, 77), (77, 100), (100, 101), (101, 200)],
         total: 200,
     },
-    // After a refused push the same one is added.
+    // After a rejected push the same one is added.
     Lengths {
         name: "nine segments",
         capacity: 0,
@@ -70,7 +70,7 @@ fn builder_of(alloc: Global, row: &Lengths) -> Result<SegmentLengthsBuilder> {
     Ok(lengths)
 }
 
-// Adds a length; where memory is refused, once more.
+// Adds a length; where memory runs out, once more.
 fn push_again(lengths: &mut SegmentLengthsBuilder, length: usize) -> Result<()> {
     retried!(lengths.try_push_segment(length))
 }
@@ -170,7 +170,7 @@ fn has_written(segments: &OwnedSegments) -> bool {
     segments.get_segment(u32::MAX).is_none()
 }
 
-// A length, and the kind by which its segment is refused. Of these no allocator is asked.
+// A length, and the kind by which its segment is rejected. Of these no allocator is asked.
 const TOO_LONG: [(usize, ErrorKind); 3] = [
     (1 << 60, ErrorKind::OutOfMemory),
     (1 << 61, ErrorKind::MessageSizeOverflow),

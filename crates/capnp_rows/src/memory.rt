@@ -1,6 +1,6 @@
-//! Growths that are refused.
+//! Growths that are rejected.
 //!
-//! `rt try --test --fail-alloc N` refuses the Nth growth of each test, and no other. So each test
+//! `rt try --test --fail-alloc N` rejects the Nth growth of each test, and no other. So each test
 //! asks of a result that it is the right one, or `OutOfMemory` with nothing else changed, and that
 //! the call returns rightly when it is made again.
 use crate::assertions::{At, assert_bytes, assert_count, assert_holds};
@@ -98,7 +98,7 @@ const ASKING: [Asking; 8] = [
         asks: &[16],
         ..NONE
     },
-    // What is refused before the number of segments is accepted takes no memory, nor does the end.
+    // What is rejected before the number of segments is accepted takes no memory, nor does the end.
     Asking {
         name: "count-bounds, 512",
         bytes: &[255, 1, 0, 0, 0, 0, 0, 0],

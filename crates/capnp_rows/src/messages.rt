@@ -6,7 +6,7 @@ use capnp_frame::message::ReaderSegments;
 pub struct Message {
     pub name: &'static str,
     pub segments: &'static [&'static [u8]],
-    /// What stands before the segments in a framed text.
+    /// What is before the segments in a framed encoding.
     pub table: &'static [u8],
     pub packed: &'static [u8],
     pub size_in_words: usize,

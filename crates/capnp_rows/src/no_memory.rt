@@ -1,4 +1,4 @@
-//! Calls that take no memory: they succeed whichever growth is refused, and none is made twice.
+//! Calls that take no memory: they succeed whichever growth fails, and none is made twice.
 use crate::assertions::{At, assert_bytes, assert_count, assert_holds, assert_refused};
 use crate::framing::{Found, read_into, read_packed, write, write_packed};
 use crate::messages::has_segments;
@@ -6,11 +6,11 @@ use crate::packing::{pack, unpack, unpack_some};
 use capnp_frame::message::{DEFAULT_READER_OPTIONS, ReaderSegments, SegmentArray};
 use capnp_frame::serialize::{
     NoAllocBufferSegments, NoAllocSliceSegments, is_writable, serialized_size_in_words,
-    try_read_text_into,
+    try_read_framed_into,
 };
 use capnp_frame::{ErrorKind, Result};
 use capnp_pack::PackedRead;
-use capnp_pack::stream::try_read_packed_text_into;
+use capnp_pack::stream::try_read_packed_framed_into;
 
 // Segments of 1, 0 and 1 words.
 const SEGMENTS: [&[u8]; 3] = [&[1, 2, 3, 4, 5, 6, 7, 8], &[], &[0; 8]];
@@ -132,7 +132,7 @@ fn chunks_are_unpacked(rt: HostRuntime) -> Result<()> {
     Ok(())
 }
 
-// A packed message that is refused before its number of segments is accepted.
+// A packed message that is rejected before its number of segments is accepted.
 #[rattlefmt::skip]
 const REFUSED: [(&str, &[u8], ErrorKind); 3] = [
     ("512 segments", &[3, 255, 1], ErrorKind::InvalidNumberOfSegments(512)),
@@ -178,7 +178,7 @@ fn a_text_in_a_buffer(rt: HostRuntime) -> Result<()> {
     let at = At::row("a framed text");
     let mut source = FRAME_AND_MORE.as_slice();
     let mut room = [1; 48];
-    let found = try_read_text_into(&mut source, &mut room, DEFAULT_READER_OPTIONS)?;
+    let found = try_read_framed_into(&mut source, &mut room, DEFAULT_READER_OPTIONS)?;
     let Some(info) = found else {
         panic!(rt; "no message");
     };
@@ -189,7 +189,7 @@ fn a_text_in_a_buffer(rt: HostRuntime) -> Result<()> {
     Ok(())
 }
 
-// A message of one word of nines and a byte after it, and its framed text in a buffer that is a byte
+// A message of one word of nines and a byte after it, and its framed encoding in a buffer that is a byte
 // longer.
 const PACKED_NINES: [u8; 13] = [0x10, 1, 0xff, 9, 9, 9, 9, 9, 9, 9, 9, 0, 7];
 
@@ -200,7 +200,7 @@ fn a_packed_text_in_a_buffer(rt: HostRuntime) -> Result<()> {
     let at = At::row("a packed text");
     let mut source = PACKED_NINES.as_slice();
     let mut room = [1; 17];
-    let found = try_read_packed_text_into(&mut source, &mut room, DEFAULT_READER_OPTIONS)?;
+    let found = try_read_packed_framed_into(&mut source, &mut room, DEFAULT_READER_OPTIONS)?;
     let Some(info) = found else {
         panic!(rt; "no message");
     };

@@ -1,7 +1,7 @@
-//! Refusals by their numbers.
+//! Errors by their numbers.
 use capnp_frame::{ErrorKind, Result};
 
-/// The number of a refusal, and 0 for a result.
+/// The number of an error, and 0 for a result.
 pub fn refusal<T: Drop>(returned: Result<T>) -> u8 {
     match returned {
         Ok(_) => 0,
@@ -9,7 +9,7 @@ pub fn refusal<T: Drop>(returned: Result<T>) -> u8 {
     }
 }
 
-/// The kind of a refusal, and nothing for a result. A refusal for want of memory is handed back.
+/// The kind of an error, and nothing for a result. An error for want of memory is handed back.
 pub fn kind_of<T: Drop>(returned: Result<T>) -> Result<Option<ErrorKind>> {
     match returned {
         Ok(_) => Ok(None),
@@ -18,7 +18,7 @@ pub fn kind_of<T: Drop>(returned: Result<T>) -> Result<Option<ErrorKind>> {
     }
 }
 
-/// What is returned, or the number of a refusal.
+/// What is returned, or the number of an error.
 pub fn numbered<T>(returned: Result<T>) -> std::result::Result<T, u8> {
     match returned {
         Ok(returned) => Ok(returned),
@@ -26,7 +26,7 @@ pub fn numbered<T>(returned: Result<T>) -> std::result::Result<T, u8> {
     }
 }
 
-/// The number of a refusal, and the words that come with 15; 0 for what there is not.
+/// The number of an error, and the words that come with 15; 0 for what there is not.
 pub fn allocation_refusal<T: Drop>(returned: Result<T>) -> (u8, u32) {
     match returned {
         Ok(_) => (0, 0),

@@ -1,4 +1,4 @@
-//! What refusals are printed as, and their numbers.
+//! What errors are printed as, and their numbers.
 use crate::assertions::{At, assert_bytes, assert_holds};
 use crate::retried;
 use capnp_frame::{Error, ErrorKind, Result};

@@ -1,4 +1,4 @@
--- Objects that stand where pointers lead, or not.
+-- Objects that are where pointers lead, or not.
 use Rattle.std.proofs.Common.{◌≡◌, ℕ, ◌+◌, ◌-◌, ◌*◌, ◌/◌, ◌^◌, ◌<◌, ◌≤◌, min, List, length, Some, None, Result, Ok, Err, slice_get, IfOk, IfErr, IsErrAnd, refl, sym, ◌∙◌, ap, subst, arith}
 use Rattle.std.proofs.lemmas.Option.{none-some, same_Some}
 use Rattle.std.proofs.lemmas.Nat.{mul-lt}
@@ -7,7 +7,7 @@ use Rattle.capnp_frame.specs.declared.error.ErrorKind.TheVariants.{PointerOutOfB
 use Rattle.capnp_wire.specs.Pointer.{words_of, pointer_kind, code, offset, list_count}
 use Rattle.capnp_wire.specs.Element.{width, words_for}
 use Rattle.capnp_wire.specs.Object.{message_of, word_at, ShapeStands}
-use Rattle.capnp_wire.specs.Faults.{NoWord, no_segment, past_segment, Misfits}
+use Rattle.capnp_wire.specs.Faults.{NoWord, no_segment, past_segment, RejectsSize}
 use Rattle.capnp_wire.specs.declared.layout.place.Place.{Place as ReadPlace}
 use Rattle.capnp_wire.proofs.words.WordLemmas.{length-words_of}
 use Rattle.capnp_wire.proofs.words.MessageLemmas.{segment_stands}
@@ -41,7 +41,7 @@ room_in segments start words bytes there room =
     let P : List ℕ → Type 0 = λ b. start.word + words ≤ length b / 8 in
     subst P (one_segment segments start.segment room.0 bytes room.1 there) room.2
 
--- a word that stands in the message stands in its segment
+-- a word that is in the message is in its segment
 pub word_here : (segments : List (List ℕ)) (place : Place) (bytes : List ℕ) (word : ℕ) → slice_get segments place.segment ≡ Some bytes
     → word_at (message_of segments) (read_place place) ≡ Some word → slice_get (words_of bytes) place.word ≡ Some word
 word_here segments place bytes word there e = rw (segment_stands segments place.segment bytes there) at e
@@ -66,22 +66,22 @@ listed_stand EightBytes bytes place pointer count k e f room = numbers_stand byt
 listed_stand Pointer bytes place pointer count k e f room =
     pointers_stand bytes place pointer count k (sym e) f (omega (arith, room, words_for_pointers count 6 refl))
 
--- what a pointer says stands where the segment has room for it
+-- what a pointer says is where the segment has room for it
 pub says_stands : (shape : Shape) (bytes : List ℕ) (start : Place) (pointer : ℕ) → pointer_kind pointer < 2 → Says (words_of bytes) start.word pointer shape
     → start.word + words_in shape ≤ length bytes / 8 → ShapeStands (words_of bytes) (read_place start) pointer (stood (words_of bytes) (read_place start) shape)
-says_stands (Struct size) bytes start pointer near says room =
+says_stands (Struct size) bytes start pointer local says room =
     struct_stands bytes (read_place start) pointer size.data_words size.pointers says.0 says.1.«data» says.1.pointers room
-says_stands (Listed size count) bytes start pointer near says room =
+says_stands (Listed size count) bytes start pointer local says room =
     let k : pointer_kind pointer ≡ 1 = omega (arith, says.0) in
     listed_stand size bytes (read_place start) pointer count k says.1 says.2 room
-says_stands (Structs size count following) bytes start pointer near says room =
+says_stands (Structs size count following) bytes start pointer local says room =
     let k : pointer_kind pointer ≡ 1 = omega (arith, says.0) in
     let tag = says.3 in
     structs_stand bytes (read_place start) pointer tag.tag size.data_words size.pointers count following k says.1 says.2 tag.there tag.kind tag.count_is
     tag.size_is.«data» tag.size_is.pointers room tag.few
 
 listed_misfits : (size : ElementSize) (bytes : List ℕ) (start pointer count : ℕ) → pointer_kind pointer ≡ 1 → code_of size ≡ code pointer → count ≡ list_count pointer
-    → code_of size < 7 → length bytes / 8 < start + words_for count (width (code_of size)) → Misfits (words_of bytes) start pointer PointerOutOfBounds
+    → code_of size < 7 → length bytes / 8 < start + words_for count (width (code_of size)) → RejectsSize (words_of bytes) start pointer PointerOutOfBounds
 listed_misfits size bytes start pointer count k e f few past =
     list_misfits bytes start pointer (code_of size) count (words_for count (width (code_of size))) PointerOutOfBounds k (omega (arith, e)) e f refl past refl
 
@@ -96,13 +96,13 @@ few_codes Pointer = omega arith
 
 -- and misfits where it has none
 pub says_misfits : (shape : Shape) (bytes : List ℕ) (start pointer : ℕ) → pointer_kind pointer < 2 → Says (words_of bytes) start pointer shape
-    → length bytes / 8 < start + words_in shape → Misfits (words_of bytes) start pointer PointerOutOfBounds
-says_misfits (Struct size) bytes start pointer near says past =
+    → length bytes / 8 < start + words_in shape → RejectsSize (words_of bytes) start pointer PointerOutOfBounds
+says_misfits (Struct size) bytes start pointer local says past =
     struct_misfits bytes start pointer size.data_words size.pointers PointerOutOfBounds says.0 says.1.«data» says.1.pointers past refl
-says_misfits (Listed size count) bytes start pointer near says past =
+says_misfits (Listed size count) bytes start pointer local says past =
     let k : pointer_kind pointer ≡ 1 = omega (arith, says.0) in
     listed_misfits size bytes start pointer count k says.1 says.2 (few_codes size) past
-says_misfits (Structs size count following) bytes start pointer near says past =
+says_misfits (Structs size count following) bytes start pointer local says past =
     let room = says.3.room in
     absurd (omega (arith, length-words_of bytes))
 
@@ -135,7 +135,7 @@ elements_few tag size small is =
     let few : size_of size < 2 ^ 17 = omega arith in
     (few, mul-lt (offset tag) (size_of size) (2 ^ 30) (2 ^ 17) (omega arith) few)
 
--- what follows from a refusal
+-- what follows from an error
 pub then_refused : {Y E : Type 0} {P Q : E → Type 0} (result : Result Y E) → IfErr result P → ((error : E) → P error → Q error) → IfErr result Q
 then_refused (Ok y) is more = tt
 then_refused (Err e) is more = more e is

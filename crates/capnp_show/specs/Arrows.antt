@@ -1,4 +1,4 @@
--- Where the cells of a drawing are, and the arrows between them, in pixels (src/arrows.rt): cells of 132 by 26 stand four in a
+-- Where the cells of a drawing are, and the arrows between them, in pixels (src/arrows.rt): cells of 132 by 26 are four in a
 -- row, with gaps of 40 between columns and of 14 between rows, right of a number of the row.
 use Rattle.std.specs.Prelude.{◌≡◌, ◌⊎◌, ◌==◌, if◌then◌else◌, ℕ, ◌+◌, ◌-◌, ◌*◌, ◌/◌, ◌%◌, ◌^◌, min, List, [], ◌∷◌, ◌++◌, length, Vec, Some, None, slice_get, codes}
 use Rattle.capnp_show.specs.declared.words.Place.{Place}
@@ -56,7 +56,7 @@ turns_between from to =
 abbrev pub arrow_of : ℕ → Corner → Corner → List ℕ
 arrow_of number from to = arrow_front number from ++ (turns_between from to ++ arrow_head to)
 
--- The arrow of a word that stands at a place is added.
+-- The arrow of a word that is at a place is added.
 pub record AddsArrowOf (grid : Grid) (place : Place) (word : Word) (old new : List ℕ) : Type 0 where
   pub number : ℕ
   pub start : Place

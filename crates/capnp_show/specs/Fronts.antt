@@ -9,7 +9,7 @@ use Rattle.capnp_frame.specs.FlatReaders.{FlatRules, no_alloc_rules, StandsBy, R
 use Rattle.capnp_show.specs.declared.detected.Look.{Look}
 use Rattle.capnp_show.specs.declared.detected.Look.TheVariants.{Is, More}
 
--- the kinds by which the bytes of a framed message are refused that end too early
+-- the kinds by which the bytes of a framed message are rejected that end too early
 abbrev pub IsCut : ErrorKind → Type 0
 IsCut kind = (kind ≡ EmptyBuffer) ⊎ ((wanted : ℕ) × (there : ℕ) × (kind ≡ MessageEndsPrematurely wanted there))
 
@@ -17,7 +17,7 @@ IsCut kind = (kind ≡ EmptyBuffer) ⊎ ((wanted : ℕ) × (there : ℕ) × (kin
 abbrev pub framed_within : Option ℕ → FlatRules
 framed_within limit = no_alloc_rules Zero limit
 
--- a framed message stands at the front
+-- a framed message is at the front
 pub record Stands (limit : Option ℕ) (front : List ℕ) : Type 0 where
   pub message : List (List ℕ)
   pub rest : List ℕ
@@ -35,11 +35,11 @@ pub record Differs (limit : Option ℕ) (front : List ℕ) : Type 0 where
   pub refused : RefusesBy (framed_within limit) kind front
   pub whole : IsCut kind → ⊥
 
--- the bytes begin a framed message: one stands at their front, or they end within one
+-- the bytes begin a framed message: one is at their front, or they end within one
 abbrev pub Begins : Option ℕ → List ℕ → Type 0
 Begins limit front = Stands limit front ⊎ Ends limit front
 
--- What some bytes say, of which `enough` are enough to tell: they are framed where a message stands there or may follow, packed where
+-- What some bytes say, of which `enough` are enough to tell: they are framed where a message is there or may follow, packed where
 -- none begins so, and they say nothing yet where they are few and end within what may be one.
 abbrev pub Says : ℕ → Option ℕ → List ℕ → Look → Type 0
 Says enough limit front (Is Framed) = Stands limit front ⊎ (Ends limit front × (enough ≤ length front))

@@ -5,7 +5,7 @@ use Rattle.capnp_frame.specs.declared.error.ErrorKind.TheVariants.{PointerOutOfB
 use Rattle.capnp_wire.specs.Pointer.{words_of, pointer_kind, offset, data_words, pointer_words, code, list_count}
 use Rattle.capnp_wire.specs.Element.{width, words_for}
 use Rattle.capnp_wire.specs.Object.{message_of, word_at, landing_pad, IsFar, Lands, Target, Origin, IsStart, ShapeStands, Shape as Stood, struct_shape, numbers_shape, pointers_shape, structs_shape}
-use Rattle.capnp_wire.specs.Faults.{Misfits, Fault}
+use Rattle.capnp_wire.specs.Faults.{RejectsSize, Fault}
 use Rattle.capnp_wire.specs.declared.layout.place.Place.{Place as ReadPlace}
 use Rattle.capnp_show.specs.declared.words.Place.{Place}
 use Rattle.capnp_show.specs.declared.words.StructSize.{StructSize}
@@ -56,7 +56,7 @@ abbrev pub landing_words : Option LandingPad → ℕ
 landing_words None = 0
 landing_words (Some landing_pad) = landing_pad.words
 
--- what stands at a place in this shape, among the words of its segment
+-- what is at a place in this shape, among the words of its segment
 abbrev pub stood : List ℕ → ReadPlace → Shape → Stood
 stood words start (Struct size) = struct_shape words start size.data_words size.pointers
 stood words start (Listed size count) =
@@ -86,19 +86,19 @@ abbrev pub HasRoom : List (List ℕ) → Place → ℕ → Type 0
 HasRoom segments start words =
     (bytes : List ℕ) × (slice_get segments start.segment ≡ Some bytes) × (start.word + words ≤ length bytes / 8)
 
--- an object of this shape stands at a place, as its pointer says
+-- an object of this shape is at a place, as its pointer says
 pub record StandsAt (segments : List (List ℕ)) (start : Place) (pointer : ℕ) (shape : Shape) : Type 0 where
   pub bytes : List ℕ
   pub content : slice_get segments start.segment ≡ Some bytes
   pub stands : ShapeStands (words_of bytes) (read_place start) pointer (stood (words_of bytes) (read_place start) shape)
 
 -- none does, for this reason
-pub data Misses (words : List ℕ) (origin : Origin) (pointer : ℕ) : ErrorKind → Type 0 where
-  no_start : ((start : ℕ) → IsStart origin pointer start → ⊥) → Misses words origin pointer PointerOutOfBounds
-  misfits : {start : ℕ} {kind : ErrorKind} → IsStart origin pointer start → Misfits words start pointer kind
-      → Misses words origin pointer kind
+pub data RejectsTarget (words : List ℕ) (origin : Origin) (pointer : ℕ) : ErrorKind → Type 0 where
+  no_start : ((start : ℕ) → IsStart origin pointer start → ⊥) → RejectsTarget words origin pointer PointerOutOfBounds
+  misfits : {start : ℕ} {kind : ErrorKind} → IsStart origin pointer start → RejectsSize words start pointer kind
+      → RejectsTarget words origin pointer kind
 
--- a far pointer stands at a place, 0 with a landing pad of one word, 1 with one of two, of which the first stands at a place, too
+-- a far pointer is at a place, 0 with a landing pad of one word, 1 with one of two, of which the first is at a place, too
 pub record IsFarTo (segments : List (List ℕ)) (place : Place) (pointer width : ℕ) (landing_place : Place) (first : ℕ) : Type 0 where
   pub there : word_at (message_of segments) (read_place place) ≡ Some pointer
   pub is_far : IsFar pointer width
@@ -113,7 +113,7 @@ pub record IsObject (segments : List (List ℕ)) (place : Place) (object : Objec
   pub begins : IsStart landing.origin landing.tag object.start.word
   pub stands : StandsAt segments object.start landing.tag object.shape
   pub landing_pads : landing_words object.landing_pad ≡ landing.landing_pads
-  -- which stands where the pointer says
+  -- which is where the pointer says
   pub landing_pad_place : IfSome object.landing_pad (λ found. (word : ℕ) × (word_at (message_of segments) (read_place place) ≡ Some word)
       × (pointer_kind word ≡ 2) × (read_place found.place ≡ landing_pad word))
 

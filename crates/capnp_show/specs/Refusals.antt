@@ -1,9 +1,9 @@
--- What is said of refusals (src/refusals.rt).
+-- What is said of errors (src/errors.rt).
 use Rattle.std.specs.Prelude.{ℕ, List, codes}
 use Rattle.capnp.specs.Passed.{ErrorKind}
 use Rattle.capnp_frame.specs.declared.error.ErrorKind.TheVariants.{FailedToFillTheWholeBuffer, BufferNotLargeEnough, EmptyBuffer, EmptySlice, InvalidNumberOfSegments, MessageEndsPrematurely, MessageSizeOverflow, MessageTooLarge, PrematureEndOfFile, PrematureEndOfPackedInput, PackedInputDidNotEndCleanlyOnASegmentBoundary, OutOfMemory, DeviceFailed, NotWholeWords, AllocationTooLarge, SegmentTaken, PointerOutOfBounds, InvalidSegmentId, NestingLimitExceeded, ReadLimitExceeded, CapabilityRefused, WrongPointerKind, TextNotTerminated, CanonicalTooLarge, NotOneSegment, NonZeroPadding}
 
--- what is said of a refusal of this kind, in one sentence
+-- what is said of an error of this kind, in one sentence
 abbrev pub sentence_of : ErrorKind → List ℕ
 sentence_of FailedToFillTheWholeBuffer = codes "the input ends within a message"
 sentence_of BufferNotLargeEnough = codes "a buffer is too short for what was to be put there"

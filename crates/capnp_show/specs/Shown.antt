@@ -15,7 +15,7 @@ pub record Lists (number start size : ℕ) (message : List (List ℕ)) (listed :
   pub words : listed.words ≡ min (size_in_words (take 512 message)) (2 ^ 64 - 1)
 
 -- A text that was `old` is `new`, and a sink was known to hold `before` and holds `after`: a text of `most` bytes or more
--- is written as it stands and cleared, and a shorter one stays, and nothing is written.
+-- is written as it is and cleared, and a shorter one stays, and nothing is written.
 pub record WritesFull (most : ℕ) (appends : Appending) (old new : List ℕ) (before after : Option (List ℕ))
     : Type 0 where
   pub kept : length old < most → new ≡ old

@@ -25,7 +25,7 @@ use Rattle.capnp_show.specs.declared.words.ElementSize.TheVariants.{Void, Bit, B
 abbrev pub IsControl : ℕ → Type 0
 IsControl character = (character ≤ 31) ⊎ ((127 ≤ character) × (character ≤ 159))
 
--- The characters that JSON has a letter for (RFC 8259, section 7), and that letter: the quotation mark and the backslash stand
+-- The characters that JSON has a letter for (RFC 8259, section 7), and that letter: the quotation mark and the backslash are
 -- for themselves, a line feed is n, a carriage return r, a tab t.
 abbrev pub HasLetter : ℕ → ℕ → Type 0
 HasLetter character letter =
@@ -45,7 +45,7 @@ HasName character name =
     ((character ≡ 38) × (name ≡ codes "&amp;")) ⊎ ((character ≡ 60) × (name ≡ codes "&lt;"))
     ⊎ ((character ≡ 62) × (name ≡ codes "&gt;")) ⊎ ((character ≡ 34) × (name ≡ codes "&quot;"))
 
--- how a character stands in a page
+-- how a character is in a page
 abbrev pub IsMarkOf : ℕ → Mark → Type 0
 IsMarkOf character PlainMark =
     (IsControl character → ⊥) × (character ≢ 38) × (character ≢ 60) × (character ≢ 62) × (character ≢ 34)
@@ -78,13 +78,13 @@ pub data AreEscaped : List ℕ → List ℕ → Type 0 where
 abbrev pub AddsEscaped : List ℕ → List ℕ → List ℕ → List ℕ → List ℕ → Type 0
 AddsEscaped front shown end old new = (bytes : List ℕ) × (new ≡ old ++ (front ++ (bytes ++ end))) × AreEscaped (chars shown) bytes
 
--- the bytes of a character in a page, by how it stands there
+-- the bytes of a character in a page, by how it is there
 abbrev pub IsMarked : ℕ → Mark → List ℕ → Type 0
 IsMarked character PlainMark bytes = bytes ≡ encode_utf8 character
 IsMarked character (Named name) bytes = bytes ≡ name.now
 IsMarked character Control bytes = (escape : Escape) × IsEscapeOf character escape × (bytes ≡ escaped character escape)
 
--- these characters stand in a page as these bytes
+-- these characters are in a page as these bytes
 pub data AreMarked : List ℕ → List ℕ → Type 0 where
   none_marked : AreMarked [] []
   one_marked : (characters bytes added : List ℕ) (character : ℕ) (mark : Mark) → AreMarked characters bytes → IsMarkOf character mark
@@ -148,7 +148,7 @@ refused_class (Some kind) = codes " refused"
 abbrev pub word_classes : Word → List ℕ
 word_classes word = owner_classes word.owner ++ (null_class word.owner word.lead ++ refused_class word.refusal)
 
--- what is said of a word whose pointer is not refused: where it stands, and what it is to whom
+-- what is said of a word whose pointer is not rejected: where it is, and what it is to whom
 abbrev pub role_name : Role → List ℕ
 role_name Data = codes "data"
 role_name PointerRole = codes "pointer"

@@ -95,7 +95,7 @@ impl Grid {
         Ok(Grid { tops })
     }
 
-    /// Adds the arrow of a word that stands at a place, where it leads to a word.
+    /// Adds the arrow of a word that is at a place, where it leads to a word.
     pub fn push_arrow(
         &self,
         text: &mut String,

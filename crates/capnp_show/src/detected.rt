@@ -23,7 +23,7 @@ pub enum Look {
 }
 
 /// What the bytes at the front of an input say: that it is framed where they are a segment table
-/// whose segments are within the limit of words, and stand there or may follow.
+/// whose segments are within the limit of words, and are there or may follow.
 pub fn look_at(front: &[u8], limits: ReaderOptions) -> Look
     ensures { Says FRONT_BYTES limits.traversal_limit_in_words front.now result }
 {
@@ -42,7 +42,7 @@ pub fn look_at(front: &[u8], limits: ReaderOptions) -> Look
     }
 }
 
-/// Reads bytes of a device into `front` until they say how its messages stand, or it ends; `None`
+/// Reads bytes of a device into `front` until they say how its messages are, or it ends; `None`
 /// where it fails before. Framed is what begins a framed message within the limit of words, also
 /// where it ends too early, and packed only what begins none.
 pub fn detect<D: Read>(

@@ -9,7 +9,7 @@ use crate::refusals::push_refusal;
 use crate::words::Place;
 use std::alloc::AllocError;
 
-/// How many words stand in a row.
+/// How many words are in a row.
 pub const ROW_WORDS: usize = 4;
 
 // How many colours objects have, one after the other.
@@ -66,7 +66,7 @@ pub fn colour_of(number: u64) -> u64
     number % COLOURS
 }
 
-/// Adds a row of words, of which the first stands at a place.
+/// Adds a row of words, of which the first is at a place.
 pub fn push_row(
     text: &mut String,
     drawn: Drawn<'_>,
@@ -165,7 +165,7 @@ fn push_null(text: &mut String, word: &Word) -> Result<(), AllocError>
     Ok(())
 }
 
-// Adds that what a word leads to is refused.
+// Adds that what a word leads to is rejected.
 fn push_refused(text: &mut String, word: &Word) -> Result<(), AllocError>
     ensures { OnOk result (string_bytes text.new
         ≡ string_bytes text.old ++ refused_class word.now.refusal) }
@@ -176,7 +176,7 @@ fn push_refused(text: &mut String, word: &Word) -> Result<(), AllocError>
     Ok(())
 }
 
-// Adds what is said of a word: why it is refused, or where it is, and what it is to whom.
+// Adds what is said of a word: why it is rejected, or where it is, and what it is to whom.
 fn push_title(text: &mut String, place: Place, word: &Word) -> Result<(), AllocError>
     ensures { word.now.refusal ≡ None → OnOk result
         (string_bytes text.new ≡ string_bytes text.old ++ title_of place word.now) }

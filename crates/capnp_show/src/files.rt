@@ -17,7 +17,7 @@ use std::{fs, io};
 
 /// Shows the messages of the files of these names, or of standard input where none is named.
 ///
-/// It returns whether all were read to their ends. It is refused where what is shown can't be
+/// It returns whether all were read to their ends. It is rejected where what is shown can't be
 /// written, and reads no further then.
 pub fn show_files<W: Write>(
     rt: HostRuntime,
@@ -216,7 +216,7 @@ fn show_source<R: BufRead + Drop, W: Write>(
     }
 }
 
-// Says on standard error which message is refused, and why.
+// Says on standard error which message is rejected, and why.
 fn say_refused(rt: HostRuntime, name: &str, index: u64, offset: u64, error: &Error) -> Result<()> {
     let line = refused_line(rt.alloc(), name, index, offset, error)?;
     let _ = eprint!(rt; "{line}");

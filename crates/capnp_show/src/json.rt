@@ -78,7 +78,7 @@ pub fn push_node<S: ReaderSegments>(
     text.push('}')
 }
 
-// Adds what stands at a node.
+// Adds what is at a node.
 fn push_found<S: ReaderSegments>(
     text: &mut String,
     segments: &S,

@@ -2,10 +2,10 @@
 ghost use Rattle.std.specs.Prelude.{◌≡◌, ◌<◌, ℕ, Some, IfOk, IfErr, MatchResult};
 ghost use Rattle.capnp_wire.specs.Pointer.{pointer_kind};
 ghost use Rattle.capnp_wire.specs.Object.{message_of, word_at as stands_at, landing_pad};
-ghost use Rattle.capnp_wire.specs.Landing.{NotNear};
+ghost use Rattle.capnp_wire.specs.Landing.{NotLocal};
 ghost use Rattle.capnp_show.specs.Objects.{read_place, IsFarTo, IsObject, IsRefused};
 
-use crate::words::{LandingPad, Object, Place, near_object, shaped_object, word_at};
+use crate::words::{LandingPad, Object, Place, local_object, shaped_object, word_at};
 use capnp::ErrorKind;
 use capnp::message::ReaderSegments;
 
@@ -21,13 +21,13 @@ pub(crate) fn far_object<S: ReaderSegments>(segments: &S, pointer: u64) -> Resul
     let place = far_place(pointer);
     let first = word_at(segments, place)?;
     if pointer / 4 % 2 == 0 {
-        expect_near(first)?;
-        return near_object(segments, place, first, Some(LandingPad { place, words: 1 }));
+        expect_local(first)?;
+        return local_object(segments, place, first, Some(LandingPad { place, words: 1 }));
     }
     wide_object(segments, place, first)
 }
 
-// The object of a far pointer whose landing pad has two words, of which the first stands at a
+// The object of a far pointer whose landing pad has two words, of which the first is at a
 // place.
 fn wide_object<S: ReaderSegments>(
     segments: &S,
@@ -53,13 +53,13 @@ fn wide_object<S: ReaderSegments>(
     let Some(_) = segments.get_segment(start.segment) else {
         return Err(ErrorKind::InvalidSegmentId(start.segment));
     };
-    expect_near(tag)?;
+    expect_local(tag)?;
     shaped_object(segments, start, tag, Some(LandingPad { place, words: 2 }))
 }
 
-// Refuses a word of a landing pad that is no struct or list pointer.
-fn expect_near(word: u64) -> Result<(), ErrorKind>
-    ensures { MatchResult result (λ _. pointer_kind word < 2) (λ kind. NotNear word kind) }
+// Rejects a word of a landing pad that is no struct or list pointer.
+fn expect_local(word: u64) -> Result<(), ErrorKind>
+    ensures { MatchResult result (λ _. pointer_kind word < 2) (λ kind. NotLocal word kind) }
 {
     match word % 4 {
         0 | 1 => Ok(()),

@@ -13,12 +13,12 @@ use capnp::message::ReaderSegments;
 use std::alloc::AllocError;
 use std::fmt::Write;
 
-/// Where a message stands, and how large it is.
+/// Where a message is, and how large it is.
 #[derive(Clone, Copy)]
 pub struct Listed {
     /// Its number in the input, from 0 on.
     pub index: u64,
-    /// How many bytes of the input stand before it.
+    /// How many bytes of the input are before it.
     pub offset: u64,
     /// How many bytes of the input it takes.
     pub bytes: u64,
@@ -27,7 +27,7 @@ pub struct Listed {
     pub words: u64,
 }
 
-/// Adds what stands in front of a line.
+/// Adds what is in front of a line.
 #[tactic(auto, using(crate::proofs::TextLemmas::escaped_between))]
 pub fn push_name(text: &mut String, name: Option<&str>) -> Result<(), AllocError>
     ensures { OnOk result (MatchOption name.entry (string_bytes text.new ≡ string_bytes text.old)
@@ -104,7 +104,7 @@ pub fn push_node_text<S: ReaderSegments>(
     push_found(text, segments, node.found)
 }
 
-// Adds what stands at a node.
+// Adds what is at a node.
 fn push_found<S: ReaderSegments>(
     text: &mut String,
     segments: &S,

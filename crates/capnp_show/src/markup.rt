@@ -1,4 +1,4 @@
-//! Texts, as they stand in a page.
+//! Texts, as they are in a page.
 ghost use Rattle.std.specs.Prelude.{◌≡◌, ◌++◌, ℕ, List, [], OnOk, string_bytes};
 ghost use Rattle.capnp_show.specs.Texts.{IsMarkOf, IsMarked, AddsMarked};
 
@@ -6,7 +6,7 @@ use crate::runs::{next_run, push_run};
 use crate::text::{escape_of, push_escape};
 use std::alloc::AllocError;
 
-/// How a character stands in a page.
+/// How a character is in a page.
 #[derive(Clone, Copy)]
 pub enum Mark {
     /// As it is.
@@ -17,7 +17,7 @@ pub enum Mark {
     Control,
 }
 
-/// How a character stands in a page, within an attribute too.
+/// How a character is in a page, within an attribute too.
 pub fn mark_of(character: char) -> Mark
     ensures { IsMarkOf character result }
 {
@@ -44,7 +44,7 @@ pub fn push_markup(text: &mut String, shown: &str) -> Result<(), AllocError>
     text.push_str(rest)
 }
 
-// Adds a character to a page, as it stands there.
+// Adds a character to a page, as it is there.
 fn push_mark(text: &mut String, character: char, mark: Mark) -> Result<(), AllocError>
     ensures { OnOk result ((bytes : List ℕ) × (string_bytes text.new ≡ string_bytes text.old ++ bytes)
         × IsMarked character mark bytes) }

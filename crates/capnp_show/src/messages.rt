@@ -26,7 +26,7 @@ use std::alloc::Global;
 
 /// Shows the messages of a source, each as soon as it is read, or writes them in the other format.
 ///
-/// What is shown of the messages before a refusal stays written.
+/// What is shown of the messages before an error stays written.
 pub fn show_messages<R: BufRead + Drop, W: Write>(
     rt: HostRuntime,
     showing: Showing<'_>,

@@ -50,7 +50,7 @@ impl Owner {
 /// Where the pointer at a word leads.
 #[derive(Clone, Copy)]
 pub enum Lead {
-    /// The walk follows no pointer there, or what it leads to is refused.
+    /// The walk follows no pointer there, or what it leads to is rejected.
     Nowhere,
     Null,
     /// To the object of this number, which begins at this place.
@@ -60,7 +60,7 @@ pub enum Lead {
 /// A word of a message.
 #[derive(Clone, Copy)]
 pub struct Word {
-    /// Its bytes, in the order in which they stand.
+    /// Its bytes, in the order in which they are.
     pub bytes: [u8; 8],
     pub owner: Owner,
     pub lead: Lead,
@@ -240,7 +240,7 @@ fn free_words(alloc: Global, segment: &[u8]) -> Result<Vec<Word>, AllocError>
     Ok(free)
 }
 
-// What the word of an object is that stands a given number of words after its start.
+// What the word of an object is that is a given number of words after its start.
 fn role_of(shape: Shape, index: u64) -> Role
     ensures { ((size : StructSize) (count words : ℕ) → shape ≡ Shape.Structs size count words
         → size_of size < 2 ^ 64)
@@ -255,7 +255,7 @@ fn role_of(shape: Shape, index: u64) -> Role
     }
 }
 
-// What the word of a list of structs is that stands a given number of words after its tag.
+// What the word of a list of structs is that is a given number of words after its tag.
 fn role_in_element(size: StructSize, count: u64, after_tag: u64) -> Role
     ensures { size_of size < 2 ^ 64 → IsRoleInElement size count after_tag result }
 {

@@ -1,4 +1,4 @@
-//! What is said of refusals.
+//! What is said of errors.
 ghost use Rattle.std.specs.Prelude.{◌≡◌, ◌++◌, [], IfOk, codes, string_bytes};
 ghost use Rattle.capnp_show.specs.Refusals.{sentence_of, unwritten_of};
 ghost use Rattle.capnp_show.specs.Texts.{AddsEscaped};
@@ -9,7 +9,7 @@ use std::alloc::{AllocError, Global};
 use std::fmt::Write;
 use std::io;
 
-/// What is said of a refusal of this kind, in one sentence.
+/// What is said of an error of this kind, in one sentence.
 pub fn sentence(kind: ErrorKind) -> &'static str
     ensures { result.now ≡ sentence_of kind }
 {
@@ -47,7 +47,7 @@ pub fn sentence(kind: ErrorKind) -> &'static str
     }
 }
 
-/// Adds what is said of a pointer that is refused.
+/// Adds what is said of a pointer that is rejected.
 pub fn push_refusal(text: &mut String, kind: ErrorKind) -> Result<(), AllocError> {
     let said = sentence(kind);
     write!(text, "refused, since {said} ({kind})")
@@ -56,7 +56,7 @@ pub fn push_refusal(text: &mut String, kind: ErrorKind) -> Result<(), AllocError
 /// Why the messages of an input are not shown to its end.
 #[derive(Drop)]
 pub enum Stop {
-    /// The message of this index was refused, whose first byte stands at this offset.
+    /// The message of this index was rejected, whose first byte is at this offset.
     Refused {
         index: u64,
         offset: u64,
@@ -66,7 +66,7 @@ pub enum Stop {
     Unwritten(Error),
 }
 
-/// The line for a message that was refused.
+/// The line for a message that was rejected.
 pub fn refused_line(
     alloc: Global,
     name: &str,
@@ -87,7 +87,7 @@ pub fn unopened_line(alloc: Global, name: &str, error: &io::Error) -> Result<Str
     Ok(line)
 }
 
-/// The line for an input of which was told how its messages stand.
+/// The line for an input of which was told how its messages are.
 #[tactic(auto, using(crate::proofs::TextLemmas::escaped_and_more))]
 pub fn detected_line(alloc: Global, name: &str, seen: &str) -> Result<String, AllocError>
     ensures { IfOk result (λ line. AddsEscaped (codes "capnp_show: ") name.now

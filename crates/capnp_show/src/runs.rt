@@ -1,6 +1,6 @@
-//! Runs of characters that stand as they are, within quotation marks and in a page.
+//! Runs of characters that are as they are, within quotation marks and in a page.
 //!
-//! Most of what is shown of a text stands as it is, so it is added by runs and not by characters.
+//! Most of what is shown of a text is as it is, so it is added by runs and not by characters.
 ghost use Rattle.std.specs.Prelude.{◌≡◌, ◌++◌, ◌∷◌, ◌⊎◌, ◌≤◌, ◌<◌, None, IfSome, IsUtf8, IsTrue, IsFalse, OnOk, length, slice_index, string_bytes, take};
 ghost use Rattle.std.specs.List.{All};
 ghost use Rattle.std.specs.Str.{chars};
@@ -8,7 +8,7 @@ ghost use Rattle.capnp_show.specs.Plain.{IsPlainByte};
 
 use std::alloc::AllocError;
 
-/// The front of a text up to the first character that may not stand as it is, that character, and
+/// The front of a text up to the first character that may not are as it is, that character, and
 /// what follows it; `None` where each may.
 #[inline(always)]
 pub fn next_run(shown: &str) -> Option<(&str, char, &str)>
@@ -24,7 +24,7 @@ pub fn next_run(shown: &str) -> Option<(&str, char, &str)>
     Some((plain, character, characters.as_str()))
 }
 
-/// Adds a run to a text. Where one character after the other does not stand as it is, most runs are
+/// Adds a run to a text. Where one character after the other is not as it is, most runs are
 /// empty.
 #[inline(always)]
 pub fn push_run(text: &mut String, run: &str) -> Result<(), AllocError>

@@ -2,7 +2,7 @@
 use capnp::Way;
 use capnp::message::ReaderOptions;
 
-/// How the messages of a file stand.
+/// How the messages of a file are.
 #[derive(Clone, Copy)]
 pub enum Reading {
     Framed,

@@ -27,12 +27,12 @@ pub struct Showing<'a> {
     /// The number of the input, from 0 on.
     pub input: u64,
     pub name: &'a str,
-    /// Whether the name stands in front of each line.
+    /// Whether the name is in front of each line.
     pub is_named: bool,
 }
 
 impl<'a> Showing<'a> {
-    // What stands in front of each line.
+    // What is in front of each line.
     fn front(self) -> Option<&'a str>
         ensures { result ≡ (if self.entry.is_named then Some self.entry.name else None) }
     {

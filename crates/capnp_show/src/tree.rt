@@ -20,7 +20,7 @@ pub enum Label {
     Element(u64),
 }
 
-/// What stands at a node.
+/// What is at a node.
 #[derive(Clone, Copy)]
 pub enum Found {
     Null,

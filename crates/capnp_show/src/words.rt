@@ -5,19 +5,19 @@
 ghost use Rattle.std.specs.Prelude.{◌≡◌, ◌<◌, ◌^◌, ◌+◌, ◌*◌, ◌/◌, ℕ, List, Some, length, slice_get, slice_range, IfOk, IfErr, MatchOption, MatchResult, IsTrue, IsFalse};
 ghost use Rattle.capnp_wire.specs.Pointer.{words_of, pointer_kind, code, list_count};
 ghost use Rattle.capnp_wire.specs.Object.{message_of, word_at as stands_at, following, IsStart};
-ghost use Rattle.capnp_wire.specs.Faults.{NoWord, Misfits};
-ghost use Rattle.capnp_show.specs.Objects.{HasRoom, read_place, Says, IsTag, StandsAt, Misses, IsObject, IsRefused};
+ghost use Rattle.capnp_wire.specs.Faults.{NoWord, RejectsSize};
+ghost use Rattle.capnp_show.specs.Objects.{HasRoom, read_place, Says, IsTag, StandsAt, RejectsTarget, IsObject, IsRefused};
 
 use crate::landing::far_object;
 use capnp::ErrorKind;
 use capnp::message::ReaderSegments;
 
-/// Where a word of a message stands.
+/// Where a word of a message is.
 #[derive(Clone, Copy)]
 pub struct Place {
     /// The number of the segment, from 0 on.
     pub segment: u32,
-    /// How many words of the segment stand before it.
+    /// How many words of the segment are before it.
     pub word: u64,
 }
 
@@ -79,7 +79,7 @@ pub fn object_at<S: ReaderSegments>(segments: &S, place: Place) -> Result<Option
         return Ok(None);
     }
     match word % 4 {
-        0 | 1 => Ok(Some(near_object(segments, place, word, None)?)),
+        0 | 1 => Ok(Some(local_object(segments, place, word, None)?)),
         2 => Ok(Some(far_object(segments, word)?)),
         _ => Err(ErrorKind::CapabilityRefused),
     }
@@ -121,8 +121,8 @@ pub(crate) fn word_at<S: ReaderSegments>(segments: &S, place: Place) -> Result<u
     }
 }
 
-// The object of a struct or list pointer that stands at a place.
-pub(crate) fn near_object<S: ReaderSegments>(
+// The object of a struct or list pointer that is at a place.
+pub(crate) fn local_object<S: ReaderSegments>(
     segments: &S,
     place: Place,
     pointer: u64,
@@ -134,7 +134,7 @@ pub(crate) fn near_object<S: ReaderSegments>(
         × (object.start.segment ≡ place.segment) × (object.landing_pad ≡ landing_pad)) }
     ensures refused { IfErr result (λ kind. place.word < 2 ^ 61 → pointer_kind pointer < 2
         → (bytes : List ℕ) → slice_get (S.segments segments.now) place.segment ≡ Some bytes
-        → Misses (words_of bytes) (following place.word) pointer kind) }
+        → RejectsTarget (words_of bytes) (following place.word) pointer kind) }
 {
     let Some(word) = start_after(place.word, pointer) else {
         return Err(ErrorKind::PointerOutOfBounds);
@@ -146,7 +146,7 @@ pub(crate) fn near_object<S: ReaderSegments>(
     shaped_object(segments, start, pointer, landing_pad)
 }
 
-// Where the object begins of a struct or list pointer that stands at a word of its segment: an
+// Where the object begins of a struct or list pointer that is at a word of its segment: an
 // offset from 2^29 on is negative.
 fn start_after(word: u64, pointer: u64) -> Option<u64>
     ensures { let begins = λ (start : ℕ). IsStart (following word) pointer start in
@@ -174,7 +174,7 @@ pub(crate) fn shaped_object<S: ReaderSegments>(
         × (object.start ≡ start) × (object.landing_pad ≡ landing_pad)) }
     ensures refused { IfErr result (λ kind. pointer_kind pointer < 2 → (bytes : List ℕ)
         → slice_get (S.segments segments.now) start.segment ≡ Some bytes
-        → Misfits (words_of bytes) start.word pointer kind) }
+        → RejectsSize (words_of bytes) start.word pointer kind) }
 {
     let shape = shape_of(segments, start, pointer)?;
     if has_room(segments, start, shape.words()) {
@@ -212,7 +212,7 @@ fn shape_of<S: ReaderSegments>(segments: &S, start: Place, pointer: u64) -> Resu
         → Says (words_of bytes) start.word pointer shape) }
     ensures refused { IfErr result (λ kind. pointer_kind pointer < 2 → (bytes : List ℕ)
         → slice_get (S.segments segments.now) start.segment ≡ Some bytes
-        → Misfits (words_of bytes) start.word pointer kind) }
+        → RejectsSize (words_of bytes) start.word pointer kind) }
 {
     if pointer % 4 == 0 {
         return Ok(Shape::Struct(StructSize::read(pointer)));
@@ -240,7 +240,7 @@ fn structs_at<S: ReaderSegments>(segments: &S, start: Place, words: u64) -> Resu
     ensures refused { IfErr result (λ kind. (pointer : ℕ) → pointer_kind pointer ≡ 1
         → code pointer ≡ 7 → words ≡ list_count pointer → (bytes : List ℕ)
         → slice_get (S.segments segments.now) start.segment ≡ Some bytes
-        → Misfits (words_of bytes) start.word pointer kind) }
+        → RejectsSize (words_of bytes) start.word pointer kind) }
 {
     if !has_room(segments, start, words.saturating_add(1)) {
         return Err(ErrorKind::PointerOutOfBounds);

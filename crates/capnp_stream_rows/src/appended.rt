@@ -147,7 +147,7 @@ fn write_none(rt: &(impl Abort + AllocGlobal), format: Format) -> Result<()> {
     Ok(())
 }
 
-// A limit, how many messages are asked for, and the refusal with what is unread then, framed and
+// A limit, how many messages are asked for, and the error with what is unread then, framed and
 // packed.
 type Refusal = (Option<usize>, usize, ErrorKind, usize, usize);
 

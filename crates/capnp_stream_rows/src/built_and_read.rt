@@ -89,7 +89,7 @@ fn build_many(alloc: Global, texts: usize) -> Result<Builder<HeapAllocator>> {
     Ok(message)
 }
 
-// Whether a message is read back, or the refusal.
+// Whether a message is read back, or the error.
 fn read_back(
     rt: &(impl Abort + AllocGlobal),
     format: Format,

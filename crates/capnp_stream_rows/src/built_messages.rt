@@ -34,7 +34,7 @@ const FAR: Built = Built {
     words: 4,
 };
 
-// The second one's text stands after a landing pad in a second segment.
+// The second one's text is after a landing pad in a second segment.
 const BUILT: [Built; 2] = [
     Built {
         text: "Hello, World!",
@@ -78,7 +78,7 @@ pub fn write<W: Write>(
     }
 }
 
-/// The framed text, in memory of its own.
+/// The framed encoding, in memory of its own.
 pub fn words_of(
     rt: &(impl Abort + AllocGlobal),
     message: &Builder<HeapAllocator>,
@@ -123,11 +123,11 @@ fn write_packed(rt: &(impl Abort + AllocGlobal), row: &Built) -> Result<()> {
     Ok(())
 }
 
-// How many bytes are written before each of the chunks of the framed text, and after the last: the
+// How many bytes are written before each of the chunks of the framed encoding, and after the last: the
 // table's first word and its rest, the root's word, and the text after its landing pad.
 const ENDS: [usize; 5] = [0, 8, 16, 24, 48];
 
-// Where a chunk fails a front of the text stands, and no chunk follows.
+// Where a chunk fails a front of the text is, and no chunk follows.
 #[test]
 fn a_sink_that_fails_at_each_chunk(rt: HostRuntime) -> Result<()> {
     for (fails_at, end) in (1..).zip(&ENDS) {
@@ -161,7 +161,7 @@ fn write_framed_to(rt: &(impl Abort + AllocGlobal), end: usize, at: At<'_>) -> R
     Ok(())
 }
 
-// How a packed text is cut into chunks is open, but the first ones are not the whole.
+// How a packed encoding is cut into chunks is open, but the first ones are not the whole.
 fn write_packed_to(rt: &(impl Abort + AllocGlobal), at: At<'_>) -> Result<()> {
     let (sink, returned) = write_far(rt, Format::Packed, at.number)?;
     let written = sink.written.as_slice();

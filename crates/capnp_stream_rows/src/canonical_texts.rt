@@ -14,7 +14,7 @@ use std::process::Abort;
 
 type Expected = std::result::Result<&'static [u8], ErrorKind>;
 
-// Segments, and their canonical form, framed; or the refusal.
+// Segments, and their canonical form, framed; or the error.
 #[rattlefmt::skip]
 const EXPECTED: [(&[&[u8]], Expected); 8] = [
     (&[b"\x01\0\0\0\x72\0\0\0Hello, World!\0\0\0"],
@@ -33,7 +33,7 @@ const EXPECTED: [(&[&[u8]], Expected); 8] = [
     (&[], Err(ErrorKind::InvalidSegmentId(0))),
 ];
 
-// Writes a message's form. A growth that was refused is handed back.
+// Writes a message's form. A growth that was rejected is handed back.
 fn write<W: Write, S: ReaderSegments>(
     rt: &impl AllocGlobal,
     sink: &mut W,
@@ -50,7 +50,7 @@ fn forms_are_written(rt: HostRuntime) -> Result<()> {
     Ok(())
 }
 
-// A sink that has something keeps it, and a refusal adds nothing.
+// A sink that has something keeps it, and an error adds nothing.
 fn write_form(
     rt: &(impl Abort + AllocGlobal),
     segments: &[&[u8]],
@@ -83,7 +83,7 @@ fn a_form_of_a_packed_message(rt: HostRuntime) -> Result<()> {
     retried!(write_packed(&rt))
 }
 
-// What a reader of packed messages returns has a form, too; a sink that is too short refuses it.
+// What a reader of packed messages returns has a form, too; a sink that is too short rejects it.
 fn write_packed(rt: &(impl Abort + AllocGlobal)) -> Result<()> {
     let at = At::row("a form of a packed message");
     let mut source = PACKED_HELLO;

@@ -31,7 +31,7 @@ struct Row {
     lenient: Ended,
 }
 
-// A framed message of an empty segment, and its packed text.
+// A framed message of an empty segment, and its packed encoding.
 const EMPTY: &[u8] = &[0; 8];
 
 const PACKED_EMPTY: &[u8] = &[0, 0];
@@ -50,7 +50,7 @@ const FRAMED_TEXTS: &[u8] = &[
 
 const PACKED_TEXTS: &[u8] = &[0, 0, 1, 1, 1, 1, 0xff, 1, 2, 3, 4, 5, 6, 7, 8, 0];
 
-// The packed text twice.
+// The packed encoding twice.
 const PACKED_TWICE: &[u8] = &[
     1, 1, 1, 1, 0xff, 1, 2, 3, 4, 5, 6, 7, 8, 0, 1, 1, 1, 1, 0xff, 1, 2, 3, 4, 5, 6, 7, 8, 0,
 ];
@@ -85,7 +85,7 @@ const ROWS: [Row; 7] = [
         strict: CUT_AFTER_TWO,
         lenient: CUT_AFTER_TWO,
     },
-    // Both ways refuse a padding that isn't zero, and nothing is written of its message. Their lenient
+    // Both ways reject a padding that isn't zero, and nothing is written of its message. Their lenient
     // forms write the text of zero padding.
     Row {
         name: "another padding, packed",

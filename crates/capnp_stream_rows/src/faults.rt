@@ -1,6 +1,6 @@
 //! Sources that fail at their nth call.
 use crate::assertions::{At, assert_bytes, assert_calls, assert_holds, assert_refused};
-use crate::calls_told::assert_call;
+use crate::calls_declared::assert_call;
 use crate::flat::RULES;
 use crate::framed;
 use crate::samples::{SAMPLES, Sample, TWO_SEGMENTS};

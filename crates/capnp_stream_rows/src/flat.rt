@@ -1,6 +1,6 @@
 //! Messages in a slice, by each call that finds them there.
 use crate::assertions::At;
-use crate::calls_told::{assert_form, assert_left};
+use crate::calls_declared::{assert_form, assert_left};
 use crate::flat_calls::{
     hold, hold_without_memory, take, take_message, take_message_without_memory, take_without_memory,
 };

@@ -8,7 +8,7 @@ use capnp_rows::limits::{DEFAULT_LIMIT, NO_LIMIT};
 pub enum FlatResult {
     /// A message of these segments, and how many bytes stay after it.
     Segments(&'static [&'static [u8]], usize),
-    /// The refusal of a reader that takes the table word by word, and of one that takes it field by
+    /// The error of a reader that takes the table word by word, and of one that takes it field by
     /// field.
     Refused(ErrorKind, ErrorKind),
 }

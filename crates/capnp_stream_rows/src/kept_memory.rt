@@ -1,6 +1,6 @@
 //! Messages that are read into the memory of the one before.
 //!
-//! An equal message takes no more of it: whichever growth is refused, only the first reading may
+//! An equal message takes no more of it: whichever growth fails, only the first reading may
 //! lack it.
 use crate::faults::FORMATS;
 use crate::flat::RULES;

@@ -11,7 +11,7 @@ mod built_and_read;
 #[cfg(test)]
 mod built_messages;
 #[cfg(test)]
-mod calls_told;
+mod calls_declared;
 #[cfg(test)]
 mod canonical_texts;
 #[cfg(test)]

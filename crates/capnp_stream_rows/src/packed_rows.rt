@@ -25,7 +25,7 @@ const HELLO_SEGMENT: &[u8] = &[
 /// 511 empty segments.
 pub const NO_WORDS: [&[u8]; 511] = [&[]; 511];
 
-/// The packed texts of the three messages of `THREE`.
+/// The packed encodings of the three messages of `THREE`.
 pub const PACKED_THREE: &[u8] = &[
     0x11, 1, 1, 1, 2, 1, 123, 1, 4, 1, 5, 1, 1, 1, 1, 0xff, 1, 2, 3, 4, 5, 6, 7, 8, 0, 0, 0,
 ];

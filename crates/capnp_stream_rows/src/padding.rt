@@ -1,6 +1,6 @@
 //! Streams and buffers with tables whose padding isn't zero, by both rules.
 use crate::assertions::At;
-use crate::calls_told::{assert_call, assert_unread};
+use crate::calls_declared::{assert_call, assert_unread};
 use crate::flat::RULES;
 use crate::framed_rows::{CUT, TWO_SEGMENTS};
 use crate::packed_rows::NO_WORDS;

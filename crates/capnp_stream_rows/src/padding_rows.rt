@@ -1,4 +1,4 @@
-//! The worked rows of tables whose padding isn't zero, and of what stands beside them, as bytes and
+//! The worked rows of tables whose padding isn't zero, and of what is beside them, as bytes and
 //! the results of both rules.
 use crate::framed_rows::{CUT, TWO_SEGMENTS};
 use crate::packed_rows::CUT_GROUP;
@@ -34,7 +34,7 @@ pub const CUT_TABLE: &[u8] = &[1, 0, 0, 0, 0, 0, 0, 0, 1, 0, 0, 0, 9, 9];
 /// TWO, packed.
 pub const PACKED_TWO: &[u8] = &[1, 1, 0xf1, 1, 9, 9, 9, 9, 0xff, 1, 2, 3, 4, 5, 6, 7, 8, 0];
 
-/// The refusal of such a padding.
+/// The error of such a padding.
 pub const NOT_ZERO: Wanted<'static> = Wanted::Refused(ErrorKind::NonZeroPadding);
 
 const TOO_LARGE: Wanted<'static> = Wanted::Refused(ErrorKind::MessageTooLarge(1));

@@ -1,6 +1,6 @@
 //! Messages that are cut: no prefix of a text is a message, and each fails with one kind.
 use crate::assertions::At;
-use crate::calls_told::{assert_call, assert_form, assert_left, both};
+use crate::calls_declared::{assert_call, assert_form, assert_left, both};
 use crate::flat::{FORMS, Form, RULES, find};
 use crate::samples::{SAMPLES, Sample};
 use crate::streams::{Call, READERS, Reader, Wanted, is_returned};
@@ -38,7 +38,7 @@ fn read_each(
     Ok(())
 }
 
-// A framed text is refused wherever it is cut, and all of it is consumed. A row is told with both its
+// A framed encoding is rejected wherever it is cut, and all of it is consumed. A row is told with both its
 // length and how many bytes the source shows.
 fn read_framed(
     rt: &(impl Abort + AllocGlobal),
@@ -59,7 +59,7 @@ fn read_framed(
     Ok(())
 }
 
-// In a packed text just a whole chunk can be missing, or a part of a group.
+// In a packed encoding just a whole chunk can be missing, or a part of a group.
 fn read_packed(
     rt: &(impl Abort + AllocGlobal),
     call: Call,

@@ -1,6 +1,6 @@
 //! Messages that are read into caller-provided buffers of each length.
 use crate::assertions::At;
-use crate::calls_told::{assert_call, assert_unread, both};
+use crate::calls_declared::{assert_call, assert_unread, both};
 use crate::flat::RULES;
 use crate::framed_rows::{CUT, FLATTEN};
 use crate::packed_rows::NO_WORDS;
@@ -31,7 +31,7 @@ const FLATTEN_AND_MORE: &[u8] = &[
 
 const TWO: Wanted<'static> = Wanted::Segments(&[&[], &[1, 2, 3, 4, 5, 6, 7, 8]]);
 
-// The order of refusals: a buffer under a word, then the end, a cut word, the count, the table's
+// The order of errors: a buffer under a word, then the end, a cut word, the count, the table's
 // room, the cut table, the limit, and after a padding, the room of all.
 #[rattlefmt::skip]
 const FRAMED: [Row; 19] = [
@@ -133,7 +133,7 @@ fn read_into(
 }
 
 // A table of 2,048 bytes: the low byte of its count, each byte of its lengths, and what is returned
-// where 3 bytes stand after it.
+// where 3 bytes are after it.
 #[derive(Clone, Copy)]
 struct Table {
     name: &'static str,

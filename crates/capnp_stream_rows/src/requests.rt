@@ -1,6 +1,6 @@
 //! What the readers of framed messages ask their source for.
 use crate::assertions::{At, assert_calls};
-use crate::calls_told::assert_call;
+use crate::calls_declared::assert_call;
 use crate::streams::{READERS, Wanted, is_read};
 use capnp::streams::Format;
 use capnp_frame::Result;
@@ -10,7 +10,7 @@ use capnp_rows::retried;
 use capnp_rows::sources::Counting;
 use std::process::Abort;
 
-// Framed texts, their segments, and how many chunks of them have bytes: the first word, the table's
+// Framed encodings, their segments, and how many chunks of them have bytes: the first word, the table's
 // rest, the segments.
 #[rattlefmt::skip]
 const CHUNKS: [(&str, &[u8], Wanted<'static>, u64); 4] = [

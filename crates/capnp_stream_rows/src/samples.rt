@@ -7,11 +7,11 @@ pub struct Sample {
     pub name: &'static str,
     pub segments: &'static [&'static [u8]],
     pub framed: &'static [u8],
-    /// How many bytes of the framed text are its table, and how many words are after them.
+    /// How many bytes of the framed encoding are its table, and how many words are after them.
     pub table: usize,
     pub words: usize,
     pub packed: &'static [u8],
-    /// Where the chunks after the first begin in the packed text.
+    /// Where the chunks after the first begin in the packed encoding.
     pub chunks: &'static [usize],
 }
 

@@ -1,6 +1,6 @@
 //! As many segments as a reader accepts, of 0, 1 and 2 words in turn: each is where it begins.
 use crate::assertions::At;
-use crate::calls_told::{assert_call, assert_form, assert_left};
+use crate::calls_declared::{assert_call, assert_form, assert_left};
 use crate::faults::FORMATS;
 use crate::flat::{FORMS, Form, RULES, find, left_by};
 use crate::streams::{Call, Reader, Wanted, is_returned};
@@ -87,7 +87,7 @@ fn find_all(
     Ok(())
 }
 
-// Each call, the caller-provided buffer being as long as the framed text.
+// Each call, the caller-provided buffer being as long as the framed encoding.
 const CALLS: [Reader; 5] = [
     Reader::Copying,
     Reader::Reusing,
@@ -131,7 +131,7 @@ fn read_text(
     Ok(())
 }
 
-// The three chunks, packed by a packer that takes each word as it stands.
+// The three chunks, packed by a packer that takes each word as it is.
 fn packed_text(alloc: Global, text: &[u8; 6128]) -> Result<Vec<u8>> {
     let mut packed: Vec<u8> = Vec::new(alloc);
     append_words(&mut packed, &text[..8])?;

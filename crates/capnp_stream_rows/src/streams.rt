@@ -1,6 +1,6 @@
 //! Messages after one another, by each call that reads the next one of a stream.
 use crate::assertions::At;
-use crate::calls_told::{assert_call, assert_unread};
+use crate::calls_declared::{assert_call, assert_unread};
 use crate::framed_rows::FRAMED;
 use crate::packed_rows::PACKED;
 use crate::{framed, packed};
@@ -26,7 +26,7 @@ pub enum Wanted<'a> {
     Refused(ErrorKind),
 }
 
-/// What a call returns, and how many bytes stay unread; where a packed chunk is refused, that is open.
+/// What a call returns, and how many bytes stay unread; where a packed chunk is rejected, that is open.
 pub type Expected = (Wanted<'static>, Option<usize>);
 
 /// What the calls return one after another where these bytes are unread.

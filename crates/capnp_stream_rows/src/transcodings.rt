@@ -14,7 +14,7 @@ use std::process::Abort;
 
 pub const WAYS: [Way; 2] = [Way::Pack, Way::Unpack];
 
-/// The refusal, where there is one. A growth that was refused is handed back.
+/// The error, where there is one. A growth that was rejected is handed back.
 pub fn transcoded<R: BufRead, W: Write>(
     rt: &impl AllocGlobal,
     way: Way,
@@ -87,7 +87,7 @@ fn a_sink_that_fails(rt: HostRuntime) -> Result<()> {
     Ok(())
 }
 
-// How many bytes stand where the run meets the fault. The texts of the messages before the fault stand
+// How many bytes are where the run meets the fault. The texts of the messages before the fault are
 // whole, and a front of the next: just the message that was read last is not written as a whole.
 fn write_to(rt: &(impl Abort + AllocGlobal), way: Way, at: At<'_>) -> Result<Option<usize>> {
     let packs = way == Way::Pack;

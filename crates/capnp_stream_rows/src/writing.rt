@@ -1,6 +1,6 @@
 //! What is written of messages, by the calls over a sink and by those into memory.
 use crate::assertions::{At, assert_holds};
-use crate::calls_told::assert_call;
+use crate::calls_declared::assert_call;
 use crate::faults::FORMATS;
 use crate::packed;
 use crate::packed_rows::NO_WORDS;
@@ -85,7 +85,7 @@ fn vectors_of(alloc: Global, segments: &[&[u8]]) -> Result<Vec<Vec<u8>>> {
     Ok(vectors)
 }
 
-// The segments of a packed text, each copied.
+// The segments of a packed encoding, each copied.
 fn owned_of(alloc: Global, mut packed: &[u8]) -> Result<OwnedSegments> {
     let options = DEFAULT_READER_OPTIONS;
     match packed::next_segments(alloc, Padding::Zero, &mut packed, options)? {
@@ -94,8 +94,11 @@ fn owned_of(alloc: Global, mut packed: &[u8]) -> Result<OwnedSegments> {
     }
 }
 
-// The segments of a framed text that is kept.
-fn held_of(rt: &(impl Abort + AllocGlobal), segments: &[&[u8]]) -> Result<BufferSegments<Vec<u8>>> {
+// The segments of a framed encoding that is kept.
+fn state_of(
+    rt: &(impl Abort + AllocGlobal),
+    segments: &[&[u8]],
+) -> Result<BufferSegments<Vec<u8>>> {
     let mut text: Vec<u8> = Vec::new(rt.alloc());
     write(rt, Writer::Framed, &mut text, &SegmentArray::new(segments))?;
     BufferSegments::new(rt.alloc(), text, DEFAULT_READER_OPTIONS)
@@ -114,7 +117,7 @@ fn write_form(
         Form::Slices => write_message(rt, writer, message, &slices_of(rt.alloc(), segments)?),
         Form::Vectors => write_message(rt, writer, message, &vectors_of(rt.alloc(), segments)?),
         Form::Owned => write_message(rt, writer, message, &owned_of(rt.alloc(), message.packed)?),
-        Form::Held => write_message(rt, writer, message, &held_of(rt, segments)?),
+        Form::Held => write_message(rt, writer, message, &state_of(rt, segments)?),
     }
 }
 

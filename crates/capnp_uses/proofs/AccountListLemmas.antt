@@ -130,7 +130,7 @@ pub name_refused : (accounts : List NewAccount) (i : ℕ) (d : NewAccount) (old 
 name_refused accounts i d old new drafts kind within are (inl (inl long)) =
     let there = Contains-get_or accounts i d within in
     inr (inl (there.0, slice_index_or accounts i d, there.1, there.2, long))
-name_refused accounts i d old new drafts kind within are (inl (inr (trees, is, many, told))) =
+name_refused accounts i d old new drafts kind within are (inl (inr (trees, is, many, declared))) =
     let name : List ℕ = (slice_index_or accounts i d).name.now in
     let len : length (name ++ 0 ∷ []) ≡ length name + 1 = length-append name (0 ∷ []) in
     let few = is.0 in

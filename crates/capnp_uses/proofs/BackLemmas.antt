@@ -9,7 +9,7 @@ use Rattle.capnp_wire.specs.Readers.{unlimited_root}
 use Rattle.capnp_wire.specs.Views.{Denotes, Accepts, Reads, IsText, TakesText}
 use Rattle.capnp_wire.specs.Values.{IsTextTree}
 use Rattle.capnp_build.specs.Bytes.{Space}
-use Rattle.capnp_build.specs.Held.{used_of}
+use Rattle.capnp_build.specs.BuilderState.{used_of}
 use Rattle.capnp_build.specs.Built.{message, IsSet}
 use Rattle.capnp_uses.specs.Roots.{HasRootForm}
 use Rattle.capnp_uses.proofs.RootLemmas.{root_denotes, root_is_read}
@@ -33,5 +33,5 @@ text_read spaces bytes shown set reads =
 
 -- equal bytes are found equal
 pub bytes_same : (xs ys : List ℕ) (r : Bool) → r ≡ pointwise nat_eq xs ys → xs ≡ ys → r ≡ true
-bytes_same xs ys true told same = refl
-bytes_same xs ys false told same = absurd (told_text xs ys false told same)
+bytes_same xs ys true declared same = refl
+bytes_same xs ys false declared same = absurd (told_text xs ys false declared same)

@@ -11,16 +11,16 @@ use Rattle.capnp.specs.Roots.{HasRootTree, HasRootOf}
 use Rattle.capnp_uses.specs.People.{text_tree, texts, phones_tree, contact_tree}
 
 -- a tree in front of others
-with_rest : (form f : Form) (held x rest : Trees) → tree form held none ≡ tree f x none → tree form held rest ≡ tree f x rest
-with_rest form f held x rest is = cc
+with_rest : (form f : Form) (children x rest : Trees) → tree form children none ≡ tree f x none → tree form children rest ≡ tree f x rest
+with_rest form f children x rest is = cc
 
 text_front : (bytes : List ℕ) (hs : Trees → Type 0) (trees : Trees) → (is : IsRow (λ t. IsTextTree bytes t) hs trees) → trees ≡ text_tree bytes is.rest
-text_front bytes hs trees is = is.whole ∙ with_rest is.form (numbers 2 (bytes ++ 0 ∷ [])) is.held none is.rest is.part.tree_is.1
+text_front bytes hs trees is = is.whole ∙ with_rest is.form (numbers 2 (bytes ++ 0 ∷ [])) is.children none is.rest is.part.tree_is.1
 
 -- the phones of a list
-pub texts_are : {V : Type 0} (f : V → List ℕ) (vs : List V) (held : Trees) → AreRows (λ v t. IsRow (λ x. IsTextTree (f v) x) (λ x. x ≡ none) t) vs held → held ≡ texts (map f vs)
-texts_are f [] held is = is
-texts_are f (v ∷ vs) held is =
+pub texts_are : {V : Type 0} (f : V → List ℕ) (vs : List V) (children : Trees) → AreRows (λ v t. IsRow (λ x. IsTextTree (f v) x) (λ x. x ≡ none) t) vs children → children ≡ texts (map f vs)
+texts_are f [] children is = is
+texts_are f (v ∷ vs) children is =
     let row : is.row ≡ text_tree (f v) none = text_front (f v) (λ x. x ≡ none) is.row is.row_is ∙ ap (λ (t : Trees). text_tree (f v) t) is.row_is.others in
     is.whole ∙ ap (λ (t : Trees). before t is.rest) row ∙ ap (λ (t : Trees). text_tree (f v) t) (texts_are f vs is.rest is.others)
 
@@ -29,21 +29,21 @@ whole_contact : {V : Type 0} (w f : V → List ℕ) (vs : List V) (words name ma
     (λ b. IsRow (λ x. IsStructList w (λ v c. IsRow (λ y. IsTextTree (f v) y) (λ y. y ≡ none) c) 1 1 vs x) (λ x. x ≡ none) b) a) t) trees
     → trees ≡ tree (struct words) (text_tree name (text_tree mail (phones_tree (map w vs) (map f vs)))) none
 whole_contact w f vs words name mail trees is =
-    let first = is.held_is in
+    let first = is.children_is in
     let second = first.others in
     let third = second.others in
     let phones = third.part.tree_is in
     let list : third.rest ≡ none = third.others in
     let last : second.rest ≡ phones_tree (map w vs) (map f vs) =
-    third.whole ∙ with_rest third.form (structs 1 1 (map w vs)) third.held phones.held third.rest phones.whole
-    ∙ ap (λ (t : Trees). tree (structs 1 1 (map w vs)) phones.held t) list
-    ∙ ap (λ (t : Trees). tree (structs 1 1 (map w vs)) t none) (texts_are f vs phones.held phones.held_is) in
+    third.whole ∙ with_rest third.form (structs 1 1 (map w vs)) third.children phones.children third.rest phones.whole
+    ∙ ap (λ (t : Trees). tree (structs 1 1 (map w vs)) phones.children t) list
+    ∙ ap (λ (t : Trees). tree (structs 1 1 (map w vs)) t none) (texts_are f vs phones.children phones.children_is) in
     let after : first.rest ≡ text_tree mail (phones_tree (map w vs) (map f vs)) =
     text_front mail (λ b. IsRow (λ x. IsStructList w (λ v c. IsRow (λ y. IsTextTree (f v) y) (λ y. y ≡ none) c) 1 1 vs x) (λ x. x ≡ none) b) first.rest second
     ∙ ap (λ (t : Trees). text_tree mail t) last in
     is.whole
     ∙ ap (λ (t : Trees). tree (struct words) t none)
-    (first.whole ∙ with_rest first.form (numbers 2 (name ++ 0 ∷ [])) first.held none first.rest first.part.tree_is.1 ∙ ap (λ (t : Trees). text_tree name t) after)
+    (first.whole ∙ with_rest first.form (numbers 2 (name ++ 0 ∷ [])) first.children none first.rest first.part.tree_is.1 ∙ ap (λ (t : Trees). text_tree name t) after)
 
 pub contact_is : {V : Type 0} (w f : V → List ℕ) (vs phones : List V) (words : List ℕ) (id : ℕ) (n m name mail : List ℕ) (trees : Trees) → words ≡ id ∷ [] → n ≡ name → m ≡ mail → vs ≡ phones
     → IsStruct words 3 (λ t. IsRow (λ x. IsTextTree n x) (λ a. IsRow (λ x. IsTextTree m x)

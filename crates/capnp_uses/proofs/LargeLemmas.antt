@@ -1,4 +1,4 @@
--- A value of texts and structs is refused for its size alone.
+-- A value of texts and structs is rejected for its size alone.
 use Rattle.std.proofs.Common.{◌≡◌, ◌⊎◌, inl, inr, ◌+◌, ℕ, List, [], ◌∷◌, length, false, Option, Result, Ok, Err, IfErr}
 use Rattle.capnp_frame.specs.declared.error.Error.{Error}
 use Rattle.capnp_frame.specs.declared.error.ErrorKind.{ErrorKind}
@@ -12,7 +12,7 @@ use Rattle.capnp_values.specs.StructLists.{RefusesRows, IsStructList, RefusesStr
 use Rattle.capnp_build.specs.Bytes.{Space}
 use Rattle.capnp_build.specs.Out.{MayRefuse}
 use Rattle.capnp_build.specs.declared.allocator.Allocator.{Ghosts}
-use Rattle.capnp_build.specs.Held.{Held}
+use Rattle.capnp_build.specs.BuilderState.{BuilderState}
 use Rattle.capnp_build.specs.Built.{Built}
 use Rattle.capnp_build.specs.Placed.{LacksSegment, FindsNoRoom}
 use Rattle.capnp_build.specs.Outcomes.{StopsFirst, RefusesCanonical}
@@ -64,13 +64,13 @@ may_refuse asked kind (inl memory) = inl memory
 may_refuse asked kind (inr (inl large)) = inr (inr (asked, large))
 may_refuse asked kind (inr (inr taken)) = inr (inl taken)
 
-lacks_segment : {A S : Type 0} (alloc : Ghosts A S) (held : Held A) (asked : ℕ) (kind : ErrorKind) → LacksSegment alloc held asked kind
+lacks_segment : {A S : Type 0} (alloc : Ghosts A S) (state : BuilderState A) (asked : ℕ) (kind : ErrorKind) → LacksSegment alloc state asked kind
     → (kind ≡ OutOfMemory) ⊎ (kind ≡ SegmentTaken) ⊎ TellsLarge kind
-lacks_segment alloc held asked kind (inl many) = inr (inr (asked, many.1))
-lacks_segment alloc held asked kind (inr (few, inl memory)) = inl memory.1
-lacks_segment alloc held asked kind (inr (few, inr refused)) = may_refuse asked kind refused.1
+lacks_segment alloc state asked kind (inl many) = inr (inr (asked, many.1))
+lacks_segment alloc state asked kind (inr (few, inl memory)) = inl memory.1
+lacks_segment alloc state asked kind (inr (few, inr refused)) = may_refuse asked kind refused.1
 
--- why no value is read back whose refusals all tell a size
+-- why no value is read back whose errors all tell a size
 unset_refused : {A S : Type 0} (alloc : Ghosts A S) (has : Trees → Type 0) (refuses : ErrorKind → Type 0) (measured : ℕ → Type 0) (message : List (List ℕ)) (limit : Option ℕ) (old : Built A)
     (new : List Space) (kind : ErrorKind) → AllLarge refuses
     → LacksWords has refuses false kind ⊎ StopsFirst alloc old new kind ⊎ FindsNoRoom alloc measured old new kind → RefusesBack message limit kind
@@ -117,7 +117,7 @@ contact_back alloc w f phones words name mail has limit old new (Err e) refused 
 -- why the canonical form of such a value does not become the one segment
 alone_refused : {A S : Type 0} (alloc : Ghosts A S) (has : Trees → Type 0) (refuses : ErrorKind → Type 0) (old : Built A) (new : List Space) (kind : ErrorKind) → AllLarge refuses
     → StopsFirst alloc old new kind ⊎ RefusesCanonical has refuses new kind → RefusesAlone kind
-alone_refused alloc has refuses old new kind large (inl first) = elim (may_refuse 1 kind first.1.1.1) [ inl memory ↦ inl memory | inr (inl taken) ↦ inr (inl taken) | inr (inr told) ↦ inr (inr (inl told)) ]
+alone_refused alloc has refuses old new kind large (inl first) = elim (may_refuse 1 kind first.1.1.1) [ inl memory ↦ inl memory | inr (inl taken) ↦ inr (inl taken) | inr (inr declared) ↦ inr (inr (inl declared)) ]
 alone_refused alloc has refuses old new kind large (inr (inl more)) = inr (inr (inr (inr more.1)))
 alone_refused alloc has refuses old new kind large (inr (inr (inl (one, inl refused)))) = inr (inr (inl (large kind refused)))
 alone_refused alloc has refuses old new kind large (inr (inr (inl (one, inr lacks)))) = inr (inr (inr (inl lacks.3)))

@@ -9,45 +9,45 @@ use Rattle.capnp_frame.specs.declared.serialize.segment_table.Padding.TheVariant
 use Rattle.capnp_frame.specs.Sink.{Adds}
 use Rattle.capnp_frame.specs.Limits.{KeepsLimit, default_limit}
 use Rattle.capnp_frame.specs.Message.{lengths}
-use Rattle.capnp_frame.specs.Writing.{IsWritable, HasFew}
+use Rattle.capnp_frame.specs.Writing.{IsWritable, IsWithinSegmentLimit}
 use Rattle.capnp_frame.proofs.SizeLemmas.{HasTable-writable}
 use Rattle.capnp_frame.proofs.TextLemmas.{texts_part}
 use Rattle.capnp_pack.specs.RefusingLaws.{unpacking}
 use Rattle.capnp_pack.proofs.PackedFrameLemmas.{packed_requests, packed_text_is}
 use Rattle.capnp.specs.declared.streams.Format.TheVariants.{Packed}
 use Rattle.capnp.specs.Streams.{BeginsPacked, RefusesNext}
-use Rattle.capnp.specs.Written.{IsPackedTextOf}
+use Rattle.capnp.specs.Written.{IsPackedEncodingOf}
 use Rattle.capnp_uses.specs.Roots.{RefusesPackedStruct}
 use Rattle.capnp.proofs.StreamLemmas.{slice_refused}
 use Rattle.capnp.proofs.WriterLemmas.{IsWithin-written}
 
-pub packed_read : (limit : Option ℕ) (read message : List (List ℕ)) (text left : List ℕ) → BeginsPacked Zero limit read text left → IsWritable message → IsPackedTextOf message text → read ≡ message
+pub packed_read : (limit : Option ℕ) (read message : List (List ℕ)) (text left : List ℕ) → BeginsPacked Zero limit read text left → IsWritable message → IsPackedEncodingOf message text → read ≡ message
 packed_read limit read message text left begins writable packed =
     let whole = packed_text_is Zero text message (HasTable-writable message writable) packed in
     (texts_part Zero unpacking (packed_requests Zero) begins.text text left [] read message begins.is_text whole (sym begins.spelled ∙ sym (append-nil text))).1
 
 -- what is added to nothing
-pub added_text : (message : List (List ℕ)) (old new : List ℕ) → old ≡ [] → Adds (IsPackedTextOf message) old new → IsPackedTextOf message new
-added_text message old new none (text, packed, spelled) = subst (λ l. IsPackedTextOf message l) (sym (spelled ∙ ap (λ l. l ++ text) none)) packed
+pub added_text : (message : List (List ℕ)) (old new : List ℕ) → old ≡ [] → Adds (IsPackedEncodingOf message) old new → IsPackedEncodingOf message new
+added_text message old new none (text, packed, spelled) = subst (λ l. IsPackedEncodingOf message l) (sym (spelled ∙ ap (λ l. l ++ text) none)) packed
 
-pub shown_text : (message : List (List ℕ)) (text shown : List ℕ) → shown ≡ text → IsPackedTextOf message text → IsPackedTextOf message shown
-shown_text message text shown same packed = subst (λ l. IsPackedTextOf message l) (sym same) packed
+pub shown_text : (message : List (List ℕ)) (text shown : List ℕ) → shown ≡ text → IsPackedEncodingOf message text → IsPackedEncodingOf message shown
+shown_text message text shown same packed = subst (λ l. IsPackedEncodingOf message l) (sym same) packed
 
--- why a reader of a packed text stops
+-- why a reader of a packed encoding stops
 pub packed_stops : (kind : ErrorKind) (old new : List ℕ) (T : Type 0) → (kind ≡ DeviceFailed → Fails 0 0)
     → (kind ≡ DeviceFailed) ⊎ ((kind ≡ OutOfMemory) × T) ⊎ RefusesNext Zero Packed default_limit kind old new → RefusesPackedStruct old kind
 packed_stops kind old new T failed refused = elim (slice_refused Zero Packed default_limit kind old new T failed refused) [ inl memory ↦ inl memory | inr ends ↦ inr (inl ends) ]
 
 -- why no struct is read from a text
-pub packed_refused : {X : Type 0} (A B C : ErrorKind → Type 0) (message : List (List ℕ)) (text : List ℕ) (r : Result X Error) → IsPackedTextOf message text
+pub packed_refused : {X : Type 0} (A B C : ErrorKind → Type 0) (message : List (List ℕ)) (text : List ℕ) (r : Result X Error) → IsPackedEncodingOf message text
     → IfErr r (λ e. RefusesPackedStruct text e.kind)
-    → IfErr r (λ e. A e.kind ⊎ B e.kind ⊎ C e.kind ⊎ ((spelled : List ℕ) × IsPackedTextOf message spelled × RefusesPackedStruct spelled e.kind))
+    → IfErr r (λ e. A e.kind ⊎ B e.kind ⊎ C e.kind ⊎ ((spelled : List ℕ) × IsPackedEncodingOf message spelled × RefusesPackedStruct spelled e.kind))
 packed_refused A B C message text (Ok x) is refused = tt
 packed_refused A B C message text (Err e) is refused = inr (inr (inr (text, is, refused)))
 
--- and stands at the front of its text
-pub begins_packed : (limit : Option ℕ) (message : List (List ℕ)) (text : List ℕ) → IsWritable message → HasFew message → KeepsLimit (lengths message) limit
-    → IsPackedTextOf message text → BeginsPacked Zero limit message text []
+-- and is at the front of its text
+pub begins_packed : (limit : Option ℕ) (message : List (List ℕ)) (text : List ℕ) → IsWritable message → IsWithinSegmentLimit message → KeepsLimit (lengths message) limit
+    → IsPackedEncodingOf message text → BeginsPacked Zero limit message text []
 begins_packed limit message text writable few size packed = record {
   text = text;
   is_text = packed_text_is Zero text message (HasTable-writable message writable) packed;

@@ -1,4 +1,4 @@
--- Readers of bytes at hand return the one message that stands there.
+-- Readers of bytes at hand return the one message that is there.
 use Rattle.std.proofs.Common.{◌≡◌, ◌⊎◌, inl, inr, ◌<◌, ℕ, List, [], Option, Some, None, Result, Ok, Err, IsOk, IfOk, IfErr, MatchResult, sym, ap, subst, arith}
 use Rattle.std.specs.Prelude.{IfNone, IsSomeAnd, IsOkAnd}
 use Rattle.capnp_frame.specs.declared.serialize.segment_table.Padding.TheVariants.{Zero}
@@ -17,7 +17,7 @@ use Rattle.capnp_frame.specs.Source.{Fails, Splits, RunsShort}
 use Rattle.capnp.specs.declared.streams.Format.{Format}
 use Rattle.capnp_frame.specs.Streams.{next_in}
 use Rattle.capnp.specs.Streams.{grammar_of, BeginsFramed, StandsNext, IsPlainSource}
-use Rattle.capnp.specs.Headline.{ReturnsTexts}
+use Rattle.capnp.specs.Headline.{ReturnsEncodings}
 use Rattle.capnp.proofs.RunLemmas.{format_lawful, format_requested, format_parts}
 use Rattle.capnp.proofs.ReaderLemmas.{nothing_begins}
 use Rattle.capnp.proofs.AppendedLemmas.{memory_only}
@@ -28,7 +28,7 @@ slices_are_plain = record { given = λ raw n bytes rest. (λ p. p, λ p. p); ref
 
 -- a reader that asks for memory, or returns that there is nothing
 pub exactly : {X : Type 0} (segments : X → List (List ℕ)) (format : Format) (limit : Option ℕ) (bytes left : List ℕ) (r : Result (Option X) Error)
-    → ReturnsTexts (grammar_of Zero format) limit (Some bytes) (Some left) (next_in segments r)
+    → ReturnsEncodings (grammar_of Zero format) limit (Some bytes) (Some left) (next_in segments r)
     → IfOk (next_in segments r) (λ found. IfNone found (bytes ≡ []))
     → IfErr (next_in segments r) (λ e. e.kind ≡ DeviceFailed → Fails 0 0)
     → (message : List (List ℕ)) (rest : List ℕ) → StandsNext Zero format limit message bytes rest
@@ -73,6 +73,6 @@ form_refused is_form pointer m bytes Q (Err e) same begins (inl lacks) =
     inr (inr (m, begins.0, begins.1, subst (λ p. LacksForm p e.kind) same lacks))
 form_refused is_form pointer m bytes Q (Err e) same begins (inr memory) = inl memory
 
--- an object may stand at that root
+-- an object may be at that root
 pub default_depth : (options : ReaderOptions) → options ≡ DEFAULT_READER_OPTIONS → 0 < nesting_of options.nesting_limit
 default_depth options is = subst (λ (o : ReaderOptions). 0 < nesting_of o.nesting_limit) (sym is) (omega arith)

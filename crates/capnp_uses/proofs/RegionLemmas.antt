@@ -5,16 +5,16 @@ use Rattle.capnp_frame.specs.declared.error.ErrorKind.{ErrorKind}
 use Rattle.capnp_frame.specs.declared.error.ErrorKind.TheVariants.{AllocationTooLarge}
 use Rattle.capnp_message.specs.Region.{IsOutAlone, RefusesRegion}
 
-pub home_alone : {X : Type 0} (region : Option X) (size : ℕ) → IsSome region → IsOutAlone region size []
-home_alone None size home = absurd (cc)
-home_alone (Some x) size home = refl
+pub available_alone : {X : Type 0} (region : Option X) (size : ℕ) → IsSome region → IsOutAlone region size []
+available_alone None size available = absurd (cc)
+available_alone (Some x) size available = refl
 
--- at home it refuses the root's word where it has none
+-- at home it rejects the root's word where it has none
 pub first_refused : {X : Type 0} (region : Option X) (size n : ℕ) (kind : ErrorKind) → IsSome region → size ≡ n → RefusesRegion region size 1 kind
     → (n / 8 ≡ 0) × (kind ≡ AllocationTooLarge 1)
-first_refused region size n kind home same (inl small) = (omega (arith, small.0, same), small.1)
-first_refused None size n kind home same (inr away) = absurd (cc)
-first_refused (Some x) size n kind home same (inr away) = let none : Some x ≡ None = away.1 in absurd (cc)
+first_refused region size n kind available same (inl small) = (omega (arith, small.0, same), small.1)
+first_refused None size n kind available same (inr away) = absurd (cc)
+first_refused (Some x) size n kind available same (inr away) = let none : Some x ≡ None = away.1 in absurd (cc)
 
 -- and a further segment, which would be larger
 pub further_refused : {X : Type 0} (region : Option X) (size n words : ℕ) (kind : ErrorKind) → size ≡ n → n / 8 ≤ words → RefusesRegion region size (words + 1) kind

@@ -16,7 +16,7 @@ use Rattle.capnp_wire.proofs.pointers.FaultLemmas.{word_of_object, no_word_there
 use Rattle.capnp_wire.proofs.forms.FullLemmas.{null_is_zero}
 use Rattle.capnp_wire.proofs.pointers.NullLemmas.{null_by_word}
 use Rattle.capnp_build.specs.Bytes.{Space}
-use Rattle.capnp_build.specs.Held.{used_of}
+use Rattle.capnp_build.specs.BuilderState.{used_of}
 use Rattle.capnp_build.specs.Built.{message}
 use Rattle.capnp_uses.specs.Roots.{HasRootForm}
 
@@ -40,7 +40,7 @@ root_is_read spaces form fact stands read =
     let shown = root_is_shown spaces form (λ shape. fact shape.form × Within None shape.traversed) stands read in
     subst fact shown.1 shown.2.0
 
--- what a pointer to a root stands for is what stands there
+-- what a pointer to a root stands for is what is there
 denotes_root : (pointer : Pointer) (shape other : Shape) → pointer.place ≡ Some root → Denotes pointer other → PointsTo pointer.message root shape → other ≡ shape
 denotes_root pointer shape other is (nowhere absent) points = cc
 denotes_root pointer shape other is (at_place {place = place} there stands deep) points =
@@ -72,7 +72,7 @@ null_is_read [] (traversed, stands) =
 null_is_read (space ∷ spaces) (traversed, stands) =
     null_by_word (unlimited_root (map used_of (space ∷ spaces))) root 0 refl (null_at (message (space ∷ spaces)) null traversed refl stands) refl
 
--- A view that takes what stands at the root fails at the traversal limit alone.
+-- A view that takes what is at the root fails at the traversal limit alone.
 pub root_meets_limit : (pointer : Pointer) (form : Form) (declines : Form → ErrorKind → Type 0) (kind : ErrorKind) → pointer.place ≡ Some root
     → (traversed : ℕ) × Root pointer.message form none traversed → 0 < pointer.nesting → (declines form kind → ⊥) → NoWord pointer.message root kind ⊎ Refuses pointer declines kind
     → MeetsLimit pointer kind

@@ -19,35 +19,35 @@ use Rattle.capnp_build.specs.Built.{Built, message, IsSet, IsWhole}
 use Rattle.capnp_build.specs.Placed.{DeclinesRoot}
 use Rattle.capnp_build.specs.Outcomes.{LacksFirst}
 use Rattle.capnp.proofs.ChunkLemmas.{framed_memory}
-use Rattle.capnp.specs.Written.{IsFrameText, RefusesWriter}
+use Rattle.capnp.specs.Written.{IsFrameEncoding, RefusesWriter}
 
 leads_one : (p : Pointer) (a b : Trees) → LeadsToTree p a → LeadsToTree p b → a ≡ b
 leads_one p a b x y = one_there p.place p.message p.nesting p.limit a b x y
 
-pub set_as : (p : Pointer) (spaces : List Space) (form : Form) (held : Trees) → LeadsToTree p (tree form held none) → IsSet (LeadsToTree p) false spaces
-    → (traversed : ℕ) × Root (message spaces) form held traversed
-set_as p spaces form held is s =
-    let same : s.trees ≡ tree form held none = leads_one p s.trees (tree form held none) s.tree_is is in
+pub set_as : (p : Pointer) (spaces : List Space) (form : Form) (children : Trees) → LeadsToTree p (tree form children none) → IsSet (LeadsToTree p) false spaces
+    → (traversed : ℕ) × Root (message spaces) form children traversed
+set_as p spaces form children is s =
+    let same : s.trees ≡ tree form children none = leads_one p s.trees (tree form children none) s.tree_is is in
     (s.traversed, subst (λ (t : Trees). At (message spaces) (root ∷ []) t s.traversed) same s.stands)
 
 pub canonical_as : (p : Pointer) (spaces : List Space) (trees : Trees) → LeadsToTree p trees → IsWhole (LeadsToTree p) true spaces → message spaces ≡ canon trees ∷ []
 canonical_as p spaces trees is s = s.words_are ∙ ap (λ (t : Trees). canon t ∷ []) (leads_one p s.trees trees s.tree_is is)
 
--- where a tree stands at the root there is a segment
-pub root_has_segment : (spaces : List Space) (form : Form) (held : Trees) (traversed : ℕ) → Root (message spaces) form held traversed → 0 < length spaces
-root_has_segment [] form held traversed (at {shape = shape} points inside others) = absurd (word_of_object [] root shape refl points)
-root_has_segment (space ∷ spaces) form held traversed stands = omega arith
+-- where a tree is at the root there is a segment
+pub root_has_segment : (spaces : List Space) (form : Form) (children : Trees) (traversed : ℕ) → Root (message spaces) form children traversed → 0 < length spaces
+root_has_segment [] form children traversed (at {shape = shape} points inside others) = absurd (word_of_object [] root shape refl points)
+root_has_segment (space ∷ spaces) form children traversed stands = omega arith
 
 -- a type that declines the root declines the tree that was set
 declined_at : {A S : Type 0} (alloc : Ghosts A S) (p : Pointer) (old : Built A) (spaces : List Space) (kind : ErrorKind) (trees : Trees) (traversed : ℕ) → LeadsToTree p trees → At (message spaces) (root ∷ []) trees traversed
-    → old.spaces ≡ spaces → LacksFirst alloc old kind ⊎ DeclinesRoot DeclinesStruct spaces kind → (form : Form) × (held : Trees) × LeadsToTree p (tree form held none) × DeclinesStruct form kind
+    → old.spaces ≡ spaces → LacksFirst alloc old kind ⊎ DeclinesRoot DeclinesStruct spaces kind → (form : Form) × (children : Trees) × LeadsToTree p (tree form children none) × DeclinesStruct form kind
 declined_at alloc p old [] kind trees traversed leads (at {shape = shape} points inside others) same declined = absurd (word_of_object [] root shape refl points)
 declined_at alloc p old (space ∷ spaces) kind trees traversed leads (at points inside nowhere) same (inl lacks) = absurd (omega (arith, ap length same, lacks.0))
 declined_at alloc p old (space ∷ spaces) kind trees traversed leads (at points inside nowhere) same (inr declined) = (_, _, leads, declined _ _ _ (at points inside nowhere))
 
 pub declined_tree : {A S : Type 0} (alloc : Ghosts A S) (p : Pointer) (old : Built A) (kind : ErrorKind) → IsSet (LeadsToTree p) false old.spaces
     → LacksFirst alloc old kind ⊎ DeclinesRoot DeclinesStruct old.spaces kind
-    → (form : Form) × (held : Trees) × LeadsToTree p (tree form held none) × DeclinesStruct form kind
+    → (form : Form) × (children : Trees) × LeadsToTree p (tree form children none) × DeclinesStruct form kind
 declined_tree alloc p old kind set declined = declined_at alloc p old old.spaces kind set.trees set.traversed set.tree_is set.stands refl declined
 
 -- why what was set is not written to memory
@@ -56,5 +56,5 @@ pub not_written : (message : List (List ℕ)) (error : Error) → RefusesWriter 
 not_written message error refused failed = framed_memory message error.kind refused failed
 
 -- what is added to nothing
-pub added_frame : (segments : List (List ℕ)) (old new : List ℕ) → old ≡ [] → Adds (IsFrameText segments) old new → IsFrameText segments new
+pub added_frame : (segments : List (List ℕ)) (old new : List ℕ) → old ≡ [] → Adds (IsFrameEncoding segments) old new → IsFrameEncoding segments new
 added_frame segments old new empty (text, is, spelled) = spelled ∙ ap (λ l. l ++ text) empty ∙ is

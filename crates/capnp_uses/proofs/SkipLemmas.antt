@@ -7,7 +7,7 @@ use Rattle.capnp_frame.specs.declared.io.Read.{Ghosts}
 use Rattle.capnp_frame.specs.declared.serialize.segment_table.Padding.TheVariants.{Zero}
 use Rattle.capnp_frame.specs.Streams.{ReadsStream}
 use Rattle.capnp.specs.declared.streams.Format.{Format}
-use Rattle.capnp.specs.Headline.{ReturnsTexts}
+use Rattle.capnp.specs.Headline.{ReturnsEncodings}
 use Rattle.capnp.specs.Streams.{grammar_of, rules_of}
 use Rattle.capnp.proofs.RunLemmas.{format_lawful, format_requested}
 use Rattle.capnp.proofs.ReaderLemmas.{nothing_begins, nothing_begins_known}
@@ -19,14 +19,14 @@ of_known None P all = tt
 of_known (Some x) P all = all x
 
 pub skips : {S X : Type 0} (source : Ghosts S) (old new : S) (format : Format) (limit : Option ℕ) (segments : X → List (List ℕ))
-    (found : Option X) (told : Bool) → told ≡ is_some found
-    → ReturnsTexts (grammar_of Zero format) limit (source.unread old) (source.unread new) (Ok (option_map segments found))
+    (found : Option X) (declared : Bool) → declared ≡ is_some found
+    → ReturnsEncodings (grammar_of Zero format) limit (source.unread old) (source.unread new) (Ok (option_map segments found))
     → ReadsStream source old new (rules_of Zero format) limit (Ok (option_map segments found))
-    → SkipsMessage source old new format limit (Ok told)
-skips source old new format limit segments None told is texts reads = record {
+    → SkipsMessage source old new format limit (Ok declared)
+skips source old new format limit segments None declared is texts reads = record {
   passed = λ yes. let never : false ≡ true = sym is ∙ yes in cc;
   none = λ no. reads.none;
-  accepted = nothing_begins Zero (format_lawful format) (format_requested Zero format) limit (λ m. IsTrue told) (source.unread old) reads.none;
+  accepted = nothing_begins Zero (format_lawful format) (format_requested Zero format) limit (λ m. IsTrue declared) (source.unread old) reads.none;
   end = λ empty. is;
   refused = tt;
   exact = reads.exact;
@@ -34,7 +34,7 @@ skips source old new format limit segments None told is texts reads = record {
   failed = tt;
   advances = reads.advances;
 }
-skips source old new format limit segments (Some x) told is texts reads = record {
+skips source old new format limit segments (Some x) declared is texts reads = record {
   passed = λ yes. (segments x, reads.within, texts.found);
   none = λ no. let never : true ≡ false = sym is ∙ no in cc;
   accepted = of_known (source.unread old) _ (λ raw message rest begins. is);
@@ -48,7 +48,7 @@ skips source old new format limit segments (Some x) told is texts reads = record
 }
 
 pub skip_fails : {S : Type 0} (source : Ghosts S) (old new : S) (format : Format) (limit : Option ℕ) (error : Error)
-    → ReturnsTexts (grammar_of Zero format) limit (source.unread old) (source.unread new) (Err error)
+    → ReturnsEncodings (grammar_of Zero format) limit (source.unread old) (source.unread new) (Err error)
     → ReadsStream source old new (rules_of Zero format) limit (Err error)
     → SkipsMessage source old new format limit (Err error)
 skip_fails source old new format limit error texts reads = record {

@@ -33,7 +33,7 @@ IsFullFor words segment = (2 ^ 29 ≤ length segment.bytes / 8 + words) ⊎ Exce
 abbrev pub new_segment : Segment
 new_segment = record { bytes = replicate 8 0; most = None; capacity = 0 }
 
--- No list of these accounts is added: memory is refused, a name is too long for a text, or with the words of the list the segment
+-- No list of these accounts is added: memory runs out, a name is too long for a text, or with the words of the list the segment
 -- would have 2 ^ 29, or a region more than it has room for.
 abbrev pub RefusesAccounts : List NewAccount → Segment → ErrorKind → Type 0
 RefusesAccounts accounts segment kind = (kind ≡ OutOfMemory)

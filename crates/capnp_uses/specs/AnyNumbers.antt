@@ -26,6 +26,6 @@ TakesAnyNumbers null = ⊤
 TakesAnyNumbers (numbers code values) = ⊤
 TakesAnyNumbers _ = ⊥
 
--- and how other forms are refused
+-- and how other forms are rejected
 abbrev pub DeclinesAnyNumbers : Form → ErrorKind → Type 0
 DeclinesAnyNumbers form kind = (TakesAnyNumbers form → ⊥) × (kind ≡ WrongPointerKind)

@@ -1,4 +1,4 @@
--- What stands at the root of a message, and why a root is not set.
+-- What is at the root of a message, and why a root is not set.
 use Rattle.std.specs.Prelude.{◌≡◌, ◌⊎◌, ℕ, List, [], map, false, Some}
 use Rattle.capnp_frame.specs.declared.error.ErrorKind.{ErrorKind}
 use Rattle.capnp_frame.specs.declared.error.ErrorKind.TheVariants.{OutOfMemory, PrematureEndOfFile}
@@ -18,9 +18,9 @@ use Rattle.capnp_build.specs.Placed.{FindsNoRoom, FoundNoRoom, InitWords}
 use Rattle.capnp_build.specs.Outcomes.{LacksFirst, StopsFirst, RefusesCanonical}
 use Rattle.capnp.specs.declared.streams.Format.TheVariants.{Packed}
 use Rattle.capnp.specs.Streams.{StandsNext, EndsBy}
-use Rattle.capnp_build.specs.Held.{used_of}
+use Rattle.capnp_build.specs.BuilderState.{used_of}
 
--- an object without pointers stands at the root of these segments
+-- an object without pointers is at the root of these segments
 abbrev pub HasPlainRoot : List (List ℕ) → Form → Type 0
 HasPlainRoot segments form = (traversed : ℕ) × Root (message_of segments) form none traversed
 
@@ -41,7 +41,7 @@ RefusesRoot alloc has_tree refuses old new kind =
 abbrev pub RefusesForm : {A S : Type 0} → Ghosts A S → (Trees → Type 0) → (ErrorKind → Type 0) → Built A → Built A → ErrorKind → Type 0
 RefusesForm alloc has_tree refuses old new kind = StopsFirst alloc old new.spaces kind ⊎ RefusesCanonical has_tree refuses new.spaces kind
 
--- No struct is read at the root of a packed message: memory is wanting, no message stands there, or its root is refused.
+-- No struct is read at the root of a packed message: memory is wanting, no message is there, or its root is rejected.
 abbrev pub RefusesPackedStruct : List ℕ → ErrorKind → Type 0
 RefusesPackedStruct text kind = (kind ≡ OutOfMemory) ⊎ EndsBy Zero Packed default_limit (Some kind) text
     ⊎ ((text ≡ []) × (kind ≡ PrematureEndOfFile))

@@ -19,17 +19,17 @@ use Rattle.capnp.specs.Streams.{gives_of, refuses_of, StandsNext, RefusesNext}
 -- what is seen of the source (the members of the trait Read), which is `old` before the call and `new` after it.
 pub record SkipsMessage {S : Type 0} (source : Ghosts S) (old new : S) (format : Format) (limit : Option ℕ) (result : Result Bool Error)
     : Type 0 where
-  -- true is told of a message within the limit, whose text stood next, and just that text is consumed
-  pub passed : IfOk result (λ told. IsTrue told → (message : List (List ℕ)) × IsWithin message limit
+  -- true is told of a message within the limit, whose text was next, and just that text is consumed
+  pub passed : IfOk result (λ declared. IsTrue declared → (message : List (List ℕ)) × IsWithin message limit
       × IfKnown (source.unread old) (source.unread new) (StandsNext Zero format limit message))
   -- false only where nothing is unread
-  pub none : IfOk result (λ told. IsFalse told → IfSome (source.unread old) (λ raw. raw ≡ []))
-  -- where such a text stands next true is told, but for a fault
+  pub none : IfOk result (λ declared. IsFalse declared → IfSome (source.unread old) (λ raw. raw ≡ []))
+  -- where such a text is next true is told, but for a fault
   pub accepted : IfSome (source.unread old) (λ raw. (message : List (List ℕ)) (rest : List ℕ) → StandsNext Zero format limit message raw rest
       → MatchResult result IsTrue (λ error. IsFault error.kind))
   -- and where nothing is unread false, but for the device's failure
   pub end : source.unread old ≡ Some [] → MatchResult result IsFalse (λ error. error.kind ≡ DeviceFailed)
-  -- it fails with the device's failure, for want of memory where memory is taken, or with a line of the table of refusals
+  -- it fails with the device's failure, for want of memory where memory is taken, or with a line of the table of errors
   pub refused : IfErr result (λ error. (error.kind ≡ DeviceFailed)
       ⊎ ((error.kind ≡ OutOfMemory) × IfKnown (source.unread old) (source.unread new) (TakesMemory Zero (gives_of format) limit))
       ⊎ IfKnown (source.unread old) (source.unread new) (RefusesNext Zero format limit error.kind))

@@ -51,7 +51,7 @@ impl<'a, S: ReaderSegments> FromPointerReader<'a, S> for Reader<'a, S> {
     // Null, and each struct, is such a view.
     ghost accepts = { λ pointer. Accepts pointer TakesStruct };
 
-    // Why there is none: no object stands there, it may not be read, or it is no struct.
+    // Why there is none: no object is there, it may not be read, or it is no struct.
     ghost refuses = { λ pointer kind. Refuses pointer DeclinesStruct kind };
 
     // An object that is no struct fails with `WrongPointerKind`.

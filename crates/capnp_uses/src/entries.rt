@@ -1,7 +1,7 @@
 //! A list of structs, read by their fields: the entries of a ledger.
 //!
 //! `struct Entry { amount @0 :Int32; paid @1 :Bool = true; note @2 :Text; }` has one data word, in which
-//! the amount stands in the low four bytes and `paid` in the bit after them, and one pointer (Cap'n
+//! the amount is in the low four bytes and `paid` in the bit after them, and one pointer (Cap'n
 //! Proto's encoding, "Structs" and "Lists").
 ghost use Rattle.std.specs.Prelude.{◌≡◌, ◌<◌, ◌≤◌, ◌==◌, length, bit_xor, MatchOption, MatchResult};
 ghost use Rattle.std.specs.Int.{w32, cast_signed};

@@ -3,9 +3,9 @@ ghost use Rattle.std.specs.Prelude.{◌≡◌, ◌⊎◌, ◌<◌, ◌∷◌, []
 ghost use Rattle.capnp_frame.specs.declared.error.ErrorKind.{ErrorKind};
 ghost use Rattle.capnp_frame.specs.Limits.{KeepsLimit, default_limit};
 ghost use Rattle.capnp_frame.specs.Message.{lengths};
-ghost use Rattle.capnp_frame.specs.Writing.{IsWritable, HasFew, RefusesMany};
+ghost use Rattle.capnp_frame.specs.Writing.{IsWritable, IsWithinSegmentLimit, RefusesMany};
 ghost use Rattle.capnp_wire.specs.Tree.{struct};
-ghost use Rattle.capnp.specs.Written.{IsPackedTextOf, output_of};
+ghost use Rattle.capnp.specs.Written.{IsPackedEncodingOf, output_of};
 ghost use Rattle.capnp_uses.specs.Roots.{HasPlainRoot, HasRootForm, LacksRoom, RefusesPackedStruct};
 
 use crate::building::write_struct;
@@ -30,7 +30,7 @@ pub fn a_struct_is_read_packed<A: Allocator>(
     ensures refused { IfErr result (λ error. RefusesMany (output_of message.new) error.kind
         ⊎ (error.kind ≡ ErrorKind.OutOfMemory)
         ⊎ LacksRoom A.Allocator (struct (0 ∷ 0 ∷ [])) message.old error.kind
-        ⊎ ((text : List ℕ) × IsPackedTextOf (output_of message.new) text
+        ⊎ ((text : List ℕ) × IsPackedEncodingOf (output_of message.new) text
         × RefusesPackedStruct text error.kind)) }
 {
     write_struct(message, first, second)?;
@@ -38,13 +38,13 @@ pub fn a_struct_is_read_packed<A: Allocator>(
     read_packed_words(alloc, &text)
 }
 
-/// The packed text of a message that is built, which has a segment. It has no more than a reader
+/// The packed encoding of a message that is built, which has a segment. It has no more than a reader
 /// accepts, so that `read_packed_words` finds it within the limit of words.
 pub fn packed_text<A: Allocator>(alloc: Global, message: &Builder<A>) -> Result<Vec<u8>>
     requires { 0 < length message.now.spaces }
     ensures packed { IfOk result (λ text. IsWritable (output_of message.now)
-        × HasFew (output_of message.now)
-        × IsPackedTextOf (output_of message.now) text.items) }
+        × IsWithinSegmentLimit (output_of message.now)
+        × IsPackedEncodingOf (output_of message.now) text.items) }
     ensures refused { IfErr result (λ error. RefusesMany (output_of message.now) error.kind
         ⊎ (error.kind ≡ ErrorKind.OutOfMemory)) }
 {
@@ -57,12 +57,12 @@ pub fn packed_text<A: Allocator>(alloc: Global, message: &Builder<A>) -> Result<
 /// The first two data words of the struct at the root of a packed message.
 pub fn read_packed_words(alloc: Global, text: &[u8]) -> Result<(u64, u64)>
     ensures words { (message : List (List ℕ)) (first second : ℕ) → IsWritable message →
-        IsPackedTextOf message text.now → HasPlainRoot message (struct (first ∷ second ∷ [])) →
+        IsPackedEncodingOf message text.now → HasPlainRoot message (struct (first ∷ second ∷ [])) →
         IfOk result (λ read. read ≡ (first, second)) }
     // Memory and the traversal limit aside, it succeeds.
     ensures found { (message : List (List ℕ)) (first second : ℕ) → IsWritable message →
-        HasFew message → KeepsLimit (lengths message) default_limit →
-        IsPackedTextOf message text.now → HasPlainRoot message (struct (first ∷ second ∷ [])) →
+        IsWithinSegmentLimit message → KeepsLimit (lengths message) default_limit →
+        IsPackedEncodingOf message text.now → HasPlainRoot message (struct (first ∷ second ∷ [])) →
         IfErr result (λ error. (error.kind ≡ ErrorKind.OutOfMemory)
         ⊎ (error.kind ≡ ErrorKind.ReadLimitExceeded)) }
     ensures refused { IfErr result (λ error. RefusesPackedStruct text.now error.kind) }

@@ -19,7 +19,7 @@ pub fn pack_words(alloc: Global, words: &[u8]) -> Result<Vec<u8>>
     ensures packed { IfOk result (λ text. Packs words.now text.items) }
     ensures memory { IfErr result (λ error. error.kind ≡ ErrorKind.OutOfMemory) }
 {
-    laws::plain_sink_gets_the_packed_text();
+    laws::plain_sink_gets_the_packed_encoding();
     let mut text = Vec::new(alloc);
     pack_into(&mut text, words)?;
     Ok(text)
@@ -59,7 +59,7 @@ pub fn words_are_unpacked(alloc: Global, words: &[u8]) -> Result<Vec<u8>>
     ensures back { IfOk result (λ unpacked. unpacked.items ≡ words.now) }
     ensures memory { IfErr result (λ error. error.kind ≡ ErrorKind.OutOfMemory) }
 {
-    laws::packed_text_unpacks();
+    laws::packed_encoding_unpacks();
     let text = pack_words(alloc, words)?;
     let mut unpacked = vec![in alloc; 0u8; words.len()]?;
     unpack_words(&text, &mut unpacked)?;

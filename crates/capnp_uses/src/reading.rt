@@ -24,7 +24,7 @@ pub fn first_message(alloc: Global, bytes: &[u8]) -> Result<Option<Reader<OwnedS
     ensures found { IfOk result (λ found. IfSome found (λ reader.
         (rest : List ℕ) × BeginsFramed Zero default_limit reader.segments bytes.now rest)) }
     ensures none { IfOk result (λ found. IfNone found (bytes.now ≡ [])) }
-    // A message that stands there is returned, memory aside.
+    // A message that is there is returned, memory aside.
     ensures exact { (message : List (List ℕ)) (rest : List ℕ) →
         BeginsFramed Zero default_limit message bytes.now rest → MatchResult result
         (λ found. IsSomeAnd found (λ reader. reader.segments ≡ message))

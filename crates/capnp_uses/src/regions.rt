@@ -3,7 +3,7 @@ ghost use Rattle.std.specs.Prelude.{◌≡◌, ◌⊎◌, ℕ, ◌+◌, ◌/◌,
 ghost use Rattle.capnp_frame.specs.declared.error.ErrorKind.TheVariants.{SegmentTaken};
 ghost use Rattle.capnp_wire.specs.Values.{HasWords, LacksWords};
 ghost use Rattle.capnp_build.specs.Built.{IsSet};
-ghost use Rattle.capnp_message.specs.Region.{IsHome};
+ghost use Rattle.capnp_message.specs.Region.{IsAvailable};
 ghost use Rattle.capnp_uses.specs.Regions.{StandsAlone, LacksRegion};
 
 use capnp_frame::Result;
@@ -13,7 +13,7 @@ use capnp_wire::traits::SetterInput;
 use std::alloc::Global;
 
 /// Sets the root of a new message over a region: a value that has room there after the root's word is
-/// set, and stands just after it. Where it is refused, that is not for a region that is out.
+/// set, and is just after it. Where it is rejected, that is not for a region that is out.
 pub fn set_in_region<'a, T, V: SetterInput<T> + Drop>(
     alloc: Global,
     region: &'a mut [u8],
@@ -25,7 +25,7 @@ pub fn set_in_region<'a, T, V: SetterInput<T> + Drop>(
     ensures set { IfOk result (λ message. IsSet (V.has_tree value) false message.spaces) }
     ensures stands { IfOk result (λ message. (words : ℕ) × HasWords (V.has_tree value) false words
         × (words < length region.old / 8 → StandsAlone message words)) }
-    ensures home { IfErr result (λ error. error.kind ≡ SegmentTaken →
+    ensures available { IfErr result (λ error. error.kind ≡ SegmentTaken →
         LacksWords (V.has_tree value) (V.refuses value) false error.kind) }
     // It fails as measuring the value does, or for want of room.
     ensures refused { IfErr result (λ error.
@@ -45,7 +45,7 @@ pub fn region_comes_home<'a, T, V: SetterInput<T> + Drop>(
     value: V,
 ) -> SingleSegmentAllocator<'a>
     requires { length region.old / 8 < 2 ^ 32 }
-    ensures home { IsHome result.region result.size }
+    ensures available { IsAvailable result.region result.size }
     ensures size { result.size ≡ length region.old }
 {
     let mut message = Builder::new(alloc, SingleSegmentAllocator::new(region));

@@ -10,7 +10,7 @@ ghost use Rattle.capnp_wire.specs.Readers.{pointer_of};
 ghost use Rattle.capnp_wire.specs.Views.{DeclinesStruct};
 ghost use Rattle.capnp_wire.specs.Values.{LeadsToTree, StopsWalkFrom};
 ghost use Rattle.capnp_build.specs.Built.{Built, message, IsSet};
-ghost use Rattle.capnp.specs.Written.{IsFrameText, output_of};
+ghost use Rattle.capnp.specs.Written.{IsFrameEncoding, output_of};
 ghost use Rattle.capnp_uses.specs.Roots.{RefusesRoot, RefusesForm};
 
 use capnp::serialize;
@@ -28,9 +28,9 @@ pub fn set_tree<A: Allocator, S: ReaderSegments>(
     built: &mut Builder<A>,
     source: any_pointer::Reader<'_, S>,
 ) -> Result<()>
-    ensures set { (form : Form) (held : Trees) →
-        LeadsToTree (pointer_of S.segments source.entry) (tree form held none) →
-        OnOk result ((traversed : ℕ) × Root (message built.new.spaces) form held traversed) }
+    ensures set { (form : Form) (children : Trees) →
+        LeadsToTree (pointer_of S.segments source.entry) (tree form children none) →
+        OnOk result ((traversed : ℕ) × Root (message built.new.spaces) form children traversed) }
     ensures stands { OnOk result
         (IsSet (LeadsToTree (pointer_of S.segments source.entry)) false built.new.spaces) }
     ensures refused { let pointer = pointer_of S.segments source.entry in IfErr result (λ error.
@@ -46,15 +46,15 @@ pub fn set_tree_and_word<A: Allocator, S: ReaderSegments>(
     source: any_pointer::Reader<'_, S>,
     word: u64,
 ) -> Result<()>
-    ensures set { (words : List ℕ) (held : Trees) → 0 < length words →
-        LeadsToTree (pointer_of S.segments source.entry) (tree (struct words) held none) →
+    ensures set { (words : List ℕ) (children : Trees) → 0 < length words →
+        LeadsToTree (pointer_of S.segments source.entry) (tree (struct words) children none) →
         OnOk result ((traversed : ℕ)
-        × Root (message built.new.spaces) (struct (slice_set words 0 word)) held traversed) }
+        × Root (message built.new.spaces) (struct (slice_set words 0 word)) children traversed) }
     // It fails as setting the root does, or where what is set is no struct.
     ensures refused { let pointer = pointer_of S.segments source.entry in IfErr result (λ error.
         ((last : Built A) × RefusesRoot A.Allocator (LeadsToTree pointer) (StopsWalkFrom pointer)
         built.old last error.kind)
-        ⊎ ((form : Form) × (held : Trees) × LeadsToTree pointer (tree form held none)
+        ⊎ ((form : Form) × (children : Trees) × LeadsToTree pointer (tree form children none)
         × DeclinesStruct form error.kind)) }
 {
     set_tree(built, source)?;
@@ -87,7 +87,7 @@ pub fn set_and_write<T, V: SetterInput<T> + Drop, A: Allocator>(
     value: V,
 ) -> Result<Vec<u8>>
     ensures set { OnOk result (IsSet (V.has_tree value) false built.new.spaces) }
-    ensures written { IfOk result (λ text. IsFrameText (output_of built.new) text.items) }
+    ensures written { IfOk result (λ text. IsFrameEncoding (output_of built.new) text.items) }
     ensures refused { IfErr result (λ error.
         RefusesRoot A.Allocator (V.has_tree value) (V.refuses value) built.old built.new error.kind
         ⊎ RefusesMany (output_of built.new) error.kind ⊎ (error.kind ≡ ErrorKind.OutOfMemory)) }
@@ -105,7 +105,7 @@ pub fn set_canonical_and_write<T, V: SetterInput<T> + Drop, A: Allocator>(
     value: V,
 ) -> Result<Vec<u8>>
     ensures set { OnOk result (IsSet (V.has_tree value) true built.new.spaces) }
-    ensures written { IfOk result (λ text. IsFrameText (output_of built.new) text.items) }
+    ensures written { IfOk result (λ text. IsFrameEncoding (output_of built.new) text.items) }
     ensures refused { IfErr result (λ error.
         RefusesForm A.Allocator (V.has_tree value) (V.refuses value) built.old built.new error.kind
         ⊎ RefusesMany (output_of built.new) error.kind ⊎ (error.kind ≡ ErrorKind.OutOfMemory)) }

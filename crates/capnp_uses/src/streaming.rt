@@ -2,7 +2,7 @@
 ghost use Rattle.std.specs.Prelude.{◌≡◌, IfSome, IfOk};
 ghost use Rattle.capnp_frame.specs.declared.serialize.segment_table.Padding.TheVariants.{Zero};
 ghost use Rattle.capnp_frame.specs.Streams.{next_in, ReadsStream};
-ghost use Rattle.capnp.specs.Headline.{ReturnsTexts};
+ghost use Rattle.capnp.specs.Headline.{ReturnsEncodings};
 ghost use Rattle.capnp.specs.Streams.{grammar_of, rules_of};
 ghost use Rattle.capnp_uses.specs.Streaming.{SkipsMessage};
 
@@ -23,7 +23,7 @@ pub fn next_message<R: BufRead>(
     source: &mut R,
     options: ReaderOptions,
 ) -> Result<Option<Reader<OwnedSegments>>>
-    ensures texts { ReturnsTexts (grammar_of Zero format) options.traversal_limit_in_words
+    ensures texts { ReturnsEncodings (grammar_of Zero format) options.traversal_limit_in_words
         (R.unread source.old) (R.unread source.new)
         (next_in (λ reader. reader.segments) result) }
     ensures reads { ReadsStream R.Read source.old source.new (rules_of Zero format)

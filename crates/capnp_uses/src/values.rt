@@ -74,7 +74,7 @@ pub fn person_is_canonical<A: Allocator>(
     built.set_root_canonical::<any_struct::Owned, Person<'_>>(value)
 }
 
-/// A phone: a struct of a data word, in which its type stands, and of its number, a text.
+/// A phone: a struct of a data word, in which its type is, and of its number, a text.
 pub type Phone<'a> = StructValue<1, Field<text::Owned, &'a str, NoFields>>;
 
 /// What a contact has after the address.

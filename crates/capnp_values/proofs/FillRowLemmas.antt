@@ -1,7 +1,7 @@
 -- Rows that are put into a block one by one, each with its pointers and what these lead to.
 use Rattle.std.proofs.Common.{◌≡◌, ℕ, zero, suc, ◌+◌, ◌-◌, ◌*◌, ◌≤◌, List, [], ◌∷◌, ◌++◌, length, refl, sym, ◌∙◌, ap, arith}
 use Rattle.std.proofs.lemmas.List.Elements.{All-head, All-tail}
-use Rattle.capnp_wire.specs.Tree.{Trees, none, tree, count, own_words, total_words}
+use Rattle.capnp_wire.specs.Tree.{Trees, none, tree, count, object_size, total_words}
 use Rattle.capnp_wire.specs.Trim.{first, following, before}
 use Rattle.capnp_wire.specs.Layout.{pointer, run, body, AllHaveRoom}
 use Rattle.capnp_wire.specs.Block.{put, put_rows, fill}
@@ -17,13 +17,13 @@ use Rattle.capnp_values.specs.StructLists.{fill_rows}
 pub length-fill : (slots : List ℕ) (next : ℕ) (trees : Trees) (block : List ℕ) → Before next slots → AllHaveRoom trees → next + total_words trees ≤ length block
     → length (fill slots next trees block) ≡ length block
 length-fill slots next none block before rooms fits = refl
-length-fill [] next (tree form held rest) block before rooms fits = refl
-length-fill (slot ∷ slots) next (tree form held rest) block before rooms fits =
-    let own : List ℕ = body (tree form held none) in
-    let size : length (body (tree form held none)) ≡ own_words form (count held) + total_words held = omega (arith, length-body (tree form held none) (rooms.0, rooms.1, tt)) in
-    let after : ℕ = next + own_words form (count held) + total_words held in
-    let link : ℕ = pointer form (count held) (next - (slot + 1)) in
-    let put_own = length-put next (body (tree form held none)) block (omega (arith, size, fits)) in
+length-fill [] next (tree form children rest) block before rooms fits = refl
+length-fill (slot ∷ slots) next (tree form children rest) block before rooms fits =
+    let own : List ℕ = body (tree form children none) in
+    let size : length (body (tree form children none)) ≡ object_size form (count children) + total_words children = omega (arith, length-body (tree form children none) (rooms.0, rooms.1, tt)) in
+    let after : ℕ = next + object_size form (count children) + total_words children in
+    let link : ℕ = pointer form (count children) (next - (slot + 1)) in
+    let put_own = length-put next (body (tree form children none)) block (omega (arith, size, fits)) in
     let put_link = length-put slot (link ∷ []) (put next own block) (omega (arith, before.0, put_own, fits)) in
     length-fill slots after rest (put slot (link ∷ []) (put next own block)) (before_more next after slots (omega arith) before.1) rooms.2 (omega (arith, put_own, put_link, fits)) ∙ put_link ∙ put_own
 
@@ -31,13 +31,13 @@ length-fill (slot ∷ slots) next (tree form held rest) block before rooms fits 
 put_fill : (slots : List ℕ) (next : ℕ) (trees : Trees) (at : ℕ) (xs block : List ℕ) → Before at slots → AllHaveRoom trees → at + length xs ≤ next → next + total_words trees ≤ length block
     → put at xs (fill slots next trees block) ≡ fill slots next trees (put at xs block)
 put_fill slots next none at xs block before rooms le fits = refl
-put_fill [] next (tree form held rest) at xs block before rooms le fits = refl
-put_fill (slot ∷ slots) next (tree form held rest) at xs block before rooms le fits =
-    let own : List ℕ = body (tree form held none) in
-    let size : length (body (tree form held none)) ≡ own_words form (count held) + total_words held = omega (arith, length-body (tree form held none) (rooms.0, rooms.1, tt)) in
-    let after : ℕ = next + own_words form (count held) + total_words held in
-    let link : ℕ = pointer form (count held) (next - (slot + 1)) in
-    let put_own = length-put next (body (tree form held none)) block (omega (arith, size, fits)) in
+put_fill [] next (tree form children rest) at xs block before rooms le fits = refl
+put_fill (slot ∷ slots) next (tree form children rest) at xs block before rooms le fits =
+    let own : List ℕ = body (tree form children none) in
+    let size : length (body (tree form children none)) ≡ object_size form (count children) + total_words children = omega (arith, length-body (tree form children none) (rooms.0, rooms.1, tt)) in
+    let after : ℕ = next + object_size form (count children) + total_words children in
+    let link : ℕ = pointer form (count children) (next - (slot + 1)) in
+    let put_own = length-put next (body (tree form children none)) block (omega (arith, size, fits)) in
     let put_link = length-put slot (link ∷ []) (put next own block) (omega (arith, before.0, put_own, le, fits)) in
     let others = put_fill slots after rest at xs (put slot (link ∷ []) (put next own block)) before.1 rooms.2 (omega (arith, le)) (omega (arith, put_own, put_link, fits)) in
     let one : put at xs (put slot (link ∷ []) (put next own block)) ≡ put slot (link ∷ []) (put at xs (put next own block)) =
@@ -62,9 +62,9 @@ fill_append [] t next none b block long = let here : next ≡ next + 0 = omega a
 fill_append (x ∷ s) t next none b block long = absurd (omega (arith, long))
 fill_append [] t next (tree f h r) b block long = absurd (omega (arith, long))
 fill_append (x ∷ s) t next (tree f h r) b block long =
-    let after : ℕ = next + own_words f (count h) + total_words h in
+    let after : ℕ = next + object_size f (count h) + total_words h in
     let now : List ℕ = put x (pointer f (count h) (next - (x + 1)) ∷ []) (put next (body (tree f h none)) block) in
-    let onward : next + own_words f (count h) + total_words h + total_words r ≡ next + total_words (tree f h r) = omega arith in
+    let onward : next + object_size f (count h) + total_words h + total_words r ≡ next + total_words (tree f h r) = omega arith in
     fill_append s t after r b now (omega (arith, long)) ∙ ap (λ (n : ℕ). fill t n b (fill s after r now)) onward
 
 run_before : (start n next : ℕ) → start + n ≤ next → Before next (run start n)
@@ -72,35 +72,35 @@ run_before start zero next le = tt
 run_before start (suc n) next le = (omega (arith, le), run_before (start + 1) n next (omega (arith, le)))
 
 -- The data of all rows is put, and then all pointers are filled in.
-pub rows_filled : (d p at : ℕ) (rows : List (List ℕ)) (next : ℕ) (held : Trees) (block : List ℕ) → AllOf d rows → count held ≡ length rows * p → AllHaveRoom held
-    → at + length rows * (d + p) ≤ next → next + total_words held ≤ length block
-    → fill_rows p at rows next held block ≡ fill (row_slots at d p (length rows)) next held (put_rows at p rows block)
+pub rows_filled : (d p at : ℕ) (rows : List (List ℕ)) (next : ℕ) (children : Trees) (block : List ℕ) → AllOf d rows → count children ≡ length rows * p → AllHaveRoom children
+    → at + length rows * (d + p) ≤ next → next + total_words children ≤ length block
+    → fill_rows p at rows next children block ≡ fill (row_slots at d p (length rows)) next children (put_rows at p rows block)
 rows_filled d p at [] next none block wide many rooms le fits = refl
-rows_filled d p at [] next (tree form held rest) block wide many rooms le fits = absurd (omega (arith, many))
-rows_filled d p at (row ∷ rows) next held block wide many rooms le fits =
-    let a : Trees = first p held in
-    let b : Trees = following p held in
+rows_filled d p at [] next (tree form children rest) block wide many rooms le fits = absurd (omega (arith, many))
+rows_filled d p at (row ∷ rows) next children block wide many rooms le fits =
+    let a : Trees = first p children in
+    let b : Trees = following p children in
     let long : length row ≡ d = All-head (λ r. length r ≡ d) row rows wide in
     let rows_wide = All-tail (λ r. length r ≡ d) row rows wide in
     let more : suc (length rows) * p ≡ p + length rows * p = omega arith in
     let split : suc (length rows) * (d + p) ≡ d + p + length rows * (d + p) = omega arith in
-    let some : count (first p held) ≡ p = count-first p held (omega (arith, many, more)) in
-    let left : count (following p held) ≡ length rows * p = omega (arith, count-following p held (omega (arith, many, more)), many, more) in
-    let whole : before (first p held) (following p held) ≡ held = before_chunks p held in
-    let total : total_words held ≡ total_words (first p held) + total_words (following p held) = sym (ap total_words whole) ∙ total-before a b in
+    let some : count (first p children) ≡ p = count-first p children (omega (arith, many, more)) in
+    let left : count (following p children) ≡ length rows * p = omega (arith, count-following p children (omega (arith, many, more)), many, more) in
+    let whole : before (first p children) (following p children) ≡ children = before_chunks p children in
+    let total : total_words children ≡ total_words (first p children) + total_words (following p children) = sym (ap total_words whole) ∙ total-before a b in
     let slots : List ℕ = run (at + length row) p in
     let on : ℕ = at + length row + p in
-    let onto : ℕ = next + total_words (first p held) in
+    let onto : ℕ = next + total_words (first p children) in
     let now : List ℕ = put at row block in
     let put_row : length (put at row block) ≡ length block = length-put at row block (omega (arith, long, split, le, fits)) in
     let before_on : Before on slots = run_before (at + length row) p on (omega arith) in
-    let inner = rooms_first p held rooms in
-    let room : next + total_words (first p held) ≤ length (put at row block) = omega (arith, put_row, total, fits) in
+    let inner = rooms_first p children rooms in
+    let room : next + total_words (first p children) ≤ length (put at row block) = omega (arith, put_row, total, fits) in
     let filled_long = length-fill slots next a now (before_more on next slots (omega (arith, long, split, le)) before_on) inner room in
-    let others = rows_filled d p on rows onto b (fill slots next a now) rows_wide left (rooms_after p held rooms) (omega (arith, long, split, le)) (omega (arith, filled_long, put_row, total, fits)) in
+    let others = rows_filled d p on rows onto b (fill slots next a now) rows_wide left (rooms_after p children rooms) (omega (arith, long, split, le)) (omega (arith, filled_long, put_row, total, fits)) in
     let later = put_rows_fill d p on rows slots next a now rows_wide before_on inner (omega (arith, long, split, le)) room in
     let last : List ℕ = put_rows on p rows now in
     others ∙ ap (λ (l : List ℕ). fill (row_slots on d p (length rows)) onto b l) later
     ∙ sym (fill_append slots (row_slots on d p (length rows)) next a b last (length-run (at + length row) p ∙ sym some))
     ∙ ap (λ (t : Trees). fill (slots ++ row_slots on d p (length rows)) next t last) whole
-    ∙ ap (λ (k : ℕ). fill (run (at + k) p ++ row_slots (at + k + p) d p (length rows)) next held last) long
+    ∙ ap (λ (k : ℕ). fill (run (at + k) p ++ row_slots (at + k + p) d p (length rows)) next children last) long

@@ -10,38 +10,38 @@ use Rattle.capnp_wire.proofs.layouts.BlockRowLemmas.{moved_run, moved_rows, put_
 use Rattle.capnp_wire.proofs.layouts.FillLemmas.{fill_is}
 
 -- a struct
-pub struct_filled : (next : ℕ) (words : List ℕ) (held : Trees) (block : List ℕ) → HasRoom (struct words) (count held) → AllHaveRoom held
-    → next + (length words + count held + total_words held) ≤ length block
-    → fill (run (next + length words) (count held)) (next + (length words + count held)) held (put next words block) ≡ put next (body (tree (struct words) held none)) block
-struct_filled next words held block room inner fits =
-    let n : ℕ = count held in
-    let olds : List ℕ = take (count held) (drop (next + length words) block) in
-    let olds_long : length (take (count held) (drop (next + length words) block)) ≡ count held =
-    omega (arith, length-take (count held) (drop (next + length words) block), length-drop (next + length words) block, fits) in
-    ap (λ (l : List ℕ). fill l (next + (length words + n)) held (put next words block)) (sym (moved_run next (length words) n))
-    ∙ ap (λ (l : List ℕ). fill (moved next (run (length words) n)) (next + (length words + n)) held l) (put_short next n words block (omega (arith, fits)))
-    ∙ fill_is next (struct words) held olds block room inner olds_long (omega (arith, fits))
+pub struct_filled : (next : ℕ) (words : List ℕ) (children : Trees) (block : List ℕ) → HasRoom (struct words) (count children) → AllHaveRoom children
+    → next + (length words + count children + total_words children) ≤ length block
+    → fill (run (next + length words) (count children)) (next + (length words + count children)) children (put next words block) ≡ put next (body (tree (struct words) children none)) block
+struct_filled next words children block room inner fits =
+    let n : ℕ = count children in
+    let olds : List ℕ = take (count children) (drop (next + length words) block) in
+    let olds_long : length (take (count children) (drop (next + length words) block)) ≡ count children =
+    omega (arith, length-take (count children) (drop (next + length words) block), length-drop (next + length words) block, fits) in
+    ap (λ (l : List ℕ). fill l (next + (length words + n)) children (put next words block)) (sym (moved_run next (length words) n))
+    ∙ ap (λ (l : List ℕ). fill (moved next (run (length words) n)) (next + (length words + n)) children l) (put_short next n words block (omega (arith, fits)))
+    ∙ fill_is next (struct words) children olds block room inner olds_long (omega (arith, fits))
 
 -- a list of pointers
-pub list_filled : (next : ℕ) (held : Trees) (block : List ℕ) → HasRoom pointers (count held) → AllHaveRoom held → next + (count held + total_words held) ≤ length block
-    → fill (run next (count held)) (next + count held) held block ≡ put next (body (tree pointers held none)) block
-list_filled next held block room inner fits =
-    let n : ℕ = count held in
+pub list_filled : (next : ℕ) (children : Trees) (block : List ℕ) → HasRoom pointers (count children) → AllHaveRoom children → next + (count children + total_words children) ≤ length block
+    → fill (run next (count children)) (next + count children) children block ≡ put next (body (tree pointers children none)) block
+list_filled next children block room inner fits =
+    let n : ℕ = count children in
     let start : next ≡ next + 0 = omega arith in
-    let olds : List ℕ = take (count held) (drop (next + 0) block) in
-    let olds_long : length (take (count held) (drop (next + 0) block)) ≡ count held = omega (arith, length-take (count held) (drop (next + 0) block), length-drop (next + 0) block, fits) in
+    let olds : List ℕ = take (count children) (drop (next + 0) block) in
+    let olds_long : length (take (count children) (drop (next + 0) block)) ≡ count children = omega (arith, length-take (count children) (drop (next + 0) block), length-drop (next + 0) block, fits) in
     let short : block ≡ put next olds block = sym (put_none next block) ∙ put_short next n [] block (omega (arith, fits)) in
-    ap (λ (k : ℕ). fill (run k n) (next + n) held block) start
-    ∙ ap (λ (l : List ℕ). fill l (next + n) held block) (sym (moved_run next 0 n))
-    ∙ ap (λ (l : List ℕ). fill (moved next (run 0 n)) (next + n) held l) short
-    ∙ fill_is next pointers held olds block room inner olds_long (omega (arith, fits))
+    ap (λ (k : ℕ). fill (run k n) (next + n) children block) start
+    ∙ ap (λ (l : List ℕ). fill l (next + n) children block) (sym (moved_run next 0 n))
+    ∙ ap (λ (l : List ℕ). fill (moved next (run 0 n)) (next + n) children l) short
+    ∙ fill_is next pointers children olds block room inner olds_long (omega (arith, fits))
 
 -- a list of structs
-pub structs_filled : (next d p : ℕ) (rows : List (List ℕ)) (held : Trees) (block : List ℕ) → HasRoom (structs d p rows) (count held) → AllHaveRoom held
-    → next + (1 + length rows * (d + p) + total_words held) ≤ length block
-    → fill (row_slots (next + 1) d p (length rows)) (next + (1 + length rows * (d + p))) held (put_rows (next + 1) p rows (put next (struct_pointer (length rows) d p ∷ []) block))
-    ≡ put next (body (tree (structs d p rows) held none)) block
-structs_filled next d p rows held block room inner fits =
+pub structs_filled : (next d p : ℕ) (rows : List (List ℕ)) (children : Trees) (block : List ℕ) → HasRoom (structs d p rows) (count children) → AllHaveRoom children
+    → next + (1 + length rows * (d + p) + total_words children) ≤ length block
+    → fill (row_slots (next + 1) d p (length rows)) (next + (1 + length rows * (d + p))) children (put_rows (next + 1) p rows (put next (struct_pointer (length rows) d p ∷ []) block))
+    ≡ put next (body (tree (structs d p rows) children none)) block
+structs_filled next d p rows children block room inner fits =
     let size : ℕ = length rows * (d + p) in
     let tag : ℕ = struct_pointer (length rows) d p in
     let wide = rows_even d rows room.5 in
@@ -50,6 +50,6 @@ structs_filled next d p rows held block room inner fits =
     let woven_long : length (woven p rows w.0) ≡ length rows * (d + p) = length-woven d p rows w.0 wide w.1 in
     let joined : put_rows (next + 1) p rows (put next (tag ∷ []) block) ≡ put next (tag ∷ woven p rows w.0) block =
     w.2 ∙ put_both next (tag ∷ []) (woven p rows w.0) block (omega (arith, woven_long, fits)) in
-    ap (λ (l : List ℕ). fill l (next + (1 + size)) held (put_rows (next + 1) p rows (put next (tag ∷ []) block))) (sym (moved_rows next 1 d p rows))
-    ∙ ap (λ (l : List ℕ). fill (moved next (row_run 1 d p rows)) (next + (1 + size)) held l) joined
-    ∙ fill_is next (structs d p rows) held w.0 block room inner (w.1 ∙ sym room.4) (omega (arith, fits))
+    ap (λ (l : List ℕ). fill l (next + (1 + size)) children (put_rows (next + 1) p rows (put next (tag ∷ []) block))) (sym (moved_rows next 1 d p rows))
+    ∙ ap (λ (l : List ℕ). fill (moved next (row_run 1 d p rows)) (next + (1 + size)) children l) joined
+    ∙ fill_is next (structs d p rows) children w.0 block room inner (w.1 ∙ sym room.4) (omega (arith, fits))

@@ -10,11 +10,11 @@ use Rattle.capnp_values.proofs.StructListLemmas.{pointers_front}
 -- The first i of some structs need a number of data words and of pointers, and all of them what these or those after them do.
 pub record NeededSoFar {V : Type 0} (w : V → List ℕ) (h : V → Trees → Type 0) (p : ℕ) (items : List V) (i data_words pointers : ℕ) : Type 0 where
   pub least_is : least_data (map w items) ≡ max data_words (least_data (map w (drop i items)))
-  pub left : (held : Trees) → AreRows h items held
-      → (rest : Trees) × AreRows h (drop i items) rest × (least_pointers p (map w items) (trim held) ≡ max pointers (least_pointers p (map w (drop i items)) (trim rest)))
+  pub left : (children : Trees) → AreRows h items children
+      → (rest : Trees) × AreRows h (drop i items) rest × (least_pointers p (map w items) (trim children) ≡ max pointers (least_pointers p (map w (drop i items)) (trim rest)))
 
 pub needing_begins : {V : Type 0} (w : V → List ℕ) (h : V → Trees → Type 0) (p : ℕ) (items : List V) → NeededSoFar w h p items 0 0 0
-needing_begins w h p items = record { least_is = omega arith; left = λ held is. (held, is, omega arith) }
+needing_begins w h p items = record { least_is = omega arith; left = λ children is. (children, is, omega arith) }
 
 pub needing_goes_on : {V : Type 0} (w : V → List ℕ) (h : V → Trees → Type 0) (p : ℕ) → ((v : V) (t : Trees) → h v t → IsSettled p t) → (items : List V) (i data_words pointers more_data more_pointers used kept : ℕ)
     (v : V) → i < length items → v ≡ get_or items i v → used ≡ length (cut_zeros (w v)) → ((t : Trees) → h v t → kept ≡ count (kept_row true t)) → more_data ≡ max data_words used
@@ -24,8 +24,8 @@ needing_goes_on {V = V} w h p s items i data_words pointers more_data more_point
     let data_here : least_data (map w (drop i items)) ≡ max (length (cut_zeros (w v))) (least_data (map w (drop (i + 1) items))) = ap (λ (l : List V). least_data (map w l)) here in
     record {
       least_is = omega (arith, so_far.least_is, data_here, used_is, data_is);
-      left = λ held there.
-          let l = so_far.left held there in
+      left = λ children there.
+          let l = so_far.left children there in
           let row : AreRows h (v ∷ drop (i + 1) items) l.0 = subst (λ (x : List V). AreRows h x l.0) here l.1 in
           let many = (s v row.row row.row_is).many in
           let pointers_here : least_pointers p (map w (drop i items)) (trim l.0) ≡ max (count (kept_row true row.row)) (least_pointers p (map w (drop (i + 1) items)) (trim row.rest)) =
@@ -34,9 +34,9 @@ needing_goes_on {V = V} w h p s items i data_words pointers more_data more_point
     }
 
 pub needing_ends : {V : Type 0} (w : V → List ℕ) (h : V → Trees → Type 0) (p : ℕ) (items : List V) (i data_words pointers : ℕ) → length items ≤ i → NeededSoFar w h p items i data_words pointers
-    → (held : Trees) → AreRows h items held → (data_words ≡ least_data (map w items)) × (pointers ≡ least_pointers p (map w items) (trim held))
-needing_ends {V = V} w h p items i data_words pointers past so_far held is =
-    let l = so_far.left held is in
+    → (children : Trees) → AreRows h items children → (data_words ≡ least_data (map w items)) × (pointers ≡ least_pointers p (map w items) (trim children))
+needing_ends {V = V} w h p items i data_words pointers past so_far children is =
+    let l = so_far.left children is in
     let empty = none_left items i past in (
       omega (arith, so_far.least_is, ap (λ (x : List V). least_data (map w x)) empty),
       omega (arith, l.2, ap (λ (x : List V). least_pointers p (map w x) (trim l.0)) empty),

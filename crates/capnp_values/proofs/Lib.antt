@@ -11,7 +11,7 @@ pub mod StructListCopyLemmas
 pub mod SectionLemmas
 pub mod NullLemmas
 pub mod ItemLemmas
-pub mod StandingLemmas
+pub mod AsIsLemmas
 pub mod ItemRowLemmas
 pub mod PointerListLemmas
 pub mod FullWordLemmas

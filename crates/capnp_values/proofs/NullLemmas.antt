@@ -1,14 +1,14 @@
 -- The null pointer as a value.
 use Rattle.std.proofs.Common.{◌≡◌, Bool, true, false, refl, sym, ◌∙◌, arith}
 use Rattle.capnp_wire.specs.Tree.{null, Trees, none, tree, total_words}
-use Rattle.capnp_wire.specs.Layout.{formed}
+use Rattle.capnp_wire.specs.Layout.{output}
 use Rattle.capnp_wire.specs.Values.{HasWords}
 use Rattle.capnp_wire.proofs.views.OneValueLemmas.{IsOne}
 
 abbrev pub IsNull : Trees → Type 0
 IsNull trees = trees ≡ tree null none none
 
-null_total : (c : Bool) → 0 ≡ total_words (formed c (tree null none none))
+null_total : (c : Bool) → 0 ≡ total_words (output c (tree null none none))
 null_total true = refl
 null_total false = refl
 

@@ -8,7 +8,7 @@ use Rattle.std.proofs.lemmas.List.Elements.{All-cons, All-take, All-drop}
 use Rattle.capnp_wire.specs.Pointer.{digits, number_of, words_of}
 use Rattle.capnp_wire.specs.Element.{width, words_for}
 use Rattle.capnp_wire.specs.Tree.{numbers, Trees, none, tree, total_words}
-use Rattle.capnp_wire.specs.Layout.{own, formed, AllHaveRoom}
+use Rattle.capnp_wire.specs.Layout.{own, output, AllHaveRoom}
 use Rattle.capnp_wire.specs.Block.{put}
 use Rattle.capnp_wire.specs.Values.{HasWords, HasRoomAt}
 use Rattle.capnp_wire.proofs.words.WordLemmas.{length-words_of}
@@ -21,7 +21,7 @@ use Rattle.capnp_values.specs.NumberLists.{IsNumberList, ManyNumbers}
 use Rattle.capnp_values.proofs.ItemLemmas.{from_here}
 
 -- what is measured of a list
-numbers_total : (c : Bool) (code : ℕ) (bits : List ℕ) → words_for (length bits) (width code) ≡ total_words (formed c (tree (numbers code bits) none none))
+numbers_total : (c : Bool) (code : ℕ) (bits : List ℕ) → words_for (length bits) (width code) ≡ total_words (output c (tree (numbers code bits) none none))
 numbers_total true code bits = omega arith
 numbers_total false code bits = omega arith
 

@@ -5,41 +5,41 @@ use Rattle.capnp_wire.specs.Tree.{Trees}
 use Rattle.capnp_wire.specs.Values.{LacksWords, HasPart, HasRoomAt}
 use Rattle.capnp_wire.specs.declared.traits.PartWords.{PartWords}
 use Rattle.capnp_values.specs.Fields.{HasExtent, CanWriteRow, IsRowWritten}
-use Rattle.capnp_values.specs.Sources.{IsAsTold}
+use Rattle.capnp_values.specs.Sources.{IsAsDeclared}
 use Rattle.capnp_values.specs.declared.fields.Extent.{Extent}
 
 -- a part
-pub part_told : {a b : Trees → Type 0} {r s : ErrorKind → Type 0} → IsAsTold a b r s → (c : Bool) (words : PartWords) → HasPart a c words → HasPart b c words
-part_told m c words p = record { trees = p.trees; tree_is = m.trees_told p.trees p.tree_is; rooms = p.rooms; standing_is = p.standing_is; formed_is = p.formed_is; few = p.few }
+pub part_declared : {a b : Trees → Type 0} {r s : ErrorKind → Type 0} → IsAsDeclared a b r s → (c : Bool) (words : PartWords) → HasPart a c words → HasPart b c words
+part_declared m c words p = record { trees = p.trees; tree_is = m.trees_declared p.trees p.tree_is; rooms = p.rooms; as_is_same = p.as_is_same; output_is = p.output_is; few = p.few }
 
-pub part_made : {a b : Trees → Type 0} {r s : ErrorKind → Type 0} → IsAsTold a b r s → (c : Bool) (words : PartWords) → HasPart b c words → HasPart a c words
-part_made m c words p = record { trees = p.trees; tree_is = m.trees_are p.trees p.tree_is; rooms = p.rooms; standing_is = p.standing_is; formed_is = p.formed_is; few = p.few }
+pub part_made : {a b : Trees → Type 0} {r s : ErrorKind → Type 0} → IsAsDeclared a b r s → (c : Bool) (words : PartWords) → HasPart b c words → HasPart a c words
+part_made m c words p = record { trees = p.trees; tree_is = m.trees_are p.trees p.tree_is; rooms = p.rooms; as_is_same = p.as_is_same; output_is = p.output_is; few = p.few }
 
-pub lacks_told : {a b : Trees → Type 0} {r s : ErrorKind → Type 0} → IsAsTold a b r s → (c : Bool) (kind : ErrorKind) → LacksWords a r c kind → LacksWords b s c kind
-lacks_told m c kind (inl refused) = inl (m.reasons_told kind refused)
-lacks_told m c kind (inr (trees, is, many, kind_is)) = inr (trees, m.trees_told trees is, many, kind_is)
+pub lacks_declared : {a b : Trees → Type 0} {r s : ErrorKind → Type 0} → IsAsDeclared a b r s → (c : Bool) (kind : ErrorKind) → LacksWords a r c kind → LacksWords b s c kind
+lacks_declared m c kind (inl refused) = inl (m.reasons_declared kind refused)
+lacks_declared m c kind (inr (trees, is, many, kind_is)) = inr (trees, m.trees_declared trees is, many, kind_is)
 
-pub lacks_made : {a b : Trees → Type 0} {r s : ErrorKind → Type 0} → IsAsTold a b r s → (c : Bool) (kind : ErrorKind) → LacksWords b s c kind → LacksWords a r c kind
+pub lacks_made : {a b : Trees → Type 0} {r s : ErrorKind → Type 0} → IsAsDeclared a b r s → (c : Bool) (kind : ErrorKind) → LacksWords b s c kind → LacksWords a r c kind
 lacks_made m c kind (inl refused) = inl (m.reasons_are kind refused)
 lacks_made m c kind (inr (trees, is, many, kind_is)) = inr (trees, m.trees_are trees is, many, kind_is)
 
-pub room_made : {a b : Trees → Type 0} {r s : ErrorKind → Type 0} → IsAsTold a b r s → (c : Bool) (next room : ℕ) → HasRoomAt b c next room → HasRoomAt a c next room
+pub room_made : {a b : Trees → Type 0} {r s : ErrorKind → Type 0} → IsAsDeclared a b r s → (c : Bool) (next room : ℕ) → HasRoomAt b c next room → HasRoomAt a c next room
 room_made m c next room p = record { trees = p.trees; tree_is = m.trees_are p.trees p.tree_is; rooms = p.rooms; fits = p.fits }
 
 -- a row
-pub extent_told : {a b : Trees → Type 0} {r s : ErrorKind → Type 0} → IsAsTold a b r s → (c : Bool) (extent : Extent) → HasExtent a c extent → HasExtent b c extent
-extent_told m c extent (trees, is, extent_is) = (trees, m.trees_told trees is, extent_is)
+pub extent_declared : {a b : Trees → Type 0} {r s : ErrorKind → Type 0} → IsAsDeclared a b r s → (c : Bool) (extent : Extent) → HasExtent a c extent → HasExtent b c extent
+extent_declared m c extent (trees, is, extent_is) = (trees, m.trees_declared trees is, extent_is)
 
-pub row_made : {a b : Trees → Type 0} {r s : ErrorKind → Type 0} → IsAsTold a b r s → (c : Bool) (n next room : ℕ) → CanWriteRow b c n next room → CanWriteRow a c n next room
+pub row_made : {a b : Trees → Type 0} {r s : ErrorKind → Type 0} → IsAsDeclared a b r s → (c : Bool) (n next room : ℕ) → CanWriteRow b c n next room → CanWriteRow a c n next room
 row_made m c n next room p = record { trees = p.trees; trees_are = m.trees_are p.trees p.trees_are; some = p.some; fits = p.fits }
 
-pub row_told : {a b : Trees → Type 0} {r s : ErrorKind → Type 0} → IsAsTold a b r s → (c : Bool) (slot n next : ℕ) (old new : List ℕ) (free : ℕ) → IsRowWritten a c slot n next old new free
+pub row_declared : {a b : Trees → Type 0} {r s : ErrorKind → Type 0} → IsAsDeclared a b r s → (c : Bool) (slot n next : ℕ) (old new : List ℕ) (free : ℕ) → IsRowWritten a c slot n next old new free
     → IsRowWritten b c slot n next old new free
-row_told m c slot n next old new free w = record { words_are = λ t is. w.words_are t (m.trees_are t is); next_is = λ t is. w.next_is t (m.trees_are t is) }
+row_declared m c slot n next old new free w = record { words_are = λ t is. w.words_are t (m.trees_are t is); next_is = λ t is. w.next_is t (m.trees_are t is) }
 
--- a value that stands in a slice tells itself
-pub itself : {V : Type 0} (h : V → Trees → Type 0) (r : V → ErrorKind → Type 0) (value : V) → IsAsTold (h value) (λ t. h value t) (r value) (λ k. r value k)
-itself h r value = record { trees_are = λ t is. is; trees_told = λ t is. is; reasons_are = λ k is. is; reasons_told = λ k is. is }
+-- a value that is in a slice tells itself
+pub itself : {V : Type 0} (h : V → Trees → Type 0) (r : V → ErrorKind → Type 0) (value : V) → IsAsDeclared (h value) (λ t. h value t) (r value) (λ k. r value k)
+itself h r value = record { trees_are = λ t is. is; trees_declared = λ t is. is; reasons_are = λ k is. is; reasons_declared = λ k is. is }
 
 pub stands_at : {V : Type 0} (values : List V) (i : ℕ) (value there : V) → value ≡ there → there ≡ get_or values i there → value ≡ get_or values i value
 stands_at {V = V} values i value there same is = subst (λ (v : V). v ≡ get_or values i v) (sym same) is

@@ -4,7 +4,7 @@ use Rattle.std.proofs.Math.Nat.{mul-le-mul_left}
 use Rattle.capnp_wire.specs.Pointer.{words_of}
 use Rattle.capnp_wire.specs.Tree.{Trees, count, total_words}
 use Rattle.capnp_wire.specs.Trim.{first, following, before, trim}
-use Rattle.capnp_wire.specs.Layout.{run, formed}
+use Rattle.capnp_wire.specs.Layout.{run, output}
 use Rattle.capnp_wire.specs.Block.{put, fill}
 use Rattle.capnp_wire.specs.Values.{IsFreeFrom}
 use Rattle.capnp_wire.proofs.trees.ChunkLemmas.{count-first, total-before, least_pointers_within}
@@ -12,48 +12,48 @@ use Rattle.capnp_wire.proofs.trees.NarrowLemmas.{first-before, following-before}
 use Rattle.capnp_values.specs.Fields.{IsSettled, IsRowWritten}
 use Rattle.capnp_values.specs.StructLists.{AreRows, element_pointers, shown, fill_rows, HasRoomForRows}
 use Rattle.capnp_values.specs.StructListPlaces.{ElementPlace}
-use Rattle.capnp_values.proofs.PointerListLemmas.{count_formed}
+use Rattle.capnp_values.proofs.PointerListLemmas.{count_output}
 use Rattle.capnp_values.proofs.ItemLemmas.{from_here, none_left}
 use Rattle.capnp_values.proofs.StructListLemmas.{shown_front}
 
-shown_total : (c : Bool) (m p : ℕ) (words : List ℕ) (rows : List (List ℕ)) (row rest held : Trees) → held ≡ before row rest → count row ≡ p
-    → total_words (shown c m p (words ∷ rows) held) ≡ total_words (first m (formed c row)) + total_words (shown c m p rows rest)
-shown_total c m p words rows row rest held whole many =
-    ap total_words (shown_front c m p words rows row rest held whole many) ∙ total-before (first m (formed c row)) (shown c m p rows rest)
+shown_total : (c : Bool) (m p : ℕ) (words : List ℕ) (rows : List (List ℕ)) (row rest children : Trees) → children ≡ before row rest → count row ≡ p
+    → total_words (shown c m p (words ∷ rows) children) ≡ total_words (first m (output c row)) + total_words (shown c m p rows rest)
+shown_total c m p words rows row rest children whole many =
+    ap total_words (shown_front c m p words rows row rest children whole many) ∙ total-before (first m (output c row)) (shown c m p rows rest)
 
 -- no more pointers are kept than there are
-pub pointers_within : (c : Bool) (p : ℕ) (rows : List (List ℕ)) (held : Trees) → element_pointers c p rows held ≤ p
-pointers_within true p rows held = least_pointers_within p rows (trim held)
-pointers_within false p rows held = omega arith
+pub pointers_within : (c : Bool) (p : ℕ) (rows : List (List ℕ)) (children : Trees) → element_pointers c p rows children ≤ p
+pointers_within true p rows children = least_pointers_within p rows (trim children)
+pointers_within false p rows children = omega arith
 
 -- the words and the pointers of one element, put into a block in front of those of others
-rows_next : (c : Bool) (d m p at free : ℕ) (words : List ℕ) (rows : List (List ℕ)) (row rest held : Trees) (block : List ℕ) → held ≡ before row rest → count row ≡ p → m ≤ p → d ≤ length words
-    → fill_rows m at (map (take d) (words ∷ rows)) free (shown c m p (words ∷ rows) held) block
-    ≡ fill_rows m (at + (d + m)) (map (take d) rows) (free + total_words (first m (formed c row))) (shown c m p rows rest)
-    (fill (run (at + d) m) free (first m (formed c row)) (put at (take d words) block))
-rows_next c d m p at free words rows row rest held block whole many le within =
-    let a : Trees = first m (formed c row) in
+rows_next : (c : Bool) (d m p at free : ℕ) (words : List ℕ) (rows : List (List ℕ)) (row rest children : Trees) (block : List ℕ) → children ≡ before row rest → count row ≡ p → m ≤ p → d ≤ length words
+    → fill_rows m at (map (take d) (words ∷ rows)) free (shown c m p (words ∷ rows) children) block
+    ≡ fill_rows m (at + (d + m)) (map (take d) rows) (free + total_words (first m (output c row))) (shown c m p rows rest)
+    (fill (run (at + d) m) free (first m (output c row)) (put at (take d words) block))
+rows_next c d m p at free words rows row rest children block whole many le within =
+    let a : Trees = first m (output c row) in
     let b : Trees = shown c m p rows rest in
-    let some : count (first m (formed c row)) ≡ m = count-first m (formed c row) (omega (arith, count_formed c row, many, le)) in
+    let some : count (first m (output c row)) ≡ m = count-first m (output c row) (omega (arith, count_output c row, many, le)) in
     let long : length (take d words) ≡ d = omega (arith, length-take d words, within) in
-    let own_is : first m (before (first m (formed c row)) (shown c m p rows rest)) ≡ first m (formed c row) = first-before m a b some in
-    let rest_is : following m (before (first m (formed c row)) (shown c m p rows rest)) ≡ shown c m p rows rest = following-before m a b some in
+    let own_is : first m (before (first m (output c row)) (shown c m p rows rest)) ≡ first m (output c row) = first-before m a b some in
+    let rest_is : following m (before (first m (output c row)) (shown c m p rows rest)) ≡ shown c m p rows rest = following-before m a b some in
     let on : at + d + m ≡ at + (d + m) = omega arith in
     let next : Trees → Trees → ℕ → ℕ → List ℕ =
     λ x y k e. fill_rows m e (map (take d) rows) (free + total_words x) y (fill (run (at + k) m) free x (put at (take d words) block)) in
-    ap (λ (t : Trees). fill_rows m at (map (take d) (words ∷ rows)) free t block) (shown_front c m p words rows row rest held whole many)
+    ap (λ (t : Trees). fill_rows m at (map (take d) (words ∷ rows)) free t block) (shown_front c m p words rows row rest children whole many)
     ∙ ap (λ (t : Trees). next t (following m (before a b)) (length (take d words)) (at + length (take d words) + m)) own_is
     ∙ ap (λ (t : Trees). next a t (length (take d words)) (at + length (take d words) + m)) rest_is
     ∙ ap (λ (k : ℕ). next a b k (at + k + m)) long
     ∙ ap (λ (e : ℕ). next a b d e) on
 
 -- The first i of some structs are written: what is left to be put into the block, with which all are written, and the room for it.
-pub record Left {V : Type 0} (w : V → List ℕ) (h : V → Trees → Type 0) (c : Bool) (d m p : ℕ) (items : List V) (start begin i at free : ℕ) (old block : List ℕ) (held : Trees) : Type 0 where
+pub record Left {V : Type 0} (w : V → List ℕ) (h : V → Trees → Type 0) (c : Bool) (d m p : ℕ) (items : List V) (start begin i at free : ℕ) (old block : List ℕ) (children : Trees) : Type 0 where
   pub rest : Trees
   pub rest_is : AreRows h (drop i items) rest
-  pub fills : fill_rows m start (map (take d) (map w items)) begin (shown c m p (map w items) held) old
+  pub fills : fill_rows m start (map (take d) (map w items)) begin (shown c m p (map w items) children) old
       ≡ fill_rows m at (map (take d) (map w (drop i items))) free (shown c m p (map w (drop i items)) rest) block
-  pub totals : begin + total_words (shown c m p (map w items) held) ≡ free + total_words (shown c m p (map w (drop i items)) rest)
+  pub totals : begin + total_words (shown c m p (map w items) children) ≡ free + total_words (shown c m p (map w (drop i items)) rest)
 
 pub record RowsWritten {V : Type 0} (w : V → List ℕ) (h : V → Trees → Type 0) (c : Bool) (d m p : ℕ) (items : List V) (start begin i at free : ℕ) (old block : List ℕ) : Type 0 where
   pub long : length block ≡ length old
@@ -61,8 +61,8 @@ pub record RowsWritten {V : Type 0} (w : V → List ℕ) (h : V → Trees → Ty
   pub at_is : at ≡ start + i * (d + m)
   pub after : start + length items * (d + m) ≤ free
   pub free_from : IsFreeFrom free block
-  pub room : (held : Trees) × AreRows h (drop i items) held × (free + total_words (shown c m p (map w (drop i items)) held) ≤ length (words_of block))
-  pub left : (held : Trees) → AreRows h items held → Left w h c d m p items start begin i at free (words_of old) (words_of block) held
+  pub room : (children : Trees) × AreRows h (drop i items) children × (free + total_words (shown c m p (map w (drop i items)) children) ≤ length (words_of block))
+  pub left : (children : Trees) → AreRows h items children → Left w h c d m p items start begin i at free (words_of old) (words_of block) children
 
 pub writing_begins : {V : Type 0} (w : V → List ℕ) (h : V → Trees → Type 0) (c : Bool) (d m e p : ℕ) (items : List V) (start begin : ℕ) (block : List ℕ)
     → HasRoomForRows w h c d m e p items begin (length (words_of block)) → begin ≡ start + length items * (d + m) → IsFreeFrom begin block
@@ -73,11 +73,11 @@ writing_begins w h c d m e p items start begin block r begin_is f = record {
   at_is = omega arith;
   after = omega (arith, begin_is);
   free_from = f;
-  room = (r.held, r.held_is, r.fits);
-  left = λ held is. record { rest = held; rest_is = is; fills = refl; totals = refl };
+  room = (r.children, r.children_is, r.fits);
+  left = λ children is. record { rest = children; rest_is = is; fills = refl; totals = refl };
 }
 
--- where an element stands
+-- where an element is
 spread : (n i w : ℕ) → i < n → i * w + w ≤ n * w
 spread n i w within =
     let area : w * (i + 1) ≤ w * n = mul-le-mul_left w (omega (arith, within)) in
@@ -88,9 +88,9 @@ pub row_room : {V : Type 0} (w : V → List ℕ) (h : V → Trees → Type 0) (c
     (old block : List ℕ) → HasRoomForRows w h c d m most p items begin room → i < length items → v ≡ get_or items i v → RowsWritten w h c d m p items start begin i at free old block
     → ElementPlace (h v) c d m at free (length (words_of block))
 row_room {V = V} w h c d m most p s items start begin i at free room v old block has within is so_far =
-    let le : m ≤ p = omega (arith, has.pointers_are, pointers_within c p (map w items) has.held) in
+    let le : m ≤ p = omega (arith, has.pointers_are, pointers_within c p (map w items) has.children) in
     let here = from_here items i v within is in
-    let r = subst (λ (l : List V). (held : Trees) × AreRows h l held × (free + total_words (shown c m p (map w l) held) ≤ length (words_of block))) here so_far.room in
+    let r = subst (λ (l : List V). (children : Trees) × AreRows h l children × (free + total_words (shown c m p (map w l) children) ≤ length (words_of block))) here so_far.room in
     let f = r.1 in
     let settled = s v f.row f.row_is in
     record {
@@ -110,9 +110,9 @@ pub writing_goes_on : {V : Type 0} (w : V → List ℕ) (h : V → Trees → Typ
     → IsRowWritten (h v) c (at + d) m free (put at (take d (w v)) (words_of block)) (words_of new) next → RowsWritten w h c d m p items start begin i at free old block
     → RowsWritten w h c d m p items start begin (i + 1) (at + (d + m)) next old new
 writing_goes_on {V = V} w h c d m most p s items start begin i at free next room v old block new has wide within is long same free_from written so_far =
-    let le : m ≤ p = omega (arith, has.pointers_are, pointers_within c p (map w items) has.held) in
+    let le : m ≤ p = omega (arith, has.pointers_are, pointers_within c p (map w items) has.children) in
     let here = from_here items i v within is in
-    let r = subst (λ (l : List V). (held : Trees) × AreRows h l held × (free + total_words (shown c m p (map w l) held) ≤ length (words_of block))) here so_far.room in
+    let r = subst (λ (l : List V). (children : Trees) × AreRows h l children × (free + total_words (shown c m p (map w l) children) ≤ length (words_of block))) here so_far.room in
     let f = r.1 in
     let next_is = written.next_is f.row f.row_is in
     record {
@@ -126,8 +126,8 @@ writing_goes_on {V = V} w h c d m most p s items start begin i at free next room
         f.others,
         omega (arith, r.2, same, next_is, shown_total c m p (w v) (map w (drop (i + 1) items)) f.row f.rest r.0 f.whole (s v f.row f.row_is).many),
       );
-      left = λ held there.
-          let l = so_far.left held there in
+      left = λ children there.
+          let l = so_far.left children there in
           let row : AreRows h (v ∷ drop (i + 1) items) l.rest = subst (λ (x : List V). AreRows h x l.rest) here l.rest_is in
           let many = (s v row.row row.row_is).many in
           let others : List (List ℕ) = map w (drop (i + 1) items) in
@@ -138,7 +138,7 @@ writing_goes_on {V = V} w h c d m most p s items start begin i at free next room
             rest_is = row.others;
             fills = l.fills ∙ ap all here
                 ∙ rows_next c d m p at free (w v) others row.row row.rest l.rest (words_of block) row.whole many le wide
-                ∙ ap (λ (x : List ℕ). fill_rows m (at + (d + m)) (map (take d) others) (free + total_words (first m (formed c row.row))) (shown c m p others row.rest) x) (sym (written.words_are row.row row.row_is))
+                ∙ ap (λ (x : List ℕ). fill_rows m (at + (d + m)) (map (take d) others) (free + total_words (first m (output c row.row))) (shown c m p others row.rest) x) (sym (written.words_are row.row row.row_is))
                 ∙ ap (λ (k : ℕ). fill_rows m (at + (d + m)) (map (take d) others) k (shown c m p others row.rest) (words_of new)) (sym on);
             totals = l.totals ∙ ap (λ (x : List V). free + total_words (shown c m p (map w x) l.rest)) here
                 ∙ omega (arith, on, shown_total c m p (w v) others row.row row.rest l.rest row.whole many);
@@ -146,14 +146,14 @@ writing_goes_on {V = V} w h c d m most p s items start begin i at free next room
     }
 
 -- all are written
-pub record AllWritten {V : Type 0} (w : V → List ℕ) (c : Bool) (d m p : ℕ) (items : List V) (start begin free : ℕ) (held : Trees) (old new : List ℕ) : Type 0 where
-  pub words_are : new ≡ fill_rows m start (map (take d) (map w items)) begin (shown c m p (map w items) held) old
-  pub next_is : free ≡ begin + total_words (shown c m p (map w items) held)
+pub record AllWritten {V : Type 0} (w : V → List ℕ) (c : Bool) (d m p : ℕ) (items : List V) (start begin free : ℕ) (children : Trees) (old new : List ℕ) : Type 0 where
+  pub words_are : new ≡ fill_rows m start (map (take d) (map w items)) begin (shown c m p (map w items) children) old
+  pub next_is : free ≡ begin + total_words (shown c m p (map w items) children)
 
 pub writing_ends : {V : Type 0} (w : V → List ℕ) (h : V → Trees → Type 0) (c : Bool) (d m p : ℕ) (items : List V) (start begin i at free : ℕ) (old block : List ℕ) → length items ≤ i
-    → RowsWritten w h c d m p items start begin i at free old block → (held : Trees) → AreRows h items held → AllWritten w c d m p items start begin free held (words_of old) (words_of block)
-writing_ends {V = V} w h c d m p items start begin i at free old block past so_far held is =
-    let l = so_far.left held is in
+    → RowsWritten w h c d m p items start begin i at free old block → (children : Trees) → AreRows h items children → AllWritten w c d m p items start begin free children (words_of old) (words_of block)
+writing_ends {V = V} w h c d m p items start begin i at free old block past so_far children is =
+    let l = so_far.left children is in
     let empty = none_left items i past in
     record {
       words_are = sym (l.fills ∙ ap (λ (x : List V). fill_rows m at (map (take d) (map w x)) free (shown c m p (map w x) l.rest) (words_of block)) empty);

@@ -3,27 +3,27 @@ use Rattle.std.specs.Prelude.{◌≡◌, ◌⊎◌, ℕ, zero, suc, ◌+◌, ◌
 use Rattle.capnp_frame.specs.declared.error.ErrorKind.{ErrorKind}
 use Rattle.capnp_wire.specs.Tree.{Form, is_null, Trees, none, tree, count, total_words}
 use Rattle.capnp_wire.specs.Trim.{cut_nulls, first, trim}
-use Rattle.capnp_wire.specs.Layout.{run, formed, AllHaveRoom}
+use Rattle.capnp_wire.specs.Layout.{run, output, AllHaveRoom}
 use Rattle.capnp_wire.specs.Block.{fill}
 use Rattle.capnp_wire.specs.Values.{HasWords, LacksWords}
 use Rattle.capnp_values.specs.declared.fields.Extent.{Extent}
 
--- a value is this tree, which has room, in fewer than 2 ^ 29 words as it stands
-pub record IsPart (has_tree : Trees → Type 0) (form : Form) (held : Trees) : Type 0 where
-  pub tree_is : has_tree (tree form held none)
-  pub rooms : AllHaveRoom (tree form held none)
-  pub few : total_words (tree form held none) < 2 ^ 29
+-- a value is this tree, which has room, in fewer than 2 ^ 29 words as it is
+pub record IsPart (has_tree : Trees → Type 0) (form : Form) (children : Trees) : Type 0 where
+  pub tree_is : has_tree (tree form children none)
+  pub rooms : AllHaveRoom (tree form children none)
+  pub few : total_words (tree form children none) < 2 ^ 29
 
 -- a value in front of a row
 pub record IsRow (has_tree has_trees : Trees → Type 0) (trees : Trees) : Type 0 where
   pub form : Form
-  pub held : Trees
+  pub children : Trees
   pub rest : Trees
-  pub whole : trees ≡ tree form held rest
-  pub part : IsPart has_tree form held
+  pub whole : trees ≡ tree form children rest
+  pub part : IsPart has_tree form children
   pub others : has_trees rest
 
--- its first value, or the first one after that, has no tree, or one of too many words as it stands
+-- its first value, or the first one after that, has no tree, or one of too many words as it is
 abbrev pub RefusesRow : (Trees → Type 0) → (ErrorKind → Type 0) → (ErrorKind → Type 0) → ErrorKind → Type 0
 RefusesRow has_tree refuses refuses_rest kind =
     LacksWords has_tree refuses false kind
@@ -50,7 +50,7 @@ abbrev pub extent_of : Bool → Trees → Extent
 extent_of canonical trees = record {
   pointers = count (kept_row canonical trees);
   words = total_words (kept_row canonical trees);
-  standing = total_words trees;
+  as_is = total_words trees;
 }
 
 -- the trees of a row, and how far it reaches
@@ -66,16 +66,16 @@ pub record CanWriteRow (has_trees : Trees → Type 0) (canonical : Bool) (n next
   pub trees : Trees
   pub trees_are : has_trees trees
   pub some : n ≤ count trees
-  pub fits : next + total_words (first n (formed canonical trees)) ≤ room
+  pub fits : next + total_words (first n (output canonical trees)) ≤ room
 
--- the first n pointers of a row stand in the slots of a block from one on, and what they lead to from a word on, up to the first
+-- the first n pointers of a row are in the slots of a block from one on, and what they lead to from a word on, up to the first
 -- free one
 pub record IsRowWritten (has_trees : Trees → Type 0) (canonical : Bool) (slot n next : ℕ) (old new : List ℕ) (free : ℕ) : Type 0 where
-  pub words_are : (trees : Trees) → has_trees trees → new ≡ fill (run slot n) next (first n (formed canonical trees)) old
-  pub next_is : (trees : Trees) → has_trees trees → free ≡ next + total_words (first n (formed canonical trees))
+  pub words_are : (trees : Trees) → has_trees trees → new ≡ fill (run slot n) next (first n (output canonical trees)) old
+  pub next_is : (trees : Trees) → has_trees trees → free ≡ next + total_words (first n (output canonical trees))
 
 -- a row has room for one more value in front
 pub record IsBounded (extent : Extent) : Type 0 where
   pub pointers_few : extent.pointers < 2 ^ 16
   pub words_few : extent.words < 2 ^ 46
-  pub standing_few : extent.standing < 2 ^ 46
+  pub as_is_few : extent.as_is < 2 ^ 46

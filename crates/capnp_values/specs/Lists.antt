@@ -4,16 +4,16 @@ use Rattle.std.specs.Prelude.{◌≡◌, ◌⊎◌, ℕ, ◌+◌, ◌-◌, ◌^�
 use Rattle.capnp_frame.specs.declared.error.ErrorKind.{ErrorKind}
 use Rattle.capnp_frame.specs.declared.error.ErrorKind.TheVariants.{AllocationTooLarge}
 use Rattle.capnp_wire.specs.Tree.{pointers, Trees, none, tree, total_words}
-use Rattle.capnp_wire.specs.Layout.{run, formed}
+use Rattle.capnp_wire.specs.Layout.{run, output}
 use Rattle.capnp_wire.specs.Block.{fill}
 use Rattle.capnp_values.specs.Fields.{IsRow, RefusesRow}
 
--- values in order are these trees, each with room and in fewer than 2 ^ 29 words as it stands
+-- values in order are these trees, each with room and in fewer than 2 ^ 29 words as it is
 abbrev pub AreItems : {V : Type 0} → (V → Trees → Type 0) → List V → Trees → Type 0
 AreItems has_tree [] trees = trees ≡ none
 AreItems has_tree (value ∷ values) trees = IsRow (has_tree value) (λ t. AreItems has_tree values t) trees
 
--- the first of them that is refused, is for this reason
+-- the first of them that is rejected, is for this reason
 abbrev pub RefusesItems : {V : Type 0} → (V → Trees → Type 0) → (V → ErrorKind → Type 0) → List V → ErrorKind → Type 0
 RefusesItems has_tree refuses [] kind = ⊥
 RefusesItems has_tree refuses (value ∷ values) kind =
@@ -23,21 +23,21 @@ RefusesItems has_tree refuses (value ∷ values) kind =
 pub record HasRoomForItems (has_trees : Trees → Type 0) (canonical : Bool) (next room : ℕ) : Type 0 where
   pub trees : Trees
   pub trees_are : has_trees trees
-  pub fits : next + total_words (formed canonical trees) ≤ room
+  pub fits : next + total_words (output canonical trees) ≤ room
 
--- n pointers stand in a block from a word on, and what they lead to after the last of them, up to the first free word
+-- n pointers are in a block from a word on, and what they lead to after the last of them, up to the first free word
 pub record AreItemsWritten (has_trees : Trees → Type 0) (canonical : Bool) (slot n : ℕ) (old new : List ℕ) (free : ℕ) : Type 0 where
-  pub words_are : (trees : Trees) → has_trees trees → new ≡ fill (run slot n) (slot + n) (formed canonical trees) old
-  pub next_is : (trees : Trees) → has_trees trees → free ≡ slot + n + total_words (formed canonical trees)
+  pub words_are : (trees : Trees) → has_trees trees → new ≡ fill (run slot n) (slot + n) (output canonical trees) old
+  pub next_is : (trees : Trees) → has_trees trees → free ≡ slot + n + total_words (output canonical trees)
 
 -- the list of pointers to some values
 pub record IsPointerList {V : Type 0} (has_tree : V → Trees → Type 0) (values : List V) (trees : Trees) : Type 0 where
-  pub held : Trees
-  pub held_is : AreItems has_tree values held
+  pub children : Trees
+  pub children_is : AreItems has_tree values children
   pub few : length values < 2 ^ 29
-  pub whole : trees ≡ tree pointers held none
+  pub whole : trees ≡ tree pointers children none
 
--- a pointer can't tell that many, or one of the values is refused
+-- a pointer can't tell that many, or one of the values is rejected
 abbrev pub RefusesPointerList : {V : Type 0} → (V → Trees → Type 0) → (V → ErrorKind → Type 0) → List V → ErrorKind → Type 0
 RefusesPointerList has_tree refuses values kind =
     ((2 ^ 29 ≤ length values) × (kind ≡ AllocationTooLarge (min (length values) (2 ^ 32 - 1))))

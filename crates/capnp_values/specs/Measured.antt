@@ -4,12 +4,12 @@ use Rattle.std.specs.Result.{IsErrAnd}
 use Rattle.capnp_frame.specs.declared.error.Error.{Error}
 use Rattle.capnp_frame.specs.declared.error.ErrorKind.{ErrorKind}
 use Rattle.capnp_wire.specs.Tree.{Trees, total_words}
-use Rattle.capnp_wire.specs.Layout.{formed, AllHaveRoom}
+use Rattle.capnp_wire.specs.Layout.{output, AllHaveRoom}
 use Rattle.capnp_values.specs.declared.measured.TreeWords.{TreeWords}
 
--- the words of some trees, as they stand and as they are formed
+-- the words of some trees, as they are and as they are formed
 abbrev pub tree_words : Bool → Trees → TreeWords
-tree_words canonical trees = record { standing = total_words trees; formed = total_words (formed canonical trees) }
+tree_words canonical trees = record { as_is = total_words trees; output = total_words (output canonical trees) }
 
 -- what is measured of trees that have room, however many words they are, or why there are none
 pub record Measures (has_trees : Trees → Type 0) (refuses : ErrorKind → Type 0) (canonical : Bool) (result : Result TreeWords Error) : Type 0 where

@@ -1,26 +1,26 @@
--- Where a list of structs stands in a block (src/tagged.rt). Encoding document, "Lists", the elements of code 7.
+-- Where a list of structs is in a block (src/tagged.rt). Encoding document, "Lists", the elements of code 7.
 use Rattle.std.specs.Prelude.{ℕ, ◌+◌, ◌*◌, ◌^◌, ◌<◌, ◌≤◌, Bool, List, length}
 use Rattle.capnp_wire.specs.Tree.{Trees}
 use Rattle.capnp_values.specs.Fields.{CanWriteRow}
 use Rattle.capnp_values.specs.StructLists.{HasRoomForRows}
 
 -- how many structs of d data words and p pointers can be told
-pub record AreTold (n d p : ℕ) : Type 0 where
+pub record AreDeclared (n d p : ℕ) : Type 0 where
   pub few_words : d < 2 ^ 16
   pub few_pointers : p < 2 ^ 16
   pub few : n < 2 ^ 29
   pub small : n * (d + p) < 2 ^ 29
 
 -- what each keeps of them
-pub record IsTold (n d p e m : ℕ) : Type 0 where
+pub record IsDeclared (n d p e m : ℕ) : Type 0 where
   pub words_within : e ≤ d
   pub pointers_within : m ≤ p
   pub elements : n * (e + m) < 2 ^ 29
 
 -- a list that has room in a block, from a word on: its tag, the elements, and what these lead to
 pub record ListPlace {V : Type 0} (words : V → List ℕ) (has_trees : V → Trees → Type 0) (canonical : Bool) (d p e m : ℕ) (values : List V) (next room : ℕ) : Type 0 where
-  pub told_is : AreTold (length values) d p
-  pub size : IsTold (length values) d p e m
+  pub declared_is : AreDeclared (length values) d p
+  pub size : IsDeclared (length values) d p e m
   pub begin_within : next + 1 + length values * (e + m) ≤ room
   pub rows : HasRoomForRows words has_trees canonical e m d p values (next + 1 + length values * (e + m)) room
 

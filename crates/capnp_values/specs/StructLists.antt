@@ -1,4 +1,4 @@
--- Lists of structs (src/struct_list.rt), and the elements that stand in them (src/rows.rt).
+-- Lists of structs (src/struct_list.rt), and the elements that are in them (src/rows.rt).
 -- Encoding document, "Lists", the elements of code 7.
 use Rattle.std.specs.Prelude.{◌≡◌, ◌⊎◌, ℕ, ◌+◌, ◌-◌, ◌*◌, ◌^◌, ◌<◌, ◌≤◌, max, min, Bool, true, false, List, [], ◌∷◌, length, map, take, All, Result, Ok, MatchResult}
 use Rattle.std.specs.Result.{IsErrAnd}
@@ -7,7 +7,7 @@ use Rattle.capnp_frame.specs.declared.error.ErrorKind.{ErrorKind}
 use Rattle.capnp_frame.specs.declared.error.ErrorKind.TheVariants.{AllocationTooLarge}
 use Rattle.capnp_wire.specs.Tree.{structs, Trees, none, tree, total_words}
 use Rattle.capnp_wire.specs.Trim.{first, following, before, least_data, least_pointers, narrowed, trim}
-use Rattle.capnp_wire.specs.Layout.{run, formed}
+use Rattle.capnp_wire.specs.Layout.{run, output}
 use Rattle.capnp_wire.specs.Block.{put, fill}
 use Rattle.capnp_values.specs.declared.fields.Extent.{Extent}
 use Rattle.capnp_values.specs.declared.rows.Reach.{Reach}
@@ -25,7 +25,7 @@ abbrev pub AreRows : {V : Type 0} → (V → Trees → Type 0) → List V → Tr
 AreRows has_trees [] trees = trees ≡ none
 AreRows has_trees (value ∷ values) trees = IsRowInFront (has_trees value) (λ t. AreRows has_trees values t) trees
 
--- the first of the rows that is refused, is for this reason
+-- the first of the rows that is rejected, is for this reason
 abbrev pub RefusesRows : {V : Type 0} → (V → Trees → Type 0) → (V → ErrorKind → Type 0) → List V → ErrorKind → Type 0
 RefusesRows has_trees refuses [] kind = ⊥
 RefusesRows has_trees refuses (value ∷ values) kind =
@@ -33,13 +33,13 @@ RefusesRows has_trees refuses (value ∷ values) kind =
 
 -- the list of some structs, each of d data words and p pointers
 pub record IsStructList {V : Type 0} (words : V → List ℕ) (has_trees : V → Trees → Type 0) (d p : ℕ) (values : List V) (trees : Trees) : Type 0 where
-  pub held : Trees
-  pub held_is : AreRows has_trees values held
+  pub children : Trees
+  pub children_is : AreRows has_trees values children
   pub few_words : d < 2 ^ 16
   pub few_pointers : p < 2 ^ 16
   pub few : length values < 2 ^ 29
   pub small : length values * (d + p) < 2 ^ 29
-  pub whole : trees ≡ tree (structs d p (map words values)) held none
+  pub whole : trees ≡ tree (structs d p (map words values)) children none
 
 -- a pointer and a tag can't tell this many structs of d data words and p pointers
 abbrev pub TooManyStructs : ℕ → ℕ → ℕ → ErrorKind → Type 0
@@ -48,7 +48,7 @@ TooManyStructs n d p kind =
     ⊎ ((d < 2 ^ 16) × (p < 2 ^ 16) × (2 ^ 29 ≤ n) × (kind ≡ AllocationTooLarge (min n (2 ^ 32 - 1))))
     ⊎ ((d < 2 ^ 16) × (p < 2 ^ 16) × (n < 2 ^ 29) × (2 ^ 29 ≤ n * (d + p)) × (kind ≡ AllocationTooLarge (min (n * (d + p)) (2 ^ 32 - 1))))
 
--- these are too many, or one of their rows is refused
+-- these are too many, or one of their rows is rejected
 abbrev pub RefusesStructList : {V : Type 0} → (V → Trees → Type 0) → (V → ErrorKind → Type 0) → ℕ → ℕ → List V → ErrorKind → Type 0
 RefusesStructList has_trees refuses d p values kind =
     TooManyStructs (length values) d p kind
@@ -61,18 +61,18 @@ element_data true d rows = least_data rows
 element_data false d rows = d
 
 abbrev pub element_pointers : Bool → ℕ → List (List ℕ) → Trees → ℕ
-element_pointers true p rows held = least_pointers p rows (trim held)
-element_pointers false p rows held = p
+element_pointers true p rows children = least_pointers p rows (trim children)
+element_pointers false p rows children = p
 
 abbrev pub shown : Bool → ℕ → ℕ → List (List ℕ) → Trees → Trees
-shown canonical m p rows held = narrowed m p rows (formed canonical held)
+shown canonical m p rows children = narrowed m p rows (output canonical children)
 
 abbrev pub reach_of : Bool → ℕ → ℕ → List (List ℕ) → Trees → Reach
-reach_of canonical d p rows held = record {
+reach_of canonical d p rows children = record {
   data_words = element_data canonical d rows;
-  pointers = element_pointers canonical p rows held;
-  words = total_words (formed canonical held);
-  standing = total_words held;
+  pointers = element_pointers canonical p rows children;
+  words = total_words (output canonical children);
+  as_is = total_words children;
 }
 
 -- how far some structs reach, and one more, of which d data words are kept
@@ -81,40 +81,40 @@ reached reach d extent = record {
   data_words = max reach.data_words d;
   pointers = max reach.pointers extent.pointers;
   words = reach.words + extent.words;
-  standing = reach.standing + extent.standing;
+  as_is = reach.as_is + extent.as_is;
 }
 
 -- each row has d words
 abbrev pub AreEven : ℕ → List (List ℕ) → Type 0
 AreEven d rows = All (λ row. (length row ≡ d) × All (λ w. w < 2 ^ 64) row) rows
 
--- what is measured of some structs: how far they reach, or why one of them is refused
+-- what is measured of some structs: how far they reach, or why one of them is rejected
 pub record ReachesRows {V : Type 0} (words : V → List ℕ) (has_trees : V → Trees → Type 0) (refuses : V → ErrorKind → Type 0) (canonical : Bool) (d p : ℕ) (values : List V) (result : Result Reach Error) : Type 0 where
   pub returned : MatchResult result
-      (λ reach. AreEven d (map words values) × ((held : Trees) × AreRows has_trees values held × (reach ≡ reach_of canonical d p (map words values) held)))
+      (λ reach. AreEven d (map words values) × ((children : Trees) × AreRows has_trees values children × (reach ≡ reach_of canonical d p (map words values) children)))
       (λ error. RefusesRows has_trees refuses values error.kind)
-  pub found : (held : Trees) → AreRows has_trees values held → result ≡ Ok (reach_of canonical d p (map words values) held)
+  pub found : (children : Trees) → AreRows has_trees values children → result ≡ Ok (reach_of canonical d p (map words values) children)
   pub exact : (kind : ErrorKind) → RefusesRows has_trees refuses values kind → IsErrAnd result (λ error. error.kind ≡ kind)
 
 -- rows from a word of a block on, each before its p pointers, and what these lead to from another word on
 abbrev pub fill_rows : ℕ → ℕ → List (List ℕ) → ℕ → Trees → List ℕ → List ℕ
-fill_rows p at [] next held block = block
-fill_rows p at (row ∷ rows) next held block =
-    fill_rows p (at + length row + p) rows (next + total_words (first p held)) (following p held) (fill (run (at + length row) p) next (first p held) (put at row block))
+fill_rows p at [] next children block = block
+fill_rows p at (row ∷ rows) next children block =
+    fill_rows p (at + length row + p) rows (next + total_words (first p children)) (following p children) (fill (run (at + length row) p) next (first p children) (put at row block))
 
 -- of each of some structs d words and m pointers are kept, and what these lead to has room in a block, from a word on
 pub record HasRoomForRows {V : Type 0} (words : V → List ℕ) (has_trees : V → Trees → Type 0) (canonical : Bool) (d m most p : ℕ) (values : List V) (next room : ℕ) : Type 0 where
-  pub held : Trees
-  pub held_is : AreRows has_trees values held
+  pub children : Trees
+  pub children_is : AreRows has_trees values children
   pub few_words : d < 2 ^ 16
   pub few_pointers : p < 2 ^ 16
   pub data_fits : d ≤ most
-  pub pointers_are : m ≡ element_pointers canonical p (map words values) held
-  pub fits : next + total_words (shown canonical m p (map words values) held) ≤ room
+  pub pointers_are : m ≡ element_pointers canonical p (map words values) children
+  pub fits : next + total_words (shown canonical m p (map words values) children) ≤ room
 
--- the elements of a list stand in a block from a word on, and what their pointers lead to from another one on, up to the first
+-- the elements of a list are in a block from a word on, and what their pointers lead to from another one on, up to the first
 -- free word
 pub record AreRowsWritten {V : Type 0} (words : V → List ℕ) (has_trees : V → Trees → Type 0) (canonical : Bool) (d m p : ℕ) (values : List V) (at next : ℕ) (old new : List ℕ) (free : ℕ) : Type 0 where
-  pub words_are : (held : Trees) → AreRows has_trees values held
-      → new ≡ fill_rows m at (map (take d) (map words values)) next (shown canonical m p (map words values) held) old
-  pub next_is : (held : Trees) → AreRows has_trees values held → free ≡ next + total_words (shown canonical m p (map words values) held)
+  pub words_are : (children : Trees) → AreRows has_trees values children
+      → new ≡ fill_rows m at (map (take d) (map words values)) next (shown canonical m p (map words values) children) old
+  pub next_is : (children : Trees) → AreRows has_trees values children → free ≡ next + total_words (shown canonical m p (map words values) children)

@@ -8,13 +8,13 @@ use Rattle.capnp_wire.specs.Trim.{cut_zeros}
 
 -- data words, and a row of a given number of pointers
 pub record IsStruct (words : List ℕ) (size : ℕ) (has_trees : Trees → Type 0) (trees : Trees) : Type 0 where
-  pub held : Trees
-  pub held_is : has_trees held
+  pub children : Trees
+  pub children_is : has_trees children
   pub few_words : length words < 2 ^ 16
   pub few_pointers : size < 2 ^ 16
-  pub whole : trees ≡ tree (struct words) held none
+  pub whole : trees ≡ tree (struct words) children none
 
--- a pointer can't tell a given number of words or pointers, or the row is refused
+-- a pointer can't tell a given number of words or pointers, or the row is rejected
 abbrev pub RefusesStruct : ℕ → ℕ → (ErrorKind → Type 0) → ErrorKind → Type 0
 RefusesStruct words size refuses kind =
     ((2 ^ 16 ≤ words ⊎ 2 ^ 16 ≤ size) × (kind ≡ AllocationTooLarge (2 ^ 16)))

@@ -23,8 +23,8 @@ pub struct Extent {
     /// The words of all that these lead to.
     pub words: u64,
 
-    /// The words of all that these lead to, with each value as it stands.
-    pub standing: u64,
+    /// The words of all that these lead to, with each value as it is.
+    pub as_is: u64,
 }
 
 /// A row of pointer fields, each set to a value of its own.
@@ -42,7 +42,7 @@ pub trait Fields {
     fn count() -> u32
         ensures { result ≡ min size (2 ^ 16) };
 
-    /// The extent of the row, as it stands or in canonical form.
+    /// The extent of the row, as it is or in canonical form.
     ///
     /// Fails with a kind that `refuses` names.
     fn measure(&self, canonical: bool) -> Result<Extent>
@@ -55,10 +55,10 @@ pub trait Fields {
         ensures exact { (kind : ErrorKind) → refuses self.now kind →
             IsErrAnd result (λ error. error.kind ≡ kind) };
 
-    /// The words of all that the row's pointers lead to, as they stand.
+    /// The words of all that the row's pointers lead to, as they are.
     ///
     /// Fails with a kind that `refuses` names.
-    fn standing(&self) -> Result<u64>
+    fn as_is(&self) -> Result<u64>
         requires { size < 2 ^ 16 }
         ensures returned { MatchResult result (λ words. HasTotal (has_trees self.now) words)
             (λ error. refuses self.now error.kind) }
@@ -68,10 +68,10 @@ pub trait Fields {
             IsErrAnd result (λ error. error.kind ≡ kind) }
     {
         let extent = self.measure(false)?;
-        Ok(extent.standing)
+        Ok(extent.as_is)
     }
 
-    /// How many pointers the row keeps, as it stands or in canonical form.
+    /// How many pointers the row keeps, as it is or in canonical form.
     fn kept(&self, canonical: bool) -> u32
         requires { size < 2 ^ 16 }
         ensures kept { (trees : Trees) → has_trees self.now trees →

@@ -11,35 +11,35 @@ use capnp_frame::Result;
 use capnp_wire::pointer_word::put_word;
 use capnp_wire::traits::SetterInput;
 
-/// The words of all these values as they stand, and the same or those of the canonical form.
+/// The words of all these values as they are, and the same or those of the canonical form.
 ///
-/// Fails as the first of them that fails as it stands.
+/// Fails as the first of them that fails as it is.
 pub(crate) fn measure_items<T, S: ValueSource<T>>(items: &S, canonical: bool) -> Result<TreeWords>
     requires { length (S.items items.now) < 2 ^ 29 }
     ensures { Measures (AreItems (S.has_tree items.now) (S.items items.now))
         (RefusesItems (S.has_tree items.now) (S.refuses items.now) (S.items items.now)) canonical result }
 {
     if !canonical {
-        return standing_items::<T, S>(items);
+        return as_is_items::<T, S>(items);
     }
     let mut words = TreeWords {
-        standing: 0,
-        formed: 0,
+        as_is: 0,
+        output: 0,
     };
     let count = items.len();
     for index in 0..count {
         let item = items.get(index);
         let own = item.measure_part(canonical)?;
-        let standing = words.standing + own.standing as u64;
-        let formed = words.formed + own.formed as u64;
-        words = TreeWords { standing, formed };
+        let as_is = words.as_is + own.as_is as u64;
+        let output = words.output + own.output as u64;
+        words = TreeWords { as_is, output };
     }
     Ok(words)
 }
 
 // The words of all these values, of which no canonical form is made.
 // Speed: one sum serves for both numbers, and stays in a register (`tools/time-building`).
-fn standing_items<T, S: ValueSource<T>>(items: &S) -> Result<TreeWords>
+fn as_is_items<T, S: ValueSource<T>>(items: &S) -> Result<TreeWords>
     requires { length (S.items items.now) < 2 ^ 29 }
     ensures { Measures (AreItems (S.has_tree items.now) (S.items items.now))
         (RefusesItems (S.has_tree items.now) (S.refuses items.now) (S.items items.now)) false result }
@@ -52,8 +52,8 @@ fn standing_items<T, S: ValueSource<T>>(items: &S) -> Result<TreeWords>
         words += own as u64;
     }
     Ok(TreeWords {
-        standing: words,
-        formed: words,
+        as_is: words,
+        output: words,
     })
 }
 

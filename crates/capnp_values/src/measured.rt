@@ -6,19 +6,19 @@ ghost use Rattle.capnp_wire.specs.Values.{too_large};
 use capnp_frame::{Error, ErrorKind, Result};
 use capnp_wire::traits::PartWords;
 
-/// The words of some trees, as they stand and in the form that is made.
+/// The words of some trees, as they are and in the form that is made.
 #[derive(Clone, Copy)]
 pub struct TreeWords {
-    /// As they stand.
-    pub standing: u64,
+    /// As they are.
+    pub as_is: u64,
 
     /// In the form that is made.
-    pub formed: u64,
+    pub output: u64,
 }
 
 /// Words that a block may have. Fails for 2^29 and more with `AllocationTooLarge`, in canonical
 /// form with `CanonicalTooLarge`.
-pub(crate) fn fitting(words: u64, canonical: bool) -> Result<u32>
+pub(crate) fn checked_word_count(words: u64, canonical: bool) -> Result<u32>
     ensures { MatchResult result (λ number. (number ≡ words) × (number < 2 ^ 29))
         (λ error. (2 ^ 29 ≤ words) × (error.kind ≡ too_large canonical words)) }
 {
@@ -28,28 +28,28 @@ pub(crate) fn fitting(words: u64, canonical: bool) -> Result<u32>
     if canonical {
         return Err(Error::from_kind(ErrorKind::CanonicalTooLarge));
     }
-    Err(too_many(words))
+    Err(allocation_too_large(words))
 }
 
 /// The words that a part of a value may have. Fails with `AllocationTooLarge` where there are 2^29
-/// and more as it stands.
-pub(crate) fn fitting_part(words: TreeWords) -> Result<PartWords>
-    requires { words.formed ≤ words.standing }
+/// and more as it is.
+pub(crate) fn checked_part_words(words: TreeWords) -> Result<PartWords>
+    requires { words.output ≤ words.as_is }
     ensures { MatchResult result
-        (λ part. (part.standing ≡ words.standing) × (part.formed ≡ words.formed)
-        × (part.standing < 2 ^ 29))
-        (λ error. (2 ^ 29 ≤ words.standing) × (error.kind ≡ too_large false words.standing)) }
+        (λ part. (part.as_is ≡ words.as_is) × (part.output ≡ words.output)
+        × (part.as_is < 2 ^ 29))
+        (λ error. (2 ^ 29 ≤ words.as_is) × (error.kind ≡ too_large false words.as_is)) }
 {
-    let standing = fitting(words.standing, false)?;
+    let as_is = checked_word_count(words.as_is, false)?;
     Ok(PartWords {
-        standing,
-        formed: words.formed as u32,
+        as_is,
+        output: words.output as u32,
     })
 }
 
 /// The error for too many words or elements for a pointer, which it tells as far as 32 bits hold
 /// them.
-pub(crate) fn too_many(number: u64) -> Error
+pub(crate) fn allocation_too_large(number: u64) -> Error
     ensures { result.kind ≡ AllocationTooLarge (min number (2 ^ 32 - 1)) }
 {
     let told = if number < u32::MAX as u64 {

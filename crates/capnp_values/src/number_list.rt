@@ -3,7 +3,7 @@ ghost use Rattle.std.specs.Prelude.{◌≡◌, ◌+◌, ◌*◌, ◌^◌, ◌<�
 ghost use Rattle.capnp_wire.specs.Pointer.{digits, number_of, words_of};
 ghost use Rattle.capnp_wire.specs.Element.{width, words_for};
 
-use crate::measured::too_many;
+use crate::measured::allocation_too_large;
 use capnp_frame::Result;
 use capnp_wire::pointer_word::{list_word, put_word};
 use capnp_wire::primitive_element::PrimitiveElement;
@@ -41,7 +41,7 @@ impl<'a, N: PrimitiveElement + Copy> SetterInput<Owned<N>> for NumberList<'a, N>
     fn measure(&self, _canonical: bool) -> Result<u32> {
         let count = self.items.len();
         if count >= 1 << 29 {
-            return Err(too_many(count as u64));
+            return Err(allocation_too_large(count as u64));
         }
         // For the prover: each number fits its type.
         numbers_fit(self.items);

@@ -4,7 +4,7 @@ ghost use Rattle.capnp_values.specs.Measured.{Measures};
 ghost use Rattle.capnp_values.specs.Lists.{IsPointerList, RefusesPointerList};
 
 use crate::items::{measure_items, write_items};
-use crate::measured::{TreeWords, fitting, fitting_part, too_many};
+use crate::measured::{TreeWords, allocation_too_large, checked_part_words, checked_word_count};
 use crate::sources::ValueSource;
 use capnp_frame::Result;
 use capnp_wire::list_list::Owned;
@@ -36,7 +36,7 @@ impl<'a, T, V> PointerList<'a, T, V> {
 }
 
 // The values' trees, in order. 2^29 of them and more fail with `AllocationTooLarge`, and a value
-// fails as it stands.
+// fails as it is.
 impl<'a, T, V: SetterInput<T>> SetterInput<Owned<T>> for PointerList<'a, T, V> {
     ghost use Rattle.capnp_wire.specs.Tree.{count};
     ghost use Rattle.capnp_values.specs.Lists.{IsPointerList, RefusesPointerList};
@@ -51,12 +51,12 @@ impl<'a, T, V: SetterInput<T>> SetterInput<Owned<T>> for PointerList<'a, T, V> {
 
     fn measure(&self, canonical: bool) -> Result<u32> {
         let words = measure_list::<T, &'a [V]>(&self.items, canonical)?;
-        fitting(words.formed, canonical)
+        checked_word_count(words.output, canonical)
     }
 
     fn measure_part(&self, canonical: bool) -> Result<PartWords> {
         let words = measure_list::<T, &'a [V]>(&self.items, canonical)?;
-        fitting_part(words)
+        checked_part_words(words)
     }
 
     fn is_null(&self) -> bool {
@@ -80,10 +80,10 @@ pub(crate) fn measure_list<T, S: ValueSource<T>>(items: &S, canonical: bool) -> 
 {
     let count = items.len() as u64;
     if count >= 1 << 29 {
-        return Err(too_many(count));
+        return Err(allocation_too_large(count));
     }
     let words = measure_items::<T, S>(items, canonical)?;
-    let standing = count + words.standing;
-    let formed = count + words.formed;
-    Ok(TreeWords { standing, formed })
+    let as_is = count + words.as_is;
+    let output = count + words.output;
+    Ok(TreeWords { as_is, output })
 }

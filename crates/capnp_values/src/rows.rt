@@ -27,8 +27,8 @@ pub struct Reach {
     /// The words of all that the pointers lead to.
     pub words: u64,
 
-    /// The same words as they stand.
-    pub standing: u64,
+    /// The same words as they are.
+    pub as_is: u64,
 }
 
 /// What each element of a list keeps: all that it has, or in canonical form what the largest of
@@ -42,9 +42,9 @@ pub struct KeptWords {
     pub pointers: u32,
 }
 
-/// The extent of some structs, as they stand or in canonical form.
+/// The extent of some structs, as they are or in canonical form.
 ///
-/// Fails as the first of them that fails as it stands.
+/// Fails as the first of them that fails as it is.
 pub(crate) fn measure_rows<S: StructSource>(items: &S, canonical: bool) -> Result<Reach>
     requires words { S.Value.data_words < 2 ^ 16 }
     requires pointers { S.Value.size < 2 ^ 16 }
@@ -53,7 +53,7 @@ pub(crate) fn measure_rows<S: StructSource>(items: &S, canonical: bool) -> Resul
         canonical S.Value.data_words S.Value.size (S.items items.now) result }
 {
     if !canonical {
-        return standing_rows(items);
+        return as_is_rows(items);
     }
     let mut reach = least_reach(S::Value::data_words(), S::Value::count(), canonical);
     let count = items.len();
@@ -66,9 +66,9 @@ pub(crate) fn measure_rows<S: StructSource>(items: &S, canonical: bool) -> Resul
     Ok(reach)
 }
 
-// The extent of some structs as they stand, of which each keeps all that it has.
+// The extent of some structs as they are, of which each keeps all that it has.
 // Speed: one sum serves for both numbers, and stays in a register (`tools/time-building`).
-fn standing_rows<S: StructSource>(items: &S) -> Result<Reach>
+fn as_is_rows<S: StructSource>(items: &S) -> Result<Reach>
     requires words { S.Value.data_words < 2 ^ 16 }
     requires pointers { S.Value.size < 2 ^ 16 }
     requires few { length (S.items items.now) * (S.Value.data_words + S.Value.size) < 2 ^ 29 }
@@ -79,7 +79,7 @@ fn standing_rows<S: StructSource>(items: &S) -> Result<Reach>
     let count = items.len();
     for index in 0..count {
         let item = items.get(index);
-        let own = item.standing()?;
+        let own = item.as_is()?;
         // For the prover: this item has as many data words as its type says.
         let _data_words = item.words();
         words += own;
@@ -88,7 +88,7 @@ fn standing_rows<S: StructSource>(items: &S) -> Result<Reach>
         data_words: S::Value::data_words(),
         pointers: S::Value::count(),
         words,
-        standing: words,
+        as_is: words,
     })
 }
 
@@ -101,40 +101,40 @@ fn least_reach(data_words: usize, pointers: u32, canonical: bool) -> Reach
             data_words: 0,
             pointers: 0,
             words: 0,
-            standing: 0,
+            as_is: 0,
         };
     }
     Reach {
         data_words,
         pointers,
         words: 0,
-        standing: 0,
+        as_is: 0,
     }
 }
 
 // The extent with one more struct, of which this many data words are kept.
 fn with_row(reach: Reach, data_words: usize, extent: Extent) -> Reach
     requires words { reach.words + extent.words < 2 ^ 64 }
-    requires standing { reach.standing + extent.standing < 2 ^ 64 }
+    requires as_is { reach.as_is + extent.as_is < 2 ^ 64 }
     ensures { result ≡ reached reach data_words extent }
 {
     let words = reach.words + extent.words;
-    let standing = reach.standing + extent.standing;
+    let as_is = reach.as_is + extent.as_is;
     Reach {
         data_words: reach.data_words.max(data_words),
         pointers: reach.pointers.max(extent.pointers),
         words,
-        standing,
+        as_is,
     }
 }
 
 /// What each of some structs keeps.
 pub(crate) fn kept_by_each<S: StructSource>(items: &S, canonical: bool) -> KeptWords
     requires { S.Value.size < 2 ^ 16 }
-    ensures words { (held : Trees) → AreRows (S.has_trees items.now) (S.items items.now) held →
+    ensures words { (children : Trees) → AreRows (S.has_trees items.now) (S.items items.now) children →
         result.data_words ≡ element_data canonical S.Value.data_words (map (S.words items.now) (S.items items.now)) }
-    ensures pointers { (held : Trees) → AreRows (S.has_trees items.now) (S.items items.now) held →
-        result.pointers ≡ element_pointers canonical S.Value.size (map (S.words items.now) (S.items items.now)) held }
+    ensures pointers { (children : Trees) → AreRows (S.has_trees items.now) (S.items items.now) children →
+        result.pointers ≡ element_pointers canonical S.Value.size (map (S.words items.now) (S.items items.now)) children }
 {
     if !canonical {
         return KeptWords {

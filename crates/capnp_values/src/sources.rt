@@ -3,7 +3,7 @@ ghost use Rattle.std.specs.Prelude.{◌≡◌, ℕ, ◌<◌, List, length, get_o
 ghost use Rattle.capnp_frame.specs.declared.error.ErrorKind.{ErrorKind};
 ghost use Rattle.capnp_wire.specs.Tree.{Trees};
 ghost use Rattle.capnp_values.specs.Fields.{IsSettled};
-ghost use Rattle.capnp_values.specs.Sources.{IsAsTold};
+ghost use Rattle.capnp_values.specs.Sources.{IsAsDeclared};
 
 use crate::borrowed::Borrowed;
 use crate::element::Element;
@@ -36,7 +36,7 @@ pub trait ValueSource<T> {
     fn get(&self, index: usize) -> Self::Value
         requires { index < length (items self.now) }
         ensures { (item : Self.Item) × (item ≡ get_or (items self.now) index item)
-            × IsAsTold (Self.Value.has_tree result) (has_tree self.now item)
+            × IsAsDeclared (Self.Value.has_tree result) (has_tree self.now item)
             (Self.Value.refuses result) (refuses self.now item) };
 }
 
@@ -70,7 +70,7 @@ pub trait StructSource {
         requires { index < length (items self.now) }
         ensures { (item : Self.Item) × (item ≡ get_or (items self.now) index item)
             × (Self.Value.words result ≡ words self.now item)
-            × IsAsTold (Self.Value.has_trees result) (has_trees self.now item)
+            × IsAsDeclared (Self.Value.has_trees result) (has_trees self.now item)
             (Self.Value.refuses result) (refuses self.now item) };
 
     /// The trees have room, and each has fewer than 2^29 words.

@@ -3,7 +3,7 @@ ghost use Rattle.std.specs.Prelude.{◌≡◌};
 
 use crate::element::Element;
 use crate::fields::Fields;
-use crate::measured::{fitting, fitting_part};
+use crate::measured::{checked_part_words, checked_word_count};
 use crate::tagged::{measure_list, write_list};
 use capnp_frame::Result;
 use capnp_wire::struct_list::Owned;
@@ -28,7 +28,7 @@ impl<'a, E> StructList<'a, E> {
 
 // The data words of each element, with the trees of their fields, row by row. 2^16 data words or
 // fields and more, and 2^29 elements or words of elements and more, fail with `AllocationTooLarge`;
-// a field fails as it stands.
+// a field fails as it is.
 impl<'a, E: Fields + Element> SetterInput<Owned> for StructList<'a, E> {
     ghost use Rattle.capnp_wire.specs.Tree.{count};
     ghost use Rattle.capnp_values.specs.StructLists.{IsStructList, RefusesStructList};
@@ -44,12 +44,12 @@ impl<'a, E: Fields + Element> SetterInput<Owned> for StructList<'a, E> {
 
     fn measure(&self, canonical: bool) -> Result<u32> {
         let words = measure_list(&self.items, canonical)?;
-        fitting(words.formed, canonical)
+        checked_word_count(words.output, canonical)
     }
 
     fn measure_part(&self, canonical: bool) -> Result<PartWords> {
         let words = measure_list(&self.items, canonical)?;
-        fitting_part(words)
+        checked_part_words(words)
     }
 
     fn is_null(&self) -> bool {

@@ -5,7 +5,7 @@ ghost use Rattle.capnp_values.specs.Structs.{IsStruct, RefusesStruct};
 
 use crate::element::Element;
 use crate::fields::{Extent, Fields};
-use crate::measured::{TreeWords, fitting, fitting_part};
+use crate::measured::{TreeWords, checked_part_words, checked_word_count};
 use crate::sections::{fits, kept_data, struct_word, words_fit, write_sections};
 use capnp_frame::{Error, ErrorKind, Result};
 use capnp_wire::any_struct::Owned;
@@ -32,7 +32,7 @@ impl<const D: usize, F> StructValue<D, F> {
 }
 
 // The data words, with the trees of the fields. 2^16 data words or fields and more fail with
-// `AllocationTooLarge`; a field fails as it stands.
+// `AllocationTooLarge`; a field fails as it is.
 impl<const D: usize, F: Fields> SetterInput<Owned> for StructValue<D, F> {
     ghost use Rattle.std.specs.Prelude.{length};
     ghost use Rattle.capnp_wire.specs.Tree.{count};
@@ -49,12 +49,12 @@ impl<const D: usize, F: Fields> SetterInput<Owned> for StructValue<D, F> {
 
     fn measure(&self, canonical: bool) -> Result<u32> {
         let words = measure_struct(&self.words, &self.fields, canonical)?;
-        fitting(words.formed, canonical)
+        checked_word_count(words.output, canonical)
     }
 
     fn measure_part(&self, canonical: bool) -> Result<PartWords> {
         let words = measure_struct(&self.words, &self.fields, canonical)?;
-        fitting_part(words)
+        checked_part_words(words)
     }
 
     fn is_null(&self) -> bool {
@@ -65,9 +65,17 @@ impl<const D: usize, F: Fields> SetterInput<Owned> for StructValue<D, F> {
         let words: &[u64] = &self.words;
         let data = kept_data(words, canonical);
         let pointers = self.fields.kept(canonical);
-        let held = next + data + pointers as usize;
+        let children = next + data + pointers as usize;
         let kept = &words[..data];
-        let free = write_sections(kept, &self.fields, canonical, pointers, block, next, held);
+        let free = write_sections(
+            kept,
+            &self.fields,
+            canonical,
+            pointers,
+            block,
+            next,
+            children,
+        );
         Copied {
             pointer: struct_word(data, pointers, next - following),
             next: free,
@@ -87,9 +95,9 @@ fn measure_struct<F: Fields>(words: &[u64], fields: &F, canonical: bool) -> Resu
     words_fit(words);
     let extent = fields.measure(canonical)?;
     let data = kept_data(words, canonical) as u64;
-    let standing = words.len() as u64 + F::count() as u64 + extent.standing;
-    let formed = data + extent.pointers as u64 + extent.words;
-    Ok(TreeWords { standing, formed })
+    let as_is = words.len() as u64 + F::count() as u64 + extent.as_is;
+    let output = data + extent.pointers as u64 + extent.words;
+    Ok(TreeWords { as_is, output })
 }
 
 // The fields alone.
@@ -110,8 +118,8 @@ impl<const D: usize, F: Fields> Fields for StructValue<D, F> {
         self.fields.measure(canonical)
     }
 
-    fn standing(&self) -> Result<u64> {
-        self.fields.standing()
+    fn as_is(&self) -> Result<u64> {
+        self.fields.as_is()
     }
 
     fn kept(&self, canonical: bool) -> u32 {

@@ -2,17 +2,17 @@
 ghost use Rattle.std.specs.Prelude.{◌≡◌, ◌+◌, ◌-◌, ◌*◌, ◌^◌, ◌<◌, ◌≤◌, ◌∷◌, [], length, MatchResult};
 ghost use Rattle.capnp_wire.specs.Pointer.{words_of};
 ghost use Rattle.capnp_wire.specs.Tree.{Trees, total_words};
-ghost use Rattle.capnp_wire.specs.Layout.{body, formed, list_pointer, struct_pointer};
+ghost use Rattle.capnp_wire.specs.Layout.{body, output, list_pointer, struct_pointer};
 ghost use Rattle.capnp_wire.specs.Block.{put};
 ghost use Rattle.capnp_wire.specs.Copy.{IsCopied};
 ghost use Rattle.capnp_wire.specs.Values.{HasRoomAt, IsFreeFrom};
 ghost use Rattle.capnp_values.specs.Measured.{Measures};
 ghost use Rattle.capnp_values.specs.StructLists.{AreRowsWritten, IsStructList, RefusesStructList, TooManyStructs};
-ghost use Rattle.capnp_values.specs.StructListPlaces.{AreTold, IsTold, ListPlace};
+ghost use Rattle.capnp_values.specs.StructListPlaces.{AreDeclared, IsDeclared, ListPlace};
 
 use crate::element::Element;
 use crate::fields::Fields;
-use crate::measured::{TreeWords, too_many};
+use crate::measured::{TreeWords, allocation_too_large};
 use crate::rows::{KeptWords, Reach, kept_by_each, measure_rows, write_rows};
 use crate::sources::StructSource;
 use capnp_frame::{Error, ErrorKind, Result};
@@ -46,29 +46,29 @@ fn elements_fit(count: usize, data_words: usize, pointers: u32) -> Result<()>
         return Err(Error::from_kind(ErrorKind::AllocationTooLarge(1 << 16)));
     }
     if count >= 1 << 29 {
-        return Err(too_many(count as u64));
+        return Err(allocation_too_large(count as u64));
     }
     let words = count * (data_words + pointers as usize);
     if words >= 1 << 29 {
-        return Err(too_many(words as u64));
+        return Err(allocation_too_large(words as u64));
     }
     Ok(())
 }
 
 // The words of a tag, of the elements, and of all that these lead to.
 fn with_tag(count: usize, data_words: usize, pointers: u32, reach: Reach) -> TreeWords
-    requires told { AreTold count data_words pointers }
-    requires kept { IsTold count data_words pointers reach.data_words reach.pointers }
-    requires few { reach.words + reach.standing < 2 ^ 59 }
-    ensures standing { result.standing ≡ 1 + count * (data_words + pointers) + reach.standing }
-    ensures formed { result.formed
+    requires told { AreDeclared count data_words pointers }
+    requires kept { IsDeclared count data_words pointers reach.data_words reach.pointers }
+    requires few { reach.words + reach.as_is < 2 ^ 59 }
+    ensures as_is { result.as_is ≡ 1 + count * (data_words + pointers) + reach.as_is }
+    ensures output { result.output
         ≡ 1 + count * (reach.data_words + reach.pointers) + reach.words }
 {
     let all = count * (data_words + pointers as usize);
     let kept = count * (reach.data_words + reach.pointers as usize);
-    let standing = 1 + all as u64 + reach.standing;
-    let formed = 1 + kept as u64 + reach.words;
-    TreeWords { standing, formed }
+    let as_is = 1 + all as u64 + reach.as_is;
+    let output = 1 + kept as u64 + reach.words;
+    TreeWords { as_is, output }
 }
 
 /// Writes a list of some structs into a block, as a value is written.
@@ -86,11 +86,11 @@ pub(crate) fn write_list<S: StructSource>(
     requires following { following ≤ next }
     ensures written { (trees : Trees) → IsStructList (S.words items.now) (S.has_trees items.now)
         S.Value.data_words S.Value.size (S.items items.now) trees →
-        IsCopied (formed canonical trees) (next - following) next
+        IsCopied (output canonical trees) (next - following) next
         (words_of block.old) (words_of block.new) result }
     ensures long { (trees : Trees) → IsStructList (S.words items.now) (S.has_trees items.now)
         S.Value.data_words S.Value.size (S.items items.now) trees →
-        length (body (formed canonical trees)) ≡ total_words (formed canonical trees) }
+        length (body (output canonical trees)) ≡ total_words (output canonical trees) }
     ensures len { length block.new ≡ length block.old }
 {
     let kept = kept_by_each(items, canonical);

@@ -4,7 +4,7 @@ use Rattle.capnp_frame.specs.declared.error.ErrorKind.TheVariants.{PointerOutOfB
 use Rattle.capnp_wire.specs.Pointer.{words_of}
 use Rattle.capnp_wire.specs.Tree.{null, struct, numbers, structs, Trees, none, tree, total_words}
 use Rattle.capnp_wire.specs.Trim.{trim}
-use Rattle.capnp_wire.specs.Object.{near, far, double_far, a_struct, some_numbers, some_structs, is_null, is_object}
+use Rattle.capnp_wire.specs.Object.{local, far, double_far, a_struct, some_numbers, some_structs, is_null, is_object}
 use Rattle.capnp_wire.specs.Reached.{At, nowhere, at, root}
 use Rattle.capnp_wire.specs.Faults.{Fault, no_word, no_segment, past_segment, capability, bad_landing_pad, no_landing_pad, not_far, too_deep, misfits, struct_outside, odd_tag}
 use Rattle.capnp_wire.specs.declared.layout.place.Place.{Place}
@@ -20,7 +20,7 @@ abbrev pub hello : Trees
 hello = tree (numbers 2 (0x48 ∷ 0x65 ∷ 0x6c ∷ 0x6c ∷ 0x6f ∷ 0x2c ∷ 0x20 ∷ 0x57 ∷ 0x6f ∷ 0x72 ∷ 0x6c ∷ 0x64 ∷ 0x21 ∷ 0 ∷ [])) none none
 
 pub hello_stands : At (hello_words ∷ []) at_root hello 2
-hello_stands = at (is_object {start = 1} (near refl (lit< tt) (lit< tt)) refl refl (some_numbers refl (lit< tt) (lit≤ tt))) nowhere nowhere
+hello_stands = at (is_object {start = 1} (local refl (lit< tt) (lit< tt)) refl refl (some_numbers refl (lit< tt) (lit≤ tt))) nowhere nowhere
 
 pub hello_size : total_words hello ≡ 2
 hello_size = refl
@@ -38,7 +38,7 @@ abbrev pub five : Trees
 five = tree (struct (5 ∷ 0 ∷ [])) (tree null none none) none
 
 pub five_stands : At ((0x1000200000000 ∷ 5 ∷ 0 ∷ 0 ∷ []) ∷ []) at_root five 3
-five_stands = at (is_object {start = 1} (near refl (lit< tt) (lit< tt)) refl refl (a_struct refl (lit≤ tt))) (at (is_null refl) nowhere nowhere) nowhere
+five_stands = at (is_object {start = 1} (local refl (lit< tt) (lit< tt)) refl refl (a_struct refl (lit≤ tt))) (at (is_null refl) nowhere nowhere) nowhere
 
 pub five_trimmed : trim five ≡ tree (struct (5 ∷ [])) none none
 five_trimmed = refl
@@ -49,7 +49,7 @@ seven = tree (structs 2 1 ((7 ∷ 0 ∷ []) ∷ (0 ∷ 0 ∷ []) ∷ [])) (tree 
 
 pub seven_stands : At ((0x3700000001 ∷ 0x1000200000008 ∷ 7 ∷ 0 ∷ 0 ∷ 0 ∷ 0 ∷ 0 ∷ []) ∷ []) at_root seven 7
 seven_stands =
-    at (is_object {start = 1} (near refl (lit< tt) (lit< tt)) refl refl (some_structs {tag = 0x1000200000008} refl refl (lit≤ tt) refl refl (lit≤ tt)))
+    at (is_object {start = 1} (local refl (lit< tt) (lit< tt)) refl refl (some_structs {tag = 0x1000200000008} refl refl (lit≤ tt) refl refl (lit≤ tt)))
     (at (is_null refl) nowhere (at (is_null refl) nowhere nowhere)) nowhere
 
 pub seven_size : total_words seven ≡ 7
@@ -63,7 +63,7 @@ pub null_stands : At ((0 ∷ []) ∷ []) at_root (tree null none none) 0
 null_stands = at (is_null refl) nowhere nowhere
 
 pub empty_stands : At ((0xfffffffc ∷ []) ∷ []) at_root (tree (struct []) none none) 0
-empty_stands = at (is_object {start = 0} (near refl (lit< tt) (lit< tt)) refl refl (a_struct refl (lit≤ tt))) nowhere nowhere
+empty_stands = at (is_object {start = 0} (local refl (lit< tt) (lit< tt)) refl refl (a_struct refl (lit≤ tt))) nowhere nowhere
 
 -- the text "A" after a landing pad, and after two landing pads
 abbrev pub letter : Trees
@@ -78,7 +78,7 @@ wide_letter_stands =
     at (is_object {start = 0} (double_far refl (record { far = refl; wide = refl }) refl (record { far = refl; wide = refl }) refl refl (lit< tt)) refl refl
     (some_numbers refl (lit< tt) (lit≤ tt))) nowhere nowhere
 
--- refusals: no segment, no word, past the end by one word, a capability
+-- errors: no segment, no word, past the end by one word, a capability
 pub no_segment_refused : Fault [] root 64 (InvalidSegmentId 0)
 no_segment_refused = no_word (no_segment refl)
 
@@ -86,7 +86,7 @@ pub no_word_refused : Fault ([] ∷ []) root 64 PointerOutOfBounds
 no_word_refused = no_word (past_segment refl refl)
 
 pub past_end_refused : Fault ((4 ∷ []) ∷ []) root 64 PointerOutOfBounds
-past_end_refused = misfits {start = 2} (near refl (lit< tt) (lit< tt)) (lit< tt) refl refl (struct_outside refl (lit< tt))
+past_end_refused = misfits {start = 2} (local refl (lit< tt) (lit< tt)) (lit< tt) refl refl (struct_outside refl (lit< tt))
 
 pub capability_refused : Fault ((3 ∷ []) ∷ []) root 64 CapabilityRefused
 capability_refused = capability refl refl
@@ -100,8 +100,8 @@ landing_pad_to_landing_pad_refused = bad_landing_pad refl refl (not_far refl ref
 
 -- an object below the nesting limit
 pub deep_refused : Fault (hello_words ∷ []) root 0 NestingLimitExceeded
-deep_refused = too_deep (near refl (lit< tt) (lit< tt)) refl
+deep_refused = too_deep (local refl (lit< tt) (lit< tt)) refl
 
 -- a list of structs whose tag is a list pointer
 pub odd_tag_refused : Fault ((0x700000001 ∷ 1 ∷ []) ∷ []) root 64 WrongPointerKind
-odd_tag_refused = misfits {start = 1} (near refl (lit< tt) (lit< tt)) (lit< tt) refl refl (odd_tag refl refl (lit≤ tt) refl (lit< tt))
+odd_tag_refused = misfits {start = 1} (local refl (lit< tt) (lit< tt)) (lit< tt) refl refl (odd_tag refl refl (lit≤ tt) refl (lit< tt))

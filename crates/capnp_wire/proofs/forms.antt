@@ -1,9 +1,9 @@
 -- Canonical forms.
 pub mod CanonLemmas
-pub mod TidyLemmas
+pub mod PreorderLemmas
 pub mod ExactnessLemmas
 pub mod FullLemmas
 pub mod FullRowLemmas
-pub mod TightLemmas
+pub mod TruncatedLemmas
 pub mod CanonicalLemmas
 pub mod CanonicalRows

@@ -1,4 +1,4 @@
--- Objects, and what stands in them.
+-- Objects, and what is in them.
 pub mod ObjectLemmas
 pub mod CycleLemmas
 pub mod ElementLemmas
@@ -9,6 +9,6 @@ pub mod OwnLemmas
 pub mod PaddingLemmas
 pub mod OwnWordLemmas
 pub mod PaddedLemmas
-pub mod ReadNearLemmas
+pub mod ReadLocalLemmas
 pub mod StructLemmas
 pub mod PartLemmas

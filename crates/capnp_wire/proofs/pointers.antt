@@ -1,13 +1,13 @@
--- Pointers, where they lead, and when they are refused.
+-- Pointers, where they lead, and when they are rejected.
 pub mod FaultLemmas
 pub mod RefusalLemmas
 pub mod LandingLemmas
 pub mod LandingPadLemmas
-pub mod NearLemmas
+pub mod LocalLemmas
 pub mod NullLemmas
 pub mod NullRunLemmas
 pub mod EmptyStructLemmas
-pub mod PointerRowLemmas
+pub mod PointerSlotLemmas
 pub mod TagLemmas
 pub mod SlotLemmas
 pub mod NextLemmas

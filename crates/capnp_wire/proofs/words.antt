@@ -3,7 +3,7 @@ pub mod WordLemmas
 pub mod MessageLemmas
 pub mod DigitLemmas
 pub mod BitLemmas
-pub mod StretchLemmas
+pub mod SubsliceLemmas
 pub mod CutLemmas
 pub mod PutLemmas
 pub mod UsedLemmas

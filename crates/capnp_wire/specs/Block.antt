@@ -1,6 +1,6 @@
 -- Blocks of words while objects are written into them (src/layout/block.rt, src/layout/copy.rt).
 use Rattle.std.specs.Prelude.{ℕ, zero, suc, ◌+◌, ◌-◌, max, List, [], ◌∷◌, ◌++◌, length, map, take, drop}
-use Rattle.capnp_wire.specs.Tree.{Trees, none, tree, count, own_words, total_words}
+use Rattle.capnp_wire.specs.Tree.{Trees, none, tree, count, object_size, total_words}
 use Rattle.capnp_wire.specs.Layout.{pointer, body}
 use Rattle.capnp_wire.specs.Trim.{cut_zeros}
 use Rattle.capnp_frame.specs.Words.{bytes_of}
@@ -23,10 +23,10 @@ put_rows at p (row ∷ rows) block = put_rows (at + length row + p) p rows (put 
 -- pointers in their slots, and what they lead to, the one after the other from a word on
 abbrev pub fill : List ℕ → ℕ → Trees → List ℕ → List ℕ
 fill slots next none block = block
-fill [] next (tree form held rest) block = block
-fill (slot ∷ slots) next (tree form held rest) block =
-    fill slots (next + own_words form (count held) + total_words held) rest
-    (put slot (pointer form (count held) (next - (slot + 1)) ∷ []) (put next (body (tree form held none)) block))
+fill [] next (tree form children rest) block = block
+fill (slot ∷ slots) next (tree form children rest) block =
+    fill slots (next + object_size form (count children) + total_words children) rest
+    (put slot (pointer form (count children) (next - (slot + 1)) ∷ []) (put next (body (tree form children none)) block))
 
 -- slots of an object that begins at a word of the block
 abbrev pub moved : ℕ → List ℕ → List ℕ

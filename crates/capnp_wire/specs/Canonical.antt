@@ -2,7 +2,7 @@
 use Rattle.std.specs.Prelude.{◌≡◌, ℕ, zero, suc, Option, None, ◌+◌, ◌-◌, ◌^◌, ◌<◌, ◌↔◌, All, List, [], ◌∷◌, length, Some, slice_get}
 use Rattle.capnp_wire.specs.Pointer.{digits, number_of, words_from}
 use Rattle.capnp_wire.specs.Element.{width, words_for}
-use Rattle.capnp_wire.specs.Tree.{Form, null, numbers, Trees, none, tree, count, own_words, total_words}
+use Rattle.capnp_wire.specs.Tree.{Form, null, numbers, Trees, none, tree, count, object_size, total_words}
 use Rattle.capnp_wire.specs.Trim.{trim}
 use Rattle.capnp_wire.specs.declared.layout.place.Place.{Place}
 use Rattle.capnp_wire.specs.Reached.{Root}
@@ -15,29 +15,29 @@ Padded segment start (numbers c values) =
 Padded segment start form = Unit {0}
 
 -- Of the trees at places, the first at next: each pointer word is that of a layout, and so leads to the next free word.
-abbrev pub Tidy : List ℕ → List Place → ℕ → Trees → Type 0
-Tidy segment places next none = Unit {0}
-Tidy segment [] next (tree form held rest) = Unit {0}
-Tidy segment (place ∷ others) next (tree form held rest) =
-    (slice_get segment place.word ≡ Some (pointer form (count held) (next - (place.word + 1)))) × Reaches form (count held) (next - (place.word + 1))
+abbrev pub IsInPreorder : List ℕ → List Place → ℕ → Trees → Type 0
+IsInPreorder segment places next none = Unit {0}
+IsInPreorder segment [] next (tree form children rest) = Unit {0}
+IsInPreorder segment (place ∷ others) next (tree form children rest) =
+    (slice_get segment place.word ≡ Some (pointer form (count children) (next - (place.word + 1)))) × Reaches form (count children) (next - (place.word + 1))
     × Padded segment next form
-    × Tidy segment (placed 0 next (slots form (count held))) (next + own_words form (count held)) held
-    × Tidy segment others (next + own_words form (count held) + total_words held) rest
+    × IsInPreorder segment (placed 0 next (slots form (count children))) (next + object_size form (count children)) children
+    × IsInPreorder segment others (next + object_size form (count children) + total_words children) rest
 
 -- a segment is the canonical form of a tree, where every offset has room
 abbrev pub IsCanon : List ℕ → Form → Trees → Type 0
-IsCanon segment form held = (segment ≡ canon (tree form held none)) × AllReach (0 ∷ []) 1 (trim (tree form held none))
+IsCanon segment form children = (segment ≡ canon (tree form children none)) × AllReach (0 ∷ []) 1 (trim (tree form children none))
 
 -- a message is one segment, which is the canonical form of its root
 abbrev pub IsCanonical : List (List ℕ) → Type 0
 IsCanonical m =
-    (segment : List ℕ) × (m ≡ segment ∷ []) × (form : Form) × (held : Trees) × (traversed : ℕ) × Root m form held traversed × IsCanon segment form held
+    (segment : List ℕ) × (m ≡ segment ∷ []) × (form : Form) × (children : Trees) × (traversed : ℕ) × Root m form children traversed × IsCanon segment form children
 
 -- of a message of one segment whose root is read, the tests say whether it is canonical
 abbrev pub TestsAreExact : Type 0
 TestsAreExact =
-    (segment : List ℕ) (form : Form) (held : Trees) (traversed : ℕ) → All (λ w. w < 2 ^ 64) segment → Root (segment ∷ []) form held traversed
-    → (Tidy segment (record { segment = 0; word = 0 } ∷ []) 1 (tree form held none) × Trimmed (tree form held none) × (length segment ≡ 1 + total_words (tree form held none)))
+    (segment : List ℕ) (form : Form) (children : Trees) (traversed : ℕ) → All (λ w. w < 2 ^ 64) segment → Root (segment ∷ []) form children traversed
+    → (IsInPreorder segment (record { segment = 0; word = 0 } ∷ []) 1 (tree form children none) × Trimmed (tree form children none) × (length segment ≡ 1 + total_words (tree form children none)))
     ↔ IsCanonical (segment ∷ [])
 
 -- the last of some words is not zero
@@ -47,8 +47,8 @@ EndsFull words = (k : ℕ) → length words ≡ k + 1 → slice_get words k ≡ 
 -- the form of the k-th of some trees; the last is not null
 abbrev pub nth_form : Trees → ℕ → Option Form
 nth_form none k = None
-nth_form (tree form held rest) zero = Some form
-nth_form (tree form held rest) (suc k) = nth_form rest k
+nth_form (tree form children rest) zero = Some form
+nth_form (tree form children rest) (suc k) = nth_form rest k
 
 abbrev pub EndsSome : Trees → Type 0
 EndsSome trees = (k : ℕ) → count trees ≡ k + 1 → nth_form trees k ≡ Some null → ⊥

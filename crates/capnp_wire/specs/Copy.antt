@@ -1,11 +1,11 @@
--- Objects that are copied, as they stand or in canonical form (src/layout/copy.rt and begun.rt, copy_rows.rt, row_pair.rt
+-- Objects that are copied, as they are or in canonical form (src/layout/copy.rt and pending.rt, copy_rows.rt, row_pair.rt
 -- beside it).
 use Rattle.std.specs.Prelude.{◌≡◌, ◌≢◌, ℕ, ◌+◌, ◌-◌, ◌*◌, ◌/◌, ◌<◌, ◌≤◌, ◌^◌, ◌==◌, if◌then◌else◌, Bool, true, List, [], ◌∷◌, length, Some, slice_get}
 use Rattle.capnp_wire.specs.Pointer.{words_of, words_from}
 use Rattle.capnp_wire.specs.Element.{code_of}
 use Rattle.capnp_wire.specs.Tree.{numbers, Trees, depth, total_words}
 use Rattle.capnp_wire.specs.Object.{elements as numerals, rows_from}
-use Rattle.capnp_wire.specs.Layout.{own, body, pointer_to, AllHaveRoom, formed, struct_pointer, list_pointer, minus_one}
+use Rattle.capnp_wire.specs.Layout.{own, body, pointer_to, AllHaveRoom, output, struct_pointer, list_pointer, minus_one}
 use Rattle.capnp_wire.specs.Landing.{IsObject, room_of, words_in}
 use Rattle.capnp_wire.specs.Block.{put, put_rows, fill, most_used}
 use Rattle.capnp_wire.specs.Object.{places}
@@ -16,24 +16,24 @@ use Rattle.capnp_wire.specs.declared.layout.place.Place.{Place}
 use Rattle.capnp_wire.specs.declared.layout.pointer.StructSize.{StructSize}
 use Rattle.capnp_wire.specs.declared.layout.copy.Copied.{Copied}
 use Rattle.capnp_wire.specs.declared.layout.row_pair.RowPair.{RowPair}
-use Rattle.capnp_wire.specs.declared.layout.begun.BegunCopy.{BegunCopy}
-use Rattle.capnp_wire.specs.declared.layout.begun.LeftRun.{LeftRun}
-use Rattle.capnp_wire.specs.declared.layout.begun.StructCopy.{StructCopy}
-use Rattle.capnp_wire.specs.declared.layout.begun.StructCopy.TheVariants.{Whole, Begun}
+use Rattle.capnp_wire.specs.declared.layout.pending.PendingCopy.{PendingCopy}
+use Rattle.capnp_wire.specs.declared.layout.pending.PendingPointers.{PendingPointers}
+use Rattle.capnp_wire.specs.declared.layout.pending.StructCopy.{StructCopy}
+use Rattle.capnp_wire.specs.declared.layout.pending.StructCopy.TheVariants.{Whole, Pending}
 use Rattle.capnp_wire.specs.declared.layout.object.Object.{Object}
 use Rattle.capnp_wire.specs.declared.layout.object.Body.{Body}
 use Rattle.capnp_wire.specs.declared.layout.object.Body.TheVariants.{Struct, Numbers, Pointers, Structs}
 
--- trees stand at places within the nesting depth left, every field has room, and there is room for their copies from a word on
+-- trees are at places within the nesting depth left, every field has room, and there is room for their copies from a word on
 pub record CanCopy (m : List (List ℕ)) (at : List Place) (nesting : ℕ) (canonical : Bool) (next room : ℕ) : Type 0 where
   pub trees : Trees
   pub traversed : ℕ
   pub stand : At m at trees traversed
   pub shallow : depth trees ≤ nesting
   pub rooms : AllHaveRoom trees
-  pub fits : next + total_words (formed canonical trees) ≤ room
+  pub fits : next + total_words (output canonical trees) ≤ room
 
--- the words that n structs of this size need, which stand from a word on
+-- the words that n structs of this size need, which are from a word on
 abbrev pub least_size : List ℕ → ℕ → StructSize → ℕ → StructSize
 least_size words start size n = record {
   data_words = most_used words start size.data_words (size.data_words + size.pointers) n;
@@ -41,11 +41,11 @@ least_size words start size n = record {
 }
 
 -- what an object is once it is copied
-abbrev pub formed_body : Bool → List ℕ → ℕ → Body → Body
-formed_body true words start (Struct size) = Struct (least_size words start size 1)
-formed_body true words start (Structs elements following) =
+abbrev pub output_body_of : Bool → List ℕ → ℕ → Body → Body
+output_body_of true words start (Struct size) = Struct (least_size words start size 1)
+output_body_of true words start (Structs elements following) =
     Structs (record { size = least_size words (start + 1) elements.size elements.count; count = elements.count }) following
-formed_body canonical words start there = there
+output_body_of canonical words start there = there
 
 -- the pointer word to it
 abbrev pub pointer_of_body : Body → ℕ → ℕ
@@ -95,13 +95,13 @@ pub record IsCopied (trees : Trees) (gap next : ℕ) (old new : List ℕ) (copie
 
 -- what the pointer at a place leads to is copied
 pub record Copies (m : List (List ℕ)) (place : Place) (canonical : Bool) (gap next : ℕ) (old new : List ℕ) (copied : Copied) : Type 0 where
-  pub is : (trees : Trees) (traversed : ℕ) → At m (place ∷ []) trees traversed → IsCopied (formed canonical trees) gap next old new copied
+  pub is : (trees : Trees) (traversed : ℕ) → At m (place ∷ []) trees traversed → IsCopied (output canonical trees) gap next old new copied
 
--- what some pointers lead to is copied, from a word of a block up to the first free one, and the pointers to that stand in
+-- what some pointers lead to is copied, from a word of a block up to the first free one, and the pointers to that are in
 -- these slots
 pub record CopiesAll (m : List (List ℕ)) (at : List Place) (canonical : Bool) (slots : List ℕ) (next : ℕ) (old new : List ℕ) (free : ℕ) : Type 0 where
-  pub words_are : (trees : Trees) (traversed : ℕ) → At m at trees traversed → new ≡ fill slots next (formed canonical trees) old
-  pub next_is : (trees : Trees) (traversed : ℕ) → At m at trees traversed → free ≡ next + total_words (formed canonical trees)
+  pub words_are : (trees : Trees) (traversed : ℕ) → At m at trees traversed → new ≡ fill slots next (output canonical trees) old
+  pub next_is : (trees : Trees) (traversed : ℕ) → At m at trees traversed → free ≡ next + total_words (output canonical trees)
 
 -- what pointers of a segment lead to can be copied from a word on, after the slots of their copies
 pub record CanCopyRows (m : List (List ℕ)) (words : List ℕ) (rows : RowPair) (nesting : ℕ) (canonical : Bool) (next room : ℕ) : Type 0 where
@@ -144,7 +144,7 @@ pub record Begins (m : List (List ℕ)) (place : Place) (at : List Place) (slots
       → Copies m place canonical gap next old new (record { pointer = pointer; next = free })
 
 -- The copy of an object is begun, and its pointers are left.
-pub record BeginsObject (m : List (List ℕ)) (place : Place) (nesting : ℕ) (canonical : Bool) (gap next : ℕ) (old mid : List ℕ) (begun : BegunCopy) : Type 0 where
+pub record BeginsObject (m : List (List ℕ)) (place : Place) (nesting : ℕ) (canonical : Bool) (gap next : ℕ) (old mid : List ℕ) (begun : PendingCopy) : Type 0 where
   pub begins : Begins m place (kept_in begun.object.start begun.object.body (row_size begun.body).pointers) (slots_of next begun.body) nesting canonical gap next
       (next + words_in begun.body) old mid begun.pointer
   pub content : slice_get m begun.object.start.segment ≡ Some (words_of begun.object.segment.now)
@@ -153,8 +153,8 @@ pub record BeginsObject (m : List (List ℕ)) (place : Place) (nesting : ℕ) (c
   pub elements : words_in begun.object.body ≤ room_of begun.object.body
   pub deep : 0 < nesting
 
--- The copy of an object is begun whose pointers stand one after the other, as their copies do.
-pub record BeginsRun (m : List (List ℕ)) (place : Place) (words : List ℕ) (nesting : ℕ) (canonical : Bool) (gap next : ℕ) (old mid : List ℕ) (left : LeftRun) : Type 0 where
+-- The copy of an object is begun whose pointers are one after the other, as their copies do.
+pub record BeginsRun (m : List (List ℕ)) (place : Place) (words : List ℕ) (nesting : ℕ) (canonical : Bool) (gap next : ℕ) (old mid : List ℕ) (left : PendingPointers) : Type 0 where
   pub begins : Begins m place (places left.first.segment left.first.word left.count) (run left.slot left.count) nesting canonical gap next left.next old mid left.pointer
   pub content : slice_get m left.first.segment ≡ Some words
   pub bound : left.first.word + left.count < 2 ^ 61
@@ -163,4 +163,4 @@ pub record BeginsRun (m : List (List ℕ)) (place : Place) (words : List ℕ) (n
 -- a struct is copied, or its copy is begun
 abbrev pub BeginsStruct : List (List ℕ) → Place → List ℕ → ℕ → Bool → ℕ → ℕ → List ℕ → List ℕ → StructCopy → Type 0
 BeginsStruct m place words nesting canonical gap next old new (Whole copied) = Copies m place canonical gap next old new copied
-BeginsStruct m place words nesting canonical gap next old new (Begun left) = BeginsRun m place words nesting canonical gap next old new left
+BeginsStruct m place words nesting canonical gap next old new (Pending left) = BeginsRun m place words nesting canonical gap next old new left

@@ -1,4 +1,4 @@
--- Where no object stands, and which refusal says so. The cases are in the order in which they are tested:
+-- Where no object is, and which error says so. The cases are in the order in which they are tested:
 -- the pointer's own word, a capability, landing pads, the nesting depth left, bounds and a list's tag. A case holds only where
 -- those before it don't.
 use Rattle.std.specs.Prelude.{◌≡◌, ℕ, ◌+◌, ◌-◌, ◌*◌, ◌<◌, ◌≤◌, List, [], ◌∷◌, length, Some, None, Option, slice_get}
@@ -10,7 +10,7 @@ use Rattle.capnp_wire.specs.Object.{word_at, landing_pad, landing_pad_tag, IsFar
 use Rattle.capnp_wire.specs.Traversed.{Within, less, TreesAt}
 use Rattle.capnp_wire.specs.declared.layout.place.Place.{Place}
 
--- no word stands at a place
+-- no word is at a place
 pub data NoWord (m : List (List ℕ)) (place : Place) : ErrorKind → Type 0 where
   no_segment : slice_get m place.segment ≡ None → NoWord m place (InvalidSegmentId place.segment)
   past_segment : {words : List ℕ} → slice_get m place.segment ≡ Some words → slice_get words place.word ≡ None
@@ -39,23 +39,23 @@ pub data BadLandingPad (m : List (List ℕ)) (word : ℕ) : ErrorKind → Type 0
       → word_at m (landing_pad_tag word) ≡ Some tag → IsFar inner 0 → slice_get m (landing_pad_segment inner) ≡ Some words → pointer_kind tag ≡ 3
       → BadLandingPad m word CapabilityRefused
 
--- no object stands at a word of its segment, as its pointer says
-pub data Misfits (words : List ℕ) (start pointer : ℕ) : ErrorKind → Type 0 where
+-- no object is at a word of its segment, as its pointer says
+pub data RejectsSize (words : List ℕ) (start pointer : ℕ) : ErrorKind → Type 0 where
   struct_outside : pointer_kind pointer ≡ 0 → length words < start + data_words pointer + pointer_words pointer
-      → Misfits words start pointer PointerOutOfBounds
+      → RejectsSize words start pointer PointerOutOfBounds
   list_outside : pointer_kind pointer ≡ 1 → code pointer < 7
       → length words < start + words_for (list_count pointer) (width (code pointer))
-      → Misfits words start pointer PointerOutOfBounds
+      → RejectsSize words start pointer PointerOutOfBounds
   structs_outside : pointer_kind pointer ≡ 1 → code pointer ≡ 7 → length words < start + 1 + list_count pointer
-      → Misfits words start pointer PointerOutOfBounds
+      → RejectsSize words start pointer PointerOutOfBounds
   odd_tag : {tag : ℕ} → pointer_kind pointer ≡ 1 → code pointer ≡ 7 → start + 1 + list_count pointer ≤ length words
-      → slice_get words start ≡ Some tag → 0 < pointer_kind tag → Misfits words start pointer WrongPointerKind
+      → slice_get words start ≡ Some tag → 0 < pointer_kind tag → RejectsSize words start pointer WrongPointerKind
   many_elements : {tag : ℕ} → pointer_kind pointer ≡ 1 → code pointer ≡ 7 → start + 1 + list_count pointer ≤ length words
       → slice_get words start ≡ Some tag → pointer_kind tag ≡ 0
       → list_count pointer < offset tag * (data_words tag + pointer_words tag)
-      → Misfits words start pointer PointerOutOfBounds
+      → RejectsSize words start pointer PointerOutOfBounds
 
--- the pointer at a place, at the nesting depth left, is refused
+-- the pointer at a place, at the nesting depth left, is rejected
 pub data Fault (m : List (List ℕ)) (place : Place) (nesting : ℕ) : ErrorKind → Type 0 where
   no_word : {kind : ErrorKind} → NoWord m place kind → Fault m place nesting kind
   capability : {word : ℕ} → word_at m place ≡ Some word → pointer_kind word ≡ 3 → Fault m place nesting CapabilityRefused
@@ -66,7 +66,7 @@ pub data Fault (m : List (List ℕ)) (place : Place) (nesting : ℕ) : ErrorKind
       → ((start : ℕ) → IsStart landing.origin landing.tag start → ⊥) → Fault m place nesting PointerOutOfBounds
   misfits : {landing : Target} {words : List ℕ} {start : ℕ} {kind : ErrorKind} → Lands m place landing → 0 < nesting
       → IsStart landing.origin landing.tag start → slice_get m landing.segment ≡ Some words
-      → Misfits words start landing.tag kind → Fault m place nesting kind
+      → RejectsSize words start landing.tag kind → Fault m place nesting kind
 
 -- A walk over the trees at places, in preorder, stops: at what it meets first.
 pub data StopsWalk (m : List (List ℕ)) : List Place → ℕ → Option ℕ → ErrorKind → Type 0 where
@@ -76,7 +76,7 @@ pub data StopsWalk (m : List (List ℕ)) : List Place → ℕ → Option ℕ →
       → most < shape.traversed → StopsWalk m (place ∷ others) nesting (Some most) ReadLimitExceeded
   inside : {place : Place} {others : List Place} {nesting : ℕ} {limit : Option ℕ} {shape : Shape} {kind : ErrorKind}
       → PointsTo m place shape → 0 < nesting → Within limit shape.traversed
-      → StopsWalk m shape.held (nesting - 1) (less limit shape.traversed) kind → StopsWalk m (place ∷ others) nesting limit kind
+      → StopsWalk m shape.children (nesting - 1) (less limit shape.traversed) kind → StopsWalk m (place ∷ others) nesting limit kind
   later : {place : Place} {others : List Place} {nesting traversed words : ℕ} {limit : Option ℕ} {kind : ErrorKind}
       → TreesAt m (place ∷ []) nesting traversed words → Within limit traversed
       → StopsWalk m others nesting (less limit traversed) kind → StopsWalk m (place ∷ others) nesting limit kind

@@ -5,7 +5,7 @@ use Rattle.capnp_frame.specs.declared.error.ErrorKind.TheVariants.{PointerOutOfB
 use Rattle.capnp_wire.specs.Pointer.{words_of, pointer_kind}
 use Rattle.capnp_wire.specs.Element.{code_of, width, words_for}
 use Rattle.capnp_wire.specs.Object.{word_at, landing_pad, landing_pad_tag, IsFar, IsStart, Lands, Target, PointsTo, Shape, struct_shape, numbers_shape, pointers_shape, structs_shape}
-use Rattle.capnp_wire.specs.PointerWord.{IsNearShape}
+use Rattle.capnp_wire.specs.PointerWord.{IsLocalShape}
 use Rattle.capnp_wire.specs.Layout.{HasRoom}
 use Rattle.capnp_wire.specs.declared.layout.place.Place.{Place}
 use Rattle.capnp_wire.specs.declared.layout.object.Body.{Body}
@@ -25,14 +25,14 @@ pub record IsLanding (m : List (List ℕ)) (place : Place) (read : ReadLanding) 
   pub lands : Lands m place landing
   pub number : landing.segment ≡ read.number
   pub content : slice_get m landing.segment ≡ Some (words_of read.segment.now)
-  pub shape : IsNearShape landing.tag read.shape
+  pub shape : IsLocalShape landing.tag read.shape
   pub start : MatchOption read.start ((start : ℕ) → IsStart landing.origin landing.tag start → ⊥)
       (λ start. IsStart landing.origin landing.tag start)
   pub landing_pads : landing.landing_pads ≡ read.landing_pads
   pub few_landing_pads : landing.landing_pads ≤ 2
   pub small : landing.tag < 2 ^ 64
 
--- the object that stands at a place
+-- the object that is at a place
 abbrev pub shape_of : List ℕ → Place → Body → Shape
 shape_of words start (Struct size) = struct_shape words start size.data_words size.pointers
 shape_of words start (Numbers elements count) = numbers_shape words start (code_of elements) count
@@ -72,9 +72,9 @@ pub record IsObject (m : List (List ℕ)) (place : Place) (read : ReadObject) : 
   pub room : read.start.word + room_of read.body ≤ length read.segment.now / 8
   pub elements : words_in read.body ≤ room_of read.body
   pub traversed : traversed_of read.body ≤ read.traversed
-  pub has_room : let shape = shape_of (words_of read.segment.now) read.start read.body in HasRoom shape.form (length shape.held)
+  pub has_room : let shape = shape_of (words_of read.segment.now) read.start read.body in HasRoom shape.form (length shape.children)
 
--- a word is no struct or list pointer, and how that is refused
-abbrev pub NotNear : ℕ → ErrorKind → Type 0
-NotNear word kind =
+-- a word is no struct or list pointer, and how that is rejected
+abbrev pub NotLocal : ℕ → ErrorKind → Type 0
+NotLocal word kind =
     ((pointer_kind word ≡ 2) × (kind ≡ PointerOutOfBounds)) ⊎ ((pointer_kind word ≡ 3) × (kind ≡ CapabilityRefused))

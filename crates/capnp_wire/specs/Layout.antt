@@ -2,8 +2,8 @@
 use Rattle.std.specs.Prelude.{◌≡◌, ◌<◌, ◌≤◌, ⊤, All, Bool, true, false, ℕ, zero, suc, ◌+◌, ◌-◌, ◌*◌, ◌^◌, ◌==◌, if◌then◌else◌, List, [], ◌∷◌, ◌++◌, length, take, drop}
 use Rattle.capnp_wire.specs.Pointer.{digits, number_of, words_from}
 use Rattle.capnp_wire.specs.Element.{width, words_for}
-use Rattle.capnp_wire.specs.Tree.{Form, null, struct, numbers, pointers, structs, Trees, none, tree, count, own_words, total_words}
-use Rattle.capnp_wire.specs.Trim.{trim, trim_form, trim_held}
+use Rattle.capnp_wire.specs.Tree.{Form, null, struct, numbers, pointers, structs, Trees, none, tree, count, object_size, total_words}
+use Rattle.capnp_wire.specs.Trim.{trim, trim_form, trim_children}
 use Rattle.capnp_wire.specs.declared.layout.place.Place.{Place}
 
 -- the pointer words of structs and lists; a struct pointer is also the tag of a list of structs
@@ -47,9 +47,9 @@ slots form n = run 0 n
 -- the pointer words in these slots, where the first of the objects begins at next
 abbrev pub pointers_to : List ℕ → ℕ → Trees → List ℕ
 pointers_to slots next none = []
-pointers_to [] next (tree form held rest) = []
-pointers_to (slot ∷ slots) next (tree form held rest) =
-    pointer form (count held) (next - (slot + 1)) ∷ pointers_to slots (next + own_words form (count held) + total_words held) rest
+pointers_to [] next (tree form children rest) = []
+pointers_to (slot ∷ slots) next (tree form children rest) =
+    pointer form (count children) (next - (slot + 1)) ∷ pointers_to slots (next + object_size form (count children) + total_words children) rest
 
 -- rows of data, each with its p pointers after it
 abbrev pub woven : ℕ → List (List ℕ) → List ℕ → List ℕ
@@ -67,13 +67,13 @@ own (structs d p rows) links = struct_pointer (length rows) d p ∷ woven p rows
 -- trees in preorder: the words of each, then those of the trees that it holds
 abbrev pub body : Trees → List ℕ
 body none = []
-body (tree form held rest) =
-    own form (pointers_to (slots form (count held)) (own_words form (count held)) held) ++ body held ++ body rest
+body (tree form children rest) =
+    own form (pointers_to (slots form (count children)) (object_size form (count children)) children) ++ body children ++ body rest
 
 -- the pointer to a tree's body, where that begins a given number of words after it
 abbrev pub pointer_to : Trees → ℕ → ℕ
 pointer_to none offset = 0
-pointer_to (tree form held rest) offset = pointer form (count held) offset
+pointer_to (tree form children rest) offset = pointer form (count children) offset
 
 -- a tree with its pointer, which its body follows
 abbrev pub layout : Trees → List ℕ
@@ -83,10 +83,10 @@ layout trees = pointer_to trees 0 ∷ body trees
 abbrev pub canon : Trees → List ℕ
 canon trees = layout (trim trees)
 
--- a tree as it stands, or in canonical form
-abbrev pub formed : Bool → Trees → Trees
-formed true trees = trim trees
-formed false trees = trees
+-- a tree as it is, or in canonical form
+abbrev pub output : Bool → Trees → Trees
+output true trees = trim trees
+output false trees = trees
 
 -- every field of an object with n pointers has room
 abbrev pub HasRoom : Form → ℕ → Type 0
@@ -100,7 +100,7 @@ HasRoom (structs d p rows) n =
 
 abbrev pub AllHaveRoom : Trees → Type 0
 AllHaveRoom none = ⊤
-AllHaveRoom (tree form held rest) = HasRoom form (count held) × AllHaveRoom held × AllHaveRoom rest
+AllHaveRoom (tree form children rest) = HasRoom form (count children) × AllHaveRoom children × AllHaveRoom rest
 
 -- the offset of the pointer to an object with n pointers has room, where that pointer has one
 abbrev pub Reaches : Form → ℕ → ℕ → Type 0
@@ -108,20 +108,20 @@ Reaches null n offset = ⊤
 Reaches (struct words) n offset = 0 < length words + n → offset < 2 ^ 29
 Reaches form n offset = offset < 2 ^ 29
 
--- the offsets of all pointers have room, where the first ones stand in these slots and the first object begins at next
+-- the offsets of all pointers have room, where the first ones are in these slots and the first object begins at next
 abbrev pub AllReach : List ℕ → ℕ → Trees → Type 0
 AllReach places next none = ⊤
-AllReach [] next (tree form held rest) = ⊤
-AllReach (slot ∷ others) next (tree form held rest) =
-    Reaches form (count held) (next - (slot + 1)) × AllReach (slots form (count held)) (own_words form (count held)) held
-    × AllReach others (next + own_words form (count held) + total_words held) rest
+AllReach [] next (tree form children rest) = ⊤
+AllReach (slot ∷ others) next (tree form children rest) =
+    Reaches form (count children) (next - (slot + 1)) × AllReach (slots form (count children)) (object_size form (count children)) children
+    × AllReach others (next + object_size form (count children) + total_words children) rest
 
 -- the places of slots of an object in a segment
 abbrev pub placed : ℕ → ℕ → List ℕ → List Place
 placed segment start [] = []
 placed segment start (slot ∷ slots) = record { segment = segment; word = start + slot } ∷ placed segment start slots
 
--- the body of some trees stands from a word on
+-- the body of some trees is from a word on
 pub record Laid (words : List ℕ) (start : ℕ) (trees : Trees) : Type 0 where
   pub within : start + total_words trees ≤ length words
   pub words_are : words_from words start (total_words trees) ≡ body trees
@@ -133,4 +133,4 @@ AllWords m = All (λ words. All (λ w. w < 2 ^ 64) words) m
 -- trees that trimming leaves as they are
 abbrev pub Trimmed : Trees → Type 0
 Trimmed none = ⊤
-Trimmed (tree form held rest) = ((trim_form form held ≡ form) × (trim_held form held ≡ held) × Trimmed held) × Trimmed rest
+Trimmed (tree form children rest) = ((trim_form form children ≡ form) × (trim_children form children ≡ children) × Trimmed children) × Trimmed rest

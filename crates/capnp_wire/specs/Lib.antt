@@ -5,7 +5,7 @@ pub mod Trim
 pub mod Object
 pub mod PointerWord
 pub mod Landing
-pub mod Near
+pub mod Local
 pub mod Reached
 pub mod Traversed
 pub mod Faults

@@ -16,21 +16,21 @@ use Rattle.capnp_wire.specs.declared.struct_list.reader.Reader.{Reader as Struct
 
 -- the tree of a list of a form whose pointers are read, within the nesting depth left and its limit
 pub record IsListTree (form : Form) (list : PointerList) (trees : Trees) : Type 0 where
-  pub held : Trees
+  pub children : Trees
   pub traversed : ℕ
-  pub stand : At list.message list.held held traversed
-  pub shallow : depth held ≤ list.nesting
+  pub stand : At list.message list.children children traversed
+  pub shallow : depth children ≤ list.nesting
   pub within : Within list.limit traversed
-  pub whole : trees ≡ tree form held none
+  pub whole : trees ≡ tree form children none
 
 -- where a walk over its pointers stops
 abbrev pub StopsInList : PointerList → ErrorKind → Type 0
-StopsInList list kind = StopsWalk list.message list.held list.nesting list.limit kind
+StopsInList list kind = StopsWalk list.message list.children list.nesting list.limit kind
 
--- pointers that stand one after the other from a place on
+-- pointers that are one after the other from a place on
 abbrev pub pointers_along : List (List ℕ) → Place → ℕ → ℕ → Option ℕ → PointerList
 pointers_along m first n nesting limit =
-    record { message = m; held = places first.segment first.word n; nesting = nesting; limit = limit }
+    record { message = m; children = places first.segment first.word n; nesting = nesting; limit = limit }
 
 -- structs that do so, and the pointers of them all
 abbrev pub structs_along : List ℕ → Place → Elements → Form
@@ -41,21 +41,21 @@ abbrev pub pointers_of_structs : List (List ℕ) → Place → Elements → ℕ 
 pointers_of_structs m first elements nesting limit =
     let size = elements.size in record {
       message = m;
-      held = row_places first.segment first.word size.data_words size.pointers elements.count;
+      children = row_places first.segment first.word size.data_words size.pointers elements.count;
       nesting = nesting;
       limit = limit;
     }
 
 -- the pointers of a list of structs, in the order of the elements
 abbrev pub pointers_in : StructList → PointerList
-pointers_in list = record { message = list.message; held = list.held; nesting = list.nesting; limit = list.limit }
+pointers_in list = record { message = list.message; children = list.children; nesting = list.nesting; limit = list.limit }
 
 -- the list of structs of a reader, also where it has no element to tell the words of data of each
 abbrev pub structs_of : {S : Type 0} {ghosts : Ghosts S} → (S → List (List ℕ)) → StructListReader S ghosts → Form
 structs_of segments reader =
     let list = struct_list_of segments reader in structs reader.elements.size.data_words list.pointer_words list.rows
 
--- a list of numbers of a code, and how more of them than a list may have are refused
+-- a list of numbers of a code, and how more of them than a list may have are rejected
 abbrev pub IsNumbersTree : ℕ → List ℕ → Trees → Type 0
 IsNumbersTree code values trees = (length values < 2 ^ 29) × (trees ≡ tree (numbers code values) none none)
 

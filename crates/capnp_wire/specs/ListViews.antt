@@ -22,7 +22,7 @@ pub record StructList : Type 0 where
   pub message : List (List ℕ)
   pub rows : List (List ℕ)
   pub pointer_words : ℕ
-  pub held : List Place
+  pub children : List Place
   pub nesting : ℕ
   pub limit : Option ℕ
 
@@ -32,10 +32,10 @@ HasRows null p rows = rows ≡ []
 HasRows (structs d q there) p rows = (p ≡ q) × (rows ≡ there)
 HasRows _ p rows = ⊥
 
--- a list of structs: the elements that stand there, with one less of nesting depth left
+-- a list of structs: the elements that are there, with one less of nesting depth left
 pub record IsStructList (pointer : Pointer) (list : StructList) : Type 0 where
   pub same_message : list.message ≡ pointer.message
-  pub shown : Shows pointer (λ shape. HasRows shape.form list.pointer_words list.rows × (list.held ≡ shape.held)
+  pub shown : Shows pointer (λ shape. HasRows shape.form list.pointer_words list.rows × (list.children ≡ shape.children)
       × Within pointer.limit shape.traversed)
   pub nesting_below : list.nesting ≡ pointer.nesting - 1
   pub same_limit : list.limit ≡ pointer.limit
@@ -45,16 +45,16 @@ abbrev pub element_of : StructList → ℕ → Struct
 element_of list index = record {
   message = list.message;
   words = slice_index_or list.rows index [];
-  held = take list.pointer_words (drop (index * list.pointer_words) list.held);
+  children = take list.pointer_words (drop (index * list.pointer_words) list.children);
   nesting = list.nesting;
   limit = list.limit;
 }
 
--- a list of pointers that is read: the message, where they stand, how many objects may follow one another from these on, and
+-- a list of pointers that is read: the message, where they are, how many objects may follow one another from these on, and
 -- the limit of words that are read
 pub record PointerList : Type 0 where
   pub message : List (List ℕ)
-  pub held : List Place
+  pub children : List Place
   pub nesting : ℕ
   pub limit : Option ℕ
 
@@ -69,16 +69,16 @@ TakesPointers null = ⊤
 TakesPointers pointers = ⊤
 TakesPointers _ = ⊥
 
--- a list of pointers: none from null, those that stand there, with one less of nesting depth left
+-- a list of pointers: none from null, those that are there, with one less of nesting depth left
 pub record IsPointerList (pointer : Pointer) (list : PointerList) : Type 0 where
   pub same_message : list.message ≡ pointer.message
-  pub shown : Shows pointer (λ shape. TakesPointers shape.form × (list.held ≡ shape.held) × Within pointer.limit shape.traversed)
+  pub shown : Shows pointer (λ shape. TakesPointers shape.form × (list.children ≡ shape.children) × Within pointer.limit shape.traversed)
   pub nesting_below : list.nesting ≡ pointer.nesting - 1
   pub same_limit : list.limit ≡ pointer.limit
 
 -- one of its pointers
 abbrev pub pointer_at : PointerList → ℕ → Pointer
-pointer_at list index = record { message = list.message; place = slice_get list.held index; nesting = list.nesting; limit = list.limit }
+pointer_at list index = record { message = list.message; place = slice_get list.children index; nesting = list.nesting; limit = list.limit }
 
 -- the error for a form that isn't a list of structs
 abbrev pub DeclinesStructs : Form → ErrorKind → Type 0
@@ -94,18 +94,18 @@ struct_list_of segments reader =
       message = message_of (segments reader.segments.now);
       rows = rows_from (words_of reader.segment.now) reader.first.word size.data_words size.pointers reader.elements.count;
       pointer_words = size.pointers;
-      held = row_places reader.first.segment reader.first.word size.data_words size.pointers reader.elements.count;
+      children = row_places reader.first.segment reader.first.word size.data_words size.pointers reader.elements.count;
       nesting = reader.nesting;
       limit = limit_of reader.limiter;
     }
 
--- no structs, as null has them, and those that stand in an object, after some words of it
+-- no structs, as null has them, and those that are in an object, after some words of it
 abbrev pub no_structs : Pointer → StructList
 no_structs pointer = record {
   message = pointer.message;
   rows = [];
   pointer_words = 0;
-  held = [];
+  children = [];
   nesting = pointer.nesting - 1;
   limit = pointer.limit;
 }
@@ -117,7 +117,7 @@ structs_in pointer object skipped elements =
       message = pointer.message;
       rows = rows_from (words_of object.segment.now) first size.data_words size.pointers elements.count;
       pointer_words = size.pointers;
-      held = row_places object.start.segment first size.data_words size.pointers elements.count;
+      children = row_places object.start.segment first size.data_words size.pointers elements.count;
       nesting = pointer.nesting - 1;
       limit = pointer.limit;
     }
@@ -125,7 +125,7 @@ structs_in pointer object skipped elements =
 abbrev pub pointer_list_of : {S : Type 0} → (S → List (List ℕ)) → PointerListReader S → PointerList
 pointer_list_of segments reader = record {
   message = message_of (segments reader.segments.now);
-  held = places reader.first.segment reader.first.word reader.count;
+  children = places reader.first.segment reader.first.word reader.count;
   nesting = reader.nesting;
   limit = limit_of reader.limiter;
 }

@@ -46,7 +46,7 @@ pub record Target : Type 0 where
 
 -- the pointer at a place leads there
 pub data Lands (m : List (List ℕ)) (place : Place) : Target → Type 0 where
-  near : {word : ℕ} → word_at m place ≡ Some word → 0 < word → pointer_kind word < 2
+  local : {word : ℕ} → word_at m place ≡ Some word → 0 < word → pointer_kind word < 2
       → Lands m place (record { segment = place.segment; origin = following place.word; tag = word; landing_pads = 0 })
   far : {word tag : ℕ} → word_at m place ≡ Some word → IsFar word 0
       → word_at m (landing_pad word) ≡ Some tag → pointer_kind tag < 2
@@ -64,10 +64,10 @@ IsStart (exactly word) tag start = start ≡ word
 -- a form, the places of its pointers, and the words that its object counts against the traversal limit
 pub record Shape : Type 0 where
   pub form : Form
-  pub held : List Place
+  pub children : List Place
   pub traversed : ℕ
 
--- the data of n structs that stand one after the other from a word on, and the places of their pointers
+-- the data of n structs that are one after the other from a word on, and the places of their pointers
 abbrev pub rows_from : List ℕ → ℕ → ℕ → ℕ → ℕ → List (List ℕ)
 rows_from words start d p zero = []
 rows_from words start d p (suc n) = words_from words start d ∷ rows_from words (start + d + p) d p n
@@ -78,7 +78,7 @@ row_places segment start d p (suc n) = places segment (start + d) p ++ row_place
 
 abbrev pub struct_shape : List ℕ → Place → ℕ → ℕ → Shape
 struct_shape words start d p =
-    record { form = struct (words_from words start.word d); held = places start.segment (start.word + d) p; traversed = d + p }
+    record { form = struct (words_from words start.word d); children = places start.segment (start.word + d) p; traversed = d + p }
 
 -- the elements of a list of code 0 to 5 are the digits of its words, in the base of their bits
 abbrev pub elements : List ℕ → ℕ → ℕ → ℕ → List ℕ
@@ -87,22 +87,22 @@ elements words start code n = digits (2 ^ width code) n (number_of (2 ^ 64) (wor
 abbrev pub numbers_shape : List ℕ → Place → ℕ → ℕ → Shape
 numbers_shape words start code n = record {
   form = numbers code (elements words start.word code n);
-  held = [];
+  children = [];
   traversed = if code == 0 then n else words_for n (width code);
 }
 
 abbrev pub pointers_shape : Place → ℕ → Shape
-pointers_shape start n = record { form = pointers; held = places start.segment start.word n; traversed = n }
+pointers_shape start n = record { form = pointers; children = places start.segment start.word n; traversed = n }
 
 -- n structs of d and p words each after their tag, in some words
 abbrev pub structs_shape : List ℕ → Place → ℕ → ℕ → ℕ → ℕ → Shape
 structs_shape words start d p n size = record {
   form = structs d p (rows_from words (start.word + 1) d p n);
-  held = row_places start.segment (start.word + 1) d p n;
+  children = row_places start.segment (start.word + 1) d p n;
   traversed = 1 + size + (if d + p == 0 then n else 0);
 }
 
--- the object that stands at a place among the words of its segment, as its pointer says
+-- the object that is at a place among the words of its segment, as its pointer says
 pub data ShapeStands (words : List ℕ) (start : Place) (pointer : ℕ) : Shape → Type 0 where
   a_struct : pointer_kind pointer ≡ 0 → start.word + data_words pointer + pointer_words pointer ≤ length words
       → ShapeStands words start pointer (struct_shape words start (data_words pointer) (pointer_words pointer))
@@ -117,7 +117,7 @@ pub data ShapeStands (words : List ℕ) (start : Place) (pointer : ℕ) : Shape 
 
 -- a null pointer
 abbrev pub nothing : Shape
-nothing = record { form = null; held = []; traversed = 0 }
+nothing = record { form = null; children = []; traversed = 0 }
 
 -- the pointer at a place stands for null or for an object
 pub data PointsTo (m : List (List ℕ)) (place : Place) : Shape → Type 0 where
@@ -125,4 +125,4 @@ pub data PointsTo (m : List (List ℕ)) (place : Place) : Shape → Type 0 where
   is_object : {landing : Target} {words : List ℕ} {start : ℕ} {shape : Shape} → Lands m place landing
       → slice_get m landing.segment ≡ Some words → IsStart landing.origin landing.tag start
       → ShapeStands words (record { segment = landing.segment; word = start }) landing.tag shape
-      → PointsTo m place (record { form = shape.form; held = shape.held; traversed = landing.landing_pads + shape.traversed })
+      → PointsTo m place (record { form = shape.form; children = shape.children; traversed = landing.landing_pads + shape.traversed })

@@ -1,5 +1,5 @@
 -- Words, and the fields of a pointer word (src/layout/pointer.rt). A word is a number below 2 ^ 64.
--- Fields stand lowest bits first, as the encoding document draws them.
+-- Fields are lowest bits first, as the encoding document draws them.
 use Rattle.std.specs.Prelude.{ℕ, zero, suc, ◌+◌, ◌*◌, ◌/◌, ◌%◌, ◌^◌, List, [], ◌∷◌, length, map, take, drop}
 use Rattle.std.specs.Simd.{first_chunks}
 

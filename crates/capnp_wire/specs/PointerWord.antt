@@ -5,19 +5,19 @@ use Rattle.capnp_wire.specs.Element.{code_of}
 use Rattle.capnp_wire.specs.Object.{landing_pad}
 use Rattle.capnp_wire.specs.declared.layout.pointer.Elements.{Elements}
 use Rattle.capnp_wire.specs.declared.layout.pointer.FarPointer.{FarPointer}
-use Rattle.capnp_wire.specs.declared.layout.pointer.NearPointer.{NearPointer}
-use Rattle.capnp_wire.specs.declared.layout.pointer.NearShape.{NearShape}
-use Rattle.capnp_wire.specs.declared.layout.pointer.NearShape.TheVariants.{Struct, Numbers, Pointers, Structs}
+use Rattle.capnp_wire.specs.declared.layout.pointer.LocalPointer.{LocalPointer}
+use Rattle.capnp_wire.specs.declared.layout.pointer.LocalShape.{LocalShape}
+use Rattle.capnp_wire.specs.declared.layout.pointer.LocalShape.TheVariants.{Struct, Numbers, Pointers, Structs}
 use Rattle.capnp_wire.specs.declared.layout.pointer.PointerWord.{PointerWord}
-use Rattle.capnp_wire.specs.declared.layout.pointer.PointerWord.TheVariants.{Near, Far, Other}
+use Rattle.capnp_wire.specs.declared.layout.pointer.PointerWord.TheVariants.{Local, Far, Other}
 
 -- the struct or list pointer leads to this
-abbrev pub IsNearShape : ℕ → NearShape → Type 0
-IsNearShape word (Struct size) = (pointer_kind word ≡ 0) × (size.data_words ≡ data_words word) × (size.pointers ≡ pointer_words word)
-IsNearShape word (Numbers elements count) =
+abbrev pub IsLocalShape : ℕ → LocalShape → Type 0
+IsLocalShape word (Struct size) = (pointer_kind word ≡ 0) × (size.data_words ≡ data_words word) × (size.pointers ≡ pointer_words word)
+IsLocalShape word (Numbers elements count) =
     (pointer_kind word ≡ 1) × (code word < 6) × (code_of elements ≡ code word) × (count ≡ list_count word)
-IsNearShape word (Pointers count) = (pointer_kind word ≡ 1) × (code word ≡ 6) × (count ≡ list_count word)
-IsNearShape word (Structs words) = (pointer_kind word ≡ 1) × (code word ≡ 7) × (words ≡ list_count word)
+IsLocalShape word (Pointers count) = (pointer_kind word ≡ 1) × (code word ≡ 6) × (count ≡ list_count word)
+IsLocalShape word (Structs words) = (pointer_kind word ≡ 1) × (code word ≡ 7) × (words ≡ list_count word)
 
 -- the tag in front of the elements of a list of structs
 pub record IsElementsTag (word : ℕ) (elements : Elements) : Type 0 where
@@ -26,11 +26,11 @@ pub record IsElementsTag (word : ℕ) (elements : Elements) : Type 0 where
   pub data_is : elements.size.data_words ≡ data_words word
   pub pointers_are : elements.size.pointers ≡ pointer_words word
 
-pub record IsNear (word : ℕ) (near : NearPointer) : Type 0 where
+pub record IsLocal (word : ℕ) (local : LocalPointer) : Type 0 where
   pub small : word < 2 ^ 64
-  pub near_kind : pointer_kind word < 2
-  pub offset_is : near.offset.0 ≡ offset word
-  pub shape_is : IsNearShape word near.shape
+  pub local_kind : pointer_kind word < 2
+  pub offset_is : local.offset.0 ≡ offset word
+  pub shape_is : IsLocalShape word local.shape
 
 pub record IsFarPointer (word : ℕ) (far : FarPointer) : Type 0 where
   pub far_kind : pointer_kind word ≡ 2
@@ -38,6 +38,6 @@ pub record IsFarPointer (word : ℕ) (far : FarPointer) : Type 0 where
   pub width : has_wide_landing_pad word ≡ (if far.is_wide then 1 else 0)
 
 abbrev pub IsPointerWord : ℕ → PointerWord → Type 0
-IsPointerWord word (Near near) = IsNear word near
+IsPointerWord word (Local local) = IsLocal word local
 IsPointerWord word (Far far) = IsFarPointer word far
 IsPointerWord word Other = pointer_kind word ≡ 3

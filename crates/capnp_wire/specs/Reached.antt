@@ -1,4 +1,4 @@
--- The trees of a message: what stands at places, and all that it leads to.
+-- The trees of a message: what is at places, and all that it leads to.
 use Rattle.std.specs.Prelude.{ℕ, ◌+◌, List, [], ◌∷◌}
 use Rattle.capnp_wire.specs.Tree.{Form, Trees, none, tree}
 use Rattle.capnp_wire.specs.Object.{Shape, PointsTo}
@@ -7,16 +7,16 @@ use Rattle.capnp_wire.specs.declared.layout.place.Place.{Place}
 -- the trees at places, and what all their objects count against the traversal limit, each as often as it is joined
 pub data At (m : List (List ℕ)) : List Place → Trees → ℕ → Type 0 where
   nowhere : At m [] none 0
-  at : {place : Place} {others : List Place} {shape : Shape} {held rest : Trees} {inside following : ℕ} → PointsTo m place shape
-      → At m shape.held held inside → At m others rest following
-      → At m (place ∷ others) (tree shape.form held rest) (shape.traversed + inside + following)
+  at : {place : Place} {others : List Place} {shape : Shape} {children rest : Trees} {inside following : ℕ} → PointsTo m place shape
+      → At m shape.children children inside → At m others rest following
+      → At m (place ∷ others) (tree shape.form children rest) (shape.traversed + inside + following)
 
 abbrev pub root : Place
 root = record { segment = 0; word = 0 }
 
 -- the tree at the first word of the first segment
 abbrev pub Root : List (List ℕ) → Form → Trees → ℕ → Type 0
-Root m form held traversed = At m (root ∷ []) (tree form held none) traversed
+Root m form children traversed = At m (root ∷ []) (tree form children none) traversed
 
 -- a place is one of some places
 pub data IsIn (place : Place) : List Place → Type 0 where
@@ -25,5 +25,5 @@ pub data IsIn (place : Place) : List Place → Type 0 where
 
 -- the object at a place holds a pointer to the other, or one that leads on to it
 pub data Below (m : List (List ℕ)) : Place → Place → Type 0 where
-  directly : {place inner : Place} {shape : Shape} → PointsTo m place shape → IsIn inner shape.held → Below m place inner
+  directly : {place inner : Place} {shape : Shape} → PointsTo m place shape → IsIn inner shape.children → Below m place inner
   further : {place middle inner : Place} → Below m place middle → Below m middle inner → Below m place inner

@@ -36,7 +36,7 @@ pointer_of segments reader = record {
   limit = limit_of reader.limiter;
 }
 
--- where the root stands; without a first segment it stands nowhere, and is null
+-- where the root is; without a first segment it is nowhere, and is null
 abbrev pub root_place : List (List ℕ) → Option Place
 root_place [] = None
 root_place (segment ∷ segments) = Some root
@@ -54,7 +54,7 @@ abbrev pub struct_of : {S : Type 0} {ghosts : Ghosts S} → (S → List (List �
 struct_of segments reader = record {
   message = message_of (segments reader.segments.now);
   words = own_data reader.part (words_from (words_of reader.segment.now) reader.start.word reader.size.data_words);
-  held = places reader.start.segment (reader.start.word + reader.size.data_words) reader.size.pointers;
+  children = places reader.start.segment (reader.start.word + reader.size.data_words) reader.size.pointers;
   nesting = reader.nesting;
   limit = limit_of reader.limiter;
 }

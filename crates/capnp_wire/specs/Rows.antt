@@ -1,10 +1,10 @@
--- The pointers of an object, in rows: a given number in each, after the data of the row (src/layout/rows.rt).
+-- The pointers of an object, in rows: a given number in each, after the data of the row (src/layout/pointer_slots.rt).
 use Rattle.std.specs.Prelude.{◌≡◌, ℕ, zero, suc, ◌+◌, ◌*◌, List, [], ◌∷◌, ◌++◌}
 use Rattle.capnp_wire.specs.Object.{places, row_places}
 use Rattle.capnp_wire.specs.Layout.{run}
 use Rattle.capnp_wire.specs.declared.layout.place.Place.{Place}
-use Rattle.capnp_wire.specs.declared.layout.rows.PointerRows.{PointerRows}
-use Rattle.capnp_wire.specs.declared.layout.rows.RowSize.{RowSize}
+use Rattle.capnp_wire.specs.declared.layout.pointer_slots.PointerSlots.{PointerSlots}
+use Rattle.capnp_wire.specs.declared.layout.pointer_slots.RowSize.{RowSize}
 use Rattle.capnp_wire.specs.declared.layout.object.Body.{Body}
 use Rattle.capnp_wire.specs.declared.layout.object.Body.TheVariants.{Struct, Numbers, Pointers, Structs}
 
@@ -42,24 +42,24 @@ abbrev pub kept_in : Place → Body → ℕ → List Place
 kept_in start body q =
     kept_places start.segment (first_row body start.word) (row_size body).data_words (row_size body).pointers q (row_count body)
 
--- where the pointers of an object stand in a block, if it begins at a word of it
+-- where the pointers of an object are in a block, if it begins at a word of it
 abbrev pub slots_of : ℕ → Body → List ℕ
 slots_of start body = row_slots (first_row body start) (row_size body).data_words (row_size body).pointers (row_count body)
 
 -- the places of the pointers that are left, their words, and the word after the last one
-abbrev pub places_in : PointerRows → List Place
+abbrev pub places_in : PointerSlots → List Place
 places_in rows =
     places rows.next.segment rows.next.word rows.here
     ++ row_places rows.next.segment (rows.next.word + rows.here) rows.gap rows.pointers rows.more
 
-abbrev pub slots_in : PointerRows → List ℕ
+abbrev pub slots_in : PointerSlots → List ℕ
 slots_in rows = run rows.next.word rows.here ++ row_slots (rows.next.word + rows.here) rows.gap rows.pointers rows.more
 
-abbrev pub end_of : PointerRows → ℕ
+abbrev pub end_of : PointerSlots → ℕ
 end_of rows = rows.next.word + rows.here + rows.more * (rows.gap + rows.pointers)
 
 -- the first of the pointers that are left is taken
-pub record Takes (old new : PointerRows) (place : Place) : Type 0 where
+pub record Takes (old new : PointerSlots) (place : Place) : Type 0 where
   pub places_are : places_in old ≡ place ∷ places_in new
   pub slots_are : slots_in old ≡ place.word ∷ slots_in new
   pub same_end : end_of new ≡ end_of old

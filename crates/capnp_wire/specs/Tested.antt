@@ -5,23 +5,23 @@ use Rattle.capnp_frame.specs.declared.error.ErrorKind.{ErrorKind}
 use Rattle.capnp_frame.specs.declared.error.ErrorKind.TheVariants.{ReadLimitExceeded, InvalidSegmentId}
 use Rattle.capnp_wire.specs.Pointer.{pointer_kind, offset, list_count}
 use Rattle.capnp_wire.specs.Element.{code_of}
-use Rattle.capnp_wire.specs.Tree.{Form, is_null, null, struct, numbers, structs, Trees, depth, own_words, total_words}
+use Rattle.capnp_wire.specs.Tree.{Form, is_null, null, struct, numbers, structs, Trees, depth, object_size, total_words}
 use Rattle.capnp_wire.specs.Object.{word_at, elements, Shape, PointsTo}
 use Rattle.capnp_wire.specs.Reached.{At, root}
 use Rattle.capnp_wire.specs.Traversed.{Within, less}
 use Rattle.capnp_wire.specs.Faults.{Fault}
 use Rattle.capnp_wire.specs.Layout.{minus_one, Trimmed}
-use Rattle.capnp_wire.specs.Canonical.{EndsFull, Padded, Tidy}
+use Rattle.capnp_wire.specs.Canonical.{EndsFull, Padded, IsInPreorder}
 use Rattle.capnp_wire.specs.declared.layout.place.Place.{Place}
 use Rattle.capnp_wire.specs.Rows.{places_in, end_of}
 use Rattle.capnp_wire.specs.declared.layout.canonical.CanonicalWalk.{CanonicalWalk}
 use Rattle.capnp_wire.specs.declared.layout.canonical.Met.{Met}
 use Rattle.capnp_wire.specs.declared.layout.canonical.Met.TheVariants.{Null, NotCanonical, Pointers}
-use Rattle.capnp_wire.specs.declared.layout.rows.PointerRows.{PointerRows}
+use Rattle.capnp_wire.specs.declared.layout.pointer_slots.PointerSlots.{PointerSlots}
 use Rattle.capnp_wire.specs.declared.layout.object.Body.{Body}
 use Rattle.capnp_wire.specs.declared.layout.object.Body.TheVariants.{Struct, Numbers, Structs}
 
--- a far pointer stands at a place
+-- a far pointer is at a place
 abbrev pub IsFarAt : List ℕ → Place → Type 0
 IsFarAt segment place = (word : ℕ) × (word_at (segment ∷ []) place ≡ Some word) × (pointer_kind word ≡ 2)
 
@@ -38,7 +38,7 @@ IsNext pointer word next (struct words) n =
 IsNext pointer word next (structs d p rows) n = LeadsTo pointer word next × (list_count pointer ≡ length rows * (d + p))
 IsNext pointer word next form n = LeadsTo pointer word next
 
--- the object that is read stands next: its pointer leads to the next free word
+-- the object that is read is next: its pointer leads to the next free word
 abbrev pub NextOf : ℕ → ℕ → ℕ → Body → Type 0
 NextOf pointer word next (Struct size) =
     (size.data_words + size.pointers ≡ 0 → offset pointer ≡ minus_one)
@@ -67,27 +67,27 @@ abbrev pub NeedPointers : ℕ → ℕ → List ℕ → Type 0
 NeedPointers p n links = (p ≡ 0) ⊎ ((i : ℕ) × (i < n) × (slice_index_or links (i * p + p - 1) 0 ≢ 0))
 
 -- the sizes are trimmed, where these are the object's pointer words
-abbrev pub IsTight : Form → List ℕ → Type 0
-IsTight (struct words) links = EndsFull words × EndsFull links
-IsTight (structs d p rows) links = NeedData d rows × NeedPointers p (length rows) links
-IsTight form links = Unit {0}
+abbrev pub IsTruncated : Form → List ℕ → Type 0
+IsTruncated (struct words) links = EndsFull words × EndsFull links
+IsTruncated (structs d p rows) links = NeedData d rows × NeedPointers p (length rows) links
+IsTruncated form links = Unit {0}
 
--- The object to which the pointer at a place leads stands as the canonical form has it, where this is the next
+-- The object to which the pointer at a place leads is as the canonical form has it, where this is the next
 -- free word.
 pub record IsLaidOut (segment : List ℕ) (place : Place) (next : ℕ) (shape : Shape) : Type 0 where
   pub pointer : ℕ
   pub there : word_at (segment ∷ []) place ≡ Some pointer
-  pub is_next : IsNext pointer place.word next shape.form (length shape.held)
+  pub is_next : IsNext pointer place.word next shape.form (length shape.children)
   pub padded : Padded segment next shape.form
-  pub tight : IsTight shape.form (links_at segment shape.held)
+  pub truncated : IsTruncated shape.form (links_at segment shape.children)
 
--- Trees that stand at places within the nesting depth left, with the words traversed, all as the canonical form has them, the
+-- Trees that are at places within the nesting depth left, with the words traversed, all as the canonical form has them, the
 -- first at the next free word, up to the one after them.
 pub record Passes (segment : List ℕ) (places : List Place) (nesting traversed next after : ℕ) : Type 0 where
   pub trees : Trees
   pub stand : At (segment ∷ []) places trees traversed
   pub shallow : depth trees ≤ nesting
-  pub tidy : Tidy segment places next trees
+  pub in_preorder : IsInPreorder segment places next trees
   pub trimmed : Trimmed trees
   pub after_is : after ≡ next + total_words trees
   pub room : after ≤ length segment
@@ -107,7 +107,7 @@ pub record PassesAt (segment : List ℕ) (places : List Place) (nesting : ℕ) (
   pub within : Within limit traversed
   pub left_is : left ≡ less limit traversed
 
--- where a walk ends early: it is refused, or what it met is not canonical
+-- where a walk ends early: it is rejected, or what it met is not canonical
 pub data Ending : Type 0 where
   refused : ErrorKind → Ending
   not_canonical : Ending
@@ -127,23 +127,23 @@ pub data Ends (segment : List ℕ) : List Place → ℕ → Option ℕ → ℕ �
       → Ends segment (place ∷ others) nesting limit next not_canonical
   inside : {place : Place} {others : List Place} {nesting : ℕ} {limit : Option ℕ} {next : ℕ} {shape : Shape} {ending : Ending}
       → MeetsObject segment place nesting limit shape → IsLaidOut segment place next shape
-      → Ends segment shape.held (nesting - 1) (less limit shape.traversed) (next + own_words shape.form (length shape.held)) ending
+      → Ends segment shape.children (nesting - 1) (less limit shape.traversed) (next + object_size shape.form (length shape.children)) ending
       → Ends segment (place ∷ others) nesting limit next ending
   later : {place : Place} {others : List Place} {nesting : ℕ} {limit : Option ℕ} {next traversed after : ℕ} {ending : Ending}
       → Passes segment (place ∷ []) nesting traversed next after → Within limit traversed
       → Ends segment others nesting (less limit traversed) after ending
       → Ends segment (place ∷ others) nesting limit next ending
 
--- An object is met that stands as the canonical form has it; these of its pointers are to be tested yet.
-pub record MeetsPointers (segment : List ℕ) (place : Place) (nesting : ℕ) (limit left : Option ℕ) (next after : ℕ) (pointers : PointerRows) : Type 0 where
+-- An object is met that is as the canonical form has it; these of its pointers are to be tested yet.
+pub record MeetsPointers (segment : List ℕ) (place : Place) (nesting : ℕ) (limit left : Option ℕ) (next after : ℕ) (pointers : PointerSlots) : Type 0 where
   pub shape : Shape
   pub meets : MeetsObject segment place nesting limit shape
   pub laid_out : IsLaidOut segment place next shape
-  pub all : places_in pointers ≡ shape.held
+  pub all : places_in pointers ≡ shape.children
   pub first : pointers.next.segment ≡ 0
   pub before : end_of pointers ≤ after
   pub left_is : left ≡ less limit shape.traversed
-  pub after_is : after ≡ next + own_words shape.form (length shape.held)
+  pub after_is : after ≡ next + object_size shape.form (length shape.children)
   pub room : after ≤ length segment
 
 -- what is met at a place: null, an object that is not canonical by itself, or one that is
@@ -165,8 +165,8 @@ FailsAt segment word nesting old result = let place : Place = record { segment =
     IfErr result (λ error. Ends segment (place ∷ []) nesting old.walk.left old.next (refused error.kind))
 
 -- Whether a message is canonical is not said: it has no first segment, or the walk over its one segment is
--- refused. A message of more segments is not canonical, whatever they hold.
-pub data Unsaid (m : List (List ℕ)) (nesting : ℕ) (limit : Option ℕ) : ErrorKind → Type 0 where
-  no_first_segment : m ≡ [] → Unsaid m nesting limit (InvalidSegmentId 0)
+-- rejected. A message of more segments is not canonical, whatever they hold.
+pub data RejectsCanonicity (m : List (List ℕ)) (nesting : ℕ) (limit : Option ℕ) : ErrorKind → Type 0 where
+  no_first_segment : m ≡ [] → RejectsCanonicity m nesting limit (InvalidSegmentId 0)
   on_the_walk : {segment : List ℕ} {kind : ErrorKind} → m ≡ segment ∷ []
-      → Ends segment (root ∷ []) nesting limit 1 (refused kind) → Unsaid m nesting limit kind
+      → Ends segment (root ∷ []) nesting limit 1 (refused kind) → RejectsCanonicity m nesting limit kind

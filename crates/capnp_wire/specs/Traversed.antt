@@ -5,8 +5,8 @@ use Rattle.capnp_wire.specs.Tree.{Trees, depth, total_words}
 use Rattle.capnp_wire.specs.Object.{places}
 use Rattle.capnp_wire.specs.Landing.{IsObject, shape_of, words_in}
 use Rattle.capnp_wire.specs.Reached.{At}
-use Rattle.capnp_wire.specs.Layout.{formed, AllHaveRoom}
-use Rattle.capnp_wire.specs.Copy.{formed_body}
+use Rattle.capnp_wire.specs.Layout.{output, AllHaveRoom}
+use Rattle.capnp_wire.specs.Copy.{output_body_of}
 use Rattle.capnp_wire.specs.declared.layout.place.Place.{Place}
 use Rattle.capnp_wire.specs.declared.layout.walk.Walk.{Walk}
 use Rattle.capnp_wire.specs.declared.layout.pointer_run.PointerRun.{PointerRun}
@@ -38,22 +38,22 @@ Counts (Some kept) words = kept ≡ words
 abbrev pub CountsMore : Option ℕ → Option ℕ → ℕ → Type 0
 CountsMore kept kept_then more = (words : ℕ) → Counts kept words → Counts kept_then (words + more)
 
--- trees stand at places, no deeper than the nesting depth left, with the words traversed and with a given number of words
+-- trees are at places, no deeper than the nesting depth left, with the words traversed and with a given number of words
 pub record TreesAt (m : List (List ℕ)) (at : List Place) (nesting traversed words : ℕ) : Type 0 where
   pub trees : Trees
   pub stand : At m at trees traversed
   pub shallow : depth trees ≤ nesting
   pub words_are : total_words trees ≡ words
 
--- the same, where every field has room, with a given number of words as they stand, or in canonical form
+-- the same, where every field has room, with a given number of words as they are, or in canonical form
 pub record TreesWithRoom (m : List (List ℕ)) (at : List Place) (nesting traversed : ℕ) (canonical : Bool) (words : ℕ) : Type 0 where
   pub trees : Trees
   pub stand : At m at trees traversed
   pub shallow : depth trees ≤ nesting
   pub rooms : AllHaveRoom trees
-  pub words_are : total_words (formed canonical trees) ≡ words
+  pub words_are : total_words (output canonical trees) ≡ words
 
--- What a walk over the trees at some places finds: they stand there, within the nesting depth left and the limit.
+-- What a walk over the trees at some places finds: they are there, within the nesting depth left and the limit.
 pub record WalkedAll (m : List (List ℕ)) (canonical : Bool) (at : List Place) (nesting : ℕ) (limit left words_before words_now : Option ℕ) : Type 0 where
   pub traversed : ℕ
   pub words : ℕ
@@ -72,22 +72,22 @@ pub record EntersObject (m : List (List ℕ)) (canonical : Bool) (place : Place)
   pub deep : 0 < nesting
   pub within : Within limit object.traversed
   pub left_is : left ≡ less limit object.traversed
-  pub counted : CountsMore words_before words_now (words_in (formed_body canonical (words_of object.segment.now) object.start.word object.body))
+  pub counted : CountsMore words_before words_now (words_in (output_body_of canonical (words_of object.segment.now) object.start.word object.body))
 
--- A walk has entered the object at a place, and nothing below it yet: pointers that stand one after the other.
-pub record EntersRun (m : List (List ℕ)) (canonical : Bool) (place : Place) (held : PointerRun) (nesting : ℕ) (limit left words_before words_now : Option ℕ) : Type 0 where
+-- A walk has entered the object at a place, and nothing below it yet: pointers that are one after the other.
+pub record EntersRun (m : List (List ℕ)) (canonical : Bool) (place : Place) (children : PointerRun) (nesting : ℕ) (limit left words_before words_now : Option ℕ) : Type 0 where
   pub object : Object
   pub enters : EntersObject m canonical place object nesting limit left words_before words_now
-  pub held_are : places held.first.segment held.first.word held.count ≡ (shape_of (words_of object.segment.now) object.start object.body).held
-  pub content : slice_get m held.first.segment ≡ Some (words_of held.segment.now)
+  pub children_are : places children.first.segment children.first.word children.count ≡ (shape_of (words_of object.segment.now) object.start object.body).children
+  pub content : slice_get m children.first.segment ≡ Some (words_of children.segment.now)
 
 -- What a walk over the pointers at some places finds up to an object that holds others, with `rest` after it: all in
 -- front of it, and then its own words alone.
-pub record WalkedTo (m : List (List ℕ)) (canonical : Bool) (at rest : List Place) (held : PointerRun) (nesting : ℕ) (limit left words_before words_now : Option ℕ) : Type 0 where
+pub record WalkedTo (m : List (List ℕ)) (canonical : Bool) (at rest : List Place) (children : PointerRun) (nesting : ℕ) (limit left words_before words_now : Option ℕ) : Type 0 where
   pub front : List Place
   pub place : Place
   pub at_is : at ≡ front ++ place ∷ rest
   pub left_there : Option ℕ
   pub words_there : Option ℕ
   pub in_front : WalkedAll m canonical front nesting limit left_there words_before words_there
-  pub enters : EntersRun m canonical place held nesting left_there left words_there words_now
+  pub enters : EntersRun m canonical place children nesting left_there left words_there words_now

@@ -22,7 +22,7 @@ pub data Trees : Type 0 where
 
 abbrev pub count : Trees → ℕ
 count none = 0
-count (tree form held rest) = count rest + 1
+count (tree form children rest) = count rest + 1
 
 abbrev pub is_null : Form → Bool
 is_null null = true
@@ -31,17 +31,17 @@ is_null _ = false
 -- the longest chain of objects, each held by the one before
 abbrev pub depth : Trees → ℕ
 depth none = 0
-depth (tree form held rest) = max (if is_null form then 0 else depth held + 1) (depth rest)
+depth (tree form children rest) = max (if is_null form then 0 else depth children + 1) (depth rest)
 
 -- the words of an object that holds n pointers: of a list of structs its tag and its elements
-abbrev pub own_words : Form → ℕ → ℕ
-own_words null n = 0
-own_words (struct words) n = length words + n
-own_words (numbers code values) n = words_for (length values) (width code)
-own_words pointers n = n
-own_words (structs d p rows) n = 1 + length rows * (d + p)
+abbrev pub object_size : Form → ℕ → ℕ
+object_size null n = 0
+object_size (struct words) n = length words + n
+object_size (numbers code values) n = words_for (length values) (width code)
+object_size pointers n = n
+object_size (structs d p rows) n = 1 + length rows * (d + p)
 
 -- the words of trees, without landing pads
 abbrev pub total_words : Trees → ℕ
 total_words none = 0
-total_words (tree form held rest) = own_words form (count held) + total_words held + total_words rest
+total_words (tree form children rest) = object_size form (count children) + total_words children + total_words rest

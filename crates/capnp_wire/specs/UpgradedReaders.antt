@@ -28,7 +28,7 @@ number_rows_of segments rows = record {
   message = message_of (segments rows.segments.now);
   rows = map (number_row (code_of rows.size)) (elements (words_of rows.bytes.now) 0 (code_of rows.size) rows.count);
   pointer_words = 0;
-  held = [];
+  children = [];
   nesting = rows.nesting;
   limit = limit_of rows.limiter;
 }
@@ -40,7 +40,7 @@ rows_of segments (NumbersAsStructs rows) = number_rows_of segments rows
 abbrev pub upgraded_structs_of : {S : Type 0} {ghosts : SegmentGhosts S} → (S → List (List ℕ)) → StructListReader S ghosts → StructList
 upgraded_structs_of segments list = rows_of segments list.rows
 
--- the first fields of structs that stand one after the other
+-- the first fields of structs that are one after the other
 abbrev pub fields_of : {T : Type 0} {ghosts : ElementGhosts T} → ℕ → FirstFields T ghosts → List ℕ
 fields_of code list =
     first_fields code (rows_from (words_of list.segment.now) list.first list.size.data_words list.size.pointers list.count)
@@ -60,16 +60,16 @@ stepped_places segment word step (suc n) = record { segment = segment; word = wo
 abbrev pub upgraded_pointers_of : {S : Type 0} → (S → List (List ℕ)) → PointerListReader S → PointerList
 upgraded_pointers_of segments list = record {
   message = message_of (segments list.segments.now);
-  held = stepped_places list.first.segment list.first.word list.step list.count;
+  children = stepped_places list.first.segment list.first.word list.step list.count;
   nesting = list.nesting;
   limit = limit_of list.limiter;
 }
 
--- pointers that stand a step after one another, below the pointer that led to them
+-- pointers that are a step after one another, below the pointer that led to them
 abbrev pub pointers_from : Pointer → Place → ℕ → ℕ → PointerList
 pointers_from pointer first step n = record {
   message = pointer.message;
-  held = stepped_places first.segment first.word step n;
+  children = stepped_places first.segment first.word step n;
   nesting = pointer.nesting - 1;
   limit = pointer.limit;
 }

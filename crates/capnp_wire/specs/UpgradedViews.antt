@@ -26,7 +26,7 @@ ReadsAsRows (numbers code values) n p rows = (code ≢ 1) × (p ≡ 0) × (rows 
 ReadsAsRows pointers n p rows = (p ≡ 1) × (rows ≡ replicate n [])
 ReadsAsRows _ n p rows = ⊥
 
--- forms that are read as structs, and how the others are refused: structs and bits
+-- forms that are read as structs, and how the others are rejected: structs and bits
 abbrev pub TakesRows : Form → Type 0
 TakesRows null = ⊤
 TakesRows (structs d p rows) = ⊤
@@ -37,17 +37,17 @@ TakesRows _ = ⊥
 abbrev pub DeclinesRows : Form → ErrorKind → Type 0
 DeclinesRows form kind = (TakesRows form → ⊥) × (kind ≡ WrongPointerKind)
 
--- a list read as one of structs: the elements that stand there, with one less of nesting depth left
+-- a list read as one of structs: the elements that are there, with one less of nesting depth left
 pub record IsUpgradedStructs (pointer : Pointer) (list : StructList) : Type 0 where
   pub same_message : list.message ≡ pointer.message
-  pub shown : Shows pointer (λ shape. ReadsAsRows shape.form (length shape.held) list.pointer_words list.rows
-      × (list.held ≡ shape.held) × Within pointer.limit shape.traversed)
+  pub shown : Shows pointer (λ shape. ReadsAsRows shape.form (length shape.children) list.pointer_words list.rows
+      × (list.children ≡ shape.children) × Within pointer.limit shape.traversed)
   pub nesting_below : list.nesting ≡ pointer.nesting - 1
   pub same_limit : list.limit ≡ pointer.limit
 
 -- structs of no data words, each with some pointers
-abbrev pub bare_elements : ℕ → ℕ → Elements
-bare_elements p n = record { size = record { data_words = 0; pointers = p }; count = n }
+abbrev pub elements_without_data : ℕ → ℕ → Elements
+elements_without_data p n = record { size = record { data_words = 0; pointers = p }; count = n }
 
 -- elements of some code are the first fields of structs of d data words: no bits, and within these words
 pub record IsFirstField (code d : ℕ) : Type 0 where
@@ -76,15 +76,15 @@ DeclinesFields wanted form kind = (TakesFields wanted form → ⊥) × (kind ≡
 
 -- the first pointer of each of n structs of p pointers
 abbrev pub first_pointers : ℕ → ℕ → List Place → List Place
-first_pointers p zero held = []
-first_pointers p (suc n) held = take 1 held ++ first_pointers p n (drop p held)
+first_pointers p zero children = []
+first_pointers p (suc n) children = take 1 children ++ first_pointers p n (drop p children)
 
 -- Pointers: none from null, those of a list of pointers, the first ones of structs.
 abbrev pub ReadsAsPointers : Form → List Place → List Place → Type 0
-ReadsAsPointers null held places = places ≡ []
-ReadsAsPointers pointers held places = places ≡ held
-ReadsAsPointers (structs d p rows) held places = (0 < p) × (places ≡ first_pointers p (length rows) held)
-ReadsAsPointers _ held places = ⊥
+ReadsAsPointers null children places = places ≡ []
+ReadsAsPointers pointers children places = places ≡ children
+ReadsAsPointers (structs d p rows) children places = (0 < p) × (places ≡ first_pointers p (length rows) children)
+ReadsAsPointers _ children places = ⊥
 
 abbrev pub TakesFirstPointers : Form → Type 0
 TakesFirstPointers null = ⊤
@@ -98,6 +98,6 @@ DeclinesFirstPointers form kind = (TakesFirstPointers form → ⊥) × (kind ≡
 -- a list read as one of pointers, with one less of nesting depth left
 pub record IsUpgradedPointers (pointer : Pointer) (list : PointerList) : Type 0 where
   pub same_message : list.message ≡ pointer.message
-  pub shown : Shows pointer (λ shape. ReadsAsPointers shape.form shape.held list.held × Within pointer.limit shape.traversed)
+  pub shown : Shows pointer (λ shape. ReadsAsPointers shape.form shape.children list.children × Within pointer.limit shape.traversed)
   pub nesting_below : list.nesting ≡ pointer.nesting - 1
   pub same_limit : list.limit ≡ pointer.limit

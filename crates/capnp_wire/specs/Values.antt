@@ -12,7 +12,7 @@ use Rattle.capnp_wire.specs.Views.{Pointer, Struct}
 use Rattle.capnp_wire.specs.Tree.{null, struct, numbers, Trees, none, tree, count, depth, is_null, total_words}
 use Rattle.capnp_wire.specs.Reached.{At, at, nowhere}
 use Rattle.capnp_wire.specs.Trim.{trim}
-use Rattle.capnp_wire.specs.Layout.{canon, formed, AllHaveRoom}
+use Rattle.capnp_wire.specs.Layout.{canon, output, AllHaveRoom}
 use Rattle.capnp_wire.specs.Traversed.{Within}
 use Rattle.capnp_wire.specs.Faults.{StopsWalk}
 use Rattle.capnp_wire.specs.declared.layout.place.Place.{Place}
@@ -26,54 +26,54 @@ pub record TreeAt (m : List (List ℕ)) (place : Place) (nesting : ℕ) (limit :
   pub shallow : depth trees ≤ nesting
   pub within : Within limit traversed
 
--- how a tree is refused that has a given number of words
+-- how a tree is rejected that has a given number of words
 abbrev pub too_large : Bool → ℕ → ErrorKind
 too_large true words = CanonicalTooLarge
 too_large false words = AllocationTooLarge (min words (2 ^ 32 - 1))
 
--- the words of its body, as it stands or in canonical form, where these are fewer than 2 ^ 29
+-- the words of its body, as it is or in canonical form, where these are fewer than 2 ^ 29
 pub record Measured (m : List (List ℕ)) (place : Place) (nesting : ℕ) (limit : Option ℕ) (canonical : Bool) (words : ℕ) : Type 0 where
   pub trees : Trees
   pub tree_is : TreeAt m place nesting limit trees
   pub rooms : AllHaveRoom trees
-  pub words_are : words ≡ total_words (formed canonical trees)
+  pub words_are : words ≡ total_words (output canonical trees)
   pub few : words < 2 ^ 29
 
--- it is refused: where a walk over it stops, or for its words
-abbrev pub UnmeasuredTree : List (List ℕ) → Place → ℕ → Option ℕ → Bool → ErrorKind → Type 0
-UnmeasuredTree m place nesting limit canonical kind =
+-- it is rejected: where a walk over it stops, or for its words
+abbrev pub RejectsTreeSize : List (List ℕ) → Place → ℕ → Option ℕ → Bool → ErrorKind → Type 0
+RejectsTreeSize m place nesting limit canonical kind =
     StopsWalk m (place ∷ []) nesting limit kind
-    ⊎ ((trees : Trees) × TreeAt m place nesting limit trees × (2 ^ 29 ≤ total_words (formed canonical trees))
-    × (kind ≡ too_large canonical (total_words (formed canonical trees))))
+    ⊎ ((trees : Trees) × TreeAt m place nesting limit trees × (2 ^ 29 ≤ total_words (output canonical trees))
+    × (kind ≡ too_large canonical (total_words (output canonical trees))))
 
 -- What is measured of a value, by the trees that it may be; it is one tree, or none.
 pub record HasWords (has_tree : Trees → Type 0) (canonical : Bool) (words : ℕ) : Type 0 where
   pub trees : Trees
   pub tree_is : has_tree trees
   pub rooms : AllHaveRoom trees
-  pub words_are : words ≡ total_words (formed canonical trees)
+  pub words_are : words ≡ total_words (output canonical trees)
   pub few : words < 2 ^ 29
 
 -- the first of some trees is null
 abbrev pub starts_with_null : Trees → Bool
 starts_with_null none = false
-starts_with_null (tree form held rest) = is_null form
+starts_with_null (tree form children rest) = is_null form
 
--- What is measured of a part of another value: the words of its tree as it stands, fewer than 2 ^ 29, and as it is formed.
+-- What is measured of a part of another value: the words of its tree as it is, fewer than 2 ^ 29, and as it is formed.
 pub record HasPart (has_tree : Trees → Type 0) (canonical : Bool) (words : PartWords) : Type 0 where
   pub trees : Trees
   pub tree_is : has_tree trees
   pub rooms : AllHaveRoom trees
-  pub standing_is : words.standing ≡ total_words trees
-  pub formed_is : words.formed ≡ total_words (formed canonical trees)
-  pub few : words.standing < 2 ^ 29
+  pub as_is_same : words.as_is ≡ total_words trees
+  pub output_is : words.output ≡ total_words (output canonical trees)
+  pub few : words.as_is < 2 ^ 29
 
 -- its tree has room in a block of a given number of words, from a word on
 pub record HasRoomAt (has_tree : Trees → Type 0) (canonical : Bool) (next room : ℕ) : Type 0 where
   pub trees : Trees
   pub tree_is : has_tree trees
   pub rooms : AllHaveRoom trees
-  pub fits : next + total_words (formed canonical trees) ≤ room
+  pub fits : next + total_words (output canonical trees) ≤ room
 
 -- a block of whole words, fewer than 2 ^ 29, which are zero from one on
 pub record IsFreeFrom (next : ℕ) (block : List ℕ) : Type 0 where
@@ -85,8 +85,8 @@ pub record IsFreeFrom (next : ℕ) (block : List ℕ) : Type 0 where
 abbrev pub LacksWords : (Trees → Type 0) → (ErrorKind → Type 0) → Bool → ErrorKind → Type 0
 LacksWords has_tree refuses canonical kind =
     refuses kind
-    ⊎ ((trees : Trees) × has_tree trees × (2 ^ 29 ≤ total_words (formed canonical trees))
-    × (kind ≡ too_large canonical (total_words (formed canonical trees))))
+    ⊎ ((trees : Trees) × has_tree trees × (2 ^ 29 ≤ total_words (output canonical trees))
+    × (kind ≡ too_large canonical (total_words (output canonical trees))))
 
 -- the tree that a pointer leads to, within the nesting depth left and its limit, and where a walk over it stops
 abbrev pub LeadsToTree : Pointer → Trees → Type 0
@@ -99,22 +99,22 @@ StopsWalkFrom pointer kind = (place : Place) × (pointer.place ≡ Some place)
 
 -- the tree of a struct that is read, within the nesting depth left and its limit, and where a walk over its pointers stops
 pub record IsTreeOf (fields : Struct) (trees : Trees) : Type 0 where
-  pub held : Trees
+  pub children : Trees
   pub traversed : ℕ
-  pub stand : At fields.message fields.held held traversed
-  pub shallow : depth held ≤ fields.nesting
+  pub stand : At fields.message fields.children children traversed
+  pub shallow : depth children ≤ fields.nesting
   pub within : Within fields.limit traversed
-  pub whole : trees ≡ tree (struct fields.words) held none
+  pub whole : trees ≡ tree (struct fields.words) children none
 
 abbrev pub StopsInside : Struct → ErrorKind → Type 0
-StopsInside fields kind = StopsWalk fields.message fields.held fields.nesting fields.limit kind
+StopsInside fields kind = StopsWalk fields.message fields.children fields.nesting fields.limit kind
 
--- a struct whose words stand in a segment
+-- a struct whose words are in a segment
 abbrev pub fields_at : List (List ℕ) → List ℕ → Place → StructSize → ℕ → Option ℕ → Struct
 fields_at m words start size nesting limit = record {
   message = m;
   words = words_from words start.word size.data_words;
-  held = places start.segment (start.word + size.data_words) size.pointers;
+  children = places start.segment (start.word + size.data_words) size.pointers;
   nesting = nesting;
   limit = limit;
 }
@@ -123,7 +123,7 @@ fields_at m words start size nesting limit = record {
 abbrev pub HoldsPointers : List (List ℕ) → List ℕ → Place → StructSize → Type 0
 HoldsPointers m words start size = 0 < size.pointers → slice_get m start.segment ≡ Some words
 
--- bytes, and how more of them than a list may have are refused
+-- bytes, and how more of them than a list may have are rejected
 abbrev pub IsBytes : List ℕ → Trees → Type 0
 IsBytes bytes trees = (length bytes < 2 ^ 29) × (trees ≡ tree (numbers 2 bytes) none none)
 

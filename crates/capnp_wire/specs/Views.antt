@@ -10,7 +10,7 @@ use Rattle.capnp_wire.specs.Faults.{Fault, StopsWalk}
 use Rattle.capnp_wire.specs.Traversed.{TreesAt, Within}
 use Rattle.capnp_wire.specs.declared.layout.place.Place.{Place}
 
--- A pointer that is read: the message, where its word stands (one past the end of a struct stands nowhere,
+-- A pointer that is read: the message, where its word is (one past the end of a struct is nowhere,
 -- and is null), how many objects may follow one another from it on, and the limit of words that are read.
 pub record Pointer : Type 0 where
   pub message : List (List ℕ)
@@ -28,36 +28,36 @@ pub data Denotes (pointer : Pointer) : Shape → Type 0 where
 abbrev pub Shows : Pointer → (Shape → Type 0) → Type 0
 Shows pointer fact = (shape : Shape) × Denotes pointer shape × fact shape
 
--- no object stands where a pointer leads, whatever is still read
+-- no object is where a pointer leads, whatever is still read
 abbrev pub IsInvalidPointer : Pointer → ErrorKind → Type 0
 IsInvalidPointer pointer kind = (place : Place) × (pointer.place ≡ Some place) × Fault pointer.message place pointer.nesting kind
 
--- the words of what stands there are counted against the traversal limit, and may be past the limit
+-- the words of what is there are counted against the traversal limit, and may be past the limit
 abbrev pub MeetsLimit : Pointer → ErrorKind → Type 0
 MeetsLimit pointer kind = Shows pointer (λ shape. 0 < shape.traversed) × (pointer.limit ≢ None) × (kind ≡ ReadLimitExceeded)
 
--- no view is had of a pointer: no object stands there, or the traversal limit is met
-abbrev pub Unreadable : Pointer → ErrorKind → Type 0
-Unreadable pointer kind = IsInvalidPointer pointer kind ⊎ MeetsLimit pointer kind
+-- no view is had of a pointer: no object is there, or the traversal limit is met
+abbrev pub RejectsReading : Pointer → ErrorKind → Type 0
+RejectsReading pointer kind = IsInvalidPointer pointer kind ⊎ MeetsLimit pointer kind
 
--- a view accepts what stands there, or declines it
+-- a view accepts what is there, or declines it
 abbrev pub Accepts : Pointer → (Form → Type 0) → Type 0
 Accepts pointer takes = Shows pointer (λ shape. takes shape.form)
 
 abbrev pub Declines : Pointer → (Form → ErrorKind → Type 0) → ErrorKind → Type 0
 Declines pointer declines kind = Shows pointer (λ shape. declines shape.form kind)
 
--- a view is refused: none is had there, or it declines what stands there
+-- a view is rejected: none is had there, or it declines what is there
 abbrev pub Refuses : Pointer → (Form → ErrorKind → Type 0) → ErrorKind → Type 0
-Refuses pointer declines kind = Unreadable pointer kind ⊎ Declines pointer declines kind
+Refuses pointer declines kind = RejectsReading pointer kind ⊎ Declines pointer declines kind
 
--- a view is had: of the form of what stands there a fact holds, and the words counted are within the limit
+-- a view is had: of the form of what is there a fact holds, and the words counted are within the limit
 abbrev pub Reads : Pointer → (Form → Type 0) → Type 0
 Reads pointer fact = Shows pointer (λ shape. fact shape.form × Within pointer.limit shape.traversed)
 
--- What each view that is asked of a pointer keeps: it shows what stands there, or it is refused for a stated
--- cause. Without a limit it is had of what it accepts, and no limit is met. Where no object stands, that is the
--- refusal; where one stands that it declines, that is, or the limit.
+-- What each view that is asked of a pointer keeps: it shows what is there, or it is rejected for a stated
+-- cause. Without a limit it is had of what it accepts, and no limit is met. Where no object is, that is the
+-- error; where one is that it declines, that is, or the limit.
 pub record IsViewOf {V : Type 0} (pointer : Pointer) (shows : V → Type 0) (accepts : Type 0)
     (refuses declines : ErrorKind → Type 0) (result : Result V Error) : Type 0 where
   pub returned : MatchResult result shows (λ error. refuses error.kind)
@@ -90,7 +90,7 @@ IsWords _ words = ⊥
 pub record Struct : Type 0 where
   pub message : List (List ℕ)
   pub words : List ℕ
-  pub held : List Place
+  pub children : List Place
   pub nesting : ℕ
   pub limit : Option ℕ
 
@@ -103,7 +103,7 @@ HasData _ words = ⊥
 -- a struct: no fields from null, its fields, with one less of nesting depth left
 pub record IsStruct (pointer : Pointer) (fields : Struct) : Type 0 where
   pub same_message : fields.message ≡ pointer.message
-  pub shown : Shows pointer (λ shape. HasData shape.form fields.words × (fields.held ≡ shape.held)
+  pub shown : Shows pointer (λ shape. HasData shape.form fields.words × (fields.children ≡ shape.children)
       × Within pointer.limit shape.traversed)
   pub nesting_below : fields.nesting ≡ pointer.nesting - 1
   pub same_limit : fields.limit ≡ pointer.limit
@@ -111,7 +111,7 @@ pub record IsStruct (pointer : Pointer) (fields : Struct) : Type 0 where
 -- a pointer of a struct; null past its pointers
 abbrev pub pointer_in : Struct → ℕ → Pointer
 pointer_in fields index =
-    record { message = fields.message; place = slice_get fields.held index; nesting = fields.nesting; limit = fields.limit }
+    record { message = fields.message; place = slice_get fields.children index; nesting = fields.nesting; limit = fields.limit }
 
 -- forms that a view of a list of numbers of some code takes
 abbrev pub TakesNumbers : ℕ → Form → Type 0
@@ -147,8 +147,8 @@ abbrev pub Measures : Pointer → ℕ → Type 0
 Measures pointer words = MatchOption pointer.place (words ≡ 0)
     (λ place. (traversed : ℕ) × TreesAt pointer.message (place ∷ []) pointer.nesting traversed words × Within pointer.limit traversed)
 
--- they are refused: where a walk over them stops, or, once it is done, where there are 2 ^ 64 words
-abbrev pub Unmeasured : Pointer → ErrorKind → Type 0
-Unmeasured pointer kind = (place : Place) × (pointer.place ≡ Some place)
+-- they are rejected: where a walk over them stops, or, once it is done, where there are 2 ^ 64 words
+abbrev pub RejectsMeasuring : Pointer → ErrorKind → Type 0
+RejectsMeasuring pointer kind = (place : Place) × (pointer.place ≡ Some place)
     × (StopsWalk pointer.message (place ∷ []) pointer.nesting pointer.limit kind
     ⊎ ((words : ℕ) × Measures pointer words × (2 ^ 64 ≤ words) × (kind ≡ AllocationTooLarge (2 ^ 32 - 1))))

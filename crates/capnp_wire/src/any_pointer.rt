@@ -1,12 +1,12 @@
 //! Pointers that may lead to anything.
 ghost use Rattle.std.specs.Prelude.{◌≡◌, ◌-◌, ◌^◌, ◌<◌, ◌≤◌, length};
 ghost use Rattle.capnp_wire.specs.Tree.{Trees};
-ghost use Rattle.capnp_wire.specs.Layout.{formed};
+ghost use Rattle.capnp_wire.specs.Layout.{output};
 ghost use Rattle.capnp_wire.specs.Copy.{IsCopied};
 ghost use Rattle.capnp_wire.specs.Readers.{pointer_of};
 ghost use Rattle.capnp_wire.specs.Values.{HasRoomAt, LeadsToTree};
 
-mod near;
+mod fast_path;
 mod reader;
 
 use crate::layout::block::BlockItem;
@@ -74,7 +74,7 @@ pub(crate) fn write_into<S: ReaderSegments, T: BlockItem>(
     requires small { length (T.as_words block.old) < 2 ^ 29 }
     requires following { following ≤ next }
     ensures written { (trees : Trees) → LeadsToTree (pointer_of S.segments reader.now) trees →
-        IsCopied (formed canonical trees) (next - following) next
+        IsCopied (output canonical trees) (next - following) next
         (T.as_words block.old) (T.as_words block.new) result }
     ensures len { length (T.as_words block.new) ≡ length (T.as_words block.old) }
 {

@@ -27,11 +27,11 @@ pub fn one_object_at_a_place()
 
 /// Where an object leads back to itself there is no tree.
 pub fn cycle_has_no_tree()
-    ensures { (m : List (List ℕ)) (place : Place) (form : Form) (held : Trees) (traversed : ℕ) →
-        Below m place place → At m (place ∷ []) (tree form held none) traversed → ⊥ }
+    ensures { (m : List (List ℕ)) (place : Place) (form : Form) (children : Trees) (traversed : ℕ) →
+        Below m place place → At m (place ∷ []) (tree form children none) traversed → ⊥ }
 {}
 
-/// Where a pointer is refused there is no object within the nesting depth.
+/// Where a pointer is rejected there is no object within the nesting depth.
 pub fn refused_has_no_object()
     ensures { (m : List (List ℕ)) (place : Place) (nesting : ℕ) (kind : ErrorKind) (shape : Shape) →
         Fault m place nesting kind → PointsTo m place shape →
@@ -62,42 +62,42 @@ pub fn one_refusal_stops_a_walk()
 
 /// The root of the one segment in which a tree is laid out is that tree.
 pub fn root_of_a_layout()
-    ensures { (form : Form) (held : Trees) → AllHaveRoom (tree form held none) →
-        total_words (tree form held none) < 2 ^ 29 →
+    ensures { (form : Form) (children : Trees) → AllHaveRoom (tree form children none) →
+        total_words (tree form children none) < 2 ^ 29 →
         (traversed : ℕ)
-        × At (layout (tree form held none) ∷ []) (root ∷ []) (tree form held none) traversed }
+        × At (layout (tree form children none) ∷ []) (root ∷ []) (tree form children none) traversed }
 {}
 
 /// Where a body is this many words after its pointer, in any segment, there is its tree.
 pub fn tree_after_its_pointer()
     ensures { (m : List (List ℕ)) (segment word offset : ℕ) (words : List ℕ)
-        (form : Form) (held : Trees) →
-        slice_get m segment ≡ Some words → AllHaveRoom (tree form held none) →
-        total_words (tree form held none) < 2 ^ 29 → offset < 2 ^ 29 →
-        slice_get words word ≡ Some (pointer_to (tree form held none) offset) →
-        Laid words (word + 1 + offset) (tree form held none) →
+        (form : Form) (children : Trees) →
+        slice_get m segment ≡ Some words → AllHaveRoom (tree form children none) →
+        total_words (tree form children none) < 2 ^ 29 → offset < 2 ^ 29 →
+        slice_get words word ≡ Some (pointer_to (tree form children none) offset) →
+        Laid words (word + 1 + offset) (tree form children none) →
         (traversed : ℕ)
-        × At m (record { segment = segment; word = word } ∷ []) (tree form held none) traversed }
+        × At m (record { segment = segment; word = word } ∷ []) (tree form children none) traversed }
 {}
 
 /// Where a body follows its landing pad, a far pointer to the landing pad leads to its tree.
 pub fn tree_after_its_landing_pad()
     ensures { (m : List (List ℕ)) (place : Place) (segment landing_pad : ℕ) (words : List ℕ)
-        (form : Form) (held : Trees) →
-        slice_get m segment ≡ Some words → AllHaveRoom (tree form held none) →
-        total_words (tree form held none) < 2 ^ 29 → is_null form ≡ false → landing_pad < 2 ^ 29 →
+        (form : Form) (children : Trees) →
+        slice_get m segment ≡ Some words → AllHaveRoom (tree form children none) →
+        total_words (tree form children none) < 2 ^ 29 → is_null form ≡ false → landing_pad < 2 ^ 29 →
         word_at m place ≡ Some (far_pointer segment landing_pad) →
-        slice_get words landing_pad ≡ Some (pointer_to (tree form held none) 0) →
-        Laid words (landing_pad + 1) (tree form held none) →
-        (traversed : ℕ) × At m (place ∷ []) (tree form held none) traversed }
+        slice_get words landing_pad ≡ Some (pointer_to (tree form children none) 0) →
+        Laid words (landing_pad + 1) (tree form children none) →
+        (traversed : ℕ) × At m (place ∷ []) (tree form children none) traversed }
 {}
 
 /// The root of a canonical form is the trimmed tree.
 pub fn root_of_a_canonical_form()
-    ensures { (form : Form) (held : Trees) → AllHaveRoom (tree form held none) →
-        total_words (trim (tree form held none)) < 2 ^ 29 →
+    ensures { (form : Form) (children : Trees) → AllHaveRoom (tree form children none) →
+        total_words (trim (tree form children none)) < 2 ^ 29 →
         (traversed : ℕ)
-        × At (canon (tree form held none) ∷ []) (root ∷ []) (trim (tree form held none)) traversed }
+        × At (canon (tree form children none) ∷ []) (root ∷ []) (trim (tree form children none)) traversed }
 {}
 
 /// Canonical forms of different trees differ.

@@ -4,13 +4,13 @@ ghost use Rattle.std.specs.Prelude.{◌≡◌, ◌<◌, ◌^◌, ℕ, [], ◌∷
 ghost use Rattle.capnp_frame.specs.Words.{bytes_of};
 ghost use Rattle.capnp_wire.specs.Pointer.{number_of, pointer_kind, words_of};
 ghost use Rattle.capnp_wire.specs.Block.{put};
-ghost use Rattle.capnp_wire.specs.PointerWord.{IsNearShape};
+ghost use Rattle.capnp_wire.specs.PointerWord.{IsLocalShape};
 ghost use Rattle.capnp_wire.specs.Tree.{Form};
 ghost use Rattle.capnp_wire.specs.Layout.{far_pointer, list_pointer, pointer, struct_pointer, HasRoom};
 
 use crate::layout::block;
 use crate::layout::pointer::PointerWord;
-pub use crate::layout::pointer::{NearShape, StructSize};
+pub use crate::layout::pointer::{LocalShape, StructSize};
 use capnp_frame::{Word, word};
 
 /// The pointer to a struct that begins this many words after it, or the tag of a list of that many
@@ -45,11 +45,11 @@ pub fn far_word(segment: u32, position: u32) -> u64
 
 /// What a struct or list pointer leads to; `None` for a far pointer and a capability. Null reads as
 /// a struct of no words.
-pub fn near_shape(word: u64) -> Option<NearShape>
-    ensures { MatchOption result (1 < pointer_kind word) (λ shape. IsNearShape word shape) }
+pub fn local_shape(word: u64) -> Option<LocalShape>
+    ensures { MatchOption result (1 < pointer_kind word) (λ shape. IsLocalShape word shape) }
 {
     match PointerWord::read(word) {
-        PointerWord::Near(near) => Some(near.shape),
+        PointerWord::Local(local) => Some(local.shape),
         _ => None,
     }
 }
@@ -57,7 +57,7 @@ pub fn near_shape(word: u64) -> Option<NearShape>
 /// The pointer that says as a tag does, to an object this many words further. Null and the pointer
 /// to a struct of no words, whose offset is -1, stay as they are.
 pub fn moved(tag: u64, offset: u32) -> u64
-    requires near { offset < 2 ^ 29 }
+    requires local { offset < 2 ^ 29 }
     requires pointer { (form : Form) × (n : ℕ) × HasRoom form n × (tag ≡ pointer form n 0) }
     ensures { (form : Form) (n : ℕ) → HasRoom form n → tag ≡ pointer form n 0 →
         result ≡ pointer form n offset }

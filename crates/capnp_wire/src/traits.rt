@@ -6,7 +6,7 @@ ghost use Rattle.capnp_wire.specs.Views.{Pointer, IsViewOf};
 ghost use Rattle.capnp_wire.specs.Readers.{pointer_of};
 ghost use Rattle.capnp_wire.specs.Pointer.{words_of};
 ghost use Rattle.capnp_wire.specs.Tree.{Trees, count, total_words};
-ghost use Rattle.capnp_wire.specs.Layout.{body, formed};
+ghost use Rattle.capnp_wire.specs.Layout.{body, output};
 ghost use Rattle.capnp_wire.specs.Copy.{IsCopied};
 ghost use Rattle.capnp_wire.specs.Values.{HasWords, LacksWords, HasPart, HasRoomAt, IsFreeFrom, starts_with_null};
 ghost use Rattle.capnp_wire.specs.declared.traits.PartWords.{PartWords};
@@ -47,11 +47,11 @@ pub trait Owned<'a, S: ReaderSegments> {
 /// The words of a value that is a part of another one, after its pointer.
 #[derive(Clone, Copy)]
 pub struct PartWords {
-    /// Of the value as it stands.
-    pub standing: u32,
+    /// Of the value as it is.
+    pub as_is: u32,
 
     /// Of the value in the form that is made.
-    pub formed: u32,
+    pub output: u32,
 }
 
 /// A value that a pointer can be set to, of a type of a schema.
@@ -62,7 +62,7 @@ pub trait SetterInput<T> {
     /// The value has no tree, or may not be read, and this is the error.
     ghost refuses: { Self → ErrorKind → Type 0 };
 
-    /// The words of the value after its pointer, as it stands or in canonical form.
+    /// The words of the value after its pointer, as it is or in canonical form.
     ///
     /// Fails with a kind that `refuses` names, and for 2^29 words and more with
     /// `AllocationTooLarge`, or in canonical form with `CanonicalTooLarge`.
@@ -77,7 +77,7 @@ pub trait SetterInput<T> {
 
     /// The words of the value as a part of another one.
     ///
-    /// Fails as `measure` does for the value as it stands, even where its canonical form is
+    /// Fails as `measure` does for the value as it is, even where its canonical form is
     /// smaller.
     fn measure_part(&self, canonical: bool) -> Result<PartWords>
         ensures returned { MatchResult result (λ words. HasPart (has_tree self.now) canonical words)
@@ -88,15 +88,15 @@ pub trait SetterInput<T> {
             LacksWords (has_tree self.now) (refuses self.now) false kind →
             IsErrAnd result (λ error. error.kind ≡ kind) }
     {
-        let standing = self.measure(false)?;
+        let as_is = self.measure(false)?;
         if !canonical {
             return Ok(PartWords {
-                standing,
-                formed: standing,
+                as_is,
+                output: as_is,
             });
         }
-        let formed = self.measure(true).unwrap_or(0);
-        Ok(PartWords { standing, formed })
+        let output = self.measure(true).unwrap_or(0);
+        Ok(PartWords { as_is, output })
     }
 
     /// Whether the value is null.
@@ -110,10 +110,10 @@ pub trait SetterInput<T> {
         requires free { IsFreeFrom next block.old }
         requires following { following ≤ next }
         ensures written { (trees : Trees) → has_tree self.now trees →
-            IsCopied (formed canonical trees) (next - following) next
+            IsCopied (output canonical trees) (next - following) next
             (words_of block.old) (words_of block.new) result }
         ensures long { (trees : Trees) → has_tree self.now trees →
-            length (body (formed canonical trees)) ≡ total_words (formed canonical trees) }
+            length (body (output canonical trees)) ≡ total_words (output canonical trees) }
         ensures len { length block.new ≡ length block.old };
 
     /// A value is one tree.

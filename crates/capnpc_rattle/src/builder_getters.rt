@@ -1,10 +1,10 @@
 //! What a builder shows of the fields that are set in it.
 use crate::builder_templates::HAS_SET;
 use crate::code::{Code, Holes, fill_with};
+use crate::getters::{Shown, Site, shown_of};
 use crate::owners::Owner;
 use crate::schema::{Base, Field, Slot};
 use crate::setters::{field_name, is_data};
-use crate::shown::{Shown, Site, shown_of};
 use crate::signatures::signature;
 use crate::templates::GETTER;
 use std::alloc::{AllocError, Global};

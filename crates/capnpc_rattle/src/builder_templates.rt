@@ -90,7 +90,7 @@ impl Builder {
             Writes (TakesStructs @words@ @pointers@ count) (ManyStructs @words@ @pointers@ count)
             objects.old objects.new result }
     {
-        let list = objects.made_struct_list(&Drafts::new(elements))?;
+        let list = objects.lazy_struct_list(&Drafts::new(elements))?;
         Ok(list.of_type())
     }
 }
@@ -104,7 +104,7 @@ impl Draft<Owned, @words@, @pointers@> for Builder {
 }
 ";
 
-/// What stands before the setters of the fields of a struct or a group.
+/// What is before the setters of the fields of a struct or a group.
 pub const ACCESSORS: &str = "
 impl @path@Builder {
 ";

@@ -3,11 +3,11 @@ use crate::builder_getters::push_set_getter;
 use crate::builder_templates::{ACCESSORS, BUILDER};
 use crate::cleared::push_init;
 use crate::code::{Code, Holes};
+use crate::getters::Site;
 use crate::owners::{Owner, owner_of};
 use crate::pointer_setters::push_pointer_setter;
 use crate::schema::{Field, Struct};
 use crate::setters::{is_data, push_data_setter};
-use crate::shown::Site;
 use crate::structs::close_module;
 use std::alloc::{AllocError, Global};
 

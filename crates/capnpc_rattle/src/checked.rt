@@ -1,11 +1,11 @@
 //! What is asked of a schema before code is written of it: the nodes that its types name are there, and no
 //! two names of one scope become one.
 use crate::cleared::{group_name, group_of};
+use crate::getters::Site;
 use crate::names::{constant, default_name, enum_type, module, snake, variant};
 use crate::owners::{Owner, is_member, owner_of};
 use crate::schema::{Base, Body, Field, Node, Place, Request, Slot, Struct};
 use crate::setters::{field_name, has_setter};
-use crate::shown::Site;
 use anyhow::{Result, bail};
 use std::alloc::{AllocError, Global};
 
@@ -103,7 +103,7 @@ impl Names {
         Ok(())
     }
 
-    // Refuses a name that another has already.
+    // Rejects a name that another has already.
     fn expect_new(&self, name: &str, of: &str) -> Result<()> {
         for (other, one) in self.taken.as_slice() {
             if other.as_str().eq_ignore_ascii_case(name) {

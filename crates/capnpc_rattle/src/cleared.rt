@@ -1,19 +1,19 @@
 //! The setters that select a group which is a member of a union, and clear what is in it.
 use crate::builder_templates::{GROUP_INIT, OLD_POINTERS};
 use crate::code::{Code, Holes};
+use crate::getters::Site;
 use crate::numbers::number_of;
 use crate::owners::{Owner, is_member};
 use crate::schema::{Base, Body, Place, Slot, Struct};
 use crate::set_words::{words_clause, words_with};
 use crate::setters::code_of;
-use crate::shown::Site;
 use std::alloc::{AllocError, Global};
 use std::fmt::Write;
 
 /// What a group has of its struct, each once.
 #[derive(Drop)]
 struct Cleared {
-    /// Fields of the data section: how many bits each has, and where it stands in units of these.
+    /// Fields of the data section: how many bits each has, and where it is in units of these.
     fields: Vec<(u32, u32)>,
     /// Pointers, by their indices.
     pointers: Vec<u32>,
@@ -120,7 +120,7 @@ impl Cleared {
     }
 }
 
-// Ends a line, where one stands there.
+// Ends a line, where one is there.
 fn push_line(text: &mut String) -> Result<(), AllocError> {
     if text.is_empty() {
         return Ok(());

@@ -86,7 +86,7 @@ impl Code {
         Ok(())
     }
 
-    /// Adds the lines of a template with one name, for which this text stands.
+    /// Adds the lines of a template with one name, for which this text is.
     pub fn add_with(
         &mut self,
         template: &str,
@@ -176,7 +176,7 @@ pub fn fill(alloc: Global, template: &str, holes: &Holes) -> Result<String, Allo
     Ok(code.text)
 }
 
-/// A template so filled that has one name, for which this text stands.
+/// A template so filled that has one name, for which this text is.
 pub fn fill_with(
     alloc: Global,
     template: &str,

@@ -1,9 +1,9 @@
 //! Defaults of pointers.
 use crate::code::{Code, Holes, fill, fill_with};
 use crate::constants::push_view;
+use crate::getters::{Shown, Site};
 use crate::names::{default_name, snake};
 use crate::schema::{Base, Field, Place, Slot, Struct, Value};
-use crate::shown::{Shown, Site};
 use crate::templates::{DEFAULT_BODY, DEFAULT_FACT, OR_DEFAULT_BODY, OR_DEFAULT_FACT};
 use crate::views::{CONSTANT, MESSAGE, View, is_plain, view_of};
 use crate::words::words_of;
@@ -75,7 +75,7 @@ fn shown_either(
     )
 }
 
-// What stands in the clause and the code of the getter, which returns a view by this name.
+// What is in the clause and the code of the getter, which returns a view by this name.
 fn holes_of(
     alloc: Global,
     field: &Field,

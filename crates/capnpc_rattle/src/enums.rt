@@ -1,10 +1,10 @@
 //! Enums.
 use crate::builder_templates::ENUM_NUMBER;
 use crate::code::{Code, Holes};
+use crate::getters::Site;
 use crate::names::{enum_type, scope_name, variant};
 use crate::paths::path_to;
 use crate::schema::{Base, Body, Field, Node, Request, Slot};
-use crate::shown::Site;
 use crate::templates::{ENUM_END, ENUM_HEAD};
 use std::alloc::{AllocError, Global};
 
@@ -196,7 +196,7 @@ fn enum_use(alloc: Global, site: Site<'_>, node: &Node, path: &str) -> Result<St
     format!(in alloc; "use {path} as {name};")
 }
 
-// A text by which paths are in the order of `rt fmt`: those that lead further out stand first.
+// A text by which paths are in the order of `rt fmt`: those that lead further out are first.
 fn order_of(alloc: Global, path: &str) -> Result<String, AllocError> {
     let mut text = String::new(alloc);
     for part in path.split("::") {

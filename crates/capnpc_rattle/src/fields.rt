@@ -1,9 +1,9 @@
 //! The getters of fields.
 use crate::code::{Code, Holes, fill_with};
+use crate::getters::{Shown, Site};
 use crate::names::snake;
 use crate::numbers::number_of;
 use crate::schema::{Base, Field, Place, Slot};
-use crate::shown::{Shown, Site};
 use crate::signatures::signature;
 use crate::templates::{GETTER, HAS, LEFT_OUT, VOID};
 use std::alloc::{AllocError, Global};
@@ -80,7 +80,7 @@ fn is_nothing(field: &Field) -> bool {
     }
 }
 
-// Whether a pointer stands at a place.
+// Whether a pointer is at a place.
 fn is_pointer(place: &Place) -> bool {
     place.of.lists > 0 || (number_of(place.of.base).is_none() && place.of.base != Base::Void)
 }

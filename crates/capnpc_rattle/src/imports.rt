@@ -188,7 +188,7 @@ fn word_of<'a>(name: &'a str) -> &'a str {
     }
 }
 
-// Whether a word stands in code, outside of its comments.
+// Whether a word is in code, outside of its comments.
 fn cites(text: &str, word: &str) -> bool {
     for line in text.lines() {
         if line.contains(word)
@@ -201,7 +201,7 @@ fn cites(text: &str, word: &str) -> bool {
     false
 }
 
-// Whether a letter stands between words.
+// Whether a letter is between words.
 fn is_between(letter: char) -> bool {
     matches!(
         letter,

@@ -1,5 +1,5 @@
 //! Names of a schema as names of Rattle, as the compiler of the Rust crate makes them.
-use crate::taken::{is_taken_constant, is_taken_enum, is_taken_module, is_taken_variant};
+use crate::reserved::{is_taken_constant, is_taken_enum, is_taken_module, is_taken_variant};
 use std::alloc::{AllocError, Global};
 
 /// A name with small letters, and `_` before what were capital ones: `deep_blue` of `deepBlue`.

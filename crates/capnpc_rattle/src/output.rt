@@ -39,7 +39,7 @@ fn output_name(alloc: Global, schema: &str) -> Result<String, AllocError> {
     format!(in alloc; "{module}.rt")
 }
 
-// Refuses the name of a file that is written already.
+// Rejects the name of a file that is written already.
 fn expect_new(outputs: &[Output], name: &str) -> Result<()> {
     for output in outputs {
         if output.name.as_str() == name {

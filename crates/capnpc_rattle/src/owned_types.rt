@@ -1,8 +1,8 @@
 //! The types of a schema that orphans have, as setters name them.
+use crate::getters::Site;
 use crate::numbers::number_of;
 use crate::paths::path_to;
 use crate::schema::{Base, Type};
-use crate::shown::Site;
 use std::alloc::{AllocError, Global};
 
 /// The type of the orphans that a pointer of this type may lead to, as the module of a site names it. It is

@@ -1,7 +1,7 @@
 //! The struct whose fields the fields of groups are.
+use crate::getters::Site;
 use crate::names::snake;
 use crate::schema::{Body, Field, Node, Slot, Struct};
-use crate::shown::Site;
 use std::alloc::{AllocError, Global};
 
 /// As deep as groups may be in one another.
@@ -18,7 +18,7 @@ pub struct Owner<'r> {
     pub prefix: String,
     /// The way from the site's module to the struct's.
     pub path: String,
-    /// Of each union on the way whose member the next group is: where its number stands, and the number.
+    /// Of each union on the way whose member the next group is: where its number is, and the number.
     pub tags: Vec<(u32, u16)>,
 }
 
@@ -76,7 +76,7 @@ fn owner_by<'r>(
     })
 }
 
-// The node that a group is a field of, that field, and where the number of the node's union stands.
+// The node that a group is a field of, that field, and where the number of the node's union is.
 fn parent_of<'r>(site: Site<'r>, group: &'r Node) -> Option<(&'r Node, &'r Field, Option<u32>)> {
     let parent = site.request.find(group.scope)?;
     let Body::Struct(body) = &parent.body else {

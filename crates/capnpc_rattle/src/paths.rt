@@ -1,4 +1,4 @@
-//! Paths from the module of one node to what another declares. Files stand beside one another.
+//! Paths from the module of one node to what another declares. Files are beside one another.
 use crate::names::{enum_type, file_module, module};
 use crate::schema::{Body, Request};
 use std::alloc::{AllocError, Global};

@@ -1,12 +1,12 @@
 //! The setters of pointers.
 use crate::builder_templates::POINTER_SETTER;
 use crate::code::{Code, Holes};
+use crate::getters::Site;
 use crate::owned_types::owned_type;
 use crate::owners::Owner;
 use crate::schema::{Base, Field, Slot, Type};
 use crate::set_words::{words_clause, words_with};
 use crate::setters::{code_of, field_name, push_comment, tags_of};
-use crate::shown::Site;
 use std::alloc::{AllocError, Global};
 
 /// Adds the setter of a pointer, but of interfaces.

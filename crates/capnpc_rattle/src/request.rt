@@ -64,7 +64,7 @@ pub fn read_text(alloc: Global, text: text::Reader<'_>) -> Result<String> {
     }
 }
 
-// A node, without the comments, which stand elsewhere in the request.
+// A node, without the comments, which are elsewhere in the request.
 fn read_node<S: ReaderSegments>(alloc: Global, read: &node::Reader<'_, S>) -> Result<Node> {
     let name = read_name(alloc, read)?;
     let nested = read_nested(alloc, read)?;
@@ -166,7 +166,7 @@ fn read_field<S: ReaderSegments>(alloc: Global, read: &field::Reader<'_, S>) -> 
     })
 }
 
-// Where a field stands.
+// Where a field is.
 fn read_slot<S: ReaderSegments>(alloc: Global, read: &field::Reader<'_, S>) -> Result<Slot> {
     match read.which() {
         field::Which::Slot(slot) => Ok(Slot::At(Place {
@@ -179,7 +179,7 @@ fn read_slot<S: ReaderSegments>(alloc: Global, read: &field::Reader<'_, S>) -> R
     }
 }
 
-// Adds the comments to the nodes that they stand at.
+// Adds the comments to the nodes that they are at.
 fn add_comments<S: ReaderSegments>(
     alloc: Global,
     root: &code_generator_request::Reader<'_, S>,

@@ -9,7 +9,7 @@ pub struct Node {
     pub scope: u64,
     /// The name within that node.
     pub name: String,
-    /// The comment that stands at it; empty where there is none.
+    /// The comment that is at it; empty where there is none.
     pub comment: String,
     /// The comments of its fields or enumerants, in the order of these.
     pub member_comments: Vec<String>,
@@ -35,7 +35,7 @@ pub enum Body {
 #[derive(Drop)]
 pub struct Struct {
     pub is_group: bool,
-    /// Where the number stands that says which member of the union is there, in units of two bytes; none
+    /// Where the number is that says which member of the union is there, in units of two bytes; none
     /// where there is no union.
     pub discriminant: Option<u32>,
     /// How many words its data section has.
@@ -54,7 +54,7 @@ pub struct Field {
     pub slot: Slot,
 }
 
-/// Where a field stands.
+/// Where a field is.
 #[derive(Drop)]
 pub enum Slot {
     At(Place),
@@ -64,7 +64,7 @@ pub enum Slot {
     Unknown,
 }
 
-/// Where a field of the data section or a pointer stands.
+/// Where a field of the data section or a pointer is.
 #[derive(Drop)]
 pub struct Place {
     /// In units of the field's own width, or among the pointers.

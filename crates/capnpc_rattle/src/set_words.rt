@@ -2,9 +2,9 @@
 use crate::builder_templates::{ENUM_CLAUSE, OLD_WORDS, WORDS_CLAUSE, WORDS_STAY};
 use crate::code::{Holes, fill, fill_with};
 use crate::enums::{enum_name, enumerants_of, rows_of};
+use crate::getters::Site;
 use crate::numbers::{Number, NumberKind, default_bits};
 use crate::schema::{Base, Place};
-use crate::shown::Site;
 use std::alloc::{AllocError, Global};
 
 /// The words in which these numbers of unions are set, as a clause names them.

@@ -2,16 +2,16 @@
 use crate::builder_templates::{NUMBER_SETTER, VOID_SETTER};
 use crate::code::{Code, Holes};
 use crate::enums::enum_name;
+use crate::getters::Site;
 use crate::names::snake;
 use crate::numbers::{Number, NumberKind, default_bits, literal, number_of};
 use crate::owners::Owner;
 use crate::schema::{Base, Field, Place, Slot};
 use crate::set_words::{number_clause, words_clause, words_with};
-use crate::shown::Site;
 use std::alloc::{AllocError, Global};
 use std::fmt::Write;
 
-/// Whether a field stands in the data section, or is nothing.
+/// Whether a field is in the data section, or is nothing.
 pub fn is_data(field: &Field) -> bool {
     match &field.slot {
         Slot::At(place) => {

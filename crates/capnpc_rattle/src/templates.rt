@@ -1,6 +1,6 @@
 //! The code that is written of structs, groups and enums, with `@name@` for what differs.
 
-/// What stands at the head of each file.
+/// What is at the head of each file.
 pub const FILE: &str =
     "//! Types of `@file@`, made by `capnpc-rattle`: change that file, and make them again.
 ";
@@ -21,7 +21,7 @@ pub struct Reader<'a, S: ReaderSegments> {
 }
 ";
 
-/// What stands before the getters of a struct.
+/// What is before the getters of a struct.
 pub const READER_IMPL: &str = "
 impl<'a, S: ReaderSegments> Reader<'a, S> {
 ";
@@ -35,7 +35,7 @@ pub struct Reader<'b, 'a, S: ReaderSegments> {
 }
 ";
 
-/// What stands before the getters of a group.
+/// What is before the getters of a group.
 pub const GROUP_IMPL: &str = "
 impl<'b, 'a, S: ReaderSegments> Reader<'b, 'a, S> {
 ";

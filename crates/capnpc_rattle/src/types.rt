@@ -123,7 +123,7 @@ fn read_object<S: ReaderSegments>(
     Ok(Value::Object(bytes))
 }
 
-// Writes what a pointer leads to into zeros of just its words, and returns the pointer to it, which stands
+// Writes what a pointer leads to into zeros of just its words, and returns the pointer to it, which is
 // just before these.
 fn write_object<S: ReaderSegments>(pointer: &any_pointer::Reader<'_, S>, block: &mut [u8]) -> u64
     requires words { (words : ℕ)

@@ -1,8 +1,8 @@
 //! Unions: which member is there, as an enum.
 use crate::code::{Code, Holes, fill_with};
+use crate::getters::{Shown, Site};
 use crate::names::{snake, variant};
 use crate::schema::Field;
-use crate::shown::{Shown, Site};
 use crate::templates::{CASE, LONG_CASE, MEMBERS, WHICH};
 use std::alloc::{AllocError, Global};
 use std::fmt::Write;
@@ -128,7 +128,7 @@ fn push_parameter(text: &mut String, parameter: &str) -> Result<(), AllocError> 
     text.push_str(parameter)
 }
 
-/// Adds the method that says which member is there, of the union whose number stands at this offset.
+/// Adds the method that says which member is there, of the union whose number is at this offset.
 pub fn push_which(
     alloc: Global,
     code: &mut Code,

@@ -275,7 +275,7 @@ pub mod person {
                 Writes (TakesStructs 1 4 count) (ManyStructs 1 4 count)
                 objects.old objects.new result }
         {
-            let list = objects.made_struct_list(&Drafts::new(elements))?;
+            let list = objects.lazy_struct_list(&Drafts::new(elements))?;
             Ok(list.of_type())
         }
     }
@@ -739,7 +739,7 @@ pub mod person {
                     Writes (TakesStructs 1 1 count) (ManyStructs 1 1 count)
                     objects.old objects.new result }
             {
-                let list = objects.made_struct_list(&Drafts::new(elements))?;
+                let list = objects.lazy_struct_list(&Drafts::new(elements))?;
                 Ok(list.of_type())
             }
         }
@@ -1051,7 +1051,7 @@ pub mod address_book {
                 Writes (TakesStructs 0 1 count) (ManyStructs 0 1 count)
                 objects.old objects.new result }
         {
-            let list = objects.made_struct_list(&Drafts::new(elements))?;
+            let list = objects.lazy_struct_list(&Drafts::new(elements))?;
             Ok(list.of_type())
         }
     }

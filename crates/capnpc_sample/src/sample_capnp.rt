@@ -239,7 +239,7 @@ pub mod point {
                 Writes (TakesStructs 1 0 count) (ManyStructs 1 0 count)
                 objects.old objects.new result }
         {
-            let list = objects.made_struct_list(&Drafts::new(elements))?;
+            let list = objects.lazy_struct_list(&Drafts::new(elements))?;
             Ok(list.of_type())
         }
     }
@@ -522,7 +522,7 @@ pub mod tree {
                 Writes (TakesStructs 1 2 count) (ManyStructs 1 2 count)
                 objects.old objects.new result }
         {
-            let list = objects.made_struct_list(&Drafts::new(elements))?;
+            let list = objects.lazy_struct_list(&Drafts::new(elements))?;
             Ok(list.of_type())
         }
     }
@@ -1127,7 +1127,7 @@ pub mod sample {
                 Writes (TakesStructs 4 9 count) (ManyStructs 4 9 count)
                 objects.old objects.new result }
         {
-            let list = objects.made_struct_list(&Drafts::new(elements))?;
+            let list = objects.lazy_struct_list(&Drafts::new(elements))?;
             Ok(list.of_type())
         }
     }
@@ -1746,7 +1746,7 @@ pub mod shape {
                 Writes (TakesStructs 2 1 count) (ManyStructs 2 1 count)
                 objects.old objects.new result }
         {
-            let list = objects.made_struct_list(&Drafts::new(elements))?;
+            let list = objects.lazy_struct_list(&Drafts::new(elements))?;
             Ok(list.of_type())
         }
     }

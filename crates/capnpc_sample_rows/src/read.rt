@@ -120,7 +120,7 @@ fn payload<'a, S: ReaderSegments>(read: &sample::Reader<'a, S>) -> Result<&'a [u
     read.get_payload()
 }
 
-// The target, and whether it stands in the message.
+// The target, and whether it is in the message.
 fn target<S: ReaderSegments>(read: &sample::Reader<'_, S>) -> Result<(bool, (i32, i32))> {
     match read.get_target() {
         OrDefault::Stored(target) => Ok((true, coordinates(&target?))),

@@ -1,4 +1,4 @@
-//! What samples show, as plain values. A call of the library that several tests make stands here, in a
+//! What samples show, as plain values. A call of the library that several tests make is here, in a
 //! function without a contract, so that the tests are quick to prove.
 use crate::sample_capnp::{Color, point, sample};
 use capnp::message::{DEFAULT_READER_OPTIONS, Reader, ReaderSegments, SegmentArray};

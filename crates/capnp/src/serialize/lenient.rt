@@ -3,7 +3,7 @@ ghost use Rattle.std.specs.Prelude.{◌≡◌, length, IfSome, IfOk};
 ghost use Rattle.capnp_frame.specs.Streams.{message_in, next_in, framed_rules, ReadsStream, ReadsStreamInto};
 ghost use Rattle.capnp_frame.specs.Frame.{IsFrame};
 ghost use Rattle.capnp.specs.Streams.{IsPlainSource};
-ghost use Rattle.capnp.specs.Headline.{ReturnsTexts, ReturnsTextsInto, OrFailsAtEnd};
+ghost use Rattle.capnp.specs.Headline.{ReturnsEncodings, ReturnsEncodingsInto, OrFailsAtEnd};
 
 use super::reading;
 use capnp_frame::Result;
@@ -19,8 +19,8 @@ pub fn try_read_message_lenient<R: Read>(
     source: &mut R,
     options: ReaderOptions,
 ) -> Result<Option<Reader<OwnedSegments>>>
-    // Over a source of plain bytes: the unread bytes begin with the framed text of the message.
-    ensures texts { IsPlainSource R.gives R.refuses → ReturnsTexts (IsFrame Padding.Any)
+    // Over a source of plain bytes: the unread bytes begin with the framed encoding of the message.
+    ensures texts { IsPlainSource R.gives R.refuses → ReturnsEncodings (IsFrame Padding.Any)
         options.traversal_limit_in_words (R.unread source.old) (R.unread source.new)
         (next_in (λ reader. reader.segments) result) }
     ensures reads { ReadsStream R.Read source.old source.new (framed_rules Padding.Any R.gives R.refuses)
@@ -37,8 +37,8 @@ pub fn read_message_lenient<R: Read>(
     source: &mut R,
     options: ReaderOptions,
 ) -> Result<Reader<OwnedSegments>>
-    // Over a source of plain bytes: the unread bytes begin with the framed text of the message.
-    ensures texts { IsPlainSource R.gives R.refuses → ReturnsTexts (IsFrame Padding.Any)
+    // Over a source of plain bytes: the unread bytes begin with the framed encoding of the message.
+    ensures texts { IsPlainSource R.gives R.refuses → ReturnsEncodings (IsFrame Padding.Any)
         options.traversal_limit_in_words (R.unread source.old) (R.unread source.new)
         (message_in (λ reader. reader.segments) result) }
     ensures reads { OrFailsAtEnd (ReadsStream R.Read source.old source.new
@@ -55,8 +55,8 @@ pub fn try_read_message_no_alloc_lenient<'b, R: Read>(
     buffer: &'b mut [u8],
     options: ReaderOptions,
 ) -> Result<Option<Reader<NoAllocBufferSegments<&'b [u8]>>>>
-    // Over a source of plain bytes: the unread bytes begin with the framed text of the message.
-    ensures texts { IsPlainSource R.gives R.refuses → ReturnsTextsInto (IsFrame Padding.Any)
+    // Over a source of plain bytes: the unread bytes begin with the framed encoding of the message.
+    ensures texts { IsPlainSource R.gives R.refuses → ReturnsEncodingsInto (IsFrame Padding.Any)
         options.traversal_limit_in_words (length buffer.old) (R.unread source.old) (R.unread source.new)
         (next_in (λ reader. reader.segments.segments) result) }
     ensures reads { ReadsStreamInto R.Read source.old source.new (framed_rules Padding.Any R.gives R.refuses)
@@ -73,8 +73,8 @@ pub fn read_message_no_alloc_lenient<'b, R: Read>(
     buffer: &'b mut [u8],
     options: ReaderOptions,
 ) -> Result<Reader<NoAllocBufferSegments<&'b [u8]>>>
-    // Over a source of plain bytes: the unread bytes begin with the framed text of the message.
-    ensures texts { IsPlainSource R.gives R.refuses → ReturnsTextsInto (IsFrame Padding.Any)
+    // Over a source of plain bytes: the unread bytes begin with the framed encoding of the message.
+    ensures texts { IsPlainSource R.gives R.refuses → ReturnsEncodingsInto (IsFrame Padding.Any)
         options.traversal_limit_in_words (length buffer.old) (R.unread source.old) (R.unread source.new)
         (message_in (λ reader. reader.segments.segments) result) }
     ensures reads { OrFailsAtEnd (ReadsStreamInto R.Read source.old source.new

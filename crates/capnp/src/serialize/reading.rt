@@ -3,7 +3,7 @@ ghost use Rattle.std.specs.Prelude.{◌≡◌, length, IfSome, IfOk};
 ghost use Rattle.capnp_frame.specs.Streams.{message_in, next_in, framed_rules, ReadsStream, ReadsStreamInto};
 ghost use Rattle.capnp_frame.specs.Frame.{IsFrame};
 ghost use Rattle.capnp.specs.Streams.{IsPlainSource};
-ghost use Rattle.capnp.specs.Headline.{ReturnsTexts, ReturnsTextsInto, OrFailsAtEnd};
+ghost use Rattle.capnp.specs.Headline.{ReturnsEncodings, ReturnsEncodingsInto, OrFailsAtEnd};
 
 use capnp_frame::io::Read;
 use capnp_frame::message::ReaderOptions;
@@ -22,8 +22,8 @@ pub(crate) fn try_read_message<R: Read>(
     padding: Padding,
     options: ReaderOptions,
 ) -> Result<Option<Reader<OwnedSegments>>>
-    // Over a source of plain bytes: the unread bytes begin with the framed text of the message.
-    ensures texts { IsPlainSource R.gives R.refuses → ReturnsTexts (IsFrame padding)
+    // Over a source of plain bytes: the unread bytes begin with the framed encoding of the message.
+    ensures texts { IsPlainSource R.gives R.refuses → ReturnsEncodings (IsFrame padding)
         options.traversal_limit_in_words (R.unread source.old) (R.unread source.new)
         (next_in (λ reader. reader.segments) result) }
     ensures reads { ReadsStream R.Read source.old source.new (framed_rules padding R.gives R.refuses)
@@ -44,8 +44,8 @@ pub(crate) fn read_message<R: Read>(
     padding: Padding,
     options: ReaderOptions,
 ) -> Result<Reader<OwnedSegments>>
-    // Over a source of plain bytes: the unread bytes begin with the framed text of the message.
-    ensures texts { IsPlainSource R.gives R.refuses → ReturnsTexts (IsFrame padding)
+    // Over a source of plain bytes: the unread bytes begin with the framed encoding of the message.
+    ensures texts { IsPlainSource R.gives R.refuses → ReturnsEncodings (IsFrame padding)
         options.traversal_limit_in_words (R.unread source.old) (R.unread source.new)
         (message_in (λ reader. reader.segments) result) }
     ensures reads { OrFailsAtEnd (ReadsStream R.Read source.old source.new
@@ -67,8 +67,8 @@ pub(crate) fn try_read_message_no_alloc<'b, R: Read>(
     padding: Padding,
     options: ReaderOptions,
 ) -> Result<Option<Reader<NoAllocBufferSegments<&'b [u8]>>>>
-    // Over a source of plain bytes: the unread bytes begin with the framed text of the message.
-    ensures texts { IsPlainSource R.gives R.refuses → ReturnsTextsInto (IsFrame padding)
+    // Over a source of plain bytes: the unread bytes begin with the framed encoding of the message.
+    ensures texts { IsPlainSource R.gives R.refuses → ReturnsEncodingsInto (IsFrame padding)
         options.traversal_limit_in_words (length buffer.old) (R.unread source.old) (R.unread source.new)
         (next_in (λ reader. reader.segments.segments) result) }
     ensures reads { ReadsStreamInto R.Read source.old source.new (framed_rules padding R.gives R.refuses)
@@ -89,8 +89,8 @@ pub(crate) fn read_message_no_alloc<'b, R: Read>(
     padding: Padding,
     options: ReaderOptions,
 ) -> Result<Reader<NoAllocBufferSegments<&'b [u8]>>>
-    // Over a source of plain bytes: the unread bytes begin with the framed text of the message.
-    ensures texts { IsPlainSource R.gives R.refuses → ReturnsTextsInto (IsFrame padding)
+    // Over a source of plain bytes: the unread bytes begin with the framed encoding of the message.
+    ensures texts { IsPlainSource R.gives R.refuses → ReturnsEncodingsInto (IsFrame padding)
         options.traversal_limit_in_words (length buffer.old) (R.unread source.old) (R.unread source.new)
         (message_in (λ reader. reader.segments.segments) result) }
     ensures reads { OrFailsAtEnd (ReadsStreamInto R.Read source.old source.new
@@ -129,7 +129,7 @@ fn next_segments_into<'b, R: Read>(
 ) -> Result<Option<NoAllocBufferSegments<&'b [u8]>>>
     ensures { ReadsStreamInto R.Read source.old source.new (framed_rules padding R.gives R.refuses)
         options.traversal_limit_in_words (length buffer.old)
-        (next_in (λ held. held.segments) result) }
+        (next_in (λ message. message.segments) result) }
 {
     match padding {
         Padding::Zero => try_read_segments_into(source, buffer, options),

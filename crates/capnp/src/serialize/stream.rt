@@ -3,7 +3,7 @@ ghost use Rattle.std.specs.Prelude.{◌≡◌, length, IfSome, IfOk};
 ghost use Rattle.capnp_frame.specs.Streams.{message_in, next_in, framed_rules, ReadsStream, ReadsStreamInto};
 ghost use Rattle.capnp_frame.specs.Frame.{IsFrame};
 ghost use Rattle.capnp.specs.Streams.{IsPlainSource};
-ghost use Rattle.capnp.specs.Headline.{ReturnsTexts, ReturnsTextsInto, OrFailsAtEnd};
+ghost use Rattle.capnp.specs.Headline.{ReturnsEncodings, ReturnsEncodingsInto, OrFailsAtEnd};
 
 use super::reading;
 use capnp_frame::Result;
@@ -15,7 +15,7 @@ use std::alloc::Global;
 
 /// Reads the next message of a source, or returns `None` where nothing is unread.
 ///
-/// The message is returned exactly where the unread bytes begin with a framed text of it, and just
+/// The message is returned exactly where the unread bytes begin with a framed encoding of it, and just
 /// that text is consumed. Memory is taken for the lengths of the segments, and for the segments
 /// once the limit of words is tested.
 ///
@@ -35,8 +35,8 @@ pub fn try_read_message<R: Read>(
     source: &mut R,
     options: ReaderOptions,
 ) -> Result<Option<Reader<OwnedSegments>>>
-    // Over a source of plain bytes: the unread bytes begin with the framed text of the message.
-    ensures texts { IsPlainSource R.gives R.refuses → ReturnsTexts (IsFrame Padding.Zero)
+    // Over a source of plain bytes: the unread bytes begin with the framed encoding of the message.
+    ensures texts { IsPlainSource R.gives R.refuses → ReturnsEncodings (IsFrame Padding.Zero)
         options.traversal_limit_in_words (R.unread source.old) (R.unread source.new)
         (next_in (λ reader. reader.segments) result) }
     ensures reads { ReadsStream R.Read source.old source.new (framed_rules Padding.Zero R.gives R.refuses)
@@ -54,8 +54,8 @@ pub fn read_message<R: Read>(
     source: &mut R,
     options: ReaderOptions,
 ) -> Result<Reader<OwnedSegments>>
-    // Over a source of plain bytes: the unread bytes begin with the framed text of the message.
-    ensures texts { IsPlainSource R.gives R.refuses → ReturnsTexts (IsFrame Padding.Zero)
+    // Over a source of plain bytes: the unread bytes begin with the framed encoding of the message.
+    ensures texts { IsPlainSource R.gives R.refuses → ReturnsEncodings (IsFrame Padding.Zero)
         options.traversal_limit_in_words (R.unread source.old) (R.unread source.new)
         (message_in (λ reader. reader.segments) result) }
     ensures reads { OrFailsAtEnd (ReadsStream R.Read source.old source.new
@@ -78,8 +78,8 @@ pub fn try_read_message_no_alloc<'b, R: Read>(
     buffer: &'b mut [u8],
     options: ReaderOptions,
 ) -> Result<Option<Reader<NoAllocBufferSegments<&'b [u8]>>>>
-    // Over a source of plain bytes: the unread bytes begin with the framed text of the message.
-    ensures texts { IsPlainSource R.gives R.refuses → ReturnsTextsInto (IsFrame Padding.Zero)
+    // Over a source of plain bytes: the unread bytes begin with the framed encoding of the message.
+    ensures texts { IsPlainSource R.gives R.refuses → ReturnsEncodingsInto (IsFrame Padding.Zero)
         options.traversal_limit_in_words (length buffer.old) (R.unread source.old) (R.unread source.new)
         (next_in (λ reader. reader.segments.segments) result) }
     ensures reads { ReadsStreamInto R.Read source.old source.new (framed_rules Padding.Zero R.gives R.refuses)
@@ -97,8 +97,8 @@ pub fn read_message_no_alloc<'b, R: Read>(
     buffer: &'b mut [u8],
     options: ReaderOptions,
 ) -> Result<Reader<NoAllocBufferSegments<&'b [u8]>>>
-    // Over a source of plain bytes: the unread bytes begin with the framed text of the message.
-    ensures texts { IsPlainSource R.gives R.refuses → ReturnsTextsInto (IsFrame Padding.Zero)
+    // Over a source of plain bytes: the unread bytes begin with the framed encoding of the message.
+    ensures texts { IsPlainSource R.gives R.refuses → ReturnsEncodingsInto (IsFrame Padding.Zero)
         options.traversal_limit_in_words (length buffer.old) (R.unread source.old) (R.unread source.new)
         (message_in (λ reader. reader.segments.segments) result) }
     ensures reads { OrFailsAtEnd (ReadsStreamInto R.Read source.old source.new

@@ -1,9 +1,9 @@
 //! Writing messages to a sink.
 ghost use Rattle.std.specs.Prelude.{◌≡◌, ◌*◌, ◌<◌, ℕ, List, length, IfOk};
-ghost use Rattle.capnp_frame.specs.Writers.{ReturnsText, CountsWords};
+ghost use Rattle.capnp_frame.specs.Writers.{ReturnsEncoding, CountsWords};
 ghost use Rattle.capnp_frame.specs.Writing.{IsWritable};
 ghost use Rattle.capnp.specs.declared.streams.Format.{Format};
-ghost use Rattle.capnp.specs.Written.{IsFrameText, WritesMessage};
+ghost use Rattle.capnp.specs.Written.{IsFrameEncoding, WritesMessage};
 
 use capnp_frame::Result;
 use capnp_frame::io::Write;
@@ -54,7 +54,7 @@ pub fn write_message_segments<W: Write, S: ReaderSegments>(
     write_segments(alloc, sink, segments)
 }
 
-/// The framed text of a message, in bytes.
+/// The framed encoding of a message, in bytes.
 ///
 /// Fails with `InvalidNumberOfSegments` exactly where there are more than 511 segments, before
 /// memory is taken, and else with `OutOfMemory` alone.
@@ -63,30 +63,30 @@ pub fn write_message_segments_to_words<S: ReaderSegments>(
     segments: &S,
 ) -> Result<Vec<u8>>
     requires { IsWritable (S.segments segments.now) }
-    ensures { ReturnsText (S.segments segments.now) (λ text. text.items) result }
+    ensures { ReturnsEncoding (S.segments segments.now) (λ text. text.items) result }
 {
     segments_to_words(alloc, segments)
 }
 
-/// The framed text of a message that is built, in bytes; the message has one segment at least.
+/// The framed encoding of a message that is built, in bytes; the message has one segment at least.
 ///
 /// Fails as `write_message_segments_to_words` does.
 pub fn write_message_to_words<M: BuiltMessage>(alloc: Global, message: &M) -> Result<Vec<u8>>
     requires { M.has_segment message.now }
-    ensures { ReturnsText (M.segments message.now) (λ text. text.items) result }
+    ensures { ReturnsEncoding (M.segments message.now) (λ text. text.items) result }
 {
     message.can_be_written();
     write_message_segments_to_words(alloc, message)
 }
 
-/// How many words the framed text of a message that is built takes, with its table: an eighth of
+/// How many words the framed encoding of a message that is built takes, with its table: an eighth of
 /// the bytes that `write_message` adds to a plain sink.
 ///
 /// Fails with `MessageSizeOverflow` exactly where this number passes `usize`.
 pub fn compute_serialized_size_in_words<M: BuiltMessage>(message: &M) -> Result<usize>
     requires { M.has_segment message.now }
     ensures bytes { IfOk result (λ words. (text : List ℕ) →
-        IsFrameText (M.segments message.now) text → length text ≡ 8 * words) }
+        IsFrameEncoding (M.segments message.now) text → length text ≡ 8 * words) }
     ensures counts { CountsWords (M.segments message.now) result }
 {
     message.can_be_written();

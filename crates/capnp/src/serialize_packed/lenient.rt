@@ -3,7 +3,7 @@ ghost use Rattle.std.specs.Prelude.{◌≡◌, length, IfSome, IfOk};
 ghost use Rattle.capnp_frame.specs.Streams.{message_in, next_in, ReadsStream, ReadsStreamInto};
 ghost use Rattle.capnp_pack.specs.PackedFrame.{IsPackedFrame};
 ghost use Rattle.capnp_pack.specs.PackedStreams.{packed_rules};
-ghost use Rattle.capnp.specs.Headline.{ReturnsTexts, ReturnsTextsInto, OrFailsAtEnd};
+ghost use Rattle.capnp.specs.Headline.{ReturnsEncodings, ReturnsEncodingsInto, OrFailsAtEnd};
 
 use super::reading;
 use capnp_frame::Result;
@@ -19,8 +19,8 @@ pub fn try_read_message_lenient<R: BufRead>(
     source: &mut R,
     options: ReaderOptions,
 ) -> Result<Option<Reader<OwnedSegments>>>
-    // The unread bytes begin with a packed text of the message.
-    ensures texts { ReturnsTexts (IsPackedFrame Padding.Any)
+    // The unread bytes begin with a packed encoding of the message.
+    ensures texts { ReturnsEncodings (IsPackedFrame Padding.Any)
         options.traversal_limit_in_words (R.unread source.old) (R.unread source.new)
         (next_in (λ reader. reader.segments) result) }
     ensures reads { ReadsStream R.Read source.old source.new (packed_rules Padding.Any)
@@ -37,8 +37,8 @@ pub fn read_message_lenient<R: BufRead>(
     source: &mut R,
     options: ReaderOptions,
 ) -> Result<Reader<OwnedSegments>>
-    // The unread bytes begin with a packed text of the message.
-    ensures texts { ReturnsTexts (IsPackedFrame Padding.Any)
+    // The unread bytes begin with a packed encoding of the message.
+    ensures texts { ReturnsEncodings (IsPackedFrame Padding.Any)
         options.traversal_limit_in_words (R.unread source.old) (R.unread source.new)
         (message_in (λ reader. reader.segments) result) }
     ensures reads { OrFailsAtEnd (ReadsStream R.Read source.old source.new
@@ -55,8 +55,8 @@ pub fn try_read_message_no_alloc_lenient<'b, R: BufRead>(
     buffer: &'b mut [u8],
     options: ReaderOptions,
 ) -> Result<Option<Reader<NoAllocBufferSegments<&'b [u8]>>>>
-    // The unread bytes begin with a packed text of the message.
-    ensures texts { ReturnsTextsInto (IsPackedFrame Padding.Any)
+    // The unread bytes begin with a packed encoding of the message.
+    ensures texts { ReturnsEncodingsInto (IsPackedFrame Padding.Any)
         options.traversal_limit_in_words (length buffer.old) (R.unread source.old) (R.unread source.new)
         (next_in (λ reader. reader.segments.segments) result) }
     ensures reads { ReadsStreamInto R.Read source.old source.new (packed_rules Padding.Any)
@@ -73,8 +73,8 @@ pub fn read_message_no_alloc_lenient<'b, R: BufRead>(
     buffer: &'b mut [u8],
     options: ReaderOptions,
 ) -> Result<Reader<NoAllocBufferSegments<&'b [u8]>>>
-    // The unread bytes begin with a packed text of the message.
-    ensures texts { ReturnsTextsInto (IsPackedFrame Padding.Any)
+    // The unread bytes begin with a packed encoding of the message.
+    ensures texts { ReturnsEncodingsInto (IsPackedFrame Padding.Any)
         options.traversal_limit_in_words (length buffer.old) (R.unread source.old) (R.unread source.new)
         (message_in (λ reader. reader.segments.segments) result) }
     ensures reads { OrFailsAtEnd (ReadsStreamInto R.Read source.old source.new

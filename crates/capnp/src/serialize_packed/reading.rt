@@ -3,7 +3,7 @@ ghost use Rattle.std.specs.Prelude.{◌≡◌, length, IfSome, IfOk};
 ghost use Rattle.capnp_frame.specs.Streams.{message_in, next_in, ReadsStream, ReadsStreamInto};
 ghost use Rattle.capnp_pack.specs.PackedFrame.{IsPackedFrame};
 ghost use Rattle.capnp_pack.specs.PackedStreams.{packed_rules};
-ghost use Rattle.capnp.specs.Headline.{ReturnsTexts, ReturnsTextsInto, OrFailsAtEnd};
+ghost use Rattle.capnp.specs.Headline.{ReturnsEncodings, ReturnsEncodingsInto, OrFailsAtEnd};
 
 use capnp_frame::io::BufRead;
 use capnp_frame::message::ReaderOptions;
@@ -24,8 +24,8 @@ pub(crate) fn try_read_message<R: BufRead>(
     padding: Padding,
     options: ReaderOptions,
 ) -> Result<Option<Reader<OwnedSegments>>>
-    // The unread bytes begin with a packed text of the message.
-    ensures texts { ReturnsTexts (IsPackedFrame padding)
+    // The unread bytes begin with a packed encoding of the message.
+    ensures texts { ReturnsEncodings (IsPackedFrame padding)
         options.traversal_limit_in_words (R.unread source.old) (R.unread source.new)
         (next_in (λ reader. reader.segments) result) }
     ensures reads { ReadsStream R.Read source.old source.new (packed_rules padding)
@@ -46,8 +46,8 @@ pub(crate) fn read_message<R: BufRead>(
     padding: Padding,
     options: ReaderOptions,
 ) -> Result<Reader<OwnedSegments>>
-    // The unread bytes begin with a packed text of the message.
-    ensures texts { ReturnsTexts (IsPackedFrame padding)
+    // The unread bytes begin with a packed encoding of the message.
+    ensures texts { ReturnsEncodings (IsPackedFrame padding)
         options.traversal_limit_in_words (R.unread source.old) (R.unread source.new)
         (message_in (λ reader. reader.segments) result) }
     ensures reads { OrFailsAtEnd (ReadsStream R.Read source.old source.new
@@ -69,8 +69,8 @@ pub(crate) fn try_read_message_no_alloc<'b, R: BufRead>(
     padding: Padding,
     options: ReaderOptions,
 ) -> Result<Option<Reader<NoAllocBufferSegments<&'b [u8]>>>>
-    // The unread bytes begin with a packed text of the message.
-    ensures texts { ReturnsTextsInto (IsPackedFrame padding)
+    // The unread bytes begin with a packed encoding of the message.
+    ensures texts { ReturnsEncodingsInto (IsPackedFrame padding)
         options.traversal_limit_in_words (length buffer.old) (R.unread source.old) (R.unread source.new)
         (next_in (λ reader. reader.segments.segments) result) }
     ensures reads { ReadsStreamInto R.Read source.old source.new (packed_rules padding)
@@ -91,8 +91,8 @@ pub(crate) fn read_message_no_alloc<'b, R: BufRead>(
     padding: Padding,
     options: ReaderOptions,
 ) -> Result<Reader<NoAllocBufferSegments<&'b [u8]>>>
-    // The unread bytes begin with a packed text of the message.
-    ensures texts { ReturnsTextsInto (IsPackedFrame padding)
+    // The unread bytes begin with a packed encoding of the message.
+    ensures texts { ReturnsEncodingsInto (IsPackedFrame padding)
         options.traversal_limit_in_words (length buffer.old) (R.unread source.old) (R.unread source.new)
         (message_in (λ reader. reader.segments.segments) result) }
     ensures reads { OrFailsAtEnd (ReadsStreamInto R.Read source.old source.new
@@ -131,7 +131,7 @@ fn next_segments_into<'b, R: BufRead>(
 ) -> Result<Option<NoAllocBufferSegments<&'b [u8]>>>
     ensures { ReadsStreamInto R.Read source.old source.new (packed_rules padding)
         options.traversal_limit_in_words (length buffer.old)
-        (next_in (λ held. held.segments) result) }
+        (next_in (λ message. message.segments) result) }
 {
     match padding {
         Padding::Zero => try_read_packed_segments_into(source, buffer, options),

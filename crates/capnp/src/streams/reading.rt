@@ -79,7 +79,7 @@ impl StreamRead {
     }
 }
 
-/// Reads every message of a stream, one after another, up to its end or the first refusal, their padding
+/// Reads every message of a stream, one after another, up to its end or the first error, their padding
 /// by the rule.
 ///
 /// Where memory lacks, `refusal` is `OutOfMemory`, and what was read before is there.

@@ -1,7 +1,7 @@
 //! The arena that a message is built in.
 ghost use Rattle.std.specs.Prelude.{⊤, MatchOption, ◌≡◌, ℕ, ◌+◌, ◌-◌, ◌*◌, ◌/◌, ◌<◌, ◌≤◌, [], ◌∷◌, length, map, max, slice_index_or, take, drop, Some, None, IfErr, IsOk, OnOk, OnErr};
-ghost use Rattle.capnp_build.specs.Held.{used_of, space_at};
-ghost use Rattle.capnp_build.specs.Built.{held_of, ForRoot, IsRootKind, size_in_words, message, HasNullRoot, KeepsOutside, Built};
+ghost use Rattle.capnp_build.specs.BuilderState.{used_of, space_at};
+ghost use Rattle.capnp_build.specs.Built.{state_of, ForRoot, IsRootKind, size_in_words, message, HasNullRoot, KeepsOutside, Built};
 ghost use Rattle.capnp_build.specs.Placed.{HasRootAlone, IsZeroAt, KeepsRooms};
 ghost use Rattle.capnp_build.specs.RootKind.{ShowsRoot, HoldsForm};
 ghost use Rattle.capnp_build.specs.Output.{CanBeWritten};
@@ -9,7 +9,7 @@ ghost use Rattle.capnp_wire.specs.Tree.{Form, Trees, none, tree, count};
 ghost use Rattle.capnp_wire.specs.Reached.{At, root};
 ghost use Rattle.capnp_wire.specs.Layout.{pointer};
 ghost use Rattle.capnp_wire.specs.Readers.{pointer_of, unlimited_root};
-ghost use Rattle.capnp_build.specs.Outcomes.{ClearsRoot, EnsuresRoot, LacksFirst, NotTakenAtHome, IsNewMessage, GivesBack};
+ghost use Rattle.capnp_build.specs.Outcomes.{ClearsRoot, EnsuresRoot, LacksFirst, NotExhaustedWhileAvailable, IsNewMessage, GivesBack};
 ghost use Rattle.capnp_build.specs.Blocks.{LeavesNull};
 ghost use Rattle.capnp_build.specs.RootViews.{HoldsTree};
 
@@ -76,7 +76,7 @@ impl<A: Allocator> BuilderArena<A> {
         ensures new_object { self.old.spaces ≡ [] → OnOk result (HasRootAlone self.new.spaces) }
         ensures granted { self.old.spaces ≡ [] → (most : ℕ) → A.grants self.old.allocator 1 most →
             IsOk result × ((space_at self.new.spaces 0).size / 8 ≡ most) }
-        ensures home { NotTakenAtHome A.Allocator (λ kind. ⊥) self.old result }
+        ensures available { NotExhaustedWhileAvailable A.Allocator (λ kind. ⊥) self.old result }
     {
         if self.segments.len() == 0 {
             self.location = None;
@@ -84,7 +84,7 @@ impl<A: Allocator> BuilderArena<A> {
             self.segments.grow(0, 1);
             return Ok(());
         }
-        self.segments.wipe(self.location);
+        self.segments.zero_root(self.location);
         self.location = None;
         Ok(())
     }
@@ -104,7 +104,7 @@ impl<A: Allocator> BuilderArena<A> {
 
     /// The allocator, after each segment went back to it with its used words.
     pub fn into_allocator(self) -> A
-        ensures { GivesBack A.Allocator (held_of self) result }
+        ensures { GivesBack A.Allocator (state_of self) result }
     {
         let BuilderArena {
             segments,
@@ -137,7 +137,7 @@ impl<A: Allocator> BuilderArena<A> {
         };
         // For the prover: each of these is below 256.
         each_is_a_byte(used);
-        stretch(
+        subslice(
             used,
             8 * location.start as usize,
             8 * location.words as usize,
@@ -170,7 +170,7 @@ impl<A: Allocator> BuilderArena<A> {
 
     /// There is a tree at the root.
     pub fn root_stands(&self)
-        ensures { 0 < length self.now.spaces → (form : Form) × (held : Trees) × (traversed : ℕ) × At (message self.now.spaces) (root ∷ []) (tree form held none) traversed }
+        ensures { 0 < length self.now.spaces → (form : Form) × (children : Trees) × (traversed : ℕ) × At (message self.now.spaces) (root ∷ []) (tree form children none) traversed }
     {
         // For the prover: a look at a field brings in the invariant, which says this.
         let location = self.location;
@@ -186,7 +186,7 @@ impl<A: Allocator> ReaderSegments for BuilderArena<A> {
 }
 
 // This many bytes, from an index on.
-fn stretch(bytes: &[u8], from: usize, count: usize) -> &[u8]
+fn subslice(bytes: &[u8], from: usize, count: usize) -> &[u8]
     requires { from + count ≤ length bytes.now }
     ensures { result.now ≡ take count (drop from bytes.now) }
 {

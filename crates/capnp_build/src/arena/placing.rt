@@ -2,8 +2,8 @@
 ghost use Rattle.std.specs.Prelude.{◌≡◌, ℕ, ◌+◌, ◌-◌, ◌*◌, ◌/◌, ◌^◌, ◌<◌, ◌≤◌, List, length, Some, None, IfOk, IfErr, OnErr};
 ghost use Rattle.capnp_frame.specs.declared.error.ErrorKind.TheVariants.{SegmentTaken};
 ghost use Rattle.capnp_build.specs.Out.{Out, HasLarge};
-ghost use Rattle.capnp_build.specs.Held.{space_at, free_words_of, pairs};
-ghost use Rattle.capnp_build.specs.Built.{held_of, IsSet, IsWhole};
+ghost use Rattle.capnp_build.specs.BuilderState.{space_at, free_words_of, pairs};
+ghost use Rattle.capnp_build.specs.Built.{state_of, IsSet, IsWhole};
 ghost use Rattle.capnp_build.specs.Placed.{LacksSegment, IsAdded};
 ghost use Rattle.capnp_wire.specs.Tree.{count};
 ghost use Rattle.capnp_wire.specs.Reached.{root};
@@ -29,7 +29,7 @@ impl<A: Allocator> BuilderArena<A> {
         ensures leaves { LeavesNull A.Allocator self.old self.new }
         ensures kept { OnErr result (self.new.spaces ≡ self.old.spaces) }
         ensures full { OnErr result ((i : ℕ) → 0 < i → i < length self.old.spaces → free_words_of (space_at self.old.spaces i) < words) }
-        ensures kind { IfErr result (λ error. LacksSegment A.Allocator (held_of self.old) words error.kind) }
+        ensures kind { IfErr result (λ error. LacksSegment A.Allocator (state_of self.old) words error.kind) }
         ensures taken { IfErr result (λ error. error.kind ≡ SegmentTaken → (others : List Out) →
             A.out self.old.allocator (pairs self.old.spaces others) →
             HasLarge words (pairs self.old.spaces others)) }
@@ -44,7 +44,7 @@ impl<A: Allocator> BuilderArena<A> {
         Ok(count)
     }
 
-    pub(crate) fn put_near<T, V: SetterInput<T>>(&mut self, canonical: bool, value: &V, words: u32)
+    pub(crate) fn put_local<T, V: SetterInput<T>>(&mut self, canonical: bool, value: &V, words: u32)
         requires there { 0 < length self.old.spaces }
         requires null { self.old.location ≡ None }
         requires value { HasWords (V.has_tree value.now) canonical words }
@@ -54,7 +54,7 @@ impl<A: Allocator> BuilderArena<A> {
             self.old self.new }
     {
         let location = self.segments.fill(0, canonical, value, words);
-        self.segments.point_near(location);
+        self.segments.point_local(location);
         self.location = Some(location);
     }
 
@@ -94,7 +94,7 @@ impl<A: Allocator> BuilderArena<A> {
             self.old self.new result }
     {
         if words <= self.segments.room(0) {
-            self.put_near(canonical, value, words);
+            self.put_local(canonical, value, words);
             return Ok(());
         }
         let segment = self.find_room(words + 1)?;

@@ -76,7 +76,7 @@ impl<A: Allocator> BuilderArena<A> {
         if words > self.segments.room(0) {
             return Err(Error::from_kind(ErrorKind::NotOneSegment));
         }
-        self.put_near(true, value, words);
+        self.put_local(true, value, words);
         Ok(())
     }
 }

@@ -95,7 +95,7 @@ fn expect_roots(rt: &impl Abort, arena: &mut Words) -> Result<()> {
     Ok(())
 }
 
-// The refusal of a new object, and whether the root is null then.
+// The error of a new object, and whether the root is null then.
 fn refused_after_hello(arena: &mut Words) -> Result<((u8, u32), bool)> {
     set_text(arena, "hello")?;
     let mut root = arena.get_root::<any_pointer::Owned>()?;
@@ -103,7 +103,7 @@ fn refused_after_hello(arena: &mut Words) -> Result<((u8, u32), bool)> {
     Ok((allocation_refusal(refused), root.is_null()))
 }
 
-// Where a new object is refused, the root is null.
+// Where a new object is rejected, the root is null.
 #[test]
 fn a_new_object_that_is_refused(rt: HostRuntime) -> Result<()> {
     let found = refused_after_hello(&mut arena_of(rt.alloc(), 1024))?;

@@ -19,7 +19,7 @@ use capnp_rows::refusals::{allocation_refusal, refusal};
 
 const HELLO: &[u8] = b"\x01\0\0\0\x72\0\0\0Hello, World!\0\0\0";
 
-// "Hello, World!" after two words of zeros, where another text stood.
+// "Hello, World!" after two words of zeros, where another text was.
 const SECOND: &[u8] = b"\x05\0\0\0\x72\0\0\0\0\0\0\0\0\0\0\0Hello, World!\0\0\0";
 
 // A far pointer, and the landing pad and text that it leads to.
@@ -51,7 +51,7 @@ fn hello_far(rt: HostRuntime) -> Result<()> {
     Ok(())
 }
 
-/// A heap whose second request is refused.
+/// A heap whose second request is rejected.
 #[derive(Drop)]
 struct SecondRefused {
     heap: HeapAllocator,
@@ -90,7 +90,7 @@ impl Allocator for SecondRefused {
     ghost accounts = { λ s. ([], tt) };
 }
 
-// Where the second segment is refused the root is null, and the same call succeeds once it is given.
+// Where the second segment is rejected the root is null, and the same call succeeds once it is given.
 #[test]
 fn second_segment_refused(rt: HostRuntime) -> Result<()> {
     let heap = HeapAllocator::new(rt.alloc()).first_segment_words(1);
@@ -180,7 +180,7 @@ fn struct_refusal<A: Allocator>(message: &mut Builder<A>) -> (u8, u32) {
     allocation_refusal(message.get_root::<any_struct::Owned>())
 }
 
-// A refusal before them takes no word but the root's.
+// An error before them takes no word but the root's.
 #[test]
 fn roots_one_after_another(rt: HostRuntime) -> Result<()> {
     let mut message = Builder::new_default(rt.alloc());

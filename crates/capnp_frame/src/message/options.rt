@@ -6,7 +6,7 @@ ghost use Rattle.capnp_frame.specs.declared.message.options.TheConstants.{DEFAUL
 /// Limits against messages that would cost a reader too much.
 #[derive(Clone, Copy, Debug)]
 pub struct ReaderOptions {
-    /// A message of more words than this is refused, and a reader may visit no more words. Pointers
+    /// A message of more words than this is rejected, and a reader may visit no more words. Pointers
     /// may lead to the same words again and again, so a limit on a message's size alone would not
     /// do. `None` sets no limit.
     pub traversal_limit_in_words: Option<usize>,

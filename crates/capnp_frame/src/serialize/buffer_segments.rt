@@ -3,7 +3,7 @@ ghost use Rattle.std.specs.Prelude.{◌≡◌, ◌+◌, ◌*◌, ◌≤◌, leng
 ghost use Rattle.capnp_frame.specs.SegmentLengths.{ranges, range_len, cut};
 ghost use Rattle.capnp_frame.specs.Limits.{AreWithin};
 ghost use Rattle.capnp_frame.specs.SegmentTable.{table_size, KeepsPadding};
-ghost use Rattle.capnp_frame.specs.Front.{HoldsMessage, told_lengths, told_padding};
+ghost use Rattle.capnp_frame.specs.Front.{HoldsMessage, declared_lengths, declared_padding};
 ghost use Rattle.capnp_frame.specs.FlatRefusals.{by_words, AcceptsCount, RefusesFlat};
 ghost use Rattle.capnp_frame.specs.FlatReaders.{buffer_rules, slice_rules, ReadsFlat};
 ghost use Rattle.capnp_frame.specs.declared.error.ErrorKind.{ErrorKind};
@@ -134,7 +134,7 @@ impl<T: AsBytes + Drop> BufferSegments<T> {
 }
 
 impl<T: AsBytes> ReaderSegments for BufferSegments<T> {
-    ghost segments = { λ held. held.segments };
+    ghost segments = { λ message. message.segments };
 
     fn get_segment(&self, id: u32) -> Option<&[u8]> {
         part(
@@ -213,11 +213,11 @@ fn find_message(
     empty: ErrorKind,
 ) -> Result<(SegmentLengthsBuilder, usize)>
     ensures holds { IfOk result (λ found. HoldsMessage bytes.now (length found.0)) }
-    ensures lengths { IfOk result (λ found. told_lengths (length found.0) bytes.now ≡ found.0) }
+    ensures lengths { IfOk result (λ found. declared_lengths (length found.0) bytes.now ≡ found.0) }
     ensures table { IfOk result (λ found. found.1 ≡ table_size (length found.0)) }
     ensures within { IfOk result (λ found. AreWithin found.0 limit) }
     ensures padding { IfOk result (λ found.
-        KeepsPadding rule (told_padding (length found.0) bytes.now)) }
+        KeepsPadding rule (declared_padding (length found.0) bytes.now)) }
     ensures refused { IfErr result (λ error. ((error.kind ≡ ErrorKind.OutOfMemory)
         × AcceptsCount (by_words empty) bytes.now)
         ⊎ RefusesFlat (by_words empty) rule limit error.kind bytes.now) }

@@ -1,6 +1,6 @@
 //! Segments in a buffer that are found without memory.
 ghost use Rattle.std.specs.Prelude.{◌≡◌, ℕ, ◌+◌, ◌<◌, ◌≤◌, List, length, sum, IfOk, Some, None};
-ghost use Rattle.capnp_frame.specs.Front.{HasFrame, IsDescribed, HoldsMessage, told_lengths, told_segments};
+ghost use Rattle.capnp_frame.specs.Front.{HasFrame, IsDescribed, HoldsMessage, declared_lengths, declared_segments};
 ghost use Rattle.capnp_frame.specs.KeptTables.{KeepsEnds};
 ghost use Rattle.capnp_frame.specs.FlatReaders.{no_alloc_rules, ReadsFlat};
 
@@ -30,7 +30,7 @@ pub type NoAllocSliceSegments<'b> = NoAllocBufferSegments<&'b [u8]>;
 
 // Clauses see the buffer and the segments.
 impl<T: AsBytes> Model for NoAllocBufferSegments<T> {
-    ghost use Rattle.capnp_frame.specs.Front.{told_segments, HoldsMessage};
+    ghost use Rattle.capnp_frame.specs.Front.{declared_segments, HoldsMessage};
     ghost use Rattle.capnp_frame.specs.Views.{SeenBuffer};
     ghost use Rattle.capnp_frame.specs.KeptTables.{KeepsEnds};
 
@@ -38,7 +38,7 @@ impl<T: AsBytes> Model for NoAllocBufferSegments<T> {
 
     ghost view = { λ held. record {
       buffer = held.buffer;
-      segments = told_segments held.segments_count (T.bytes held.buffer);
+      segments = declared_segments held.segments_count (T.bytes held.buffer);
     } };
 
     ghost invariant = { λ held. HoldsMessage (T.bytes held.buffer) held.segments_count
@@ -55,15 +55,15 @@ impl<T: AsBytes> NoAllocBufferSegments<T> {
         ensures buffer { result.buffer ≡ buffer }
         ensures found { (rest : List ℕ) × HasFrame Padding.Any (T.bytes buffer) result.segments rest }
     {
-        NoAllocBufferSegments::of_held(buffer, info.segments_count)
+        NoAllocBufferSegments::of_message(buffer, info.segments_count)
     }
 
     /// The message that the buffer holds, of a given number of segments.
-    pub(crate) fn of_held(buffer: T, segments_count: usize) -> NoAllocBufferSegments<T>
+    pub(crate) fn of_message(buffer: T, segments_count: usize) -> NoAllocBufferSegments<T>
         requires { HoldsMessage (T.bytes buffer) segments_count }
         ensures { result ≡ record {
           buffer = buffer;
-          segments = told_segments segments_count (T.bytes buffer);
+          segments = declared_segments segments_count (T.bytes buffer);
         } }
     {
         let ends = first_ends(buffer.as_bytes(), segments_count);
@@ -107,7 +107,7 @@ impl<T: AsBytes + Drop> NoAllocBufferSegments<T> {
             (λ found. found.segments) result }
     {
         let info = read_table_info(buffer.as_bytes(), limit, rule)?;
-        Ok(NoAllocBufferSegments::of_held(buffer, info.segments_count))
+        Ok(NoAllocBufferSegments::of_message(buffer, info.segments_count))
     }
 }
 
@@ -149,12 +149,12 @@ impl<'b> NoAllocBufferSegments<&'b [u8]> {
         let info = read_table_info(all, limit, rule)?;
         let end = info.segment_table_length_bytes + info.total_segments_length_bytes;
         *slice = &all[end..];
-        Ok(NoAllocBufferSegments::of_held(all, info.segments_count))
+        Ok(NoAllocBufferSegments::of_message(all, info.segments_count))
     }
 }
 
 impl<T: AsBytes> ReaderSegments for NoAllocBufferSegments<T> {
-    ghost segments = { λ held. held.segments };
+    ghost segments = { λ message. message.segments };
 
     fn get_segment(&self, id: u32) -> Option<&[u8]> {
         let index = id as usize;
@@ -193,8 +193,8 @@ fn first_ends(bytes: &[u8], count: usize) -> [usize; KEPT_ENDS]
 fn place(bytes: &[u8], ends: &[usize; KEPT_ENDS], index: usize) -> (usize, usize)
     requires held { (count : ℕ) × HoldsMessage bytes.now count × (index < count)
         × KeepsEnds ends.now count bytes.now }
-    ensures start { result.0 ≡ sum (told_lengths index bytes.now) }
-    ensures end { result.1 ≡ sum (told_lengths (index + 1) bytes.now) }
+    ensures start { result.0 ≡ sum (declared_lengths index bytes.now) }
+    ensures end { result.1 ≡ sum (declared_lengths (index + 1) bytes.now) }
 {
     if index < KEPT_ENDS {
         let start = if index == 0 { 0 } else { ends[index - 1] };
@@ -212,8 +212,8 @@ fn place(bytes: &[u8], ends: &[usize; KEPT_ENDS], index: usize) -> (usize, usize
 fn later_start(bytes: &[u8], end: usize, index: usize) -> usize
     requires held { (count : ℕ) × HoldsMessage bytes.now count × (index < count) }
     requires later { 8 ≤ index }
-    requires end { end ≡ sum (told_lengths 8 bytes.now) }
-    ensures { result ≡ sum (told_lengths index bytes.now) }
+    requires end { end ≡ sum (declared_lengths 8 bytes.now) }
+    ensures { result ≡ sum (declared_lengths index bytes.now) }
 {
     if bytes.len() < 1 << 35 {
         let mut start = end as u32;

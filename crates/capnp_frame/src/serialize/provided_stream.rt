@@ -2,14 +2,14 @@
 ghost use Rattle.std.specs.Prelude.{◌≡◌, ◌+◌, ◌*◌, ◌<◌, ◌≤◌, ◌^◌, [], length, take, sum, IfOk, IfErr, OnOk, IfSome, IfNone, Option, Some, None};
 ghost use Rattle.capnp_frame.specs.SegmentTable.{table_size, KeepsPadding};
 ghost use Rattle.capnp_frame.specs.Limits.{KeepsLimit};
-ghost use Rattle.capnp_frame.specs.Front.{told_lengths, told_padding, told_segments, TellsTable, HoldsMessage};
+ghost use Rattle.capnp_frame.specs.Front.{declared_lengths, declared_padding, declared_segments, DeclaresTable, HoldsMessage};
 ghost use Rattle.capnp_frame.specs.Source.{IfKnown};
 ghost use Rattle.capnp_frame.specs.Asking.{Asked, FailsOr};
 ghost use Rattle.capnp_frame.specs.Errors.{FailsWith};
 ghost use Rattle.capnp_frame.specs.Streams.{next_in, framed_rules, ReadsStreamInto};
 ghost use Rattle.capnp_frame.specs.Steps.{FindsTable, FindsMessage, AsksNextInto, StopsAtTable, RefusesComplete};
 ghost use Rattle.capnp_frame.specs.Requests.{RestStands, TableStands, MessageStands};
-ghost use Rattle.capnp_frame.specs.Refusals.{TellsAccepted, RefusesTable, RefusesStream, IsTableKind, IsProvidedReaderKind};
+ghost use Rattle.capnp_frame.specs.Refusals.{DeclaresAccepted, RefusesTable, RefusesStream, IsTableKind, IsProvidedReaderKind};
 ghost use Rattle.capnp_frame.specs.declared.error.ErrorKind.{ErrorKind};
 
 use crate::error::{Error, ErrorKind, Result};
@@ -17,7 +17,7 @@ use crate::io::Read;
 use crate::message::ReaderOptions;
 use crate::serialize::no_alloc_buffer_segments::NoAllocBufferSegments;
 use crate::serialize::segment_table::{
-    Padding, accepted_count, keep_limit, keep_padding, lengths_total, table_len,
+    Padding, accepted_count, check_limit, check_padding, lengths_total, table_len,
 };
 use crate::serialize::segment_table_info::NoAllocSegmentTableInfo;
 use crate::serialize::stream::{complete_table, read_chunk, read_first};
@@ -38,7 +38,7 @@ pub fn try_read_segments_into<'b, R: Read>(
 ) -> Result<Option<NoAllocBufferSegments<&'b [u8]>>>
     ensures { ReadsStreamInto R.Read source.old source.new
         (framed_rules Padding.Zero R.gives R.refuses) options.traversal_limit_in_words
-        (length buffer.old) (next_in (λ held. held.segments) result) }
+        (length buffer.old) (next_in (λ message. message.segments) result) }
 {
     next_into(
         source,
@@ -56,7 +56,7 @@ pub fn try_read_segments_into_lenient<'b, R: Read>(
 ) -> Result<Option<NoAllocBufferSegments<&'b [u8]>>>
     ensures { ReadsStreamInto R.Read source.old source.new
         (framed_rules Padding.Any R.gives R.refuses) options.traversal_limit_in_words
-        (length buffer.old) (next_in (λ held. held.segments) result) }
+        (length buffer.old) (next_in (λ message. message.segments) result) }
 {
     next_into(
         source,
@@ -74,12 +74,12 @@ fn next_into<'b, R: Read>(
     rule: Padding,
 ) -> Result<Option<NoAllocBufferSegments<&'b [u8]>>>
     ensures { ReadsStreamInto R.Read source.old source.new (framed_rules rule R.gives R.refuses)
-        limit (length buffer.old) (next_in (λ held. held.segments) result) }
+        limit (length buffer.old) (next_in (λ message. message.segments) result) }
 {
     let Some(info) = read_into(source, buffer, limit, rule)? else {
         return Ok(None);
     };
-    Ok(Some(NoAllocBufferSegments::of_held(buffer, info.segments_count)))
+    Ok(Some(NoAllocBufferSegments::of_message(buffer, info.segments_count)))
 }
 
 // Reads the next message of a source into a buffer, or none at the source's end.
@@ -150,14 +150,14 @@ fn read_total<R: Read>(
     limit: Option<usize>,
     rule: Padding,
 ) -> Result<usize>
-    requires accepted { TellsAccepted first.now count }
+    requires accepted { DeclaresAccepted first.now count }
     requires size { length table.old ≡ table_size count }
     ensures found { OnOk result (IfKnown (R.unread source.old) (R.unread source.new)
-        (RestStands rule R.gives first.now (told_lengths count table.new))) }
-    ensures tells { OnOk result (TellsTable table.new count) }
-    ensures total { IfOk result (λ total. total ≡ sum (told_lengths count table.new)) }
+        (RestStands rule R.gives first.now (declared_lengths count table.new))) }
+    ensures tells { OnOk result (DeclaresTable table.new count) }
+    ensures total { IfOk result (λ total. total ≡ sum (declared_lengths count table.new)) }
     ensures bound { IfOk result (λ total. total < 2 ^ 42) }
-    ensures within { OnOk result (KeepsLimit (told_lengths count table.new) limit) }
+    ensures within { OnOk result (KeepsLimit (declared_lengths count table.new) limit) }
     ensures refused { FailsOr result (λ kind. IfKnown (R.unread source.old) (R.unread source.new)
         (StopsAtTable rule R.gives R.refuses limit kind first.now count)) }
     ensures kinds { IfErr result (λ error. IsTableKind rule R.refuses error.kind) }
@@ -169,17 +169,17 @@ fn read_total<R: Read>(
 
 // The sum of the lengths in a table that is complete, once the limit and the padding are tested.
 fn accepted_total(table: &[u8], count: usize, limit: Option<usize>, rule: Padding) -> Result<usize>
-    requires accepted { TellsAccepted (take 8 table.now) count }
+    requires accepted { DeclaresAccepted (take 8 table.now) count }
     requires size { length table.now ≡ table_size count }
-    ensures tells { TellsTable table.now count }
-    ensures total { IfOk result (λ total. total ≡ sum (told_lengths count table.now)) }
+    ensures tells { DeclaresTable table.now count }
+    ensures total { IfOk result (λ total. total ≡ sum (declared_lengths count table.now)) }
     ensures bound { IfOk result (λ total. total < 2 ^ 42) }
-    ensures padding { OnOk result (KeepsPadding rule (told_padding count table.now)) }
-    ensures within { OnOk result (KeepsLimit (told_lengths count table.now) limit) }
+    ensures padding { OnOk result (KeepsPadding rule (declared_padding count table.now)) }
+    ensures within { OnOk result (KeepsLimit (declared_lengths count table.now) limit) }
     ensures refused { IfErr result (λ error. RefusesComplete rule limit error.kind table.now) }
 {
     let total = lengths_total(table, count);
-    keep_limit(total, limit)?;
-    keep_padding(table, count, rule)?;
+    check_limit(total, limit)?;
+    check_padding(table, count, rule)?;
     Ok(total)
 }

@@ -2,8 +2,8 @@
 ghost use Rattle.std.specs.Prelude.{◌≡◌, ◌+◌, ◌*◌, ◌<◌, ◌≤◌, ◌^◌, length, map, take, drop, sum, ℕ, OnOk, IfOk, IfErr, IfSome, IsSomeAnd};
 ghost use Rattle.capnp_frame.specs.SegmentTable.{field, table_size, KeepsPadding};
 ghost use Rattle.capnp_frame.specs.SegmentLengths.{range_len, AreRanges};
-ghost use Rattle.capnp_frame.specs.Refusals.{Tells, TellsAccepted, IsOutOfRange};
-ghost use Rattle.capnp_frame.specs.Front.{told_lengths, told_padding, SpellsLengths};
+ghost use Rattle.capnp_frame.specs.Refusals.{Tells, DeclaresAccepted, IsOutOfRange};
+ghost use Rattle.capnp_frame.specs.Front.{declared_lengths, declared_padding, SpellsLengths};
 
 use crate::error::{Error, ErrorKind, Result};
 
@@ -44,7 +44,7 @@ pub(crate) fn field_at(table: &[u8], at: usize) -> u32
 /// The number of segments by the first word of a table: one more than its field holds, so that
 /// `ff ff ff ff` stands for 0. Fails with `InvalidNumberOfSegments` where it isn't from 1 to 511.
 pub(crate) fn accepted_count(first: &[u8; 8]) -> Result<usize>
-    ensures accepted { IfOk result (TellsAccepted first.now) }
+    ensures accepted { IfOk result (DeclaresAccepted first.now) }
     ensures refused { IfErr result (λ error. (count : ℕ) × Tells first.now count
         × IsOutOfRange count × (error.kind ≡ ErrorKind.InvalidNumberOfSegments count)) }
 {
@@ -56,7 +56,7 @@ pub(crate) fn accepted_count(first: &[u8; 8]) -> Result<usize>
 }
 
 /// Fails with `MessageTooLarge` where there are more words than the limit.
-pub(crate) fn keep_limit(total: usize, limit: Option<usize>) -> Result<()>
+pub(crate) fn check_limit(total: usize, limit: Option<usize>) -> Result<()>
     ensures kept { OnOk result (IfSome limit (λ most. total ≤ most)) }
     ensures refused { IfErr result (λ error. IsSomeAnd limit (λ most. most < total)
         × (error.kind ≡ ErrorKind.MessageTooLarge total)) }
@@ -71,27 +71,27 @@ pub(crate) fn keep_limit(total: usize, limit: Option<usize>) -> Result<()>
 
 /// Fails with `NonZeroPadding` where the rule doesn't accept the padding of a table of this many
 /// segments.
-pub(crate) fn keep_padding(table: &[u8], count: usize, rule: Padding) -> Result<()>
+pub(crate) fn check_padding(table: &[u8], count: usize, rule: Padding) -> Result<()>
     requires few { count < SEGMENTS_COUNT_LIMIT }
     requires room { table_size count ≤ length table.now }
-    ensures kept { OnOk result (KeepsPadding rule (told_padding count table.now)) }
+    ensures kept { OnOk result (KeepsPadding rule (declared_padding count table.now)) }
     ensures refused { IfErr result (λ error. (rule ≡ Padding.Zero)
-        × (KeepsPadding rule (told_padding count table.now) → ⊥)
+        × (KeepsPadding rule (declared_padding count table.now) → ⊥)
         × (error.kind ≡ ErrorKind.NonZeroPadding)) }
 {
     match rule {
         Padding::Any => Ok(()),
-        Padding::Zero => keep_zeros(table, count),
+        Padding::Zero => check_zeros(table, count),
     }
 }
 
 // Fails where there is a padding that isn't zero.
-fn keep_zeros(table: &[u8], count: usize) -> Result<()>
+fn check_zeros(table: &[u8], count: usize) -> Result<()>
     requires few { count < SEGMENTS_COUNT_LIMIT }
     requires room { table_size count ≤ length table.now }
-    ensures kept { OnOk result (KeepsPadding Padding.Zero (told_padding count table.now)) }
+    ensures kept { OnOk result (KeepsPadding Padding.Zero (declared_padding count table.now)) }
     ensures refused { IfErr result (λ error.
-        (KeepsPadding Padding.Zero (told_padding count table.now) → ⊥)
+        (KeepsPadding Padding.Zero (declared_padding count table.now) → ⊥)
         × (error.kind ≡ ErrorKind.NonZeroPadding)) }
 {
     if count % 2 == 1 {
@@ -107,7 +107,7 @@ fn keep_zeros(table: &[u8], count: usize) -> Result<()>
 pub(crate) fn lengths_total(table: &[u8], count: usize) -> usize
     requires few { count < SEGMENTS_COUNT_LIMIT }
     requires room { 4 * (count + 1) ≤ length table.now }
-    ensures total { result ≡ sum (told_lengths count table.now) }
+    ensures total { result ≡ sum (declared_lengths count table.now) }
     ensures bound { result < 2 ^ 42 }
     ensures lengths { SpellsLengths table.now count }
 {
@@ -123,7 +123,7 @@ pub(crate) fn lengths_total(table: &[u8], count: usize) -> usize
 pub(crate) fn fill_indices(indices: &mut [(usize, usize)], table: &[u8]) -> usize
     requires few { length indices.old < SEGMENTS_COUNT_LIMIT }
     requires room { 4 * (length indices.old + 1) ≤ length table.now }
-    ensures told { map range_len indices.new ≡ told_lengths (length indices.new) table.now }
+    ensures declared { map range_len indices.new ≡ declared_lengths (length indices.new) table.now }
     ensures ranges { AreRanges indices.new result }
     ensures bound { result < 2 ^ 42 }
     ensures lengths { SpellsLengths table.now (length indices.new) }

@@ -2,13 +2,13 @@
 ghost use Rattle.std.specs.Prelude.{◌≡◌, ◌*◌, ◌↔◌, length, sum, IfOk, IfErr, IsTrue};
 ghost use Rattle.capnp_frame.specs.SegmentTable.{table_size, KeepsPadding};
 ghost use Rattle.capnp_frame.specs.Limits.{KeepsLimit};
-ghost use Rattle.capnp_frame.specs.Front.{IsDescribed, HaveSameNumbers, HoldsMessage, told_lengths, told_padding};
+ghost use Rattle.capnp_frame.specs.Front.{IsDescribed, HaveSameNumbers, HoldsMessage, declared_lengths, declared_padding};
 ghost use Rattle.capnp_frame.specs.FlatRefusals.{by_fields, cut_kind, RefusesFlat};
 
 use crate::error::{Error, ErrorKind, Result};
 use crate::message::AsBytes;
 use crate::serialize::segment_table::{
-    Padding, SEGMENTS_COUNT_LIMIT, field_at, keep_limit, keep_padding, lengths_total, table_len,
+    Padding, SEGMENTS_COUNT_LIMIT, check_limit, check_padding, field_at, lengths_total, table_len,
 };
 
 /// What is known of a message from its segment table.
@@ -54,11 +54,11 @@ pub(crate) fn read_table_info(
     ensures table { IfOk result (λ info.
         info.segment_table_length_bytes ≡ table_size info.segments_count) }
     ensures total { IfOk result (λ info. info.total_segments_length_bytes
-        ≡ 8 * sum (told_lengths info.segments_count bytes.now)) }
+        ≡ 8 * sum (declared_lengths info.segments_count bytes.now)) }
     ensures within { IfOk result (λ info.
-        KeepsLimit (told_lengths info.segments_count bytes.now) limit) }
+        KeepsLimit (declared_lengths info.segments_count bytes.now) limit) }
     ensures padding { IfOk result (λ info.
-        KeepsPadding rule (told_padding info.segments_count bytes.now)) }
+        KeepsPadding rule (declared_padding info.segments_count bytes.now)) }
     ensures refused { IfErr result (λ error. RefusesFlat by_fields rule limit error.kind bytes.now) }
 {
     let length = bytes.len();
@@ -73,12 +73,12 @@ pub(crate) fn read_table_info(
         return Err(cut_field(bytes));
     }
     let total = lengths_total(bytes, segments_count);
-    keep_limit(total, limit)?;
+    check_limit(total, limit)?;
     let table_length = table_len(segments_count);
     if length < table_length {
         return Err(cut_field(bytes));
     }
-    keep_padding(bytes, segments_count, rule)?;
+    check_padding(bytes, segments_count, rule)?;
     let there = length - table_length;
     if there < 8 * total {
         return Err(Error::from_kind(ErrorKind::MessageEndsPrematurely(total, there / 8)));

@@ -4,14 +4,14 @@ ghost use Rattle.std.specs.List.{AllByRecursion};
 ghost use Rattle.capnp_frame.specs.Message.{IsWholeWords};
 ghost use Rattle.capnp_frame.specs.SegmentTable.{table_size, KeepsPadding};
 ghost use Rattle.capnp_frame.specs.SegmentLengths.{range_len, AreRanges};
-ghost use Rattle.capnp_frame.specs.Front.{told_lengths, told_padding, TellsTable};
+ghost use Rattle.capnp_frame.specs.Front.{declared_lengths, declared_padding, DeclaresTable};
 ghost use Rattle.capnp_frame.specs.Limits.{KeepsLimit, AreWithin, IsWithin};
 ghost use Rattle.capnp_frame.specs.Source.{IfKnown, IsRefused};
 ghost use Rattle.capnp_frame.specs.Asking.{Asked, FailsOr};
 ghost use Rattle.capnp_frame.specs.Streams.{framed_rules, ReadsStream};
 ghost use Rattle.capnp_frame.specs.Steps.{AsksNext, ReadsLengths, RefusesComplete};
 ghost use Rattle.capnp_frame.specs.Requests.{TableStands, MessageStands};
-ghost use Rattle.capnp_frame.specs.Refusals.{TellsAccepted, RefusesTable, RefusesStream, CountStands, TakesMemory, IsReaderKind};
+ghost use Rattle.capnp_frame.specs.Refusals.{DeclaresAccepted, RefusesTable, RefusesStream, CountStands, TakesMemory, IsReaderKind};
 ghost use Rattle.capnp_frame.specs.declared.error.ErrorKind.{ErrorKind};
 
 use crate::error::{Error, ErrorKind, Result};
@@ -20,8 +20,8 @@ use crate::message::ReaderOptions;
 use crate::serialize::owned_segments::OwnedSegments;
 use crate::serialize::segment_lengths::SegmentLengthsBuilder;
 use crate::serialize::segment_table::{
-    LONGEST_TABLE, Padding, SEGMENTS_COUNT_LIMIT, accepted_count, fill_indices, keep_limit,
-    keep_padding, table_len,
+    LONGEST_TABLE, Padding, SEGMENTS_COUNT_LIMIT, accepted_count, check_limit, check_padding,
+    fill_indices, table_len,
 };
 use std::alloc::Global;
 
@@ -184,7 +184,7 @@ fn read_lengths<R: Read>(
     limit: Option<usize>,
     rule: Padding,
 ) -> Result<usize>
-    requires accepted { TellsAccepted first.now (length indices.old) }
+    requires accepted { DeclaresAccepted first.now (length indices.old) }
     ensures { ReadsLengths R.Read source.old source.new rule limit first.now indices.new result }
 {
     let size = table_len(indices.len());
@@ -212,7 +212,7 @@ fn read_lengths_by<R: Read>(
     limit: Option<usize>,
     rule: Padding,
 ) -> Result<usize>
-    requires accepted { TellsAccepted first.now (length indices.old) }
+    requires accepted { DeclaresAccepted first.now (length indices.old) }
     requires size { length table.old ≡ table_size (length indices.old) }
     ensures { ReadsLengths R.Read source.old source.new rule limit first.now indices.new result }
 {
@@ -228,20 +228,20 @@ fn fill_lengths(
     limit: Option<usize>,
     rule: Padding,
 ) -> Result<usize>
-    requires accepted { TellsAccepted (take 8 table.now) (length indices.old) }
+    requires accepted { DeclaresAccepted (take 8 table.now) (length indices.old) }
     requires size { length table.now ≡ table_size (length indices.old) }
-    ensures told { map range_len indices.new ≡ told_lengths (length indices.new) table.now }
-    ensures tells { TellsTable table.now (length indices.new) }
+    ensures declared { map range_len indices.new ≡ declared_lengths (length indices.new) table.now }
+    ensures tells { DeclaresTable table.now (length indices.new) }
     ensures ranges { IfOk result (AreRanges indices.new) }
     ensures bound { IfOk result (λ total. total < 2 ^ 42) }
     ensures padding { OnOk result
-        (KeepsPadding rule (told_padding (length indices.new) table.now)) }
+        (KeepsPadding rule (declared_padding (length indices.new) table.now)) }
     ensures within { OnOk result (KeepsLimit (map range_len indices.new) limit) }
     ensures refused { IfErr result (λ error. RefusesComplete rule limit error.kind table.now) }
 {
     let total = fill_indices(indices, table);
-    keep_limit(total, limit)?;
-    keep_padding(table, indices.len(), rule)?;
+    check_limit(total, limit)?;
+    check_padding(table, indices.len(), rule)?;
     Ok(total)
 }
 

@@ -5,7 +5,7 @@ ghost use Rattle.capnp_frame.specs.Message.{IsWholeWords, lengths};
 ghost use Rattle.capnp_frame.specs.SegmentTable.{field, zero_padded_table, table_size};
 ghost use Rattle.capnp_frame.specs.Writing.{IsWritable, RefusesMany, word_and_rest, table_chunks};
 ghost use Rattle.capnp_frame.specs.Sink.{AppendsAll, LeavesSome, DeclinesSome};
-ghost use Rattle.capnp_frame.specs.Writers.{WritesTo, WritesChunks, WritesSegments, LacksTable, KeepsCount, ReturnsText, CountsWords};
+ghost use Rattle.capnp_frame.specs.Writers.{WritesTo, WritesChunks, WritesSegments, LacksTable, KeepsCount, ReturnsEncoding, CountsWords};
 
 use crate::error::{Error, ErrorKind, Result};
 use crate::io::Write;
@@ -27,20 +27,20 @@ pub fn write_segments<W: Write, S: ReaderSegments>(
     requires { IsWritable (S.segments segments.now) }
     ensures { WritesSegments W.Write sink.old sink.new (S.segments segments.now) result }
 {
-    keep_count(segments)?; // before anything is written
+    check_count(segments)?; // before anything is written
     write_table(alloc, sink, segments)?;
     write_each(sink, segments)
 }
 
-/// The framed text of a message, in bytes.
+/// The framed encoding of a message, in bytes.
 ///
 /// Fails with `InvalidNumberOfSegments`, of how many there are, for more than 511 segments, before
 /// memory is taken, and else with `OutOfMemory` alone.
 pub fn segments_to_words<S: ReaderSegments>(alloc: Global, segments: &S) -> Result<Vec<u8>>
     requires { IsWritable (S.segments segments.now) }
-    ensures { ReturnsText (S.segments segments.now) (λ text. text.items) result }
+    ensures { ReturnsEncoding (S.segments segments.now) (λ text. text.items) result }
 {
-    keep_count(segments)?; // before memory is taken
+    check_count(segments)?; // before memory is taken
     let words = serialized_size_in_words(segments)?;
     let mut text = Vec::with_capacity(alloc, 8 * words)?;
     write_segments(alloc, &mut text, segments)?;
@@ -68,7 +68,7 @@ pub fn serialized_size_in_words<S: ReaderSegments>(segments: &S) -> Result<usize
 }
 
 // Fails with `InvalidNumberOfSegments` for more segments than a reader accepts.
-fn keep_count<S: ReaderSegments>(segments: &S) -> Result<()>
+fn check_count<S: ReaderSegments>(segments: &S) -> Result<()>
     requires { length (S.segments segments.now) < 2 ^ 32 }
     ensures count { KeepsCount (S.segments segments.now) result }
     ensures refused { IfErr result (λ error. RefusesMany (S.segments segments.now) error.kind) }

@@ -1,5 +1,5 @@
 //! Where a run stops whose sink fails within it, which `main` sees after a long output alone: there a
-//! buffer stands before the device. `tools/try-program` shows what runs print, and where they stop else.
+//! buffer is before the device. `tools/try-program` shows what runs print, and where they stop else.
 use crate::program::run;
 use crate::stop::Stop;
 use capnp::Result;

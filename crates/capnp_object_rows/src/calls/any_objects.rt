@@ -39,7 +39,7 @@ const OBJECTS: [(&[u8], (Kind, u32, u32, u64)); 14] = [
 ];
 
 // Segments whose roots lead to no object, or to one that lies too deep or counts too many words, with the
-// nesting limit and the traversal limit, and how they are refused.
+// nesting limit and the traversal limit, and how they are rejected.
 #[rattlefmt::skip]
 const REFUSED: [(&[u8], i32, usize, u8); 8] = [
     (b"\x03\0\0\0\0\0\0\0", 64, 1000, 21),
@@ -85,7 +85,7 @@ fn outline<S: ReaderSegments>(view: any_object::Reader<'_, S>) -> (Kind, u32, u3
     }
 }
 
-// What the root leads to, or the number of its refusal.
+// What the root leads to, or the number of its error.
 fn root_outline(arena: &Arena<'_>) -> Numbered<(Kind, u32, u32, u64)> {
     match root_as::<SegmentArray<'_>, Object<'_>>(arena) {
         Ok(view) => Ok(outline(view)),

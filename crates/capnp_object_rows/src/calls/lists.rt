@@ -24,7 +24,7 @@ const NUMBERS: &[u8] = b"\x01\0\0\0\x0e\0\0\0\x01\0\0\0\x0d\0\0\0\x07\0\0\0\0\0\
 
 const NULL: &[u8] = b"\0\0\0\0\0\0\0\0";
 
-// Segments, and the refusals of their roots as a list of structs, and as one of pointers.
+// Segments, and the errors of their roots as a list of structs, and as one of pointers.
 #[rattlefmt::skip]
 const ROOTS: [(&[u8], [u8; 2]); 6] = [
     (CONTACTS,                                      [0, 22]),

@@ -24,7 +24,7 @@ const WORDS: &[u8] = b"\x01\0\0\0\x15\0\0\0\0\0\0\0\0\0\xf8\x3f\x07\0\0\0\0\0\0\
 // Three nothings.
 const NOTHINGS: &[u8] = b"\x01\0\0\0\x18\0\0\0";
 
-// Segments, and the refusals of their roots as lists of nothing, of bools, and of 1, 2, 4 and 8 bytes; 0
+// Segments, and the errors of their roots as lists of nothing, of bools, and of 1, 2, 4 and 8 bytes; 0
 // where there is a list. An element that is a byte wide is read from no list but one of bytes.
 #[rattlefmt::skip]
 const ROOTS: [(&[u8], [u8; 6]); 6] = [
@@ -36,7 +36,7 @@ const ROOTS: [(&[u8], [u8; 6]); 6] = [
     (WORDS,    [22, 22, 22, 22, 22, 0]),
 ];
 
-// The refusal of the root as the type of a schema for a list.
+// The error of the root as the type of a schema for a list.
 fn list_refusal<T: PrimitiveElement>(arena: &Arena<'_>) -> u8 {
     root_refusal::<
         SegmentArray<'_>,

@@ -38,7 +38,7 @@ fn what_is_counted(rt: HostRuntime) -> Result<()> {
 const TWO_TEXTS: &[u8] =
     b"\0\0\0\0\0\0\x02\0\x05\0\0\0\x72\0\0\0\x09\0\0\0\x12\0\0\0Hello, World!\0\0\0A\0\0\0\0\0\0\0";
 
-// A read that is refused counts nothing: what still has room is read after it.
+// A read that is rejected counts nothing: what still has room is read after it.
 #[test]
 fn a_refused_read_counts_nothing(rt: HostRuntime) -> Result<()> {
     let segments = [TWO_TEXTS];

@@ -23,7 +23,7 @@ fn texts_at_the_root(rt: HostRuntime) {
     }
 }
 
-// Segments, and the words of the root's tree, or the refusal's number.
+// Segments, and the words of the root's tree, or the error's number.
 #[rattlefmt::skip]
 const SIZES: [(&[&[u8]], Numbered<u64>); 7] = [
     // no segment: null

@@ -48,7 +48,7 @@ const STRUCT: &[u8] = b"\0\0\0\0\x01\0\0\0\x05\0\0\0\0\0\0\0";
 
 const NULL: &[u8] = b"\0\0\0\0\0\0\0\0";
 
-// Segments, and the refusals of their roots as lists of structs, of pointers, of nothing, of bools, and of
+// Segments, and the errors of their roots as lists of structs, of pointers, of nothing, of bools, and of
 // numbers of 1, 2, 4 and 8 bytes; 0 where there is a view.
 #[rattlefmt::skip]
 const ROOTS: [(&[u8], [u8; 8]); 12] = [

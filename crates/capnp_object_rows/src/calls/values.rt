@@ -48,7 +48,7 @@ fn a_text_as_a_value(rt: HostRuntime) -> Result<()> {
 // A struct of two words and a null pointer.
 const LOOSE: &[u8] = b"\0\0\0\0\x02\0\x01\0\x05\0\0\0\0\0\0\0\0\0\0\0\0\0\0\0\0\0\0\0\0\0\0\0";
 
-// A tree as it stands keeps its trailing words.
+// A tree as it is keeps its trailing words.
 #[test]
 fn a_tree_as_a_value(rt: HostRuntime) -> Result<()> {
     let segments = [LOOSE];

@@ -24,7 +24,7 @@ pub fn try_read_packed_segments_into<'b, R: BufRead>(
 ) -> Result<Option<NoAllocBufferSegments<&'b [u8]>>>
     ensures { ReadsStreamInto R.Read source.old source.new (packed_rules Padding.Zero)
         options.traversal_limit_in_words (length buffer.old)
-        (next_in (λ held. held.segments) result) }
+        (next_in (λ message. message.segments) result) }
 {
     let mut packed = PackedRead::new(source);
     try_read_segments_into(&mut packed, buffer, options)
@@ -38,7 +38,7 @@ pub fn try_read_packed_segments_into_lenient<'b, R: BufRead>(
 ) -> Result<Option<NoAllocBufferSegments<&'b [u8]>>>
     ensures { ReadsStreamInto R.Read source.old source.new (packed_rules Padding.Any)
         options.traversal_limit_in_words (length buffer.old)
-        (next_in (λ held. held.segments) result) }
+        (next_in (λ message. message.segments) result) }
 {
     let mut packed = PackedRead::new(source);
     try_read_segments_into_lenient(&mut packed, buffer, options)

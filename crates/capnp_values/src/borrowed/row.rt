@@ -22,8 +22,8 @@ impl<'a, F: Fields> Fields for Borrowed<'a, F> {
         self.value.measure(canonical)
     }
 
-    fn standing(&self) -> Result<u64> {
-        self.value.standing()
+    fn as_is(&self) -> Result<u64> {
+        self.value.as_is()
     }
 
     fn kept(&self, canonical: bool) -> u32 {

@@ -1,7 +1,7 @@
 //! A value before a row.
 ghost use Rattle.std.specs.Prelude.{◌≡◌};
 ghost use Rattle.capnp_wire.specs.Tree.{Form, Trees, none, tree, total_words};
-ghost use Rattle.capnp_wire.specs.Layout.{formed};
+ghost use Rattle.capnp_wire.specs.Layout.{output};
 ghost use Rattle.capnp_values.specs.Fields.{IsBounded, IsPart, is_left_out, extent_of};
 
 use crate::fields::{Extent, Fields};
@@ -64,9 +64,9 @@ impl<T, V: SetterInput<T>, F: Fields> Fields for Field<T, V, F> {
         Ok(front(&self.value, canonical, own, rest))
     }
 
-    fn standing(&self) -> Result<u64> {
+    fn as_is(&self) -> Result<u64> {
         let own = self.value.measure(false)?;
-        let rest = self.rest.standing()?;
+        let rest = self.rest.as_is()?;
         Ok(own as u64 + rest)
     }
 
@@ -99,32 +99,32 @@ impl<T, V: SetterInput<T>, F: Fields> Fields for Field<T, V, F> {
 // The extent of a row with one more value before it, of these words.
 fn front<T, V: SetterInput<T>>(value: &V, canonical: bool, own: PartWords, rest: Extent) -> Extent
     requires { IsBounded rest }
-    ensures { (form : Form) (held others : Trees) → IsPart (V.has_tree value.now) form held →
-        own.standing ≡ total_words (tree form held none) →
-        own.formed ≡ total_words (formed canonical (tree form held none)) →
+    ensures { (form : Form) (children others : Trees) → IsPart (V.has_tree value.now) form children →
+        own.as_is ≡ total_words (tree form children none) →
+        own.output ≡ total_words (output canonical (tree form children none)) →
         rest ≡ extent_of canonical others →
-        result ≡ extent_of canonical (tree form held others) }
+        result ≡ extent_of canonical (tree form children others) }
 {
-    let standing = own.standing as u64 + rest.standing;
+    let as_is = own.as_is as u64 + rest.as_is;
     if is_left_out(value, canonical, rest.pointers) {
         return Extent {
             pointers: 0,
             words: 0,
-            standing,
+            as_is,
         };
     }
-    let words = own.formed as u64 + rest.words;
+    let words = own.output as u64 + rest.words;
     let pointers = rest.pointers + 1;
     Extent {
         pointers,
         words,
-        standing,
+        as_is,
     }
 }
 
 // Whether a value is left out of a row that keeps this many pointers after it.
 fn is_left_out<T, V: SetterInput<T>>(value: &V, canonical: bool, after: u32) -> bool
-    ensures { (form : Form) (held : Trees) → IsPart (V.has_tree value.now) form held →
+    ensures { (form : Form) (children : Trees) → IsPart (V.has_tree value.now) form children →
         result ≡ is_left_out canonical after form }
 {
     if !canonical {

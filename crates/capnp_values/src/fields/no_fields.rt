@@ -28,7 +28,7 @@ impl Fields for NoFields {
         Ok(Extent {
             pointers: 0,
             words: 0,
-            standing: 0,
+            as_is: 0,
         })
     }
 

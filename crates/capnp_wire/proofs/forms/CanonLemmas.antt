@@ -1,7 +1,7 @@
 -- Layouts tell trees apart, where the root of a layout is its tree.
 use Rattle.std.proofs.Common.{◌≡◌, ℕ, ◌<◌, ◌^◌, List, [], ◌∷◌, subst}
 use Rattle.capnp_wire.specs.Tree.{Form, Trees, none, tree, total_words}
-use Rattle.capnp_wire.specs.Trim.{trim, trim_form, trim_held}
+use Rattle.capnp_wire.specs.Trim.{trim, trim_form, trim_children}
 use Rattle.capnp_wire.specs.Reached.{At, root}
 use Rattle.capnp_wire.specs.Layout.{layout, canon, AllHaveRoom}
 use Rattle.capnp_wire.proofs.objects.ObjectLemmas.{one_tree}
@@ -19,14 +19,14 @@ layout_tells f g h k room small room_too small_too same =
     (subst (λ (words : List ℕ). At (words ∷ []) (root ∷ []) (tree f h none) a.0) same a.1) b.1).0
 
 -- the root of a canonical form is the trimmed tree
-pub root_of_canon : (form : Form) (held : Trees) → AllHaveRoom (tree form held none) → total_words (trim (tree form held none)) < 2 ^ 29
-    → (traversed : ℕ) × At (canon (tree form held none) ∷ []) (root ∷ []) (trim (tree form held none)) traversed
-root_of_canon form held room small = root_of_layout (trim_form form (trim held)) (trim_held form (trim held)) (room_trim (tree form held none) room) small
+pub root_of_canon : (form : Form) (children : Trees) → AllHaveRoom (tree form children none) → total_words (trim (tree form children none)) < 2 ^ 29
+    → (traversed : ℕ) × At (canon (tree form children none) ∷ []) (root ∷ []) (trim (tree form children none)) traversed
+root_of_canon form children room small = root_of_layout (trim_form form (trim children)) (trim_children form (trim children)) (room_trim (tree form children none) room) small
 
 -- trees with equal canonical forms are equal, trimmed
 pub canon_tells : (f g : Form) (h k : Trees) → AllHaveRoom (tree f h none) → total_words (trim (tree f h none)) < 2 ^ 29
     → AllHaveRoom (tree g k none) → total_words (trim (tree g k none)) < 2 ^ 29
     → canon (tree f h none) ≡ canon (tree g k none) → trim (tree f h none) ≡ trim (tree g k none)
 canon_tells f g h k room small room_too small_too same =
-    layout_tells (trim_form f (trim h)) (trim_form g (trim k)) (trim_held f (trim h)) (trim_held g (trim k))
+    layout_tells (trim_form f (trim h)) (trim_form g (trim k)) (trim_children f (trim h)) (trim_children g (trim k))
     (room_trim (tree f h none) room) small (room_trim (tree g k none) room_too) small_too same

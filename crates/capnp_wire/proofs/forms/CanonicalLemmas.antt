@@ -15,8 +15,8 @@ use Rattle.capnp_wire.specs.Object.{message_of, word_at}
 use Rattle.capnp_wire.specs.Reached.{At, nowhere, at, Root, root}
 use Rattle.capnp_wire.specs.Traversed.{Within}
 use Rattle.capnp_wire.specs.Faults.{StopsWalk, no_segment, no_word, at_pointer as stops_at}
-use Rattle.capnp_wire.specs.Canonical.{Tidy, IsCanonical}
-use Rattle.capnp_wire.specs.Tested.{Passes, Ends, refused, not_canonical, Unsaid, no_first_segment, on_the_walk}
+use Rattle.capnp_wire.specs.Canonical.{IsInPreorder, IsCanonical}
+use Rattle.capnp_wire.specs.Tested.{Passes, Ends, refused, not_canonical, RejectsCanonicity, no_first_segment, on_the_walk}
 use Rattle.capnp_wire.proofs.objects.ObjectLemmas.{one_tree}
 use Rattle.capnp_wire.proofs.walks.StopLemmas.{stops_has_no_trees}
 use Rattle.capnp_wire.proofs.layouts.LaidOutLemmas.{word_stands}
@@ -25,47 +25,47 @@ use Rattle.capnp_wire.proofs.forms.ExactnessLemmas.{tests_are_exact}
 use Rattle.capnp_wire.specs.Layout.{Trimmed}
 
 -- the one tree at the root
-root_tree : (m : List (List ℕ)) (trees : Trees) (traversed : ℕ) → At m (root ∷ []) trees traversed → (form : Form) × (held : Trees) × (trees ≡ tree form held none)
-root_tree m trees traversed (at {shape = s} {held = h} object inner nowhere) = (s.form, h, refl)
+root_tree : (m : List (List ℕ)) (trees : Trees) (traversed : ℕ) → At m (root ∷ []) trees traversed → (form : Form) × (children : Trees) × (trees ≡ tree form children none)
+root_tree m trees traversed (at {shape = s} {children = h} object inner nowhere) = (s.form, h, refl)
 
 pub passes_is_canonical : (segment : List ℕ) (nesting traversed after : ℕ) → All (λ w. w < 2 ^ 64) segment → Passes segment (root ∷ []) nesting traversed 1 after → after ≡ length segment
     → IsCanonical (segment ∷ [])
 passes_is_canonical segment nesting traversed after all p whole =
     let t = root_tree (segment ∷ []) p.trees traversed p.stand in
     let stand : Root (segment ∷ []) t.0 t.1 traversed = subst (λ (x : Trees). At (segment ∷ []) (root ∷ []) x traversed) t.2 p.stand in
-    let tidy : Tidy segment (root ∷ []) 1 (tree t.0 t.1 none) = subst (λ (x : Trees). Tidy segment (root ∷ []) 1 x) t.2 p.tidy in
+    let in_preorder : IsInPreorder segment (root ∷ []) 1 (tree t.0 t.1 none) = subst (λ (x : Trees). IsInPreorder segment (root ∷ []) 1 x) t.2 p.in_preorder in
     let trimmed : Trimmed (tree t.0 t.1 none) = subst (λ (x : Trees). Trimmed x) t.2 p.trimmed in
     let long : length segment ≡ 1 + total_words (tree t.0 t.1 none) = sym whole ∙ p.after_is ∙ ap (λ (x : Trees). 1 + total_words x) t.2 in
-    (tests_are_exact segment t.0 t.1 traversed all stand).0 (tidy, trimmed, long)
+    (tests_are_exact segment t.0 t.1 traversed all stand).0 (in_preorder, trimmed, long)
 
 -- what a canonical message passes
 record Whole (segment : List ℕ) : Type 0 where
   form : Form
-  held : Trees
+  children : Trees
   traversed : ℕ
-  stand : Root (segment ∷ []) form held traversed
-  tidy : Tidy segment (root ∷ []) 1 (tree form held none)
-  trimmed : Trimmed (tree form held none)
-  long : length segment ≡ 1 + total_words (tree form held none)
+  stand : Root (segment ∷ []) form children traversed
+  in_preorder : IsInPreorder segment (root ∷ []) 1 (tree form children none)
+  trimmed : Trimmed (tree form children none)
+  long : length segment ≡ 1 + total_words (tree form children none)
 
 whole_of : (segment : List ℕ) → All (λ w. w < 2 ^ 64) segment → IsCanonical (segment ∷ []) → Whole segment
 whole_of segment all c =
     let same : segment ≡ c.0 = cc in
     let stand : Root (segment ∷ []) c.2 c.3 c.4 = c.5 in
     let t = (tests_are_exact segment c.2 c.3 c.4 all stand).1 c in
-    record { form = c.2; held = c.3; traversed = c.4; stand = stand; tidy = t.0; trimmed = t.1; long = t.2 }
+    record { form = c.2; children = c.3; traversed = c.4; stand = stand; in_preorder = t.0; trimmed = t.1; long = t.2 }
 
 pub ended_is_not : (segment : List ℕ) (nesting : ℕ) (limit : Option ℕ) → All (λ w. w < 2 ^ 64) segment → 1 ≤ length segment → Ends segment (root ∷ []) nesting limit 1 not_canonical
     → IsCanonical (segment ∷ []) → ⊥
 ended_is_not segment nesting limit all some ends c =
     let w = whole_of segment all c in
-    ends_not segment (root ∷ []) nesting 1 limit (tree w.form w.held none) w.traversed all ends w.stand (refl, omega arith, tt) some w.tidy w.trimmed
+    ends_not segment (root ∷ []) nesting 1 limit (tree w.form w.children none) w.traversed all ends w.stand (refl, omega arith, tt) some w.in_preorder w.trimmed
 
 pub longer_is_not : (segment : List ℕ) (nesting traversed after : ℕ) → All (λ w. w < 2 ^ 64) segment → Passes segment (root ∷ []) nesting traversed 1 after → (after ≡ length segment → ⊥)
     → IsCanonical (segment ∷ []) → ⊥
 longer_is_not segment nesting traversed after all p longer c =
     let w = whole_of segment all c in
-    let same = one_tree (segment ∷ []) (root ∷ []) p.trees (tree w.form w.held none) traversed w.traversed p.stand w.stand in
+    let same = one_tree (segment ∷ []) (root ∷ []) p.trees (tree w.form w.children none) traversed w.traversed p.stand w.stand in
     longer (p.after_is ∙ ap (λ (x : Trees). 1 + total_words x) same.0 ∙ sym w.long)
 
 -- the segments of a message
@@ -86,7 +86,7 @@ more_is_not (x ∷ y ∷ segments) bytes second c =
     let long : length (words_of x ∷ words_of y ∷ message_of segments) ≡ 1 = ap (λ (l : List (List ℕ)). length l) same in
     omega arith
 
-more_is_said : (segments : List (List ℕ)) (bytes : List ℕ) (nesting : ℕ) (limit : Option ℕ) (kind : ErrorKind) → slice_get segments 1 ≡ Some bytes → Unsaid (message_of segments) nesting limit kind → ⊥
+more_is_said : (segments : List (List ℕ)) (bytes : List ℕ) (nesting : ℕ) (limit : Option ℕ) (kind : ErrorKind) → slice_get segments 1 ≡ Some bytes → RejectsCanonicity (message_of segments) nesting limit kind → ⊥
 more_is_said [] bytes nesting limit kind second unsaid = cc
 more_is_said (x ∷ []) bytes nesting limit kind second unsaid = cc
 more_is_said (x ∷ y ∷ segments) bytes nesting limit kind second (no_first_segment e) =
@@ -95,34 +95,34 @@ more_is_said (x ∷ y ∷ segments) bytes nesting limit kind second (on_the_walk
     let long : length (words_of x ∷ words_of y ∷ message_of segments) ≡ 1 = ap (λ (l : List (List ℕ)). length l) e in omega arith
 
 pub said_of_more : {E : Type 0} (segments : List (List ℕ)) (bytes : List ℕ) (nesting : ℕ) (limit : Option ℕ) (kind : ErrorKind) → slice_get segments 1 ≡ Some bytes
-    → Unsaid (message_of segments) nesting limit kind → E
+    → RejectsCanonicity (message_of segments) nesting limit kind → E
 said_of_more segments bytes nesting limit kind second unsaid = absurd (more_is_said segments bytes nesting limit kind second unsaid)
 
-pub unsaid_of_none : (m : List (List ℕ)) (nesting : ℕ) (limit : Option ℕ) (kind : ErrorKind) → m ≡ [] → Unsaid m nesting limit kind → InvalidSegmentId 0 ≡ kind
+pub unsaid_of_none : (m : List (List ℕ)) (nesting : ℕ) (limit : Option ℕ) (kind : ErrorKind) → m ≡ [] → RejectsCanonicity m nesting limit kind → InvalidSegmentId 0 ≡ kind
 unsaid_of_none m nesting limit kind none_there (no_first_segment e) = refl
 unsaid_of_none m nesting limit kind none_there (on_the_walk {segment = s} e ends) =
     let long : length (s ∷ []) ≡ 0 = ap (λ (l : List (List ℕ)). length l) (sym e ∙ none_there) in absurd (omega arith)
 
--- refusals stand in the message
-pub unsaid_stops : (m : List (List ℕ)) (nesting : ℕ) (limit : Option ℕ) (kind : ErrorKind) → Unsaid m nesting limit kind → StopsWalk m (root ∷ []) nesting limit kind
+-- errors are in the message
+pub unsaid_stops : (m : List (List ℕ)) (nesting : ℕ) (limit : Option ℕ) (kind : ErrorKind) → RejectsCanonicity m nesting limit kind → StopsWalk m (root ∷ []) nesting limit kind
 unsaid_stops m nesting limit kind (no_first_segment e) = stops_at (no_word (no_segment (ap (λ (l : List (List ℕ)). slice_get l 0) e)))
 unsaid_stops m nesting limit kind (on_the_walk {segment = s} e ends) =
     subst (λ (x : List (List ℕ)). StopsWalk x (root ∷ []) nesting limit kind) (sym e) (ends_stops s (root ∷ []) nesting 1 limit kind ends)
 
 -- what is handed on
 pub said : (m : List (List ℕ)) (segment : List ℕ) (nesting : ℕ) (limit : Option ℕ) (r : Result Bool Error) → m ≡ segment ∷ [] → IfOk r (λ is. IsTrue is ↔ IsCanonical (segment ∷ []))
-    → IfErr r (λ error. Ends segment (root ∷ []) nesting limit 1 (refused error.kind)) → MatchResult r (λ is. IsTrue is ↔ IsCanonical m) (λ error. Unsaid m nesting limit error.kind)
+    → IfErr r (λ error. Ends segment (root ∷ []) nesting limit 1 (refused error.kind)) → MatchResult r (λ is. IsTrue is ↔ IsCanonical m) (λ error. RejectsCanonicity m nesting limit error.kind)
 said m segment nesting limit (Ok is) one ok err = subst (λ (x : List (List ℕ)). IsTrue is ↔ IsCanonical x) (sym one) ok
 said m segment nesting limit (Err e) one ok err = on_the_walk one err
 
 pub said_at : (m : List (List ℕ)) (segment : List ℕ) (nesting other : ℕ) (limit : Option ℕ) (r : Result Bool Error) → nesting ≡ other → m ≡ segment ∷ []
     → IfOk r (λ is. IsTrue is ↔ IsCanonical (segment ∷ []))
-    → IfErr r (λ error. Ends segment (root ∷ []) nesting limit 1 (refused error.kind)) → MatchResult r (λ is. IsTrue is ↔ IsCanonical m) (λ error. Unsaid m other limit error.kind)
+    → IfErr r (λ error. Ends segment (root ∷ []) nesting limit 1 (refused error.kind)) → MatchResult r (λ is. IsTrue is ↔ IsCanonical m) (λ error. RejectsCanonicity m other limit error.kind)
 said_at m segment nesting other limit r same one ok err =
-    subst (λ (l : ℕ). MatchResult r (λ is. IsTrue is ↔ IsCanonical m) (λ error. Unsaid m l limit error.kind)) same (said m segment nesting limit r one ok err)
+    subst (λ (l : ℕ). MatchResult r (λ is. IsTrue is ↔ IsCanonical m) (λ error. RejectsCanonicity m l limit error.kind)) same (said m segment nesting limit r one ok err)
 
 pub said_exactly : (m : List (List ℕ)) (segment : List ℕ) (nesting : ℕ) (limit : Option ℕ) (r : Result Bool Error) (kind : ErrorKind) → m ≡ segment ∷ []
-    → ((kind : ErrorKind) → Ends segment (root ∷ []) nesting limit 1 (refused kind) → IsErrAnd r (λ error. error.kind ≡ kind)) → Unsaid m nesting limit kind
+    → ((kind : ErrorKind) → Ends segment (root ∷ []) nesting limit 1 (refused kind) → IsErrAnd r (λ error. error.kind ≡ kind)) → RejectsCanonicity m nesting limit kind
     → IsErrAnd r (λ error. error.kind ≡ kind)
 said_exactly m segment nesting limit r kind one exact (no_first_segment e) =
     let long : length (segment ∷ []) ≡ 0 = ap (λ (l : List (List ℕ)). length l) (sym one ∙ e) in absurd (omega arith)
@@ -130,13 +130,13 @@ said_exactly m segment nesting limit r kind one exact (on_the_walk {segment = s}
     let same : s ≡ segment = cc in
     exact kind (subst (λ (x : List ℕ). Ends x (root ∷ []) nesting limit 1 (refused kind)) same ends)
 
-pub said_where_found : (m : List (List ℕ)) (nesting : ℕ) (limit : Option ℕ) (r : Result Bool Error) → MatchResult r (λ is. IsTrue is ↔ IsCanonical m) (λ error. Unsaid m nesting limit error.kind)
-    → (form : Form) (held : Trees) (traversed : ℕ) → Root m form held traversed → depth (tree form held none) ≤ nesting → Within limit traversed → IsOk r
-said_where_found m nesting limit (Ok is) returned form held traversed stand shallow fits = refl
-said_where_found m nesting limit (Err e) returned form held traversed stand shallow fits =
-    absurd (stops_has_no_trees m (root ∷ []) nesting traversed limit e.kind (tree form held none) (unsaid_stops m nesting limit e.kind returned) stand shallow fits)
+pub said_where_found : (m : List (List ℕ)) (nesting : ℕ) (limit : Option ℕ) (r : Result Bool Error) → MatchResult r (λ is. IsTrue is ↔ IsCanonical m) (λ error. RejectsCanonicity m nesting limit error.kind)
+    → (form : Form) (children : Trees) (traversed : ℕ) → Root m form children traversed → depth (tree form children none) ≤ nesting → Within limit traversed → IsOk r
+said_where_found m nesting limit (Ok is) returned form children traversed stand shallow fits = refl
+said_where_found m nesting limit (Err e) returned form children traversed stand shallow fits =
+    absurd (stops_has_no_trees m (root ∷ []) nesting traversed limit e.kind (tree form children none) (unsaid_stops m nesting limit e.kind returned) stand shallow fits)
 
-pub said_stops : (m : List (List ℕ)) (nesting : ℕ) (limit : Option ℕ) (r : Result Bool Error) → MatchResult r (λ is. IsTrue is ↔ IsCanonical m) (λ error. Unsaid m nesting limit error.kind)
+pub said_stops : (m : List (List ℕ)) (nesting : ℕ) (limit : Option ℕ) (r : Result Bool Error) → MatchResult r (λ is. IsTrue is ↔ IsCanonical m) (λ error. RejectsCanonicity m nesting limit error.kind)
     → IfErr r (λ error. StopsWalk m (root ∷ []) nesting limit error.kind)
 said_stops m nesting limit (Ok is) returned = tt
 said_stops m nesting limit (Err e) returned = unsaid_stops m nesting limit e.kind returned
@@ -176,8 +176,8 @@ root_some m segment word one there =
     let here : slice_get segment 0 ≡ Some word = subst (λ (x : List (List ℕ)). word_at x root ≡ Some word) one there in
     slice_get_within segment 0 word here
 
-pub none_has_no_root : (m : List (List ℕ)) (form : Form) (held : Trees) (traversed : ℕ) → m ≡ [] → Root m form held traversed → ⊥
-none_has_no_root m form held traversed none_there (at {shape = s} object inner tail) =
+pub none_has_no_root : (m : List (List ℕ)) (form : Form) (children : Trees) (traversed : ℕ) → m ≡ [] → Root m form children traversed → ⊥
+none_has_no_root m form children traversed none_there (at {shape = s} object inner tail) =
     let w = word_stands m root s object in
     let here : word_at [] root ≡ Some w.0 = subst (λ (x : List (List ℕ)). word_at x root ≡ Some w.0) none_there w.1 in
     cc

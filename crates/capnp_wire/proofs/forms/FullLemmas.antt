@@ -5,7 +5,7 @@ use Rattle.std.proofs.lemmas.Bool.{cases_lt}
 use Rattle.std.proofs.lemmas.Option.{slice_get_within, get_or_from_slice_get}
 use Rattle.std.proofs.lemmas.List.Elements.{All-head, All-tail}
 use Rattle.capnp_wire.specs.Tree.{null, struct, numbers, pointers, structs, Trees, none, tree, count}
-use Rattle.capnp_wire.specs.Trim.{first, following, keep_word, cut_zeros, keep_tree, cut_nulls, least_data, least_pointers, narrowed, trim_form, trim_held}
+use Rattle.capnp_wire.specs.Trim.{first, following, keep_word, cut_zeros, keep_tree, cut_nulls, least_data, least_pointers, narrowed, trim_form, trim_children}
 use Rattle.capnp_wire.specs.declared.layout.place.Place.{Place}
 use Rattle.capnp_wire.specs.Object.{Shape, ShapeStands, a_struct, some_numbers, some_pointers, some_structs, is_null, is_object, PointsTo, word_at}
 use Rattle.capnp_wire.specs.Canonical.{EndsFull, nth_form, EndsSome}
@@ -39,24 +39,24 @@ same_full words same k long last =
 
 pub fewer : (trees : Trees) (k : ℕ) → count trees ≡ k + 1 → nth_form trees k ≡ Some null → count (cut_nulls trees) ≤ k
 fewer none k long last = absurd (omega arith)
-fewer (tree null held none) zero long last = omega arith
-fewer (tree (struct ws) held none) zero long last = absurd (cc)
-fewer (tree (numbers c vs) held none) zero long last = absurd (cc)
-fewer (tree pointers held none) zero long last = absurd (cc)
-fewer (tree (structs d p rows) held none) zero long last = absurd (cc)
-fewer (tree form held (tree f h r)) zero long last = absurd (omega arith)
-fewer (tree form held rest) (suc k) long last = let kept_here = kept (cut_nulls rest) form held in omega (arith, kept_here.most, fewer rest k (omega arith) last)
+fewer (tree null children none) zero long last = omega arith
+fewer (tree (struct ws) children none) zero long last = absurd (cc)
+fewer (tree (numbers c vs) children none) zero long last = absurd (cc)
+fewer (tree pointers children none) zero long last = absurd (cc)
+fewer (tree (structs d p rows) children none) zero long last = absurd (cc)
+fewer (tree form children (tree f h r)) zero long last = absurd (omega arith)
+fewer (tree form children rest) (suc k) long last = let kept_here = kept (cut_nulls rest) form children in omega (arith, kept_here.most, fewer rest k (omega arith) last)
 
 pub some_same : (trees : Trees) → EndsSome trees → cut_nulls trees ≡ trees
 some_same none full = refl
-some_same (tree null held none) full = absurd (full 0 refl refl)
-some_same (tree (struct ws) held none) full = refl
-some_same (tree (numbers c vs) held none) full = refl
-some_same (tree pointers held none) full = refl
-some_same (tree (structs d p rows) held none) full = refl
-some_same (tree form held (tree f h r)) full =
+some_same (tree null children none) full = absurd (full 0 refl refl)
+some_same (tree (struct ws) children none) full = refl
+some_same (tree (numbers c vs) children none) full = refl
+some_same (tree pointers children none) full = refl
+some_same (tree (structs d p rows) children none) full = refl
+some_same (tree form children (tree f h r)) full =
     let rest : cut_nulls (tree f h r) ≡ tree f h r = some_same (tree f h r) (λ k long last. full (suc k) (omega arith) last) in
-    ap (λ (t : Trees). keep_tree t form held) rest
+    ap (λ (t : Trees). keep_tree t form children) rest
 
 same_some : (trees : Trees) → cut_nulls trees ≡ trees → EndsSome trees
 same_some trees same k long last =
@@ -64,10 +64,10 @@ same_some trees same k long last =
     omega (arith, fewer trees k long last)
 
 -- a struct is trimmed where its last word is not zero and its last pointer is not null
-pub struct_is_trimmed : (words : List ℕ) (held : Trees)
-    → ((trim_form (struct words) held ≡ struct words) × (trim_held (struct words) held ≡ held)) ↔ (EndsFull words × EndsSome held)
-struct_is_trimmed words held =
-    (λ t. let same : cut_zeros words ≡ words = cc (t.0) in (same_full words same, same_some held t.1), λ t. (ap struct (full_same words t.0), some_same held t.1))
+pub struct_is_trimmed : (words : List ℕ) (children : Trees)
+    → ((trim_form (struct words) children ≡ struct words) × (trim_children (struct words) children ≡ children)) ↔ (EndsFull words × EndsSome children)
+struct_is_trimmed words children =
+    (λ t. let same : cut_zeros words ≡ words = cc (t.0) in (same_full words same, same_some children t.1), λ t. (ap struct (full_same words t.0), some_same children t.1))
 
 take_rows : (d : ℕ) (rows : List (List ℕ)) → AllOf d rows → map (take d) rows ≡ rows
 take_rows d [] even = refl
@@ -77,29 +77,29 @@ take_rows d (row ∷ rows) even =
     let rest : map (take d) rows ≡ rows = take_rows d rows (All-tail (λ r. length r ≡ d) row rows even) in
     cc
 
-pub narrowed_all : (p : ℕ) (rows : List (List ℕ)) (held : Trees) → count held ≡ length rows * p → narrowed p p rows held ≡ held
+pub narrowed_all : (p : ℕ) (rows : List (List ℕ)) (children : Trees) → count children ≡ length rows * p → narrowed p p rows children ≡ children
 narrowed_all p [] none long = refl
-narrowed_all p [] (tree form held rest) long = absurd (omega arith)
-narrowed_all p (row ∷ rows) held long =
-    let s = rows_split p p rows held (omega arith) long in
-    let one : first p (first p held) ≡ first p held = first_all p (first p held) s.whole in
-    let rest : narrowed p p rows (following p held) ≡ following p held = narrowed_all p rows (following p held) s.others in
-    rw (one, rest) (before_chunks p held)
+narrowed_all p [] (tree form children rest) long = absurd (omega arith)
+narrowed_all p (row ∷ rows) children long =
+    let s = rows_split p p rows children (omega arith) long in
+    let one : first p (first p children) ≡ first p children = first_all p (first p children) s.whole in
+    let rest : narrowed p p rows (following p children) ≡ following p children = narrowed_all p rows (following p children) s.others in
+    rw (one, rest) (before_chunks p children)
 
 -- a list of structs is trimmed where its elements need all their words
-pub structs_are_trimmed : (d p : ℕ) (rows : List (List ℕ)) (held : Trees) → HasRoom (structs d p rows) (count held)
-    → ((trim_form (structs d p rows) held ≡ structs d p rows) × (trim_held (structs d p rows) held ≡ held)) ↔ ((least_data rows ≡ d) × (least_pointers p rows held ≡ p))
-structs_are_trimmed d p rows held room =
+pub structs_are_trimmed : (d p : ℕ) (rows : List (List ℕ)) (children : Trees) → HasRoom (structs d p rows) (count children)
+    → ((trim_form (structs d p rows) children ≡ structs d p rows) × (trim_children (structs d p rows) children ≡ children)) ↔ ((least_data rows ≡ d) × (least_pointers p rows children ≡ p))
+structs_are_trimmed d p rows children room =
     let even : AllOf d rows = rows_even d rows room.5 in (
       λ t.
-          let form_same : structs (least_data rows) (least_pointers p rows held) (map (take (least_data rows)) rows) ≡ structs d p rows = t.0 in
+          let form_same : structs (least_data rows) (least_pointers p rows children) (map (take (least_data rows)) rows) ≡ structs d p rows = t.0 in
           let data_same : least_data rows ≡ d = cc in
-          let links_same : least_pointers p rows held ≡ p = cc in
+          let links_same : least_pointers p rows children ≡ p = cc in
           (data_same, links_same),
       λ t.
           let data_same : least_data rows ≡ d = t.0 in
-          let links_same : least_pointers p rows held ≡ p = t.1 in
-          (rw (data_same, links_same) (ap (structs d p) (take_rows d rows even)), rw links_same (narrowed_all p rows held room.4)),
+          let links_same : least_pointers p rows children ≡ p = t.1 in
+          (rw (data_same, links_same) (ap (structs d p) (take_rows d rows even)), rw links_same (narrowed_all p rows children room.4)),
     )
 
 not_null : (words : List ℕ) (start : Place) (tag : ℕ) (shape : Shape) → ShapeStands words start tag shape → shape.form ≡ null → ⊥

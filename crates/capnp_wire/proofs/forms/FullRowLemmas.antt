@@ -12,58 +12,58 @@ use Rattle.std.specs.Prelude.{◌↔◌}
 nth-first : (n : ℕ) (trees : Trees) (k : ℕ) → k < n → nth_form (first n trees) k ≡ nth_form trees k
 nth-first zero trees k less = absurd (omega arith)
 nth-first (suc n) none k less = refl
-nth-first (suc n) (tree form held rest) zero less = refl
-nth-first (suc n) (tree form held rest) (suc k) less = nth-first n rest k (omega arith)
+nth-first (suc n) (tree form children rest) zero less = refl
+nth-first (suc n) (tree form children rest) (suc k) less = nth-first n rest k (omega arith)
 
 nth-following : (n : ℕ) (trees : Trees) (j i : ℕ) → n + j ≡ i → nth_form (following n trees) j ≡ nth_form trees i
 nth-following zero trees j i same = ap (nth_form trees) (omega arith)
 nth-following (suc n) none j i same = refl
-nth-following (suc n) (tree form held rest) j zero same = absurd (omega arith)
-nth-following (suc n) (tree form held rest) j (suc i) same = nth-following n rest j i (omega arith)
+nth-following (suc n) (tree form children rest) j zero same = absurd (omega arith)
+nth-following (suc n) (tree form children rest) j (suc i) same = nth-following n rest j i (omega arith)
 
 abbrev NeedsIn : ℕ → ℕ → List (List ℕ) → Trees → Type 0
-NeedsIn p k rows held = (i : ℕ) × (i < length rows) × (nth_form held (i * p + k) ≡ Some null → ⊥)
+NeedsIn p k rows children = (i : ℕ) × (i < length rows) × (nth_form children (i * p + k) ≡ Some null → ⊥)
 
-found_in : (p k : ℕ) (rows : List (List ℕ)) (held : Trees) → p ≡ k + 1 → count held ≡ length rows * p → least_pointers p rows held ≡ p → NeedsIn p k rows held
-found_in p k [] held some long same = absurd (omega arith)
-found_in p k (row ∷ rows) held some long same =
-    let s = rows_split p p rows held (omega arith) long in
-    elim (cases_lt (least_pointers p rows (following p held)) p) [
+found_in : (p k : ℕ) (rows : List (List ℕ)) (children : Trees) → p ≡ k + 1 → count children ≡ length rows * p → least_pointers p rows children ≡ p → NeedsIn p k rows children
+found_in p k [] children some long same = absurd (omega arith)
+found_in p k (row ∷ rows) children some long same =
+    let s = rows_split p p rows children (omega arith) long in
+    elim (cases_lt (least_pointers p rows (following p children)) p) [
       | inl less ↦ (
         0,
         omega arith,
         λ last.
-            let here : nth_form (first p held) k ≡ Some null = nth-first p held k (omega arith) ∙ (ap (nth_form held) (omega arith) ∙ last) in
-            omega (arith, fewer (first p held) k (omega (arith, s.whole)) here),
+            let here : nth_form (first p children) k ≡ Some null = nth-first p children k (omega arith) ∙ (ap (nth_form children) (omega arith) ∙ last) in
+            omega (arith, fewer (first p children) k (omega (arith, s.whole)) here),
       )
       | inr most ↦
-          let rest = found_in p k rows (following p held) some s.others (omega (arith, least_pointers_within p rows (following p held))) in
-          (suc rest.0, omega (arith, rest.1), λ last. rest.2 (nth-following p held (rest.0 * p + k) (suc rest.0 * p + k) (omega arith) ∙ last))
+          let rest = found_in p k rows (following p children) some s.others (omega (arith, least_pointers_within p rows (following p children))) in
+          (suc rest.0, omega (arith, rest.1), λ last. rest.2 (nth-following p children (rest.0 * p + k) (suc rest.0 * p + k) (omega arith) ∙ last))
     ]
 
-needed_in : (p k : ℕ) (rows : List (List ℕ)) (held : Trees) (i : ℕ) → p ≡ k + 1 → count held ≡ length rows * p → i < length rows → (nth_form held (i * p + k) ≡ Some null → ⊥)
-    → p ≤ least_pointers p rows held
-needed_in p k [] held i some long less full = absurd (omega arith)
-needed_in p k (row ∷ rows) held zero some long less full =
-    let s = rows_split p p rows held (omega arith) long in
-    let ends : EndsSome (first p held) = λ j many last.
+needed_in : (p k : ℕ) (rows : List (List ℕ)) (children : Trees) (i : ℕ) → p ≡ k + 1 → count children ≡ length rows * p → i < length rows → (nth_form children (i * p + k) ≡ Some null → ⊥)
+    → p ≤ least_pointers p rows children
+needed_in p k [] children i some long less full = absurd (omega arith)
+needed_in p k (row ∷ rows) children zero some long less full =
+    let s = rows_split p p rows children (omega arith) long in
+    let ends : EndsSome (first p children) = λ j many last.
     let place : j ≡ k = omega (arith, s.whole) in
-    full (ap (nth_form held) (omega arith) ∙ (sym (nth-first p held j (omega arith)) ∙ last)) in
-    let same : count (cut_nulls (first p held)) ≡ count (first p held) = ap count (some_same (first p held) ends) in
+    full (ap (nth_form children) (omega arith) ∙ (sym (nth-first p children j (omega arith)) ∙ last)) in
+    let same : count (cut_nulls (first p children)) ≡ count (first p children) = ap count (some_same (first p children) ends) in
     omega (arith, s.whole)
-needed_in p k (row ∷ rows) held (suc i) some long less full =
-    let s = rows_split p p rows held (omega arith) long in
-    let rest = needed_in p k rows (following p held) i some s.others (omega arith) (λ last. full (sym (nth-following p held (i * p + k) (suc i * p + k) (omega arith)) ∙ last)) in
+needed_in p k (row ∷ rows) children (suc i) some long less full =
+    let s = rows_split p p rows children (omega arith) long in
+    let rest = needed_in p k rows (following p children) i some s.others (omega arith) (λ last. full (sym (nth-following p children (i * p + k) (suc i * p + k) (omega arith)) ∙ last)) in
     omega arith
 
 -- and all their pointers where these are none, or the last pointer of one of them is not null
-pub rows_need_pointers : (p : ℕ) (rows : List (List ℕ)) (held : Trees) → count held ≡ length rows * p
-    → (least_pointers p rows held ≡ p) ↔ ((p ≡ 0) ⊎ ((k : ℕ) × (p ≡ k + 1) × (i : ℕ) × (i < length rows) × (nth_form held (i * p + k) ≡ Some null → ⊥)))
-rows_need_pointers zero rows held long = (λ same. inl refl, λ c. omega (arith, least_pointers_within 0 rows held))
-rows_need_pointers (suc k) rows held long = (
-  λ same. let found = found_in (suc k) k rows held (omega arith) long same in inr (k, omega arith, found.0, found.1, found.2),
+pub rows_need_pointers : (p : ℕ) (rows : List (List ℕ)) (children : Trees) → count children ≡ length rows * p
+    → (least_pointers p rows children ≡ p) ↔ ((p ≡ 0) ⊎ ((k : ℕ) × (p ≡ k + 1) × (i : ℕ) × (i < length rows) × (nth_form children (i * p + k) ≡ Some null → ⊥)))
+rows_need_pointers zero rows children long = (λ same. inl refl, λ c. omega (arith, least_pointers_within 0 rows children))
+rows_need_pointers (suc k) rows children long = (
+  λ same. let found = found_in (suc k) k rows children (omega arith) long same in inr (k, omega arith, found.0, found.1, found.2),
   λ c. elim c [
     | inl nothing ↦ absurd (omega arith)
-    | inr found ↦ omega (arith, least_pointers_within (suc k) rows held, needed_in (suc k) found.0 rows held found.2 found.1 long found.3 found.4)
+    | inr found ↦ omega (arith, least_pointers_within (suc k) rows children, needed_in (suc k) found.0 rows children found.2 found.1 long found.3 found.4)
   ],
 )

@@ -8,13 +8,13 @@ use Rattle.capnp_wire.specs.Object.{nothing, places, word_at, is_null as null_th
 use Rattle.capnp_wire.specs.Landing.{IsObject, words_in}
 use Rattle.capnp_wire.specs.Reached.{At, nowhere, at}
 use Rattle.capnp_wire.specs.Faults.{Fault}
-use Rattle.capnp_wire.specs.Layout.{body, run, pointer_to, formed}
+use Rattle.capnp_wire.specs.Layout.{body, run, pointer_to, output}
 use Rattle.capnp_wire.specs.Block.{put, fill}
 use Rattle.capnp_wire.specs.Rows.{row_size, row_count, first_row, kept_places, kept_in, slots_of}
-use Rattle.capnp_wire.specs.Copy.{CanCopy, IsCopied, Copies, IsCopyable, Begins, BeginsRun, IsNarrower, formed_body, pointer_of_body, put_own}
+use Rattle.capnp_wire.specs.Copy.{CanCopy, IsCopied, Copies, IsCopyable, Begins, BeginsRun, IsNarrower, output_body_of, pointer_of_body, put_own}
 use Rattle.capnp_wire.specs.declared.layout.place.Place.{Place}
-use Rattle.capnp_wire.specs.Near.{near_struct_of}
-use Rattle.capnp_wire.specs.declared.layout.near.NearStruct.{NearStruct}
+use Rattle.capnp_wire.specs.Local.{local_struct_of}
+use Rattle.capnp_wire.specs.declared.layout.fast_path.LocalStruct.{LocalStruct}
 use Rattle.capnp_wire.specs.declared.layout.pointer.StructSize.{StructSize}
 use Rattle.capnp_wire.specs.declared.layout.object.Body.{Body}
 use Rattle.capnp_wire.specs.declared.layout.object.Body.TheVariants.{Struct, Numbers, Pointers, Structs}
@@ -27,11 +27,11 @@ use Rattle.capnp_wire.proofs.pointers.FaultLemmas.{refused_has_no_object}
 use Rattle.capnp_wire.proofs.layouts.CopyLemmas.{none_at}
 use Rattle.capnp_wire.proofs.layouts.OpenLemmas.{Opened, under}
 use Rattle.capnp_wire.proofs.layouts.OpenedLemmas.{opened}
-use Rattle.capnp_wire.proofs.pointers.PointerRowLemmas.{kept_held}
+use Rattle.capnp_wire.proofs.pointers.PointerSlotLemmas.{kept_children}
 
 -- the object that is read
 pub opened_here : {m : List (List ℕ)} {place : Place} {object : ReadObject} {copied : Body} {nesting : ℕ} {c : Bool} {next room : ℕ} (can : CanCopy m (place ∷ []) nesting c next room)
-    → IsObject m place object → copied ≡ formed_body c (words_of object.segment.now) object.start.word object.body
+    → IsObject m place object → copied ≡ output_body_of c (words_of object.segment.now) object.start.word object.body
     → Opened m (words_of object.segment.now) object.start object.body copied (nesting - 1) c next room can.trees
 opened_here {m} {place} {object} {copied} {nesting} {c} {next} {room} can is copied_is =
     let o = opened m (words_of object.segment.now) place object.start object.body object.traversed nesting c next room can is.content is.object (omega (
@@ -75,20 +75,20 @@ as_many start begin from copied q is =
     ∙ sym (kept_many begin.segment (first_row copied begin.word) (row_size copied).data_words (row_size copied).pointers q (row_count copied))
 
 -- null, and what no pointer that can be copied is
-null_formed : (c : Bool) → formed c (tree null none none) ≡ tree null none none
-null_formed true = refl
-null_formed false = refl
+null_output : (c : Bool) → output c (tree null none none) ≡ tree null none none
+null_output true = refl
+null_output false = refl
 
-null_copied : (m : List (List ℕ)) (place : Place) (c : Bool) (trees : Trees) (traversed : ℕ) → word_at m place ≡ Some 0 → At m (place ∷ []) trees traversed → formed c trees ≡ tree null none none
+null_copied : (m : List (List ℕ)) (place : Place) (c : Bool) (trees : Trees) (traversed : ℕ) → word_at m place ≡ Some 0 → At m (place ∷ []) trees traversed → output c trees ≡ tree null none none
 null_copied m place c trees traversed word stand =
     let u = under m place nothing trees traversed stand (null_there word) in
-    let held_is : u.held ≡ none = none_at m u.held u.inside u.stand in
-    let whole : trees ≡ tree null none none = u.whole ∙ ap (λ (t : Trees). tree null t none) held_is in
-    ap (formed c) whole ∙ null_formed c
+    let children_is : u.children ≡ none = none_at m u.children u.inside u.stand in
+    let whole : trees ≡ tree null none none = u.whole ∙ ap (λ (t : Trees). tree null t none) children_is in
+    ap (output c) whole ∙ null_output c
 
 pub fault_no_tree : (m : List (List ℕ)) (place : Place) (nesting : ℕ) (kind : ErrorKind) (trees : Trees) (traversed : ℕ) → Fault m place nesting kind → At m (place ∷ []) trees traversed
     → depth trees ≤ nesting → ⊥
-fault_no_tree m place nesting kind trees traversed fault (at {shape = s} {held = h} object inner nowhere) shallow =
+fault_no_tree m place nesting kind trees traversed fault (at {shape = s} {children = h} object inner nowhere) shallow =
     refused_has_no_object m place nesting kind s fault object (λ some.
     let plain : (if is_null s.form then 0 else depth h + 1) ≡ depth h + 1 = ap (λ (b : Bool). if b then 0 else depth h + 1) some in
     omega arith)
@@ -119,18 +119,18 @@ object_begins {m} {place} {words} {start} {from} {copied} {nesting} {c} {gap} {n
       ends = λ new free done. record {
         is = λ trees traversed stand.
             let same = one_tree m (place ∷ []) can.trees trees can.traversed traversed can.stand stand in
-            subst (λ (t : Trees). IsCopied (formed c t) gap next old new (record { pointer = pointer; next = free })) same.0 (record {
-              words_are = done.words_are k.trees k.traversed k.stand ∙ ap (λ (b : List ℕ). fill (slots_of next copied) (next + words_in copied) (formed c k.trees) b) mid_is ∙ o.fills old refl;
+            subst (λ (t : Trees). IsCopied (output c t) gap next old new (record { pointer = pointer; next = free })) same.0 (record {
+              words_are = done.words_are k.trees k.traversed k.stand ∙ ap (λ (b : List ℕ). fill (slots_of next copied) (next + words_in copied) (output c k.trees) b) mid_is ∙ o.fills old refl;
               pointer_is = pointer_is ∙ o.pointers_are gap;
               next_is = omega (arith, done.next_is k.trees k.traversed k.stand, o.totals);
             });
       };
     }
 
--- a struct's, and then what its pointers lead to, which stand one after the other
-pub struct_begins : {m : List (List ℕ)} {place : Place} {found : NearStruct} {size : StructSize} {nesting : ℕ} {c : Bool} {gap next following pointer : ℕ} {first : Place} {old mid : List ℕ}
-    (can : CanCopy m (place ∷ []) nesting c next (length old)) → IsObject m place (near_struct_of found)
-    → Struct size ≡ formed_body c (words_of found.segment.now) found.start.word (Struct found.size) → size.pointers ≤ found.size.pointers
+-- a struct's, and then what its pointers lead to, which are one after the other
+pub struct_begins : {m : List (List ℕ)} {place : Place} {found : LocalStruct} {size : StructSize} {nesting : ℕ} {c : Bool} {gap next following pointer : ℕ} {first : Place} {old mid : List ℕ}
+    (can : CanCopy m (place ∷ []) nesting c next (length old)) → IsObject m place (local_struct_of found)
+    → Struct size ≡ output_body_of c (words_of found.segment.now) found.start.word (Struct found.size) → size.pointers ≤ found.size.pointers
     → mid ≡ put next (words_from (words_of found.segment.now) found.start.word size.data_words) old → length mid ≡ length old → pointer ≡ pointer_of_body (Struct size) gap
     → first.segment ≡ found.start.segment → first.word ≡ found.start.word + found.size.data_words → first.word + found.size.pointers < 2 ^ 61 → following ≡ next + (size.data_words + size.pointers)
     → BeginsRun m place (words_of found.segment.now) nesting c gap next old mid (record {
@@ -161,7 +161,7 @@ pub copyable : {m : List (List ℕ)} {place : Place} {object : ReadObject} {nest
     → IsCopyable object c next room
 copyable {m} {place} {object} {nesting} can is = record { m = m; place = place; nesting = nesting; can = can; is = is }
 
--- The pointers of a list of pointers stand one after the other, as their copies do.
+-- The pointers of a list of pointers are one after the other, as their copies do.
 pub record AreInRun (start : Place) (from copied : Body) (next n : ℕ) : Type 0 where
   pub places_are : kept_in start from (row_size copied).pointers ≡ places start.segment start.word n
   pub slots_are : slots_of next copied ≡ run next n
@@ -179,7 +179,7 @@ in_run start from copied next n from_is narrower =
     let here : next + 0 ≡ next = omega arith in
     record {
       places_are = ap (λ (b : Body). kept_in start b (row_size copied).pointers) from_is ∙ ap (λ (b : Body). kept_in start (Pointers n) (row_size b).pointers) copied_is
-          ∙ kept_held [] start (Pointers n);
+          ∙ kept_children [] start (Pointers n);
       slots_are = ap (slots_of next) copied_is ∙ append-nil (run (next + 0) n) ∙ ap (λ (k : ℕ). run k n) here;
       words_are = ap words_in copied_is;
     }

@@ -1,9 +1,9 @@
 -- Trees that are copied one after the other.
 use Rattle.std.proofs.Common.{◌≡◌, ◌≢◌, ℕ, ◌+◌, ◌-◌, ◌<◌, ◌≤◌, Bool, true, false, List, [], ◌∷◌, length, Some, slice_get, refl, sym, ◌∙◌, ap, subst, arith}
-use Rattle.capnp_wire.specs.Tree.{Form, Trees, none, tree, count, depth, own_words, total_words}
-use Rattle.capnp_wire.specs.Trim.{trim, trim_form, trim_held}
+use Rattle.capnp_wire.specs.Tree.{Form, Trees, none, tree, count, depth, object_size, total_words}
+use Rattle.capnp_wire.specs.Trim.{trim, trim_form, trim_children}
 use Rattle.capnp_wire.specs.Reached.{At, nowhere, at}
-use Rattle.capnp_wire.specs.Layout.{pointer, body, pointer_to, formed, AllHaveRoom}
+use Rattle.capnp_wire.specs.Layout.{pointer, body, pointer_to, output, AllHaveRoom}
 use Rattle.capnp_wire.specs.Block.{put, fill}
 use Rattle.capnp_wire.specs.Rows.{places_in, slots_in, end_of}
 use Rattle.capnp_wire.specs.Copy.{CanCopy, Copies, CopiesAll, CanCopyRows, ArePaired, TakesPair}
@@ -14,36 +14,36 @@ use Rattle.capnp_wire.proofs.objects.ObjectLemmas.{one_tree}
 use Rattle.capnp_wire.proofs.walks.ProgressLemmas.{some_left}
 
 -- the first of some trees, and those after it
-pub totals_step : (c : Bool) (form : Form) (held rest : Trees) → total_words (formed c (tree form held rest)) ≡ total_words (formed c (tree form held none)) + total_words (formed c rest)
-totals_step true form held rest = omega arith
-totals_step false form held rest = omega arith
+pub totals_step : (c : Bool) (form : Form) (children rest : Trees) → total_words (output c (tree form children rest)) ≡ total_words (output c (tree form children none)) + total_words (output c rest)
+totals_step true form children rest = omega arith
+totals_step false form children rest = omega arith
 
-fill_one : (slot : ℕ) (slots : List ℕ) (next : ℕ) (form : Form) (held rest : Trees) (block : List ℕ)
-    → fill (slot ∷ slots) next (tree form held rest) block
-    ≡ fill slots (next + total_words (tree form held none)) rest (put slot (pointer_to (tree form held none) (next - (slot + 1)) ∷ []) (put next (body (tree form held none)) block))
-fill_one slot slots next form held rest block =
-    let same : next + own_words form (count held) + total_words held ≡ next + total_words (tree form held none) = omega arith in
-    ap (λ (n : ℕ). fill slots n rest (put slot (pointer form (count held) (next - (slot + 1)) ∷ []) (put next (body (tree form held none)) block))) same
+fill_one : (slot : ℕ) (slots : List ℕ) (next : ℕ) (form : Form) (children rest : Trees) (block : List ℕ)
+    → fill (slot ∷ slots) next (tree form children rest) block
+    ≡ fill slots (next + total_words (tree form children none)) rest (put slot (pointer_to (tree form children none) (next - (slot + 1)) ∷ []) (put next (body (tree form children none)) block))
+fill_one slot slots next form children rest block =
+    let same : next + object_size form (count children) + total_words children ≡ next + total_words (tree form children none) = omega arith in
+    ap (λ (n : ℕ). fill slots n rest (put slot (pointer form (count children) (next - (slot + 1)) ∷ []) (put next (body (tree form children none)) block))) same
 
-pub fill_step : (c : Bool) (slot : ℕ) (slots : List ℕ) (next : ℕ) (form : Form) (held rest : Trees) (block : List ℕ)
-    → fill (slot ∷ slots) next (formed c (tree form held rest)) block
-    ≡ fill slots (next + total_words (formed c (tree form held none))) (formed c rest)
-    (put slot (pointer_to (formed c (tree form held none)) (next - (slot + 1)) ∷ []) (put next (body (formed c (tree form held none))) block))
-fill_step true slot slots next form held rest block = fill_one slot slots next (trim_form form (trim held)) (trim_held form (trim held)) (trim rest) block
-fill_step false slot slots next form held rest block = fill_one slot slots next form held rest block
+pub fill_step : (c : Bool) (slot : ℕ) (slots : List ℕ) (next : ℕ) (form : Form) (children rest : Trees) (block : List ℕ)
+    → fill (slot ∷ slots) next (output c (tree form children rest)) block
+    ≡ fill slots (next + total_words (output c (tree form children none))) (output c rest)
+    (put slot (pointer_to (output c (tree form children none)) (next - (slot + 1)) ∷ []) (put next (body (output c (tree form children none))) block))
+fill_step true slot slots next form children rest block = fill_one slot slots next (trim_form form (trim children)) (trim_children form (trim children)) (trim rest) block
+fill_step false slot slots next form children rest block = fill_one slot slots next form children rest block
 
 -- what is to be copied, split into the first and the others
 pub record Split (m : List (List ℕ)) (place : Place) (others : List Place) (nesting : ℕ) (c : Bool) (next room : ℕ) (trees : Trees) : Type 0 where
   pub first : CanCopy m (place ∷ []) nesting c next room
-  pub following : CanCopy m others nesting c (next + total_words (formed c first.trees)) room
-  pub fills : (slot : ℕ) (slots : List ℕ) (block : List ℕ) → fill (slot ∷ slots) next (formed c trees) block
-      ≡ fill slots (next + total_words (formed c first.trees)) (formed c following.trees)
-      (put slot (pointer_to (formed c first.trees) (next - (slot + 1)) ∷ []) (put next (body (formed c first.trees)) block))
-  pub totals : total_words (formed c trees) ≡ total_words (formed c first.trees) + total_words (formed c following.trees)
+  pub following : CanCopy m others nesting c (next + total_words (output c first.trees)) room
+  pub fills : (slot : ℕ) (slots : List ℕ) (block : List ℕ) → fill (slot ∷ slots) next (output c trees) block
+      ≡ fill slots (next + total_words (output c first.trees)) (output c following.trees)
+      (put slot (pointer_to (output c first.trees) (next - (slot + 1)) ∷ []) (put next (body (output c first.trees)) block))
+  pub totals : total_words (output c trees) ≡ total_words (output c first.trees) + total_words (output c following.trees)
 
 split_tree : (m : List (List ℕ)) (place : Place) (others : List Place) (nesting : ℕ) (c : Bool) (next room : ℕ) (trees : Trees) (traversed : ℕ)
-    → At m (place ∷ others) trees traversed → depth trees ≤ nesting → AllHaveRoom trees → next + total_words (formed c trees) ≤ room → Split m place others nesting c next room trees
-split_tree m place others nesting c next room trees traversed (at {shape = s} {held = h} {rest = r} {inside = i} {following = b} object inner after) shallow rooms fits = record {
+    → At m (place ∷ others) trees traversed → depth trees ≤ nesting → AllHaveRoom trees → next + total_words (output c trees) ≤ room → Split m place others nesting c next room trees
+split_tree m place others nesting c next room trees traversed (at {shape = s} {children = h} {rest = r} {inside = i} {following = b} object inner after) shallow rooms fits = record {
   first = record {
     trees = tree s.form h none;
     traversed = s.traversed + i + 0;
@@ -64,19 +64,19 @@ split_first m place others nesting c next room can = split_tree m place others n
 pub none_at : (m : List (List ℕ)) (trees : Trees) (traversed : ℕ) → At m [] trees traversed → trees ≡ none
 none_at m trees traversed nowhere = refl
 
-pub none_formed : (c : Bool) → formed c none ≡ none
-none_formed true = refl
-none_formed false = refl
+pub none_output : (c : Bool) → output c none ≡ none
+none_output true = refl
+none_output false = refl
 
 pub fill_nothing : (next : ℕ) (trees : Trees) (block : List ℕ) → fill [] next trees block ≡ block
 fill_nothing next none block = refl
-fill_nothing next (tree form held rest) block = refl
+fill_nothing next (tree form children rest) block = refl
 
 -- where no pointers are, nothing is copied
 pub copies_none : {m : List (List ℕ)} {at : List Place} {c : Bool} {slots : List ℕ} {next free : ℕ} {block : List ℕ} → at ≡ [] → free ≡ next → CopiesAll m at c slots next block block free
 copies_none {m} {at} {c} {slots} {next} {free} {block} none_there free_is =
-    let is : (trees : Trees) (traversed : ℕ) → At m at trees traversed → formed c trees ≡ none = λ trees traversed stand.
-    ap (formed c) (none_at m trees traversed (subst (λ (l : List Place). At m l trees traversed) none_there stand)) ∙ none_formed c in
+    let is : (trees : Trees) (traversed : ℕ) → At m at trees traversed → output c trees ≡ none = λ trees traversed stand.
+    ap (output c) (none_at m trees traversed (subst (λ (l : List Place). At m l trees traversed) none_there stand)) ∙ none_output c in
     record {
       words_are = λ trees traversed stand. sym (ap (λ (t : Trees). fill slots next t block) (is trees traversed stand));
       next_is = λ trees traversed stand. omega (arith, free_is, ap total_words (is trees traversed stand));
@@ -89,21 +89,21 @@ copies_both : {m : List (List ℕ)} {place : Place} {others : List Place} {nesti
 copies_both {m} {place} {others} {nesting} {c} {slot} {slots} {free} {room} {after} {now} {mid} {new} {last} {inner} can first new_is rest =
     let s = split_first m place others nesting c free room can in
     let d = first.is s.first.trees s.first.traversed s.first.stand in
-    let words_are : mid ≡ put free (body (formed c s.first.trees)) now = d.words_are in
-    let pointer_there : inner.pointer ≡ pointer_to (formed c s.first.trees) (free - (slot + 1)) = d.pointer_is in
-    let next_is : inner.next ≡ free + total_words (formed c s.first.trees) = d.next_is in
-    let filled : fill slots inner.next (formed c s.following.trees) new ≡ fill (slot ∷ slots) free (formed c can.trees) now =
+    let words_are : mid ≡ put free (body (output c s.first.trees)) now = d.words_are in
+    let pointer_there : inner.pointer ≡ pointer_to (output c s.first.trees) (free - (slot + 1)) = d.pointer_is in
+    let next_is : inner.next ≡ free + total_words (output c s.first.trees) = d.next_is in
+    let filled : fill slots inner.next (output c s.following.trees) new ≡ fill (slot ∷ slots) free (output c can.trees) now =
     rw (new_is, words_are, pointer_there, next_is) (sym (s.fills slot slots now)) in
     let same : (trees : Trees) (traversed : ℕ) → At m (place ∷ others) trees traversed → can.trees ≡ trees = λ trees traversed stand.
     (one_tree m (place ∷ others) can.trees trees can.traversed traversed can.stand stand).0 in
     record {
-      words_are = λ trees traversed stand. rest.words_are s.following.trees s.following.traversed s.following.stand ∙ filled ∙ ap (λ (t : Trees). fill (slot ∷ slots) free (formed c t) now) (same trees traversed stand);
+      words_are = λ trees traversed stand. rest.words_are s.following.trees s.following.traversed s.following.stand ∙ filled ∙ ap (λ (t : Trees). fill (slot ∷ slots) free (output c t) now) (same trees traversed stand);
       next_is = λ trees traversed stand. omega (
         arith,
         rest.next_is s.following.trees s.following.traversed s.following.stand,
         next_is,
         s.totals,
-        ap (λ (t : Trees). total_words (formed c t)) (same trees traversed stand),
+        ap (λ (t : Trees). total_words (output c t)) (same trees traversed stand),
       );
     }
 
@@ -146,7 +146,7 @@ pub copying_next : {m : List (List ℕ)} {words : List ℕ} {nesting : ℕ} {c :
 copying_next {m} {words} {nesting} {c} {whole} {rows} {others} {place} {slot} {start} {free} {old} {now} {mid} {new} {inner} so_far takes copied mid_long new_is new_long =
     let left = left_at takes so_far.can in
     let s = split_first m place (places_in others.from) nesting c free (length now) left in
-    let next_is : inner.next ≡ free + total_words (formed c s.first.trees) = (copied.is s.first.trees s.first.traversed s.first.stand).next_is in
+    let next_is : inner.next ≡ free + total_words (output c s.first.trees) = (copied.is s.first.trees s.first.traversed s.first.stand).next_is in
     record {
       can = record {
         there = record {

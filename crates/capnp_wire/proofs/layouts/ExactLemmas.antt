@@ -1,4 +1,4 @@
--- An object that stands at the next free word stands as a layout has it, where its pointers do.
+-- An object that is at the next free word is as a layout has it, where its pointers do.
 use Rattle.std.proofs.Common.{◌≡◌, ℕ, zero, suc, ◌+◌, ◌*◌, ◌^◌, ◌≤◌, List, [], ◌∷◌, ◌++◌, length, take, drop, Some, slice_get, refl, sym, ◌∙◌, ap, subst, arith, length-append, length-take}
 use Rattle.std.proofs.Common.{length-drop, append_assoc}
 use Rattle.std.proofs.lemmas.List.{take-append-drop, drop_at}
@@ -10,7 +10,7 @@ use Rattle.capnp_wire.specs.Tree.{Form, struct, numbers, pointers, structs}
 use Rattle.capnp_wire.specs.declared.layout.place.Place.{Place}
 use Rattle.capnp_wire.specs.Object.{Shape, ShapeStands, places, row_places, rows_from, a_struct, some_numbers, some_pointers, some_structs}
 use Rattle.capnp_wire.specs.Canonical.{Padded}
-use Rattle.capnp_wire.proofs.words.StretchLemmas.{Holds, holds_none, holds_same}
+use Rattle.capnp_wire.proofs.words.SubsliceLemmas.{Holds, holds_none, holds_same}
 use Rattle.capnp_wire.proofs.words.DigitLemmas.{length-digits}
 use Rattle.capnp_wire.proofs.layouts.SizeLemmas.{length-run}
 use Rattle.capnp_wire.proofs.pointers.SlotLemmas.{Linked, placed-run, placed-row_run}
@@ -92,9 +92,9 @@ rows_linked segment base at start d p (suc n) links here room linked =
     holds_join segment at (at + d + p) (words_from segment at d ++ take p links) (woven p (rows_from segment (at + d + p) d p n) (drop p links))
     (omega (arith, length-append (words_from segment at d) (take p links))) front others
 
--- the pointers stand where they belong, and then the object's own words do
-pub record Exactly (segment : List ℕ) (next : ℕ) (form : Form) (held : List Place) (n : ℕ) : Type 0 where
-  pub held_is : held ≡ placed 0 next (slots form n)
+-- the pointers are where they belong, and then the object's own words do
+pub record Exactly (segment : List ℕ) (next : ℕ) (form : Form) (children : List Place) (n : ℕ) : Type 0 where
+  pub children_is : children ≡ placed 0 next (slots form n)
   pub holds : (links : List ℕ) → length links ≡ n → Linked segment next (slots form n) links → Holds segment next (own form links)
 
 exactly_struct : (segment : List ℕ) (next d p : ℕ) → next + d + p ≤ length segment → Exactly segment next (struct (words_from segment next d)) (places 0 (next + d) p) p
@@ -102,7 +102,7 @@ exactly_struct segment next d p room =
     let wide : length (words_from segment next d) ≡ d = omega (arith, length-take d (drop next segment), length-drop next segment) in
     let there : placed 0 next (run (length (words_from segment next d)) p) ≡ places 0 (next + d) p = placed-run 0 next (next + d) (length (words_from segment next d)) p (omega arith) in
     record {
-      held_is = sym there;
+      children_is = sym there;
       holds = λ links long linked.
           let all : Linked segment next (run (length (words_from segment next d)) (length links)) links = subst (λ (k : ℕ). Linked segment next (run (length
           (words_from segment next d)) k) links) (sym long) linked in
@@ -115,7 +115,7 @@ exactly_numbers : (segment : List ℕ) (next c n : ℕ) (values : List ℕ) → 
 exactly_numbers segment next c n values long room padded =
     let within : next + words_for (length values) (width c) ≤ length segment = rw long room in
     record {
-      held_is = refl;
+      children_is = refl;
       holds = λ links none linked. holds_same segment next (words_from segment next (words_for (length values) (width c))) (own (numbers c values) links) padded (holds_from segment next
           (words_for (length values) (width c)) within);
     }
@@ -124,7 +124,7 @@ exactly_pointers : (segment : List ℕ) (next p : ℕ) → next + p ≤ length s
 exactly_pointers segment next p room =
     let there : placed 0 next (run 0 p) ≡ places 0 next p = placed-run 0 next next 0 p (omega arith) in
     record {
-      held_is = sym there;
+      children_is = sym there;
       holds = λ links long linked.
           run_linked segment next next 0 links (omega arith) (omega arith) (subst (λ (k : ℕ). Linked segment next (run 0 k) links) (sym long) linked);
     }
@@ -137,7 +137,7 @@ exactly_structs segment next inner d p k room there is =
     placed-row_run 0 next (next + 1) 1 d p (rows_from segment (next + 1) d p k) refl in
     let stand_k : placed 0 next (row_run 1 d p (rows_from segment (next + 1) d p k)) ≡ row_places 0 (next + 1) d p k = stand ∙ ap (row_places 0 (next + 1) d p) many in
     record {
-      held_is = sym stand_k;
+      children_is = sym stand_k;
       holds = λ links long linked.
           let tag_is : inner ≡ struct_pointer (length (rows_from segment (next + 1) d p k)) d p = is ∙ ap (λ (n : ℕ). struct_pointer n d p) (sym many) in
           let front : Holds segment next (struct_pointer (length (rows_from segment (next + 1) d p k)) d p ∷ []) =
@@ -149,8 +149,8 @@ exactly_structs segment next inner d p k room there is =
 struct_parts : (word : ℕ) → pointer_kind word ≡ 0 → word ≡ struct_pointer (offset word) (data_words word) (pointer_words word)
 struct_parts word k = omega arith
 
-pub exactly : (segment : List ℕ) (next tag : ℕ) (shape : Shape) (n : ℕ) → ShapeStands segment (record { segment = 0; word = next }) tag shape → length shape.held ≡ n → Padded segment next shape.form
-    → Exactly segment next shape.form shape.held n
+pub exactly : (segment : List ℕ) (next tag : ℕ) (shape : Shape) (n : ℕ) → ShapeStands segment (record { segment = 0; word = next }) tag shape → length shape.children ≡ n → Padded segment next shape.form
+    → Exactly segment next shape.form shape.children n
 exactly segment next tag shape n (a_struct k room) long padded =
     let same : pointer_words tag ≡ n = omega (arith, length-places 0 (next + data_words tag) (pointer_words tag)) in
     subst (λ (i : ℕ). Exactly segment next (struct (words_from segment next (data_words tag))) (places 0 (next + data_words tag) (pointer_words tag)) i) same

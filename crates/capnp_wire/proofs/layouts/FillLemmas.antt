@@ -2,7 +2,7 @@
 use Rattle.std.proofs.lemmas.List.{take-append-drop, append-nil}
 use Rattle.std.proofs.lemmas.List.Elements.{All-head, All-tail}
 use Rattle.std.proofs.Common.{◌≡◌, ℕ, suc, ◌+◌, ◌-◌, ◌*◌, ◌≤◌, List, [], ◌∷◌, ◌++◌, length, take, drop, refl, sym, ◌∙◌, ap, subst, arith, append_assoc, length-append, length-take, length-drop}
-use Rattle.capnp_wire.specs.Tree.{Form, null, struct, numbers, pointers, structs, Trees, none, tree, count, own_words, total_words}
+use Rattle.capnp_wire.specs.Tree.{Form, null, struct, numbers, pointers, structs, Trees, none, tree, count, object_size, total_words}
 use Rattle.capnp_wire.specs.Layout.{pointer, run, row_run, slots, pointers_to, woven, own, body, struct_pointer, HasRoom, AllHaveRoom}
 use Rattle.capnp_wire.specs.Block.{put, fill, moved}
 use Rattle.capnp_wire.proofs.pointers.SlotLemmas.{AllOf}
@@ -17,11 +17,11 @@ set_all (slot ∷ slots) (link ∷ links) block = set_all slots links (put slot 
 
 pub pointers_moved : (base : ℕ) (slots : List ℕ) (next : ℕ) (trees : Trees) → pointers_to (moved base slots) (base + next) trees ≡ pointers_to slots next trees
 pointers_moved base slots next none = refl
-pointers_moved base [] next (tree form held rest) = refl
-pointers_moved base (slot ∷ slots) next (tree form held rest) =
+pointers_moved base [] next (tree form children rest) = refl
+pointers_moved base (slot ∷ slots) next (tree form children rest) =
     let offset : base + next - (base + slot + 1) ≡ next - (slot + 1) = omega arith in
-    let onward : base + next + own_words form (count held) + total_words held ≡ base + (next + own_words form (count held) + total_words held) = omega arith in
-    rw (offset, onward, pointers_moved base slots (next + own_words form (count held) + total_words held) rest) refl
+    let onward : base + next + object_size form (count children) + total_words children ≡ base + (next + object_size form (count children) + total_words children) = omega arith in
+    rw (offset, onward, pointers_moved base slots (next + object_size form (count children) + total_words children) rest) refl
 
 -- what lies after the slots can be put before them
 set_later : (slots links : List ℕ) (next : ℕ) (words block : List ℕ) → Before next slots → next + length words ≤ length block
@@ -37,23 +37,23 @@ pub fill_splits : (slots : List ℕ) (next : ℕ) (trees : Trees) (block : List 
     → fill slots next trees block ≡ set_all slots (pointers_to slots next trees) (put next (body trees) block)
 fill_splits [] next none block before room long fits = sym (put_none next block)
 fill_splits (slot ∷ slots) next none block before room long fits = absurd (omega arith)
-fill_splits [] next (tree form held rest) block before room long fits = absurd (omega arith)
-fill_splits (slot ∷ slots) next (tree form held rest) block before room long fits =
-    let n : ℕ = own_words form (count held) + total_words held in
-    let first : List ℕ = body (tree form held none) in
-    let link : ℕ = pointer form (count held) (next - (slot + 1)) in
-    let after : ℕ = next + own_words form (count held) + total_words held in
-    let size : length (body (tree form held none)) ≡ own_words form (count held) + total_words held = omega (arith, length-body (tree form held none) (room.0, room.1, tt)) in
+fill_splits [] next (tree form children rest) block before room long fits = absurd (omega arith)
+fill_splits (slot ∷ slots) next (tree form children rest) block before room long fits =
+    let n : ℕ = object_size form (count children) + total_words children in
+    let first : List ℕ = body (tree form children none) in
+    let link : ℕ = pointer form (count children) (next - (slot + 1)) in
+    let after : ℕ = next + object_size form (count children) + total_words children in
+    let size : length (body (tree form children none)) ≡ object_size form (count children) + total_words children = omega (arith, length-body (tree form children none) (room.0, room.1, tt)) in
     let following : length (body rest) ≡ total_words rest = length-body rest room.2 in
-    let after_is : next + length (body (tree form held none)) ≡ next + own_words form (count held) + total_words held = omega arith in
-    let put_first = length-put next (body (tree form held none)) block (omega arith) in
-    let put_link = length-put slot (link ∷ []) (put next (body (tree form held none)) block) (omega (arith, before.0)) in
+    let after_is : next + length (body (tree form children none)) ≡ next + object_size form (count children) + total_words children = omega arith in
+    let put_first = length-put next (body (tree form children none)) block (omega arith) in
+    let put_link = length-put slot (link ∷ []) (put next (body (tree form children none)) block) (omega (arith, before.0)) in
     let others = fill_splits slots after rest (put slot (link ∷ []) (put next first block)) (before_more next after slots (omega arith) before.1) room.2 (omega arith) (omega arith) in
     let apart : put after (body rest) (put slot (link ∷ []) (put next first block)) ≡ put slot (link ∷ []) (put after (body rest) (put next first block)) =
     put_apart slot after (link ∷ []) (body rest) (put next first block) (omega (arith, before.0)) (omega arith) in
     let joined : put after (body rest) (put next first block) ≡ put next (first ++ body rest) block =
     ap (λ (k : ℕ). put k (body rest) (put next first block)) (sym after_is) ∙ put_both next first (body rest) block (omega arith) in
-    let whole : first ++ body rest ≡ body (tree form held rest) = ap (λ (l : List ℕ). l ++ body rest) (append-nil (own form (links_of form held) ++ body held)) in
+    let whole : first ++ body rest ≡ body (tree form children rest) = ap (λ (l : List ℕ). l ++ body rest) (append-nil (own form (links_of form children) ++ body children)) in
     others ∙ ap (λ (l : List ℕ). set_all slots (pointers_to slots after rest) l) (apart ∙ ap (λ (l : List ℕ). put slot (link ∷ []) l) (joined ∙ ap (λ (l : List ℕ). put next l block) whole))
 
 -- slots within the words that were put
@@ -133,30 +133,30 @@ length-moved : (base : ℕ) (slots : List ℕ) → length (moved base slots) ≡
 length-moved base [] = refl
 length-moved base (slot ∷ slots) = ap (λ (n : ℕ). suc n) (length-moved base slots)
 
--- an object whose pointers are filled in, whatever stood there before
-pub fill_is : (base : ℕ) (form : Form) (held : Trees) (olds block : List ℕ) → HasRoom form (count held) → AllHaveRoom held → length olds ≡ count held
-    → base + (own_words form (count held) + total_words held) ≤ length block
-    → fill (moved base (slots form (count held))) (base + own_words form (count held)) held (put base (own form olds) block) ≡ put base (body (tree form held none)) block
-fill_is base form held olds block room inner long fits =
-    let links : List ℕ = links_of form held in
-    let many : length (links_of form held) ≡ count held = length-links form held room in
-    let size : length (own form olds) ≡ own_words form (count held) =
-    length-own form olds (subst (λ (n : ℕ). HasRoom form n) (sym long) room) ∙ ap (λ (n : ℕ). own_words form n) long in
-    let inner_size : length (body held) ≡ total_words held = length-body held inner in
+-- an object whose pointers are filled in, whatever was there before
+pub fill_is : (base : ℕ) (form : Form) (children : Trees) (olds block : List ℕ) → HasRoom form (count children) → AllHaveRoom children → length olds ≡ count children
+    → base + (object_size form (count children) + total_words children) ≤ length block
+    → fill (moved base (slots form (count children))) (base + object_size form (count children)) children (put base (own form olds) block) ≡ put base (body (tree form children none)) block
+fill_is base form children olds block room inner long fits =
+    let links : List ℕ = links_of form children in
+    let many : length (links_of form children) ≡ count children = length-links form children room in
+    let size : length (own form olds) ≡ object_size form (count children) =
+    length-own form olds (subst (λ (n : ℕ). HasRoom form n) (sym long) room) ∙ ap (λ (n : ℕ). object_size form n) long in
+    let inner_size : length (body children) ≡ total_words children = length-body children inner in
     let put_own = length-put base (own form olds) block (omega arith) in
-    let absolute : Before (base + own_words form (count held)) (moved base (slots form (count held))) = before_moved base (own_words form (count held)) (slots form (count held))
-    (slots_before form (count held) room) in
-    let splits = fill_splits (moved base (slots form (count held))) (base + own_words form (count held)) held (put base (own form olds) block) absolute inner
-    (length-moved base (slots form (count held)) ∙ length-slots form (count held) room) (omega arith) in
-    let same_links = pointers_moved base (slots form (count held)) (own_words form (count held)) held in
-    let joined : put (base + own_words form (count held)) (body held) (put base (own form olds) block) ≡ put base (own form olds ++ body held) block =
-    ap (λ (n : ℕ). put (base + n) (body held) (put base (own form olds) block)) (sym size) ∙ put_both base (own form olds) (body held) block (omega arith) in
-    let longer : length (own form olds ++ body held) ≡ own_words form (count held) + total_words held = omega (arith, length-append (own form olds) (body held)) in
-    let inside = set_inside base (slots form (count held)) links (own form olds ++ body held) block
-    (before_more (own_words form (count held)) (length (own form olds ++ body held)) (slots form (count held)) (omega arith) (slots_before form (count held) room)) (omega arith) in
-    let set : set_all (slots form (count held)) links (own form olds ++ body held) ≡ own form links ++ body held =
-    subst (λ (n : ℕ). set_all (slots form n) links (own form olds ++ body held) ≡ own form links ++ body held) many
-    (own_set form olds links (body held) (subst (λ (n : ℕ). HasRoom form n) (sym many) room) (long ∙ sym many)) in
-    splits ∙ ap (λ (l : List ℕ). set_all (moved base (slots form (count held))) l (put (base + own_words form (count held)) (body held) (put base (own form olds) block))) same_links
-    ∙ ap (λ (l : List ℕ). set_all (moved base (slots form (count held))) links l) joined ∙ inside
-    ∙ ap (λ (l : List ℕ). put base l block) (set ∙ sym (append-nil (own form links ++ body held)))
+    let absolute : Before (base + object_size form (count children)) (moved base (slots form (count children))) = before_moved base (object_size form (count children)) (slots form (count children))
+    (slots_before form (count children) room) in
+    let splits = fill_splits (moved base (slots form (count children))) (base + object_size form (count children)) children (put base (own form olds) block) absolute inner
+    (length-moved base (slots form (count children)) ∙ length-slots form (count children) room) (omega arith) in
+    let same_links = pointers_moved base (slots form (count children)) (object_size form (count children)) children in
+    let joined : put (base + object_size form (count children)) (body children) (put base (own form olds) block) ≡ put base (own form olds ++ body children) block =
+    ap (λ (n : ℕ). put (base + n) (body children) (put base (own form olds) block)) (sym size) ∙ put_both base (own form olds) (body children) block (omega arith) in
+    let longer : length (own form olds ++ body children) ≡ object_size form (count children) + total_words children = omega (arith, length-append (own form olds) (body children)) in
+    let inside = set_inside base (slots form (count children)) links (own form olds ++ body children) block
+    (before_more (object_size form (count children)) (length (own form olds ++ body children)) (slots form (count children)) (omega arith) (slots_before form (count children) room)) (omega arith) in
+    let set : set_all (slots form (count children)) links (own form olds ++ body children) ≡ own form links ++ body children =
+    subst (λ (n : ℕ). set_all (slots form n) links (own form olds ++ body children) ≡ own form links ++ body children) many
+    (own_set form olds links (body children) (subst (λ (n : ℕ). HasRoom form n) (sym many) room) (long ∙ sym many)) in
+    splits ∙ ap (λ (l : List ℕ). set_all (moved base (slots form (count children))) l (put (base + object_size form (count children)) (body children) (put base (own form olds) block))) same_links
+    ∙ ap (λ (l : List ℕ). set_all (moved base (slots form (count children))) links l) joined ∙ inside
+    ∙ ap (λ (l : List ℕ). put base l block) (set ∙ sym (append-nil (own form links ++ body children)))

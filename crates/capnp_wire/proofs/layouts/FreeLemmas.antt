@@ -8,7 +8,7 @@ use Rattle.std.proofs.lemmas.List.Elements.{All-take, All-drop, All-replicate}
 use Rattle.capnp_wire.specs.Pointer.{digits, number_of, words_of}
 use Rattle.capnp_wire.specs.Element.{width, words_for}
 use Rattle.capnp_wire.specs.Tree.{null, numbers, Trees, none, tree, total_words}
-use Rattle.capnp_wire.specs.Layout.{own, body, layout, list_pointer, pointer_to, formed, AllHaveRoom}
+use Rattle.capnp_wire.specs.Layout.{own, body, layout, list_pointer, pointer_to, output, AllHaveRoom}
 use Rattle.capnp_wire.specs.Block.{put}
 use Rattle.capnp_wire.specs.Copy.{IsCopied}
 use Rattle.capnp_wire.specs.Values.{HasWords, HasRoomAt, IsFreeFrom}
@@ -18,7 +18,7 @@ use Rattle.capnp_wire.proofs.words.PutLemmas.{words_part, put_mid_words}
 use Rattle.capnp_wire.proofs.words.BytesLemmas.{padded}
 use Rattle.capnp_wire.proofs.layouts.BlockLemmas.{length-put, put_none}
 use Rattle.capnp_wire.proofs.layouts.SizeLemmas.{length-body}
-use Rattle.capnp_wire.proofs.layouts.OpenLemmas.{room_formed}
+use Rattle.capnp_wire.proofs.layouts.OpenLemmas.{room_output}
 use Rattle.capnp_wire.proofs.views.ValueLemmas.{put_whole}
 
 -- zeros, as bytes and as words
@@ -142,8 +142,8 @@ zero_part bytes k n zeros room =
 
 -- where a value is one tree, which has room, that has as many words as its body
 pub body_long : (h : Trees → Type 0) (c : Bool) (next room : ℕ) → ((a b : Trees) → h a → h b → a ≡ b) → HasRoomAt h c next room → (trees : Trees) → h trees
-    → length (body (formed c trees)) ≡ total_words (formed c trees)
-body_long h c next room one w trees is = length-body (formed c trees) (room_formed c trees (subst AllHaveRoom (one w.trees trees w.tree_is is) w.rooms))
+    → length (body (output c trees)) ≡ total_words (output c trees)
+body_long h c next room one w trees is = length-body (output c trees) (room_output c trees (subst AllHaveRoom (one w.trees trees w.tree_is is) w.rooms))
 
 -- a value that is measured, in a block of just its words
 pub has_room : (h : Trees → Type 0) (c : Bool) (n room : ℕ) → HasWords h c n → n ≡ room → HasRoomAt h c 0 room
@@ -156,13 +156,13 @@ whole_written trees old new copied size is =
     ∙ ap (λ (l : List ℕ). pointer_to trees 0 ∷ l) (is.words_are ∙ put_whole (body trees) old size)
 
 -- null that is put there
-null_formed : (c : Bool) → formed c (tree null none none) ≡ tree null none none
-null_formed true = refl
-null_formed false = refl
+null_output : (c : Bool) → output c (tree null none none) ≡ tree null none none
+null_output true = refl
+null_output false = refl
 
-pub null_copied : (c : Bool) (trees : Trees) (gap next : ℕ) (block : List ℕ) → trees ≡ tree null none none → IsCopied (formed c trees) gap next block block (record { pointer = 0; next = next })
+pub null_copied : (c : Bool) (trees : Trees) (gap next : ℕ) (block : List ℕ) → trees ≡ tree null none none → IsCopied (output c trees) gap next block block (record { pointer = 0; next = next })
 null_copied c trees gap next block is =
-    subst (λ (t : Trees). IsCopied t gap next block block (record { pointer = 0; next = next })) (sym (ap (formed c) is ∙ null_formed c))
+    subst (λ (t : Trees). IsCopied t gap next block block (record { pointer = 0; next = next })) (sym (ap (output c) is ∙ null_output c))
     (record { words_are = sym (put_none next block); pointer_is = refl; next_is = omega arith })
 
 -- bytes that are put there, with zeros after them
@@ -196,17 +196,17 @@ numbers_copied code values gap next old new copied is pointer_is next_is = recor
   next_is = omega (arith, next_is);
 }
 
-pub numbers_formed : (c : Bool) (code : ℕ) (values : List ℕ) → formed c (tree (numbers code values) none none) ≡ tree (numbers code values) none none
-numbers_formed true code values = refl
-numbers_formed false code values = refl
+pub numbers_output : (c : Bool) (code : ℕ) (values : List ℕ) → output c (tree (numbers code values) none none) ≡ tree (numbers code values) none none
+numbers_output true code values = refl
+numbers_output false code values = refl
 
--- whatever the form, a list of numbers is copied as it stands
-pub as_formed : (c : Bool) (code : ℕ) (values : List ℕ) (trees : Trees) (gap next : ℕ) (old new : List ℕ) (copied : Copied) → trees ≡ tree (numbers code values) none none
-    → IsCopied (tree (numbers code values) none none) gap next old new copied → IsCopied (formed c trees) gap next old new copied
-as_formed c code values trees gap next old new copied is done =
-    subst (λ (t : Trees). IsCopied t gap next old new copied) (sym (ap (formed c) is ∙ numbers_formed c code values)) done
+-- whatever the form, a list of numbers is copied as it is
+pub as_output : (c : Bool) (code : ℕ) (values : List ℕ) (trees : Trees) (gap next : ℕ) (old new : List ℕ) (copied : Copied) → trees ≡ tree (numbers code values) none none
+    → IsCopied (tree (numbers code values) none none) gap next old new copied → IsCopied (output c trees) gap next old new copied
+as_output c code values trees gap next old new copied is done =
+    subst (λ (t : Trees). IsCopied t gap next old new copied) (sym (ap (output c) is ∙ numbers_output c code values)) done
 
-pub numbers_total : (c : Bool) (code : ℕ) (values : List ℕ) (trees : Trees) → trees ≡ tree (numbers code values) none none → total_words (formed c trees) ≡ words_for (length values) (width code)
+pub numbers_total : (c : Bool) (code : ℕ) (values : List ℕ) (trees : Trees) → trees ≡ tree (numbers code values) none none → total_words (output c trees) ≡ words_for (length values) (width code)
 numbers_total c code values trees is =
-    let whole : total_words (formed c trees) ≡ total_words (tree (numbers code values) none none) = ap total_words (ap (formed c) is ∙ numbers_formed c code values) in
+    let whole : total_words (output c trees) ≡ total_words (tree (numbers code values) none none) = ap total_words (ap (output c) is ∙ numbers_output c code values) in
     omega (arith, whole)

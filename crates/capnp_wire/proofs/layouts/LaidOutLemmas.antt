@@ -3,23 +3,23 @@ use Rattle.std.proofs.Math.Nat.{mul-le-mul_left}
 use Rattle.std.proofs.Common.{◌≡◌, ◌⊎◌, inl, inr, ℕ, zero, suc, ◌+◌, ◌-◌, ◌*◌, ◌^◌, ◌<◌, ◌≤◌, false, List, [], ◌∷◌, length, Option, Some, slice_get, slice_index_or, refl, sym, ◌∙◌, ap, subst, arith}
 use Rattle.std.specs.Prelude.{All, ◌↔◌}
 use Rattle.capnp_wire.specs.Pointer.{pointer_kind}
-use Rattle.capnp_wire.specs.Tree.{Form, is_null, null, struct, numbers, pointers, structs, Trees, none, tree, count, depth, own_words}
-use Rattle.capnp_wire.specs.Trim.{trim_form, trim_held}
-use Rattle.capnp_wire.specs.Object.{word_at, near, far, double_far, Shape, ShapeStands, PointsTo, is_null as null_there, is_object}
+use Rattle.capnp_wire.specs.Tree.{Form, is_null, null, struct, numbers, pointers, structs, Trees, none, tree, count, depth, object_size}
+use Rattle.capnp_wire.specs.Trim.{trim_form, trim_children}
+use Rattle.capnp_wire.specs.Object.{word_at, local, far, double_far, Shape, ShapeStands, PointsTo, is_null as null_there, is_object}
 use Rattle.capnp_wire.specs.Reached.{At, nowhere, at}
 use Rattle.capnp_wire.specs.Traversed.{less}
 use Rattle.capnp_wire.specs.Layout.{pointer, Reaches, HasRoom}
-use Rattle.capnp_wire.specs.Canonical.{EndsFull, EndsSome, nth_form, Padded, Tidy}
-use Rattle.capnp_wire.specs.Tested.{IsFarAt, IsNext, links_at, NeedPointers, IsTight, IsLaidOut, MeetsObject, Passes}
+use Rattle.capnp_wire.specs.Canonical.{EndsFull, EndsSome, nth_form, Padded, IsInPreorder}
+use Rattle.capnp_wire.specs.Tested.{IsFarAt, IsNext, links_at, NeedPointers, IsTruncated, IsLaidOut, MeetsObject, Passes}
 use Rattle.capnp_wire.specs.declared.layout.place.Place.{Place}
 use Rattle.capnp_wire.proofs.trees.StandLemmas.{count_at, one_deeper}
-use Rattle.capnp_wire.proofs.forms.TightLemmas.{or_there, there_or}
-use Rattle.capnp_wire.proofs.forms.TidyLemmas.{Near, near_object}
+use Rattle.capnp_wire.proofs.forms.TruncatedLemmas.{or_there, there_or}
+use Rattle.capnp_wire.proofs.forms.PreorderLemmas.{Local, local_object}
 use Rattle.capnp_wire.proofs.layouts.SizeLemmas.{rows_even}
 use Rattle.capnp_wire.proofs.forms.FullLemmas.{null_is_zero, struct_is_trimmed, structs_are_trimmed, rows_need_data}
 use Rattle.capnp_wire.proofs.forms.FullRowLemmas.{rows_need_pointers}
 use Rattle.capnp_wire.proofs.trees.RoomLemmas.{object_room, one_segment}
-use Rattle.capnp_wire.proofs.walks.StepLemmas.{tidy_step}
+use Rattle.capnp_wire.proofs.walks.StepLemmas.{preorder_step}
 use Rattle.capnp_wire.proofs.pointers.NextLemmas.{next_is_laid_out, next_room}
 
 -- the word at the place of an object
@@ -29,7 +29,7 @@ word_of segment (suc number) index word e = absurd (cc)
 
 pub word_stands : (m : List (List ℕ)) (place : Place) (shape : Shape) → PointsTo m place shape → (word : ℕ) × (word_at m place ≡ Some word)
 word_stands m place shape (null_there e) = (0, e)
-word_stands m place shape (is_object (near {word = w} e p k) f b s) = (w, e)
+word_stands m place shape (is_object (local {word = w} e p k) f b s) = (w, e)
 word_stands m place shape (is_object (far {word = w} e g p k) f b s) = (w, e)
 word_stands m place shape (is_object (double_far {word = w} e g p h q r k) f b s) = (w, e)
 
@@ -72,11 +72,11 @@ row_less n p i some less =
     let h : p * suc i ≤ p * n = mul-le-mul_left p less in
     omega arith
 
-need_pointers_is : (segment : List ℕ) (places : List Place) (held : Trees) (traversed p n : ℕ) → At (segment ∷ []) places held traversed → count held ≡ n * p
-    → ((p ≡ 0) ⊎ ((k : ℕ) × (p ≡ k + 1) × (i : ℕ) × (i < n) × (nth_form held (i * p + k) ≡ Some null → ⊥))) ↔ NeedPointers p n (links_at segment places)
-need_pointers_is segment places held traversed zero n stand many = (λ t. inl refl, λ t. inl refl)
-need_pointers_is segment places held traversed (suc q) n stand many =
-    let long : length places ≡ count held = sym (count_at (segment ∷ []) places held traversed stand) in (
+need_pointers_is : (segment : List ℕ) (places : List Place) (children : Trees) (traversed p n : ℕ) → At (segment ∷ []) places children traversed → count children ≡ n * p
+    → ((p ≡ 0) ⊎ ((k : ℕ) × (p ≡ k + 1) × (i : ℕ) × (i < n) × (nth_form children (i * p + k) ≡ Some null → ⊥))) ↔ NeedPointers p n (links_at segment places)
+need_pointers_is segment places children traversed zero n stand many = (λ t. inl refl, λ t. inl refl)
+need_pointers_is segment places children traversed (suc q) n stand many =
+    let long : length places ≡ count children = sym (count_at (segment ∷ []) places children traversed stand) in (
       λ t. elim t [
         | inl nothing ↦ inl nothing
         | inr found ↦
@@ -85,7 +85,7 @@ need_pointers_is segment places held traversed (suc q) n stand many =
             inr (
               found.2,
               found.3,
-              λ is. found.4 ((links_null segment places held traversed (found.2 * suc q + found.0) stand (omega arith)).1
+              λ is. found.4 ((links_null segment places children traversed (found.2 * suc q + found.0) stand (omega arith)).1
                   (ap (λ (k : ℕ). slice_index_or (links_at segment places) k 0) (sym same) ∙ is)),
             )
       ],
@@ -100,101 +100,101 @@ need_pointers_is segment places held traversed (suc q) n stand many =
               found.0,
               found.1,
               λ is. found.2 (ap (λ (k : ℕ). slice_index_or (links_at segment places) k 0) same
-                  ∙ (links_null segment places held traversed (found.0 * suc q + q) stand (omega arith)).0 is),
+                  ∙ (links_null segment places children traversed (found.0 * suc q + q) stand (omega arith)).0 is),
             )
       ],
     )
 
-pub tight_is_trimmed : (segment : List ℕ) (form : Form) (places : List Place) (held : Trees) (traversed : ℕ) → At (segment ∷ []) places held traversed → HasRoom form (count held)
-    → IsTight form (links_at segment places) ↔ ((trim_form form held ≡ form) × (trim_held form held ≡ held))
-tight_is_trimmed segment null places held traversed stand room = (λ t. (refl, refl), λ t. tt)
-tight_is_trimmed segment (struct words) places held traversed stand room =
-    let e = struct_is_trimmed words held in
-    let f = ends_some_is segment places held traversed stand in
+pub truncated_is_trimmed : (segment : List ℕ) (form : Form) (places : List Place) (children : Trees) (traversed : ℕ) → At (segment ∷ []) places children traversed → HasRoom form (count children)
+    → IsTruncated form (links_at segment places) ↔ ((trim_form form children ≡ form) × (trim_children form children ≡ children))
+truncated_is_trimmed segment null places children traversed stand room = (λ t. (refl, refl), λ t. tt)
+truncated_is_trimmed segment (struct words) places children traversed stand room =
+    let e = struct_is_trimmed words children in
+    let f = ends_some_is segment places children traversed stand in
     (λ t. e.1 (t.0, f.1 t.1), λ t. let both = e.0 t in (both.0, f.0 both.1))
-tight_is_trimmed segment (numbers c values) places held traversed stand room = (λ t. (refl, refl), λ t. tt)
-tight_is_trimmed segment pointers places held traversed stand room = (λ t. (refl, refl), λ t. tt)
-tight_is_trimmed segment (structs d p rows) places held traversed stand room =
-    let e = structs_are_trimmed d p rows held room in
+truncated_is_trimmed segment (numbers c values) places children traversed stand room = (λ t. (refl, refl), λ t. tt)
+truncated_is_trimmed segment pointers places children traversed stand room = (λ t. (refl, refl), λ t. tt)
+truncated_is_trimmed segment (structs d p rows) places children traversed stand room =
+    let e = structs_are_trimmed d p rows children room in
     let data_e = rows_need_data d rows (rows_even d rows room.5) in
-    let links_e = rows_need_pointers p rows held room.4 in
-    let f = need_pointers_is segment places held traversed p (length rows) stand room.4 in (
+    let links_e = rows_need_pointers p rows children room.4 in
+    let f = need_pointers_is segment places children traversed p (length rows) stand room.4 in (
       λ t. e.1 (data_e.1 t.0, links_e.1 (f.1 t.1)),
       λ t. let both = e.0 t in (data_e.0 both.0, f.0 (links_e.0 both.1)),
     )
 
 -- the pointer of an object that is met
-object_near : (segment : List ℕ) (word : ℕ) (shape : Shape) (tag : ℕ) → PointsTo (segment ∷ []) (record { segment = 0; word = word }) shape → is_null shape.form ≡ false
+object_local : (segment : List ℕ) (word : ℕ) (shape : Shape) (tag : ℕ) → PointsTo (segment ∷ []) (record { segment = 0; word = word }) shape → is_null shape.form ≡ false
     → (IsFarAt segment (record { segment = 0; word = word }) → ⊥) → slice_get segment word ≡ Some tag → (0 < tag) × (pointer_kind tag < 2)
-object_near segment word shape tag (null_there e) some not_far there = absurd (cc)
-object_near segment word shape tag (is_object (near {word = w} e p k) f b s) some not_far there =
+object_local segment word shape tag (null_there e) some not_far there = absurd (cc)
+object_local segment word shape tag (is_object (local {word = w} e p k) f b s) some not_far there =
     let same : w ≡ tag = cc in (omega arith, subst (λ (x : ℕ). pointer_kind x < 2) same k)
-object_near segment word shape tag (is_object (far {word = w} e g p k) f b s) some not_far there = absurd (not_far (w, e, g.far))
-object_near segment word shape tag (is_object (double_far {word = w} e g p h q r k) f b s) some not_far there = absurd (not_far (w, e, g.far))
+object_local segment word shape tag (is_object (far {word = w} e g p k) f b s) some not_far there = absurd (not_far (w, e, g.far))
+object_local segment word shape tag (is_object (double_far {word = w} e g p h q r k) f b s) some not_far there = absurd (not_far (w, e, g.far))
 
-pub near_met : (segment : List ℕ) (word nesting : ℕ) (limit : Option ℕ) (shape : Shape) (tag : ℕ) → MeetsObject segment (record { segment = 0; word = word }) nesting limit shape
+pub local_met : (segment : List ℕ) (word nesting : ℕ) (limit : Option ℕ) (shape : Shape) (tag : ℕ) → MeetsObject segment (record { segment = 0; word = word }) nesting limit shape
     → slice_get segment word ≡ Some tag
-    → Near segment word tag shape.form shape.held
-near_met segment word nesting limit shape tag meets there =
-    let near_tag : (0 < tag) × (pointer_kind tag < 2) = object_near segment word shape tag meets.object meets.some meets.not_far there in
-    near_object segment word tag shape there near_tag.0 near_tag.1 meets.object
+    → Local segment word tag shape.form shape.children
+local_met segment word nesting limit shape tag meets there =
+    let local_tag : (0 < tag) × (pointer_kind tag < 2) = object_local segment word shape tag meets.object meets.some meets.not_far there in
+    local_object segment word tag shape there local_tag.0 local_tag.1 meets.object
 
 -- what is tested of its pointer is that it is the layout's
 abbrev pub IsPlaced : List ℕ → ℕ → ℕ → Form → ℕ → Type 0
 IsPlaced segment word next form n = (slice_get segment word ≡ Some (pointer form n (next - (word + 1)))) × Reaches form n (next - (word + 1))
 
-placed_as : (segment : List ℕ) (start : Place) (tag word next : ℕ) (shape : Shape) (form : Form) (held : List Place) → ShapeStands segment start tag shape → shape.form ≡ form → shape.held ≡ held
-    → IsNext tag word next form (length held) ↔ ((tag ≡ pointer form (length held) (next - (word + 1))) × Reaches form (length held) (next - (word + 1)))
-placed_as segment start tag word next shape form held stands f h =
+placed_as : (segment : List ℕ) (start : Place) (tag word next : ℕ) (shape : Shape) (form : Form) (children : List Place) → ShapeStands segment start tag shape → shape.form ≡ form → shape.children ≡ children
+    → IsNext tag word next form (length children) ↔ ((tag ≡ pointer form (length children) (next - (word + 1))) × Reaches form (length children) (next - (word + 1)))
+placed_as segment start tag word next shape form children stands f h =
     let whole : Form → List Place → Type 0 = λ a b. IsNext tag word next a (length b) ↔ ((tag ≡ pointer a (length b) (next - (word + 1))) × Reaches a (length b) (next - (word + 1))) in
-    subst (λ (a : Form). whole a held) f (subst (λ (b : List Place). whole shape.form b) h (next_is_laid_out segment start tag word next shape stands))
+    subst (λ (a : Form). whole a children) f (subst (λ (b : List Place). whole shape.form b) h (next_is_laid_out segment start tag word next shape stands))
 
 pub laid_is_placed : (segment : List ℕ) (word nesting next : ℕ) (limit : Option ℕ) (shape : Shape) → MeetsObject segment (record { segment = 0; word = word }) nesting limit shape
     → IsLaidOut segment (record { segment = 0; word = word }) next shape
-    ↔ (IsPlaced segment word next shape.form (length shape.held) × Padded segment next shape.form × IsTight shape.form (links_at segment shape.held))
+    ↔ (IsPlaced segment word next shape.form (length shape.children) × Padded segment next shape.form × IsTruncated shape.form (links_at segment shape.children))
 laid_is_placed segment word nesting next limit shape meets = (
   λ l.
-      let n = near_met segment word nesting limit shape l.pointer meets l.there in
-      let e = placed_as segment (record { segment = 0; word = n.start }) l.pointer word next n.shape shape.form shape.held n.stands n.form_is n.held_is in
+      let n = local_met segment word nesting limit shape l.pointer meets l.there in
+      let e = placed_as segment (record { segment = 0; word = n.start }) l.pointer word next n.shape shape.form shape.children n.stands n.form_is n.children_is in
       let both = e.0 l.is_next in
-      ((l.there ∙ ap Some both.0, both.1), l.padded, l.tight),
+      ((l.there ∙ ap Some both.0, both.1), l.padded, l.truncated),
   λ t.
-      let n = near_met segment word nesting limit shape (pointer shape.form (length shape.held) (next - (word + 1))) meets t.0.0 in
-      let e = placed_as segment (record { segment = 0; word = n.start }) (pointer shape.form (length shape.held) (next -
-      (word + 1))) word next n.shape shape.form shape.held n.stands n.form_is n.held_is in
-      record { pointer = pointer shape.form (length shape.held) (next - (word + 1)); there = t.0.0; is_next = e.1 (refl, t.0.1); padded = t.1; tight = t.2 },
+      let n = local_met segment word nesting limit shape (pointer shape.form (length shape.children) (next - (word + 1))) meets t.0.0 in
+      let e = placed_as segment (record { segment = 0; word = n.start }) (pointer shape.form (length shape.children) (next -
+      (word + 1))) word next n.shape shape.form shape.children n.stands n.form_is n.children_is in
+      record { pointer = pointer shape.form (length shape.children) (next - (word + 1)); there = t.0.0; is_next = e.1 (refl, t.0.1); padded = t.1; truncated = t.2 },
 )
 
 -- its words lie after the next free word
 pub laid_room : (segment : List ℕ) (word nesting next : ℕ) (limit : Option ℕ) (shape : Shape) → MeetsObject segment (record { segment = 0; word = word }) nesting limit shape
-    → IsLaidOut segment (record { segment = 0; word = word }) next shape → word < next → next ≤ length segment → next + own_words shape.form (length shape.held) ≤ length segment
+    → IsLaidOut segment (record { segment = 0; word = word }) next shape → word < next → next ≤ length segment → next + object_size shape.form (length shape.children) ≤ length segment
 laid_room segment word nesting next limit shape meets l before within =
-    let n = near_met segment word nesting limit shape l.pointer meets l.there in
-    let is : IsNext l.pointer word next n.shape.form (length n.shape.held) = rw (n.form_is, n.held_is) l.is_next in
+    let n = local_met segment word nesting limit shape l.pointer meets l.there in
+    let is : IsNext l.pointer word next n.shape.form (length n.shape.children) = rw (n.form_is, n.children_is) l.is_next in
     let room = next_room segment n.start l.pointer word next n.shape n.stands before within n.target is in
-    rw (n.form_is, n.held_is) at room
+    rw (n.form_is, n.children_is) at room
 
 -- an object that passes, over what it holds
 pub passes_over : (segment : List ℕ) (word nesting next traversed after : ℕ) (limit : Option ℕ) (shape : Shape) → All (λ w. w < 2 ^ 64) segment → word < next → next ≤ length segment
     → MeetsObject segment (record { segment = 0; word = word }) nesting limit shape → IsLaidOut segment (record { segment = 0; word = word }) next shape
-    → Passes segment shape.held (nesting - 1) traversed (next + own_words shape.form (length shape.held)) after
+    → Passes segment shape.children (nesting - 1) traversed (next + object_size shape.form (length shape.children)) after
     → Passes segment (record { segment = 0; word = word } ∷ []) nesting (shape.traversed + traversed) next after
 passes_over segment word nesting next traversed after limit shape all before within meets l p =
-    let many : length shape.held ≡ count p.trees = sym (count_at (segment ∷ []) shape.held p.trees traversed p.stand) in
+    let many : length shape.children ≡ count p.trees = sym (count_at (segment ∷ []) shape.children p.trees traversed p.stand) in
     let t = (laid_is_placed segment word nesting next limit shape meets).0 l in
     let placed : IsPlaced segment word next shape.form (count p.trees) = subst (λ (n : ℕ). IsPlaced segment word next shape.form n) many t.0 in
-    let tidy : Tidy segment shape.held (next + own_words shape.form (count p.trees)) p.trees =
-    subst (λ (n : ℕ). Tidy segment shape.held (next + own_words shape.form n) p.trees) many p.tidy in
+    let in_preorder : IsInPreorder segment shape.children (next + object_size shape.form (count p.trees)) p.trees =
+    subst (λ (n : ℕ). IsInPreorder segment shape.children (next + object_size shape.form n) p.trees) many p.in_preorder in
     let room : HasRoom shape.form (count p.trees) =
     subst (λ (n : ℕ). HasRoom shape.form n) many (object_room (segment ∷ []) (record { segment = 0; word = word }) shape (one_segment segment all) meets.object) in
-    let trims = (tight_is_trimmed segment shape.form shape.held p.trees traversed p.stand room).0 t.2 in
-    let own : own_words shape.form (length shape.held) ≡ own_words shape.form (count p.trees) = ap (own_words shape.form) many in
+    let trims = (truncated_is_trimmed segment shape.form shape.children p.trees traversed p.stand room).0 t.2 in
+    let own : object_size shape.form (length shape.children) ≡ object_size shape.form (count p.trees) = ap (object_size shape.form) many in
     record {
       trees = tree shape.form p.trees none;
       stand = subst (At (segment ∷ []) (record { segment = 0; word = word } ∷ []) (tree shape.form p.trees none)) (omega arith) (at meets.object p.stand nowhere);
       shallow = one_deeper (is_null shape.form) (depth p.trees) nesting p.shallow meets.deep;
-      tidy = (tidy_step segment word next shape.held [] shape.form p.trees none shape.traversed traversed all meets.object p.stand before within).1
-          (placed.0, placed.1, t.1, tidy, tt);
+      in_preorder = (preorder_step segment word next shape.children [] shape.form p.trees none shape.traversed traversed all meets.object p.stand before within).1
+          (placed.0, placed.1, t.1, in_preorder, tt);
       trimmed = ((trims.0, trims.1, p.trimmed), tt);
       after_is = omega (arith, p.after_is, own);
       room = p.room;

@@ -6,11 +6,11 @@ use Rattle.capnp_wire.specs.Layout.{struct_pointer, list_pointer, minus_one}
 use Rattle.capnp_wire.specs.Tree.{Form, null, struct, numbers, pointers, structs, Trees, none, tree, count}
 use Rattle.capnp_wire.specs.Object.{PointsTo, is_null}
 use Rattle.capnp_wire.specs.Reached.{At, nowhere, at}
-use Rattle.capnp_wire.specs.Tree.{own_words, total_words}
+use Rattle.capnp_wire.specs.Tree.{object_size, total_words}
 use Rattle.capnp_wire.specs.Layout.{pointer, slots, pointers_to, own, body, layout, HasRoom, AllHaveRoom, Reaches, AllReach}
 use Rattle.capnp_wire.specs.Reached.{root}
 use Rattle.capnp_wire.specs.Layout.{placed}
-use Rattle.capnp_wire.proofs.words.StretchLemmas.{Holds, holds_left, holds_right, holds_room, holds_all, holds_none}
+use Rattle.capnp_wire.proofs.words.SubsliceLemmas.{Holds, holds_left, holds_right, holds_room, holds_all, holds_none}
 use Rattle.capnp_wire.proofs.pointers.TagLemmas.{StructFields, ListFields, struct_fields, list_fields}
 use Rattle.capnp_wire.proofs.pointers.SlotLemmas.{Linked}
 use Rattle.capnp_wire.proofs.layouts.SizeLemmas.{Before, before_more, slots_before, length-slots, length-own_of, links_of, length-links, length-body, rows_even}
@@ -23,15 +23,15 @@ if_positive k a b positive = grind (arith, nat_tests)
 list_points : (segment : List ℕ) (base slot next tag c n : ℕ) → slot < next → next - (slot + 1) < 2 ^ 29 → slice_get segment (base + slot) ≡ Some tag
     → tag ≡ list_pointer (next - (slot + 1)) c n → ListFields tag (next - (slot + 1)) c n → Points segment (base + slot) tag (base + next)
 list_points segment base slot next tag c n before small stands is f =
-    record { stands = stands; positive = omega arith; is_near = omega (arith, f.kind_is); target = omega (arith, f.offset_is) }
+    record { stands = stands; positive = omega arith; is_local = omega (arith, f.kind_is); target = omega (arith, f.offset_is) }
 
 struct_points : (segment : List ℕ) (base slot next tag d p : ℕ) → slot < next → next - (slot + 1) < 2 ^ 29 → slice_get segment (base + slot) ≡ Some tag → 0 < d + p
     → tag ≡ struct_pointer (next - (slot + 1)) d p → StructFields tag (next - (slot + 1)) d p → Points segment (base + slot) tag (base + next)
 struct_points segment base slot next tag d p before small stands some is f =
-    record { stands = stands; positive = omega arith; is_near = omega (arith, f.kind_is); target = omega (arith, f.offset_is) }
+    record { stands = stands; positive = omega arith; is_local = omega (arith, f.kind_is); target = omega (arith, f.offset_is) }
 
 empty_points : (segment : List ℕ) (word : ℕ) → slice_get segment word ≡ Some (struct_pointer minus_one 0 0) → Points segment word (struct_pointer minus_one 0 0) word
-empty_points segment word stands = record { stands = stands; positive = omega arith; is_near = omega arith; target = omega arith }
+empty_points segment word stands = record { stands = stands; positive = omega arith; is_local = omega arith; target = omega arith }
 
 here_struct : (m : List (List ℕ)) (k : ℕ) (segment : List ℕ) (there : slice_get m k ≡ Some segment) (base slot next : ℕ) (words links : List ℕ) → slot < next → next - (slot + 1) < 2 ^ 29
     → 0 < length words + length links → HasRoom (struct words) (length links)
@@ -77,87 +77,87 @@ read_here m k segment there base slot next (structs d p rows) links before small
     (length rows) d p) d p rows links points f g
     (rows_even d rows room.5) room.4 h
 
--- the first of some trees, and where the words after its own stand
-pub record First (m : List (List ℕ)) (k : ℕ) (segment : List ℕ) (base slot next : ℕ) (form : Form) (held rest : Trees) : Type 0 where
+-- the first of some trees, and where the words after its own are
+pub record First (m : List (List ℕ)) (k : ℕ) (segment : List ℕ) (base slot next : ℕ) (form : Form) (children rest : Trees) : Type 0 where
   pub traversed : ℕ
-  pub object : PointsTo m (record { segment = k; word = base + slot }) (record { form = form; held = placed k (base + next) (slots form (count held)); traversed = traversed })
-  pub linked : Linked segment (base + next) (slots form (count held)) (links_of form held)
-  pub words : Holds segment (base + next) (own form (links_of form held))
-  pub inner : Holds segment (base + next + own_words form (count held)) (body held)
-  pub others : Holds segment (base + (next + own_words form (count held) + total_words held)) (body rest)
+  pub object : PointsTo m (record { segment = k; word = base + slot }) (record { form = form; children = placed k (base + next) (slots form (count children)); traversed = traversed })
+  pub linked : Linked segment (base + next) (slots form (count children)) (links_of form children)
+  pub words : Holds segment (base + next) (own form (links_of form children))
+  pub inner : Holds segment (base + next + object_size form (count children)) (body children)
+  pub others : Holds segment (base + (next + object_size form (count children) + total_words children)) (body rest)
 
-pub first_read : (m : List (List ℕ)) (k : ℕ) (segment : List ℕ) (there : slice_get m k ≡ Some segment) (base slot next : ℕ) (form : Form) (held rest : Trees) → slot < next
-    → Reaches form (count held) (next - (slot + 1)) → AllHaveRoom (tree form held rest)
-    → slice_get segment (base + slot) ≡ Some (pointer form (count held) (next - (slot + 1))) → Holds segment (base + next) (body (tree form held rest))
-    → First m k segment base slot next form held rest
-first_read m k segment there base slot next form held rest before reach room stand h =
-    let long : length (links_of form held) ≡ count held = length-links form held room.0 in
-    let own_long : length (own form (links_of form held)) ≡ own_words form (count held) = length-own_of form held room.0 in
-    let front : Holds segment (base + next) (own form (links_of form held) ++ body held) = holds_left segment (base + next) (own form (links_of form held) ++ body held) (body rest) h in
-    let own_there : Holds segment (base + next) (own form (links_of form held)) = holds_left segment (base + next) (own form (links_of form held)) (body held) front in
-    let front_long : length (own form (links_of form held) ++ body held) ≡ own_words form (count held) + total_words held =
-    omega (arith, length-append (own form (links_of form held)) (body held), length-body held room.1) in
-    let others_there : Holds segment (base + next + (own_words form (count held) + total_words held)) (body rest) =
-    holds_right segment (base + next) (own_words form (count held) + total_words held) (own form (links_of form held) ++ body held) (body rest) front_long h in
-    let onward : base + next + (own_words form (count held) + total_words held) ≡ base + (next + own_words form (count held) + total_words held) = omega arith in
-    let read = read_here m k segment there base slot next form (links_of form held) before (subst (λ (n : ℕ). Reaches form n (next - (slot + 1))) (sym long) reach)
-    (omega (arith, holds_room segment (base + next) (own form (links_of form held)) own_there)) (subst (λ (n : ℕ). HasRoom form n) (sym long) room.0)
+pub first_read : (m : List (List ℕ)) (k : ℕ) (segment : List ℕ) (there : slice_get m k ≡ Some segment) (base slot next : ℕ) (form : Form) (children rest : Trees) → slot < next
+    → Reaches form (count children) (next - (slot + 1)) → AllHaveRoom (tree form children rest)
+    → slice_get segment (base + slot) ≡ Some (pointer form (count children) (next - (slot + 1))) → Holds segment (base + next) (body (tree form children rest))
+    → First m k segment base slot next form children rest
+first_read m k segment there base slot next form children rest before reach room stand h =
+    let long : length (links_of form children) ≡ count children = length-links form children room.0 in
+    let own_long : length (own form (links_of form children)) ≡ object_size form (count children) = length-own_of form children room.0 in
+    let front : Holds segment (base + next) (own form (links_of form children) ++ body children) = holds_left segment (base + next) (own form (links_of form children) ++ body children) (body rest) h in
+    let own_there : Holds segment (base + next) (own form (links_of form children)) = holds_left segment (base + next) (own form (links_of form children)) (body children) front in
+    let front_long : length (own form (links_of form children) ++ body children) ≡ object_size form (count children) + total_words children =
+    omega (arith, length-append (own form (links_of form children)) (body children), length-body children room.1) in
+    let others_there : Holds segment (base + next + (object_size form (count children) + total_words children)) (body rest) =
+    holds_right segment (base + next) (object_size form (count children) + total_words children) (own form (links_of form children) ++ body children) (body rest) front_long h in
+    let onward : base + next + (object_size form (count children) + total_words children) ≡ base + (next + object_size form (count children) + total_words children) = omega arith in
+    let read = read_here m k segment there base slot next form (links_of form children) before (subst (λ (n : ℕ). Reaches form n (next - (slot + 1))) (sym long) reach)
+    (omega (arith, holds_room segment (base + next) (own form (links_of form children)) own_there)) (subst (λ (n : ℕ). HasRoom form n) (sym long) room.0)
     (subst (λ (n : ℕ). slice_get segment (base + slot) ≡ Some (pointer form n (next - (slot + 1)))) (sym long) stand) own_there in
     record {
       traversed = read.traversed;
-      object = subst (λ (n : ℕ). PointsTo m (record { segment = k; word = base + slot }) (record { form = form; held = placed k (base + next) (slots form n); traversed = read.traversed })) long read.object;
-      linked = subst (λ (n : ℕ). Linked segment (base + next) (slots form n) (links_of form held)) long read.linked;
+      object = subst (λ (n : ℕ). PointsTo m (record { segment = k; word = base + slot }) (record { form = form; children = placed k (base + next) (slots form n); traversed = read.traversed })) long read.object;
+      linked = subst (λ (n : ℕ). Linked segment (base + next) (slots form n) (links_of form children)) long read.linked;
       words = own_there;
-      inner = holds_right segment (base + next) (own_words form (count held)) (own form (links_of form held)) (body held) own_long front;
+      inner = holds_right segment (base + next) (object_size form (count children)) (own form (links_of form children)) (body children) own_long front;
       others = subst (λ (n : ℕ). Holds segment n (body rest)) onward others_there;
     }
 
--- trees that stand in slots, counted from a base, with their bodies from a word on
+-- trees that are in slots, counted from a base, with their bodies from a word on
 pub stands : (m : List (List ℕ)) (k : ℕ) (segment : List ℕ) (there : slice_get m k ≡ Some segment) (base : ℕ) (places : List ℕ) (next : ℕ) (trees : Trees) → AllReach places next trees
     → AllHaveRoom trees → length places ≡ count trees → Before next places
     → Linked segment base places (pointers_to places next trees) → Holds segment (base + next) (body trees) → (traversed : ℕ) × At m (placed k base places) trees traversed
 stands m k segment there base [] next none reach room long before linked h = (0, nowhere)
 stands m k segment there base (slot ∷ more) next none reach room long before linked h = absurd (omega arith)
-stands m k segment there base [] next (tree form held rest) reach room long before linked h = absurd (omega arith)
-stands m k segment there base (slot ∷ more) next (tree form held rest) reach room long before linked h =
-    let f = first_read m k segment there base slot next form held rest before.0 reach.0 room linked.0 h in
-    let inner = stands m k segment there (base + next) (slots form (count held)) (own_words form (count held)) held reach.1 room.1 (length-slots form (count held) room.0) (slots_before form
-    (count held) room.0) f.linked f.inner in
-    let following = stands m k segment there base more (next + own_words form (count held) + total_words held) rest reach.2 room.2 (omega arith)
-    (before_more next (next + own_words form (count held) + total_words held) more (omega arith) before.1) linked.1 f.others in
+stands m k segment there base [] next (tree form children rest) reach room long before linked h = absurd (omega arith)
+stands m k segment there base (slot ∷ more) next (tree form children rest) reach room long before linked h =
+    let f = first_read m k segment there base slot next form children rest before.0 reach.0 room linked.0 h in
+    let inner = stands m k segment there (base + next) (slots form (count children)) (object_size form (count children)) children reach.1 room.1 (length-slots form (count children) room.0) (slots_before form
+    (count children) room.0) f.linked f.inner in
+    let following = stands m k segment there base more (next + object_size form (count children) + total_words children) rest reach.2 room.2 (omega arith)
+    (before_more next (next + object_size form (count children) + total_words children) more (omega arith) before.1) linked.1 f.others in
     (f.traversed + inner.0 + following.0, at f.object inner.1 following.1)
 
 -- the root of the one segment in which a tree is laid out is that tree, where every field has room
-pub root_of_reaching : (form : Form) (held : Trees) → AllHaveRoom (tree form held none) → AllReach (0 ∷ []) 1 (tree form held none)
-    → (traversed : ℕ) × At (layout (tree form held none) ∷ []) (root ∷ []) (tree form held none) traversed
-root_of_reaching form held room reach =
-    let words : List ℕ = layout (tree form held none) in
+pub root_of_reaching : (form : Form) (children : Trees) → AllHaveRoom (tree form children none) → AllReach (0 ∷ []) 1 (tree form children none)
+    → (traversed : ℕ) × At (layout (tree form children none) ∷ []) (root ∷ []) (tree form children none) traversed
+root_of_reaching form children room reach =
+    let words : List ℕ = layout (tree form children none) in
     let all : Holds words 0 words = holds_all words in
-    let whole : Holds words (0 + 1) (body (tree form held none)) = holds_right words 0 1 (pointer form (count held) 0 ∷ []) (body (tree form held none)) refl all in
-    stands (words ∷ []) 0 words refl 0 (0 ∷ []) 1 (tree form held none) reach room refl (omega arith, tt) (refl, refl) whole
+    let whole : Holds words (0 + 1) (body (tree form children none)) = holds_right words 0 1 (pointer form (count children) 0 ∷ []) (body (tree form children none)) refl all in
+    stands (words ∷ []) 0 words refl 0 (0 ∷ []) 1 (tree form children none) reach room refl (omega arith, tt) (refl, refl) whole
 
 -- few words are within reach
-pub near_reaches : (form : Form) (n offset : ℕ) → offset < 2 ^ 29 → Reaches form n offset
-near_reaches null n offset small = tt
-near_reaches (struct words) n offset small = λ some. small
-near_reaches (numbers c values) n offset small = small
-near_reaches pointers n offset small = small
-near_reaches (structs d p rows) n offset small = small
+pub local_reaches : (form : Form) (n offset : ℕ) → offset < 2 ^ 29 → Reaches form n offset
+local_reaches null n offset small = tt
+local_reaches (struct words) n offset small = λ some. small
+local_reaches (numbers c values) n offset small = small
+local_reaches pointers n offset small = small
+local_reaches (structs d p rows) n offset small = small
 
 pub few_reach : (places : List ℕ) (next : ℕ) (trees : Trees) → next + total_words trees ≤ 2 ^ 29 → AllReach places next trees
 few_reach places next none few = tt
-few_reach [] next (tree form held rest) few = tt
-few_reach (slot ∷ others) next (tree form held rest) few = (
-  near_reaches form (count held) (next - (slot + 1)) (omega arith),
-  few_reach (slots form (count held)) (own_words form (count held)) held (omega arith),
-  few_reach others (next + own_words form (count held) + total_words held) rest (omega arith),
+few_reach [] next (tree form children rest) few = tt
+few_reach (slot ∷ others) next (tree form children rest) few = (
+  local_reaches form (count children) (next - (slot + 1)) (omega arith),
+  few_reach (slots form (count children)) (object_size form (count children)) children (omega arith),
+  few_reach others (next + object_size form (count children) + total_words children) rest (omega arith),
 )
 
 -- in 2 ^ 29 words, the pointer word counted, every offset has room
-pub small_reaches : (form : Form) (held : Trees) → total_words (tree form held none) < 2 ^ 29 → AllReach (0 ∷ []) 1 (tree form held none)
-small_reaches form held small = few_reach (0 ∷ []) 1 (tree form held none) (omega arith)
+pub small_reaches : (form : Form) (children : Trees) → total_words (tree form children none) < 2 ^ 29 → AllReach (0 ∷ []) 1 (tree form children none)
+small_reaches form children small = few_reach (0 ∷ []) 1 (tree form children none) (omega arith)
 
 -- so the root of a small layout is its tree
-pub root_of_layout : (form : Form) (held : Trees) → AllHaveRoom (tree form held none) → total_words (tree form held none) < 2 ^ 29
-    → (traversed : ℕ) × At (layout (tree form held none) ∷ []) (root ∷ []) (tree form held none) traversed
-root_of_layout form held room small = root_of_reaching form held room (small_reaches form held small)
+pub root_of_layout : (form : Form) (children : Trees) → AllHaveRoom (tree form children none) → total_words (tree form children none) < 2 ^ 29
+    → (traversed : ℕ) × At (layout (tree form children none) ∷ []) (root ∷ []) (tree form children none) traversed
+root_of_layout form children room small = root_of_reaching form children room (small_reaches form children small)

@@ -6,7 +6,7 @@ use Rattle.capnp_wire.specs.Object.{places}
 use Rattle.capnp_wire.specs.Landing.{IsObject}
 use Rattle.capnp_wire.specs.Layout.{run}
 use Rattle.capnp_wire.specs.Rows.{slots_of}
-use Rattle.capnp_wire.specs.Near.{object_of, pointers_of}
+use Rattle.capnp_wire.specs.Local.{object_of, pointers_of}
 use Rattle.capnp_wire.specs.Copy.{CanCopy, Copies, Begins, BeginsRun, pointer_of_body, put_own}
 use Rattle.capnp_wire.specs.declared.layout.place.Place.{Place}
 use Rattle.capnp_wire.specs.declared.layout.number_list.NumberList.{NumberList}
@@ -14,13 +14,13 @@ use Rattle.capnp_wire.specs.declared.layout.pointer_run.PointerRun.{PointerRun}
 use Rattle.capnp_wire.specs.declared.layout.object.Body.TheVariants.{Numbers, Pointers}
 use Rattle.capnp_wire.proofs.layouts.CopyLemmas.{copies_none}
 use Rattle.capnp_wire.proofs.layouts.CopiedLemmas.{opened_here, object_begins, in_run}
-use Rattle.capnp_wire.proofs.pointers.NearLemmas.{list_formed}
+use Rattle.capnp_wire.proofs.pointers.LocalLemmas.{list_output}
 use Rattle.capnp_wire.proofs.layouts.OpenLemmas.{Opened}
 
 pub number_list_opened : {m : List (List ℕ)} {place : Place} {nesting : ℕ} {c : Bool} {next room : ℕ} (list : NumberList) (can : CanCopy m (place ∷ []) nesting c next room)
     → IsObject m place (object_of list)
     → Opened m (words_of list.segment.now) list.start (Numbers list.size list.count) (Numbers list.size list.count) (nesting - 1) c next room can.trees
-number_list_opened {c = c} list can is = opened_here can is (list_formed c (words_of list.segment.now) list.start.word (Numbers list.size list.count) tt)
+number_list_opened {c = c} list can is = opened_here can is (list_output c (words_of list.segment.now) list.start.word (Numbers list.size list.count) tt)
 
 -- it holds no pointers, so its own words are its copy
 pub number_list_copied : {m : List (List ℕ)} {place : Place} {nesting : ℕ} {c : Bool} {gap next free pointer : ℕ} {old new : List ℕ}
@@ -36,7 +36,7 @@ number_list_copied {free = free} {new = new} list can is new_is long pointer_is 
 pub pointer_list_opened : {m : List (List ℕ)} {place : Place} {nesting : ℕ} {c : Bool} {next room : ℕ} (list : PointerRun) (can : CanCopy m (place ∷ []) nesting c next room)
     → IsObject m place (pointers_of list)
     → Opened m (words_of list.segment.now) list.first (Pointers list.count) (Pointers list.count) (nesting - 1) c next room can.trees
-pointer_list_opened {c = c} list can is = opened_here can is (list_formed c (words_of list.segment.now) list.first.word (Pointers list.count) tt)
+pointer_list_opened {c = c} list can is = opened_here can is (list_output c (words_of list.segment.now) list.first.word (Pointers list.count) tt)
 
 -- it has no other words, so its copy is begun before any is written
 pub pointer_list_begins : {m : List (List ℕ)} {place : Place} {nesting : ℕ} {c : Bool} {gap next following pointer : ℕ} {old : List ℕ}

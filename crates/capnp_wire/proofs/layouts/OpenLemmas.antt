@@ -4,17 +4,17 @@ use Rattle.capnp_wire.proofs.pointers.SlotLemmas.{AllOf}
 use Rattle.capnp_wire.proofs.layouts.SizeLemmas.{length-woven, rows_even}
 use Rattle.capnp_wire.proofs.objects.ObjectLemmas.{one_object}
 use Rattle.capnp_wire.proofs.trees.TrimLemmas.{room_trim}
-use Rattle.capnp_wire.proofs.layouts.CopyLemmas.{none_formed, fill_nothing}
+use Rattle.capnp_wire.proofs.layouts.CopyLemmas.{none_output, fill_nothing}
 use Rattle.capnp_wire.proofs.trees.RoomLemmas.{length-rows_from}
 use Rattle.std.proofs.Common.{◌≡◌, ℕ, ◌+◌, ◌-◌, ◌*◌, ◌<◌, ◌≤◌, ◌^◌, ◌==◌, if◌then◌else◌, Bool, true, false, List, [], ◌∷◌, ◌++◌, length, take, drop, refl, sym, ◌∙◌, ap, subst}
 use Rattle.std.proofs.Common.{arith, length-take, length-drop}
 use Rattle.capnp_wire.specs.Pointer.{number_of, words_from}
 use Rattle.capnp_wire.specs.Element.{code_of, width, words_for}
-use Rattle.capnp_wire.specs.Tree.{Form, struct, numbers, pointers, structs, Trees, none, tree, count, depth, own_words, total_words}
+use Rattle.capnp_wire.specs.Tree.{Form, struct, numbers, pointers, structs, Trees, none, tree, count, depth, object_size, total_words}
 use Rattle.capnp_wire.specs.Object.{Shape, PointsTo, places, rows_from, elements as numerals}
 use Rattle.capnp_wire.specs.Landing.{words_in}
 use Rattle.capnp_wire.specs.Reached.{At, nowhere, at}
-use Rattle.capnp_wire.specs.Layout.{pointer, body, own, slots, run, row_run, woven, pointer_to, formed, struct_pointer, list_pointer, minus_one, AllHaveRoom}
+use Rattle.capnp_wire.specs.Layout.{pointer, body, own, slots, run, row_run, woven, pointer_to, output, struct_pointer, list_pointer, minus_one, AllHaveRoom}
 use Rattle.capnp_wire.specs.Block.{put, put_rows, fill, moved}
 use Rattle.capnp_wire.specs.Copy.{CanCopy, put_own, list_length, element_count, pointer_of_body}
 use Rattle.capnp_wire.specs.Rows.{row_size, kept_in, slots_of, kept_places, row_slots}
@@ -34,49 +34,49 @@ use Rattle.capnp_wire.proofs.trees.PlacedLemmas.{no_trees}
 pub record Opened (m : List (List ℕ)) (words : List ℕ) (start : Place) (from copied : Body) (nesting : ℕ) (c : Bool) (next room : ℕ) (trees : Trees) : Type 0 where
   pub kept : CanCopy m (kept_in start from (row_size copied).pointers) nesting c (next + words_in copied) room
   pub fills : (block : List ℕ) → length block ≡ room
-      → fill (slots_of next copied) (next + words_in copied) (formed c kept.trees) (put_own words start.word from copied next block)
-      ≡ put next (body (formed c trees)) block
-  pub totals : words_in copied + total_words (formed c kept.trees) ≡ total_words (formed c trees)
-  pub pointers_are : (offset : ℕ) → pointer_of_body copied offset ≡ pointer_to (formed c trees) offset
+      → fill (slots_of next copied) (next + words_in copied) (output c kept.trees) (put_own words start.word from copied next block)
+      ≡ put next (body (output c trees)) block
+  pub totals : words_in copied + total_words (output c kept.trees) ≡ total_words (output c trees)
+  pub pointers_are : (offset : ℕ) → pointer_of_body copied offset ≡ pointer_to (output c trees) offset
   pub few : list_length copied < 2 ^ 29
   pub few_elements : element_count copied < 2 ^ 30
 
 -- the trees of an object by the object itself
 pub record Under (m : List (List ℕ)) (shape : Shape) (trees : Trees) : Type 0 where
-  pub held : Trees
+  pub children : Trees
   pub inside : ℕ
-  pub whole : trees ≡ tree shape.form held none
-  pub stand : At m shape.held held inside
+  pub whole : trees ≡ tree shape.form children none
+  pub stand : At m shape.children children inside
 
 pub under : (m : List (List ℕ)) (place : Place) (shape : Shape) (trees : Trees) (traversed : ℕ) → At m (place ∷ []) trees traversed → PointsTo m place shape → Under m shape trees
-under m place shape trees traversed (at {shape = s} {held = h} {inside = i} object inner nowhere) there =
+under m place shape trees traversed (at {shape = s} {children = h} {inside = i} object inner nowhere) there =
     let same : s ≡ shape = one_object m place s shape object there in
     record {
-      held = h;
+      children = h;
       inside = i;
       whole = ap (λ (x : Shape). tree x.form h none) same;
-      stand = subst (λ (x : Shape). At m x.held h i) same inner;
+      stand = subst (λ (x : Shape). At m x.children h i) same inner;
     }
 
 -- a tree's fields have room as it is copied
-pub room_formed : (c : Bool) (trees : Trees) → AllHaveRoom trees → AllHaveRoom (formed c trees)
-room_formed true trees rooms = room_trim trees rooms
-room_formed false trees rooms = rooms
+pub room_output : (c : Bool) (trees : Trees) → AllHaveRoom trees → AllHaveRoom (output c trees)
+room_output true trees rooms = room_trim trees rooms
+room_output false trees rooms = rooms
 
 -- a struct
-pub struct_opens : (m : List (List ℕ)) (words : List ℕ) (start : Place) (d p e q nesting : ℕ) (c : Bool) (next room : ℕ) (trees kept held : Trees) (traversed : ℕ)
-    → formed c trees ≡ tree (struct (words_from words start.word e)) held none → formed c kept ≡ held → At m (places start.segment (start.word + d) q) kept traversed
-    → depth kept ≤ nesting → AllHaveRoom kept → AllHaveRoom (formed c trees) → start.word + e ≤ length words → count held ≡ q → next + total_words (formed c trees) ≤ room
+pub struct_opens : (m : List (List ℕ)) (words : List ℕ) (start : Place) (d p e q nesting : ℕ) (c : Bool) (next room : ℕ) (trees kept children : Trees) (traversed : ℕ)
+    → output c trees ≡ tree (struct (words_from words start.word e)) children none → output c kept ≡ children → At m (places start.segment (start.word + d) q) kept traversed
+    → depth kept ≤ nesting → AllHaveRoom kept → AllHaveRoom (output c trees) → start.word + e ≤ length words → count children ≡ q → next + total_words (output c trees) ≤ room
     → Opened m words start (Struct (record { data_words = d; pointers = p })) (Struct (record { data_words = e; pointers = q })) nesting c next room trees
-struct_opens m words start d p e q nesting c next room trees kept held traversed form_is kept_is stand shallow rooms all there many fits =
+struct_opens m words start d p e q nesting c next room trees kept children traversed form_is kept_is stand shallow rooms all there many fits =
     let form : Form = struct (words_from words start.word e) in
-    let rooms_there : AllHaveRoom (tree form held none) = subst AllHaveRoom form_is all in
+    let rooms_there : AllHaveRoom (tree form children none) = subst AllHaveRoom form_is all in
     let wide : length (words_from words start.word e) ≡ e = omega (arith, length-take e (drop start.word words), length-drop start.word words) in
-    let size : own_words form (count held) ≡ e + q = omega (arith, wide, many) in
-    let total_is : total_words (formed c trees) ≡ own_words form (count held) + total_words held = ap total_words form_is ∙ omega arith in
-    let kept_total : total_words (formed c kept) ≡ total_words held = ap total_words kept_is in
-    let slots_are : moved next (run (length (words_from words start.word e)) (count held)) ≡ run (next + e) q ++ [] =
-    moved_run next (length (words_from words start.word e)) (count held) ∙ ap (λ (k : ℕ). run k (count held)) (omega (arith, wide)) ∙ ap (λ (k : ℕ). run (next + e) k) many
+    let size : object_size form (count children) ≡ e + q = omega (arith, wide, many) in
+    let total_is : total_words (output c trees) ≡ object_size form (count children) + total_words children = ap total_words form_is ∙ omega arith in
+    let kept_total : total_words (output c kept) ≡ total_words children = ap total_words kept_is in
+    let slots_are : moved next (run (length (words_from words start.word e)) (count children)) ≡ run (next + e) q ++ [] =
+    moved_run next (length (words_from words start.word e)) (count children) ∙ ap (λ (k : ℕ). run k (count children)) (omega (arith, wide)) ∙ ap (λ (k : ℕ). run (next + e) k) many
     ∙ sym (append-nil (run (next + e) q)) in
     record {
       kept = record {
@@ -95,12 +95,12 @@ struct_opens m words start d p e q nesting c next room trees kept held traversed
                 (words_from words start.word e)) block),
             length-drop (next + length (words_from words start.word e)) block,
           ) in
-          let done = fill_is next form held olds block rooms_there.0 rooms_there.1 (olds_long ∙ sym many) (omega arith) in
+          let done = fill_is next form children olds block rooms_there.0 rooms_there.1 (olds_long ∙ sym many) (omega arith) in
           let short : put next (words_from words start.word e) block ≡ put next (own form olds) block = put_short next q (words_from words start.word e) block (omega arith) in
-          ap (λ (l : List ℕ). fill l (next + (e + q)) (formed c kept) (put next (words_from words start.word e) block)) (sym slots_are)
-          ∙ ap (λ (n : ℕ). fill (moved next (slots form (count held))) (next + n) (formed c kept) (put next (words_from words start.word e) block)) (sym size)
-          ∙ ap (λ (t : Trees). fill (moved next (slots form (count held))) (next + own_words form (count held)) t (put next (words_from words start.word e) block)) kept_is
-          ∙ ap (λ (l : List ℕ). fill (moved next (slots form (count held))) (next + own_words form (count held)) held l) short
+          ap (λ (l : List ℕ). fill l (next + (e + q)) (output c kept) (put next (words_from words start.word e) block)) (sym slots_are)
+          ∙ ap (λ (n : ℕ). fill (moved next (slots form (count children))) (next + n) (output c kept) (put next (words_from words start.word e) block)) (sym size)
+          ∙ ap (λ (t : Trees). fill (moved next (slots form (count children))) (next + object_size form (count children)) t (put next (words_from words start.word e) block)) kept_is
+          ∙ ap (λ (l : List ℕ). fill (moved next (slots form (count children))) (next + object_size form (count children)) children l) short
           ∙ done ∙ ap (λ (t : Trees). put next (body t) block) (sym form_is);
       totals = omega arith;
       pointers_are = λ offset.
@@ -112,17 +112,17 @@ struct_opens m words start d p e q nesting c next room trees kept held traversed
     }
 
 -- a list of pointers
-pub pointers_open : (m : List (List ℕ)) (words : List ℕ) (start : Place) (n nesting : ℕ) (c : Bool) (next room : ℕ) (trees kept held : Trees) (traversed : ℕ)
-    → formed c trees ≡ tree pointers held none → formed c kept ≡ held → At m (places start.segment start.word n) kept traversed
-    → depth kept ≤ nesting → AllHaveRoom kept → AllHaveRoom (formed c trees) → count held ≡ n → next + total_words (formed c trees) ≤ room
+pub pointers_open : (m : List (List ℕ)) (words : List ℕ) (start : Place) (n nesting : ℕ) (c : Bool) (next room : ℕ) (trees kept children : Trees) (traversed : ℕ)
+    → output c trees ≡ tree pointers children none → output c kept ≡ children → At m (places start.segment start.word n) kept traversed
+    → depth kept ≤ nesting → AllHaveRoom kept → AllHaveRoom (output c trees) → count children ≡ n → next + total_words (output c trees) ≤ room
     → Opened m words start (Pointers n) (Pointers n) nesting c next room trees
-pointers_open m words start n nesting c next room trees kept held traversed form_is kept_is stand shallow rooms all many fits =
-    let rooms_there : AllHaveRoom (tree pointers held none) = subst AllHaveRoom form_is all in
-    let small : count held < 2 ^ 29 = rooms_there.0 in
-    let total_is : total_words (formed c trees) ≡ count held + total_words held = ap total_words form_is ∙ omega arith in
-    let kept_total : total_words (formed c kept) ≡ total_words held = ap total_words kept_is in
-    let slots_are : moved next (run 0 (count held)) ≡ run (next + 0) n ++ [] =
-    moved_run next 0 (count held) ∙ ap (λ (k : ℕ). run (next + 0) k) many ∙ sym (append-nil (run (next + 0) n)) in
+pointers_open m words start n nesting c next room trees kept children traversed form_is kept_is stand shallow rooms all many fits =
+    let rooms_there : AllHaveRoom (tree pointers children none) = subst AllHaveRoom form_is all in
+    let small : count children < 2 ^ 29 = rooms_there.0 in
+    let total_is : total_words (output c trees) ≡ count children + total_words children = ap total_words form_is ∙ omega arith in
+    let kept_total : total_words (output c kept) ≡ total_words children = ap total_words kept_is in
+    let slots_are : moved next (run 0 (count children)) ≡ run (next + 0) n ++ [] =
+    moved_run next 0 (count children) ∙ ap (λ (k : ℕ). run (next + 0) k) many ∙ sym (append-nil (run (next + 0) n)) in
     let first : start.word ≡ start.word + 0 = omega arith in
     record {
       kept = record {
@@ -136,12 +136,12 @@ pointers_open m words start n nesting c next room trees kept held traversed form
       fills = λ block long.
           let olds : List ℕ = take n (drop (next + 0) block) in
           let olds_long : length (take n (drop (next + 0) block)) ≡ n = omega (arith, length-take n (drop (next + 0) block), length-drop (next + 0) block) in
-          let done = fill_is next pointers held olds block rooms_there.0 rooms_there.1 (olds_long ∙ sym many) (omega arith) in
+          let done = fill_is next pointers children olds block rooms_there.0 rooms_there.1 (olds_long ∙ sym many) (omega arith) in
           let short : block ≡ put next olds block = sym (put_none next block) ∙ put_short next n [] block (omega arith) in
-          ap (λ (l : List ℕ). fill l (next + n) (formed c kept) block) (sym slots_are)
-          ∙ ap (λ (k : ℕ). fill (moved next (slots pointers (count held))) (next + k) (formed c kept) block) (sym many)
-          ∙ ap (λ (t : Trees). fill (moved next (slots pointers (count held))) (next + count held) t block) kept_is
-          ∙ ap (λ (l : List ℕ). fill (moved next (slots pointers (count held))) (next + count held) held l) short
+          ap (λ (l : List ℕ). fill l (next + n) (output c kept) block) (sym slots_are)
+          ∙ ap (λ (k : ℕ). fill (moved next (slots pointers (count children))) (next + k) (output c kept) block) (sym many)
+          ∙ ap (λ (t : Trees). fill (moved next (slots pointers (count children))) (next + count children) t block) kept_is
+          ∙ ap (λ (l : List ℕ). fill (moved next (slots pointers (count children))) (next + count children) children l) short
           ∙ done ∙ ap (λ (t : Trees). put next (body t) block) (sym form_is);
       totals = omega arith;
       pointers_are = λ offset. ap (λ (k : ℕ). pointer pointers k offset) (sym many) ∙ ap (λ (t : Trees). pointer_to t offset) (sym form_is);
@@ -150,26 +150,26 @@ pointers_open m words start n nesting c next room trees kept held traversed form
     }
 
 -- a list of numbers
-pub numbers_open : (m : List (List ℕ)) (words : List ℕ) (start : Place) (n nesting : ℕ) (size : ElementSize) (c : Bool) (next room : ℕ) (trees held : Trees)
-    → formed c trees ≡ tree (numbers (code_of size) (numerals words start.word (code_of size) n)) held none → AllHaveRoom (formed c trees) → next + total_words (formed c trees) ≤ room
+pub numbers_open : (m : List (List ℕ)) (words : List ℕ) (start : Place) (n nesting : ℕ) (size : ElementSize) (c : Bool) (next room : ℕ) (trees children : Trees)
+    → output c trees ≡ tree (numbers (code_of size) (numerals words start.word (code_of size) n)) children none → AllHaveRoom (output c trees) → next + total_words (output c trees) ≤ room
     → Opened m words start (Numbers size n) (Numbers size n) nesting c next room trees
-numbers_open m words start n nesting size c next room trees held form_is all fits =
+numbers_open m words start n nesting size c next room trees children form_is all fits =
     let form : Form = numbers (code_of size) (numerals words start.word (code_of size) n) in
-    let rooms_there : AllHaveRoom (tree form held none) = subst AllHaveRoom form_is all in
-    let empty : held ≡ none = no_trees held rooms_there.0.2 in
+    let rooms_there : AllHaveRoom (tree form children none) = subst AllHaveRoom form_is all in
+    let empty : children ≡ none = no_trees children rooms_there.0.2 in
     let long_values : length (numerals words start.word (code_of size) n) ≡ n = length-digits (2 ^ width (code_of size)) n (number_of (2 ^ 64) (words_from words start.word (words_for n (width
     (code_of size))))) in
-    let own_size : own_words form (count held) ≡ words_for n (width (code_of size)) = ap (λ (k : ℕ). words_for k (width (code_of size))) long_values in
-    let none_total : total_words held ≡ 0 = ap total_words empty in
-    let total_is : total_words (formed c trees) ≡ own_words form (count held) + total_words held = ap total_words form_is ∙ omega arith in
-    let nothing_formed : formed c none ≡ none = none_formed c in
-    let nothing_total : total_words (formed c none) ≡ 0 = ap total_words nothing_formed in
+    let own_size : object_size form (count children) ≡ words_for n (width (code_of size)) = ap (λ (k : ℕ). words_for k (width (code_of size))) long_values in
+    let none_total : total_words children ≡ 0 = ap total_words empty in
+    let total_is : total_words (output c trees) ≡ object_size form (count children) + total_words children = ap total_words form_is ∙ omega arith in
+    let nothing_output : output c none ≡ none = none_output c in
+    let nothing_total : total_words (output c none) ≡ 0 = ap total_words nothing_output in
     let small : n < 2 ^ 29 = subst (λ (k : ℕ). k < 2 ^ 29) long_values rooms_there.0.1 in
     record {
       kept = record { trees = none; traversed = 0; stand = nowhere; shallow = omega arith; rooms = tt; fits = omega arith };
       fills = λ block long.
-          let words_are : body (tree form held none) ≡ own form [] = ap (λ (t : Trees). body (tree form t none)) empty ∙ append-nil (own form [] ++ []) ∙ append-nil (own form []) in
-          fill_nothing (next + words_for n (width (code_of size))) (formed c none) (put next (own form []) block)
+          let words_are : body (tree form children none) ≡ own form [] = ap (λ (t : Trees). body (tree form t none)) empty ∙ append-nil (own form [] ++ []) ∙ append-nil (own form []) in
+          fill_nothing (next + words_for n (width (code_of size))) (output c none) (put next (own form []) block)
           ∙ ap (λ (l : List ℕ). put next l block) (sym words_are) ∙ ap (λ (t : Trees). put next (body t) block) (sym form_is);
       totals = omega arith;
       pointers_are = λ offset. ap (λ (k : ℕ). list_pointer offset (code_of size) k) (sym long_values) ∙ ap (λ (t : Trees). pointer_to t offset) (sym form_is);
@@ -177,36 +177,36 @@ numbers_open m words start n nesting size c next room trees held form_is all fit
       few_elements = omega arith;
     }
 
--- what structs open to that stand one after the other from a word of a segment on: the pointers that are copied, in rows, and what
+-- what structs open to that are one after the other from a word of a segment on: the pointers that are copied, in rows, and what
 -- is left to be put into the block, after a tag
 pub record OpenedRows (m : List (List ℕ)) (words : List ℕ) (segment begin : ℕ) (from size : StructSize) (n nesting : ℕ) (c : Bool) (next room : ℕ) (trees : Trees) : Type 0 where
   pub kept : CanCopy m (kept_places segment begin from.data_words from.pointers size.pointers n) nesting c (next + (1 + n * (size.data_words + size.pointers))) room
   pub fills : (block : List ℕ) → length block ≡ room
-      → fill (row_slots (next + 1) size.data_words size.pointers n) (next + (1 + n * (size.data_words + size.pointers))) (formed c kept.trees)
+      → fill (row_slots (next + 1) size.data_words size.pointers n) (next + (1 + n * (size.data_words + size.pointers))) (output c kept.trees)
       (put_rows (next + 1) size.pointers (rows_from words begin size.data_words (from.data_words + from.pointers - size.data_words) n)
       (put next (struct_pointer n size.data_words size.pointers ∷ []) block))
-      ≡ put next (body (formed c trees)) block
-  pub totals : 1 + n * (size.data_words + size.pointers) + total_words (formed c kept.trees) ≡ total_words (formed c trees)
-  pub pointers_are : (offset : ℕ) → list_pointer offset 7 (n * (size.data_words + size.pointers)) ≡ pointer_to (formed c trees) offset
+      ≡ put next (body (output c trees)) block
+  pub totals : 1 + n * (size.data_words + size.pointers) + total_words (output c kept.trees) ≡ total_words (output c trees)
+  pub pointers_are : (offset : ℕ) → list_pointer offset 7 (n * (size.data_words + size.pointers)) ≡ pointer_to (output c trees) offset
   pub few : n * (size.data_words + size.pointers) < 2 ^ 29
   pub few_elements : n < 2 ^ 30
 
 -- structs
-pub rows_open : (m : List (List ℕ)) (words : List ℕ) (segment begin d p e q n nesting : ℕ) (c : Bool) (next room : ℕ) (trees kept held : Trees) (traversed : ℕ)
+pub rows_open : (m : List (List ℕ)) (words : List ℕ) (segment begin d p e q n nesting : ℕ) (c : Bool) (next room : ℕ) (trees kept children : Trees) (traversed : ℕ)
     → e ≤ d → begin + n * (d + p) ≤ length words
-    → formed c trees ≡ tree (structs e q (rows_from words begin e (d + p - e) n)) held none → formed c kept ≡ held
+    → output c trees ≡ tree (structs e q (rows_from words begin e (d + p - e) n)) children none → output c kept ≡ children
     → At m (kept_places segment begin d p q n) kept traversed
-    → depth kept ≤ nesting → AllHaveRoom kept → AllHaveRoom (formed c trees) → next + total_words (formed c trees) ≤ room
+    → depth kept ≤ nesting → AllHaveRoom kept → AllHaveRoom (output c trees) → next + total_words (output c trees) ≤ room
     → OpenedRows m words segment begin (record { data_words = d; pointers = p }) (record { data_words = e; pointers = q }) n nesting c next room trees
-rows_open m words segment begin d p e q n nesting c next room trees kept held traversed less there form_is kept_is stand shallow rooms all fits =
+rows_open m words segment begin d p e q n nesting c next room trees kept children traversed less there form_is kept_is stand shallow rooms all fits =
     let rows : List (List ℕ) = rows_from words begin e (d + p - e) n in
     let form : Form = structs e q (rows_from words begin e (d + p - e) n) in
-    let rooms_there : AllHaveRoom (tree form held none) = subst AllHaveRoom form_is all in
+    let rooms_there : AllHaveRoom (tree form children none) = subst AllHaveRoom form_is all in
     let rows_long : length (rows_from words begin e (d + p - e) n) ≡ n = length-rows_from words begin e (d + p - e) n in
-    let many : count held ≡ length (rows_from words begin e (d + p - e) n) * q = rooms_there.0.4 in
-    let size : own_words form (count held) ≡ 1 + n * (e + q) = ap (λ (k : ℕ). 1 + k * (e + q)) rows_long in
-    let total_is : total_words (formed c trees) ≡ own_words form (count held) + total_words held = ap total_words form_is ∙ omega arith in
-    let kept_total : total_words (formed c kept) ≡ total_words held = ap total_words kept_is in
+    let many : count children ≡ length (rows_from words begin e (d + p - e) n) * q = rooms_there.0.4 in
+    let size : object_size form (count children) ≡ 1 + n * (e + q) = ap (λ (k : ℕ). 1 + k * (e + q)) rows_long in
+    let total_is : total_words (output c trees) ≡ object_size form (count children) + total_words children = ap total_words form_is ∙ omega arith in
+    let kept_total : total_words (output c kept) ≡ total_words children = ap total_words kept_is in
     let wide : AllOf e (rows_from words begin e (d + p - e) n) = rows_even e (rows_from words begin e (d + p - e) n) rooms_there.0.5 in
     let tag_long : length (struct_pointer n e q ∷ []) ≡ 1 = refl in
     let slots_are : moved next (row_run 1 e q (rows_from words begin e (d + p - e) n)) ≡ row_slots (next + 1) e q n = moved_rows next 1 e q (rows_from words begin e
@@ -223,19 +223,19 @@ rows_open m words segment begin d p e q n nesting c next room trees kept held tr
           let woven_size : length (woven q (rows_from words begin e (d + p - e) n) w.0) ≡ length (rows_from words begin e (d + p - e) n) * (e + q) = length-woven e q
           (rows_from words begin e (d + p - e) n) w.0 wide w.1 in
           let woven_room : next + 1 + length (woven q (rows_from words begin e (d + p - e) n) w.0) ≤ length block = rw woven_size (omega arith) in
-          let done = fill_is next form held w.0 block rooms_there.0 rooms_there.1 (w.1 ∙ sym many) (omega arith) in
+          let done = fill_is next form children w.0 block rooms_there.0 rooms_there.1 (w.1 ∙ sym many) (omega arith) in
           let joined : put_rows (next + 1) q (rows_from words begin e (d + p - e) n) (put next (struct_pointer n e q ∷ []) block) ≡ put next (struct_pointer n e q ∷ woven q
           (rows_from words begin e (d + p - e) n) w.0) block =
           w.2 ∙ put_both next (struct_pointer n e q ∷ []) (woven q (rows_from words begin e (d + p - e) n) w.0) block woven_room in
           let own_is : put next (struct_pointer n e q ∷ woven q (rows_from words begin e (d + p - e) n) w.0) block ≡ put next (own form w.0) block =
           ap (λ (k : ℕ). put next (struct_pointer k e q ∷ woven q (rows_from words begin e (d + p - e) n) w.0) block) (sym rows_long) in
-          ap (λ (l : List ℕ). fill l (next + (1 + n * (e + q))) (formed c kept) (put_rows (next + 1) q (rows_from words begin e (d + p - e) n) (put next
+          ap (λ (l : List ℕ). fill l (next + (1 + n * (e + q))) (output c kept) (put_rows (next + 1) q (rows_from words begin e (d + p - e) n) (put next
           (struct_pointer n e q ∷ []) block))) (sym slots_are)
-          ∙ ap (λ (k : ℕ). fill (moved next (slots form (count held))) (next + k) (formed c kept) (put_rows (next + 1) q (rows_from words begin e (d + p - e) n) (put next
+          ∙ ap (λ (k : ℕ). fill (moved next (slots form (count children))) (next + k) (output c kept) (put_rows (next + 1) q (rows_from words begin e (d + p - e) n) (put next
           (struct_pointer n e q ∷ []) block))) (sym size)
-          ∙ ap (λ (t : Trees). fill (moved next (slots form (count held))) (next + own_words form (count held)) t (put_rows (next + 1) q (rows_from words begin e (d + p - e) n)
+          ∙ ap (λ (t : Trees). fill (moved next (slots form (count children))) (next + object_size form (count children)) t (put_rows (next + 1) q (rows_from words begin e (d + p - e) n)
           (put next (struct_pointer n e q ∷ []) block))) kept_is
-          ∙ ap (λ (l : List ℕ). fill (moved next (slots form (count held))) (next + own_words form (count held)) held l) (joined ∙ own_is)
+          ∙ ap (λ (l : List ℕ). fill (moved next (slots form (count children))) (next + object_size form (count children)) children l) (joined ∙ own_is)
           ∙ done ∙ ap (λ (t : Trees). put next (body t) block) (sym form_is);
       totals = omega arith;
       pointers_are = λ offset. ap (λ (k : ℕ). list_pointer offset 7 (k * (e + q))) (sym rows_long) ∙ ap (λ (t : Trees). pointer_to t offset) (sym form_is);

@@ -6,9 +6,9 @@ use Rattle.capnp_wire.specs.Trim.{first, narrowed, cut_zeros, cut_nulls, least_d
 use Rattle.capnp_wire.specs.Object.{PointsTo, places, row_places, rows_from}
 use Rattle.capnp_wire.specs.Landing.{shape_of, room_of, words_in}
 use Rattle.capnp_wire.specs.Reached.{At}
-use Rattle.capnp_wire.specs.Layout.{formed, AllHaveRoom}
+use Rattle.capnp_wire.specs.Layout.{output, AllHaveRoom}
 use Rattle.capnp_wire.specs.Block.{most_used}
-use Rattle.capnp_wire.specs.Copy.{CanCopy, least_size, formed_body}
+use Rattle.capnp_wire.specs.Copy.{CanCopy, least_size, output_body_of}
 use Rattle.capnp_wire.specs.Rows.{kept_places}
 use Rattle.capnp_wire.specs.declared.layout.place.Place.{Place}
 use Rattle.capnp_wire.specs.declared.layout.pointer.Elements.{Elements}
@@ -19,40 +19,40 @@ use Rattle.capnp_wire.proofs.trees.StandLemmas.{count_at}
 use Rattle.capnp_wire.proofs.trees.TrimLemmas.{count-trim}
 use Rattle.capnp_wire.proofs.words.UsedLemmas.{most_within}
 use Rattle.capnp_wire.proofs.trees.RoomLemmas.{length-rows_from}
-use Rattle.capnp_wire.proofs.layouts.OpenLemmas.{Opened, OpenedRows, under, room_formed, struct_opens, pointers_open, numbers_open, rows_open, structs_open}
-use Rattle.capnp_wire.proofs.pointers.PointerRowLemmas.{kept_all}
+use Rattle.capnp_wire.proofs.layouts.OpenLemmas.{Opened, OpenedRows, under, room_output, struct_opens, pointers_open, numbers_open, rows_open, structs_open}
+use Rattle.capnp_wire.proofs.pointers.PointerSlotLemmas.{kept_all}
 use Rattle.capnp_wire.proofs.trees.KeptLemmas.{front_stands, kept_stand, long_places, used_where_some, least_data_is, rows_take, least_pointers_are, shallow_first, shallow_narrowed, rooms_first}
 use Rattle.capnp_wire.proofs.trees.KeptLemmas.{rooms_narrowed}
 use Rattle.capnp_wire.proofs.trees.FrontLemmas.{trim_first, trim_narrowed, first_cut, count_cut_trim, cut_words}
 
-under_depth : (nesting : ℕ) (form : Form) (held trees : Trees) → trees ≡ tree form held none → is_null form ≡ false → depth trees ≤ nesting → depth held ≤ nesting - 1
-under_depth nesting form held trees whole some shallow =
-    let deep : depth (tree form held none) ≤ nesting = subst (λ (t : Trees). depth t ≤ nesting) whole shallow in
-    let plain : (if is_null form then 0 else depth held + 1) ≡ depth held + 1 = ap (λ (b : Bool). if b then 0 else depth held + 1) some in
+under_depth : (nesting : ℕ) (form : Form) (children trees : Trees) → trees ≡ tree form children none → is_null form ≡ false → depth trees ≤ nesting → depth children ≤ nesting - 1
+under_depth nesting form children trees whole some shallow =
+    let deep : depth (tree form children none) ≤ nesting = subst (λ (t : Trees). depth t ≤ nesting) whole shallow in
+    let plain : (if is_null form then 0 else depth children + 1) ≡ depth children + 1 = ap (λ (b : Bool). if b then 0 else depth children + 1) some in
     omega arith
 
-under_rooms : (form : Form) (held trees : Trees) → trees ≡ tree form held none → AllHaveRoom trees → AllHaveRoom held
-under_rooms form held trees whole rooms = (subst AllHaveRoom whole rooms).1
+under_rooms : (form : Form) (children trees : Trees) → trees ≡ tree form children none → AllHaveRoom trees → AllHaveRoom children
+under_rooms form children trees whole rooms = (subst AllHaveRoom whole rooms).1
 
 pub most_within_rows : (words : List ℕ) (start k step n : ℕ) → most_used words start k step n ≤ k
 most_within_rows words start k step zero = omega arith
 most_within_rows words start k step (suc n) = omega (arith, most_within words start k, most_within_rows words (start + step) k step n)
 
-pub struct_plain : (m : List (List ℕ)) (words : List ℕ) (start : Place) (size : StructSize) (nesting next room : ℕ) (trees held : Trees) (inside : ℕ)
-    → trees ≡ tree (struct (words_from words start.word size.data_words)) held none → At m (places start.segment (start.word + size.data_words) size.pointers) held inside
-    → depth held ≤ nesting → AllHaveRoom held → AllHaveRoom trees → start.word + (size.data_words + size.pointers) ≤ length words → next + total_words trees ≤ room
+pub struct_plain : (m : List (List ℕ)) (words : List ℕ) (start : Place) (size : StructSize) (nesting next room : ℕ) (trees children : Trees) (inside : ℕ)
+    → trees ≡ tree (struct (words_from words start.word size.data_words)) children none → At m (places start.segment (start.word + size.data_words) size.pointers) children inside
+    → depth children ≤ nesting → AllHaveRoom children → AllHaveRoom trees → start.word + (size.data_words + size.pointers) ≤ length words → next + total_words trees ≤ room
     → Opened m words start (Struct size) (Struct size) nesting false next room trees
-struct_plain m words start size nesting next room trees held inside whole stand shallow rooms all there fits =
-    struct_opens m words start size.data_words size.pointers size.data_words size.pointers nesting false next room trees held held inside
-    whole refl stand shallow rooms all (omega arith) (count_at m (places start.segment (start.word + size.data_words) size.pointers) held inside stand
+struct_plain m words start size nesting next room trees children inside whole stand shallow rooms all there fits =
+    struct_opens m words start size.data_words size.pointers size.data_words size.pointers nesting false next room trees children children inside
+    whole refl stand shallow rooms all (omega arith) (count_at m (places start.segment (start.word + size.data_words) size.pointers) children inside stand
     ∙ long_places start.segment (start.word + size.data_words) size.pointers) fits
 
-pub struct_trimmed : (m : List (List ℕ)) (words : List ℕ) (start : Place) (size : StructSize) (nesting next room : ℕ) (trees held : Trees) (inside : ℕ)
-    → (0 < size.pointers → slice_get m start.segment ≡ Some words) → trees ≡ tree (struct (words_from words start.word size.data_words)) held none
-    → At m (places start.segment (start.word + size.data_words) size.pointers) held inside
-    → depth held ≤ nesting → AllHaveRoom held → AllHaveRoom (trim trees) → start.word + (size.data_words + size.pointers) ≤ length words → next + total_words (trim trees) ≤ room
+pub struct_trimmed : (m : List (List ℕ)) (words : List ℕ) (start : Place) (size : StructSize) (nesting next room : ℕ) (trees children : Trees) (inside : ℕ)
+    → (0 < size.pointers → slice_get m start.segment ≡ Some words) → trees ≡ tree (struct (words_from words start.word size.data_words)) children none
+    → At m (places start.segment (start.word + size.data_words) size.pointers) children inside
+    → depth children ≤ nesting → AllHaveRoom children → AllHaveRoom (trim trees) → start.word + (size.data_words + size.pointers) ≤ length words → next + total_words (trim trees) ≤ room
     → Opened m words start (Struct size) (Struct (least_size words start.word size 1)) nesting true next room trees
-struct_trimmed m words start size nesting next room trees held inside here whole stand shallow rooms all there fits =
+struct_trimmed m words start size nesting next room trees children inside here whole stand shallow rooms all there fits =
     let d : ℕ = size.data_words in
     let p : ℕ = size.pointers in
     let e : ℕ = (least_size words start.word size 1).data_words in
@@ -61,44 +61,44 @@ struct_trimmed m words start size nesting next room trees held inside here whole
     let q_is : (least_size words start.word size 1).pointers ≡ length (cut_zeros (words_from words (start.word + size.data_words) size.pointers)) = omega arith in
     let less : (least_size words start.word size 1).data_words ≤ size.data_words = most_within_rows words start.word size.data_words (size.data_words + size.pointers) 1 in
     let fewer : (least_size words start.word size 1).pointers ≤ size.pointers = most_within_rows words (start.word + size.data_words) size.pointers (size.data_words + size.pointers) 1 in
-    let used = used_where_some m words start.segment (start.word + size.data_words) size.pointers held inside here stand in
-    let cut_count : count (cut_nulls (trim held)) ≡ (least_size words start.word size 1).pointers = count_cut_trim held ∙ used ∙ sym q_is in
-    let kept_is : trim (first (least_size words start.word size 1).pointers held) ≡ cut_nulls (trim held) =
-    trim_first (least_size words start.word size 1).pointers held ∙ ap (λ (n : ℕ). first n (trim held)) (sym cut_count) ∙ first_cut (trim held) in
+    let used = used_where_some m words start.segment (start.word + size.data_words) size.pointers children inside here stand in
+    let cut_count : count (cut_nulls (trim children)) ≡ (least_size words start.word size 1).pointers = count_cut_trim children ∙ used ∙ sym q_is in
+    let kept_is : trim (first (least_size words start.word size 1).pointers children) ≡ cut_nulls (trim children) =
+    trim_first (least_size words start.word size 1).pointers children ∙ ap (λ (n : ℕ). first n (trim children)) (sym cut_count) ∙ first_cut (trim children) in
     let data_is : cut_zeros (words_from words start.word size.data_words) ≡ words_from words start.word (least_size words start.word size 1).data_words = cut_words words start.word
     size.data_words (least_size words start.word size 1).data_words e_is less in
-    let form_is : trim trees ≡ tree (struct (words_from words start.word (least_size words start.word size 1).data_words)) (cut_nulls (trim held)) none =
-    ap trim whole ∙ ap (λ (l : List ℕ). tree (struct l) (cut_nulls (trim held)) none) data_is in
-    let s = front_stands m start.segment (start.word + size.data_words) (least_size words start.word size 1).pointers size.pointers held inside fewer stand in
+    let form_is : trim trees ≡ tree (struct (words_from words start.word (least_size words start.word size 1).data_words)) (cut_nulls (trim children)) none =
+    ap trim whole ∙ ap (λ (l : List ℕ). tree (struct l) (cut_nulls (trim children)) none) data_is in
+    let s = front_stands m start.segment (start.word + size.data_words) (least_size words start.word size 1).pointers size.pointers children inside fewer stand in
     struct_opens m words start size.data_words size.pointers (least_size words start.word size 1).data_words (least_size words start.word size 1).pointers nesting true next room trees
-    (first (least_size words start.word size 1).pointers held) (cut_nulls (trim held)) s.0
-    form_is kept_is s.1 (shallow_first nesting (least_size words start.word size 1).pointers held shallow) (rooms_first (least_size words start.word size 1).pointers held rooms) all
+    (first (least_size words start.word size 1).pointers children) (cut_nulls (trim children)) s.0
+    form_is kept_is s.1 (shallow_first nesting (least_size words start.word size 1).pointers children shallow) (rooms_first (least_size words start.word size 1).pointers children rooms) all
     (omega arith) cut_count fits
 
-pub rows_plain : (m : List (List ℕ)) (words : List ℕ) (segment begin : ℕ) (elements : Elements) (nesting next room : ℕ) (trees held : Trees) (inside : ℕ)
-    → trees ≡ tree (structs elements.size.data_words elements.size.pointers (rows_from words begin elements.size.data_words elements.size.pointers elements.count)) held none
-    → At m (row_places segment begin elements.size.data_words elements.size.pointers elements.count) held inside
-    → depth held ≤ nesting → AllHaveRoom held → AllHaveRoom trees → begin + elements.count * (elements.size.data_words + elements.size.pointers) ≤ length words → next + total_words trees ≤ room
+pub rows_plain : (m : List (List ℕ)) (words : List ℕ) (segment begin : ℕ) (elements : Elements) (nesting next room : ℕ) (trees children : Trees) (inside : ℕ)
+    → trees ≡ tree (structs elements.size.data_words elements.size.pointers (rows_from words begin elements.size.data_words elements.size.pointers elements.count)) children none
+    → At m (row_places segment begin elements.size.data_words elements.size.pointers elements.count) children inside
+    → depth children ≤ nesting → AllHaveRoom children → AllHaveRoom trees → begin + elements.count * (elements.size.data_words + elements.size.pointers) ≤ length words → next + total_words trees ≤ room
     → OpenedRows m words segment begin elements.size elements.size elements.count nesting false next room trees
-rows_plain m words segment begin elements nesting next room trees held inside whole stand shallow rooms all there fits =
+rows_plain m words segment begin elements nesting next room trees children inside whole stand shallow rooms all there fits =
     let d : ℕ = elements.size.data_words in
     let p : ℕ = elements.size.pointers in
     let skip : elements.size.pointers ≡ elements.size.data_words + elements.size.pointers - elements.size.data_words = omega arith in
     let form_is : trees ≡ tree (structs elements.size.data_words elements.size.pointers (rows_from words begin elements.size.data_words
-    (elements.size.data_words + elements.size.pointers - elements.size.data_words) elements.count)) held none =
-    whole ∙ ap (λ (k : ℕ). tree (structs elements.size.data_words elements.size.pointers (rows_from words begin elements.size.data_words k elements.count)) held none) skip in
-    rows_open m words segment begin elements.size.data_words elements.size.pointers elements.size.data_words elements.size.pointers elements.count nesting false next room trees held held inside
-    (omega arith) there form_is refl (subst (λ (l : List Place). At m l held inside) (kept_all segment
+    (elements.size.data_words + elements.size.pointers - elements.size.data_words) elements.count)) children none =
+    whole ∙ ap (λ (k : ℕ). tree (structs elements.size.data_words elements.size.pointers (rows_from words begin elements.size.data_words k elements.count)) children none) skip in
+    rows_open m words segment begin elements.size.data_words elements.size.pointers elements.size.data_words elements.size.pointers elements.count nesting false next room trees children children inside
+    (omega arith) there form_is refl (subst (λ (l : List Place). At m l children inside) (kept_all segment
     begin elements.size.data_words elements.size.pointers elements.count) stand) shallow rooms all fits
 
-pub rows_trimmed : (m : List (List ℕ)) (words : List ℕ) (segment begin : ℕ) (elements : Elements) (nesting next room : ℕ) (trees held : Trees) (inside : ℕ)
+pub rows_trimmed : (m : List (List ℕ)) (words : List ℕ) (segment begin : ℕ) (elements : Elements) (nesting next room : ℕ) (trees children : Trees) (inside : ℕ)
     → (0 < elements.size.pointers → slice_get m segment ≡ Some words)
-    → trees ≡ tree (structs elements.size.data_words elements.size.pointers (rows_from words begin elements.size.data_words elements.size.pointers elements.count)) held none
-    → At m (row_places segment begin elements.size.data_words elements.size.pointers elements.count) held inside
-    → depth held ≤ nesting → AllHaveRoom held → AllHaveRoom (trim trees) → begin + elements.count * (elements.size.data_words + elements.size.pointers) ≤ length words
+    → trees ≡ tree (structs elements.size.data_words elements.size.pointers (rows_from words begin elements.size.data_words elements.size.pointers elements.count)) children none
+    → At m (row_places segment begin elements.size.data_words elements.size.pointers elements.count) children inside
+    → depth children ≤ nesting → AllHaveRoom children → AllHaveRoom (trim trees) → begin + elements.count * (elements.size.data_words + elements.size.pointers) ≤ length words
     → next + total_words (trim trees) ≤ room
     → OpenedRows m words segment begin elements.size (least_size words begin elements.size elements.count) elements.count nesting true next room trees
-rows_trimmed m words segment begin elements nesting next room trees held inside here whole stand shallow rooms all there fits =
+rows_trimmed m words segment begin elements nesting next room trees children inside here whole stand shallow rooms all there fits =
     let d : ℕ = elements.size.data_words in
     let p : ℕ = elements.size.pointers in
     let n : ℕ = elements.count in
@@ -110,60 +110,60 @@ rows_trimmed m words segment begin elements nesting next room trees held inside 
     (elements.size.data_words + elements.size.pointers) elements.count in
     let fewer : (least_size words begin elements.size elements.count).pointers ≤ elements.size.pointers = most_within_rows words
     (begin + elements.size.data_words) elements.size.pointers (elements.size.data_words + elements.size.pointers) elements.count in
-    let stand_long : At m (row_places segment begin d p (length rows)) held inside = subst (λ (k : ℕ). At m (row_places segment begin d p k) held inside)
+    let stand_long : At m (row_places segment begin d p (length rows)) children inside = subst (λ (k : ℕ). At m (row_places segment begin d p k) children inside)
     (sym long) stand in
     let data_is : least_data rows ≡ least.data_words = least_data_is words begin d p n in
-    let pointers_is : least_pointers p rows (trim held) ≡ least.pointers =
-    least_pointers_are m words segment begin d p rows held inside here stand_long ∙ ap (most_used words (begin + d) p (d + p)) long in
+    let pointers_is : least_pointers p rows (trim children) ≡ least.pointers =
+    least_pointers_are m words segment begin d p rows children inside here stand_long ∙ ap (most_used words (begin + d) p (d + p)) long in
     let rows_are : map (take (least_data rows)) rows ≡ rows_from words begin least.data_words (d + p - least.data_words) n =
     ap (λ (k : ℕ). map (take k) rows) data_is ∙ rows_take words begin d p least.data_words n less in
-    let kept_is : trim (narrowed least.pointers p rows held) ≡ narrowed (least_pointers p rows (trim held)) p rows (trim held) =
-    trim_narrowed least.pointers p rows held ∙ ap (λ (k : ℕ). narrowed k p rows (trim held)) (sym pointers_is) in
+    let kept_is : trim (narrowed least.pointers p rows children) ≡ narrowed (least_pointers p rows (trim children)) p rows (trim children) =
+    trim_narrowed least.pointers p rows children ∙ ap (λ (k : ℕ). narrowed k p rows (trim children)) (sym pointers_is) in
     let form_is : trim trees ≡ tree (structs least.data_words least.pointers (rows_from words begin least.data_words (d + p - least.data_words) n)) (narrowed (least_pointers p rows
-    (trim held)) p rows (trim held)) none =
+    (trim children)) p rows (trim children)) none =
     ap trim whole
-    ∙ ap (λ (k : ℕ). tree (structs k (least_pointers p rows (trim held)) (map (take (least_data rows)) rows)) (narrowed (least_pointers p rows (trim held)) p rows (trim held)) none) data_is
-    ∙ ap (λ (k : ℕ). tree (structs least.data_words k (map (take (least_data rows)) rows)) (narrowed (least_pointers p rows (trim held)) p rows (trim held)) none) pointers_is
-    ∙ ap (λ (l : List (List ℕ)). tree (structs least.data_words least.pointers l) (narrowed (least_pointers p rows (trim held)) p rows (trim held)) none) rows_are in
-    let s = kept_stand m segment begin d p least.pointers rows held inside fewer stand_long in
-    let s_there : At m (kept_places segment begin d p least.pointers n) (narrowed least.pointers p rows held) s.0 =
-    subst (λ (k : ℕ). At m (kept_places segment begin d p least.pointers k) (narrowed least.pointers p rows held) s.0) long s.1 in
-    rows_open m words segment begin d p least.data_words least.pointers n nesting true next room trees (narrowed least.pointers p rows held)
-    (narrowed (least_pointers p rows (trim held)) p rows (trim held)) s.0 less there form_is kept_is s_there
-    (shallow_narrowed nesting least.pointers p rows held shallow) (rooms_narrowed least.pointers p rows held rooms) all fits
+    ∙ ap (λ (k : ℕ). tree (structs k (least_pointers p rows (trim children)) (map (take (least_data rows)) rows)) (narrowed (least_pointers p rows (trim children)) p rows (trim children)) none) data_is
+    ∙ ap (λ (k : ℕ). tree (structs least.data_words k (map (take (least_data rows)) rows)) (narrowed (least_pointers p rows (trim children)) p rows (trim children)) none) pointers_is
+    ∙ ap (λ (l : List (List ℕ)). tree (structs least.data_words least.pointers l) (narrowed (least_pointers p rows (trim children)) p rows (trim children)) none) rows_are in
+    let s = kept_stand m segment begin d p least.pointers rows children inside fewer stand_long in
+    let s_there : At m (kept_places segment begin d p least.pointers n) (narrowed least.pointers p rows children) s.0 =
+    subst (λ (k : ℕ). At m (kept_places segment begin d p least.pointers k) (narrowed least.pointers p rows children) s.0) long s.1 in
+    rows_open m words segment begin d p least.data_words least.pointers n nesting true next room trees (narrowed least.pointers p rows children)
+    (narrowed (least_pointers p rows (trim children)) p rows (trim children)) s.0 less there form_is kept_is s_there
+    (shallow_narrowed nesting least.pointers p rows children shallow) (rooms_narrowed least.pointers p rows children rooms) all fits
 
 -- an object as it is read
 abbrev pub OpenedAt : List (List ℕ) → List ℕ → Place → Body → ℕ → Bool → ℕ → ℕ → Trees → Type 0
-OpenedAt m words start there nesting c next room trees = Opened m words start there (formed_body c words start.word there) nesting c next room trees
+OpenedAt m words start there nesting c next room trees = Opened m words start there (output_body_of c words start.word there) nesting c next room trees
 
-open_body : (m : List (List ℕ)) (words : List ℕ) (start : Place) (there : Body) (nesting : ℕ) (c : Bool) (next room : ℕ) (trees held : Trees) (inside : ℕ)
-    → slice_get m start.segment ≡ Some words → trees ≡ tree (shape_of words start there).form held none → At m (shape_of words start there).held held inside
-    → depth trees ≤ nesting → AllHaveRoom trees → start.word + room_of there ≤ length words → words_in there ≤ room_of there → next + total_words (formed c trees) ≤ room
+open_body : (m : List (List ℕ)) (words : List ℕ) (start : Place) (there : Body) (nesting : ℕ) (c : Bool) (next room : ℕ) (trees children : Trees) (inside : ℕ)
+    → slice_get m start.segment ≡ Some words → trees ≡ tree (shape_of words start there).form children none → At m (shape_of words start there).children children inside
+    → depth trees ≤ nesting → AllHaveRoom trees → start.word + room_of there ≤ length words → words_in there ≤ room_of there → next + total_words (output c trees) ≤ room
     → OpenedAt m words start there (nesting - 1) c next room trees
-open_body m words start (Struct size) nesting false next room trees held inside here whole stand shallow rooms fits_there inner fits =
-    struct_plain m words start size (nesting - 1) next room trees held inside whole stand (under_depth nesting _ held trees whole refl shallow) (under_rooms _ held trees whole rooms) rooms fits_there fits
-open_body m words start (Struct size) nesting true next room trees held inside here whole stand shallow rooms fits_there inner fits =
-    struct_trimmed m words start size (nesting - 1) next room trees held inside (λ some. here) whole stand (under_depth nesting _ held trees whole refl shallow)
-    (under_rooms _ held trees whole rooms) (room_formed true trees rooms) fits_there fits
-open_body m words start (Numbers size n) nesting false next room trees held inside here whole stand shallow rooms fits_there inner fits =
-    numbers_open m words start n (nesting - 1) size false next room trees held whole rooms fits
-open_body m words start (Numbers size n) nesting true next room trees held inside here whole stand shallow rooms fits_there inner fits =
-    numbers_open m words start n (nesting - 1) size true next room trees (trim held) (ap trim whole) (room_formed true trees rooms) fits
-open_body m words start (Pointers n) nesting false next room trees held inside here whole stand shallow rooms fits_there inner fits =
-    pointers_open m words start n (nesting - 1) false next room trees held held inside whole refl stand (under_depth nesting _ held trees whole refl shallow) (under_rooms _ held trees whole rooms) rooms
-    (count_at m (places start.segment start.word n) held inside stand ∙ long_places start.segment start.word n) fits
-open_body m words start (Pointers n) nesting true next room trees held inside here whole stand shallow rooms fits_there inner fits =
-    pointers_open m words start n (nesting - 1) true next room trees held (trim held) inside (ap trim whole) refl stand (under_depth nesting _ held trees whole refl shallow)
-    (under_rooms _ held trees whole rooms) (room_formed true trees rooms)
-    (count-trim held ∙ count_at m (places start.segment start.word n) held inside stand ∙ long_places start.segment start.word n) fits
-open_body m words start (Structs elements following) nesting false next room trees held inside here whole stand shallow rooms fits_there inner fits =
+open_body m words start (Struct size) nesting false next room trees children inside here whole stand shallow rooms fits_there inner fits =
+    struct_plain m words start size (nesting - 1) next room trees children inside whole stand (under_depth nesting _ children trees whole refl shallow) (under_rooms _ children trees whole rooms) rooms fits_there fits
+open_body m words start (Struct size) nesting true next room trees children inside here whole stand shallow rooms fits_there inner fits =
+    struct_trimmed m words start size (nesting - 1) next room trees children inside (λ some. here) whole stand (under_depth nesting _ children trees whole refl shallow)
+    (under_rooms _ children trees whole rooms) (room_output true trees rooms) fits_there fits
+open_body m words start (Numbers size n) nesting false next room trees children inside here whole stand shallow rooms fits_there inner fits =
+    numbers_open m words start n (nesting - 1) size false next room trees children whole rooms fits
+open_body m words start (Numbers size n) nesting true next room trees children inside here whole stand shallow rooms fits_there inner fits =
+    numbers_open m words start n (nesting - 1) size true next room trees (trim children) (ap trim whole) (room_output true trees rooms) fits
+open_body m words start (Pointers n) nesting false next room trees children inside here whole stand shallow rooms fits_there inner fits =
+    pointers_open m words start n (nesting - 1) false next room trees children children inside whole refl stand (under_depth nesting _ children trees whole refl shallow) (under_rooms _ children trees whole rooms) rooms
+    (count_at m (places start.segment start.word n) children inside stand ∙ long_places start.segment start.word n) fits
+open_body m words start (Pointers n) nesting true next room trees children inside here whole stand shallow rooms fits_there inner fits =
+    pointers_open m words start n (nesting - 1) true next room trees children (trim children) inside (ap trim whole) refl stand (under_depth nesting _ children trees whole refl shallow)
+    (under_rooms _ children trees whole rooms) (room_output true trees rooms)
+    (count-trim children ∙ count_at m (places start.segment start.word n) children inside stand ∙ long_places start.segment start.word n) fits
+open_body m words start (Structs elements following) nesting false next room trees children inside here whole stand shallow rooms fits_there inner fits =
     structs_open m words start elements elements following following (nesting - 1) false next room trees refl
-    (rows_plain m words start.segment (start.word + 1) elements (nesting - 1) next room trees held inside whole stand (under_depth nesting _ held trees whole refl shallow)
-    (under_rooms _ held trees whole rooms) rooms (omega arith) fits)
-open_body m words start (Structs elements following) nesting true next room trees held inside here whole stand shallow rooms fits_there inner fits =
+    (rows_plain m words start.segment (start.word + 1) elements (nesting - 1) next room trees children inside whole stand (under_depth nesting _ children trees whole refl shallow)
+    (under_rooms _ children trees whole rooms) rooms (omega arith) fits)
+open_body m words start (Structs elements following) nesting true next room trees children inside here whole stand shallow rooms fits_there inner fits =
     structs_open m words start elements (record { size = least_size words (start.word + 1) elements.size elements.count; count = elements.count }) following following (nesting - 1) true next room trees refl
-    (rows_trimmed m words start.segment (start.word + 1) elements (nesting - 1) next room trees held inside (λ some. here) whole stand (under_depth nesting _ held trees whole refl shallow)
-    (under_rooms _ held trees whole rooms) (room_formed true trees rooms) (omega arith) fits)
+    (rows_trimmed m words start.segment (start.word + 1) elements (nesting - 1) next room trees children inside (λ some. here) whole stand (under_depth nesting _ children trees whole refl shallow)
+    (under_rooms _ children trees whole rooms) (room_output true trees rooms) (omega arith) fits)
 
 pub opened : (m : List (List ℕ)) (words : List ℕ) (place start : Place) (there : Body) (traversed nesting : ℕ) (c : Bool) (next room : ℕ) (can : CanCopy m (place ∷ []) nesting c next room)
     → slice_get m start.segment ≡ Some words → PointsTo m place (record (shape_of words start there) { traversed = traversed })
@@ -171,4 +171,4 @@ pub opened : (m : List (List ℕ)) (words : List ℕ) (place start : Place) (the
     → OpenedAt m words start there (nesting - 1) c next room can.trees
 opened m words place start there traversed nesting c next room can here object fits_there inner =
     let u = under m place (record (shape_of words start there) { traversed = traversed }) can.trees can.traversed can.stand object in
-    open_body m words start there nesting c next room can.trees u.held u.inside here u.whole u.stand can.shallow can.rooms fits_there inner can.fits
+    open_body m words start there nesting c next room can.trees u.children u.inside here u.whole u.stand can.shallow can.rooms fits_there inner can.fits

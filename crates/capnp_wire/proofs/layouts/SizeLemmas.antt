@@ -5,7 +5,7 @@ use Rattle.std.specs.Prelude.{All, ⊤}
 use Rattle.capnp_wire.specs.Pointer.{number_of}
 use Rattle.capnp_wire.specs.Element.{width, words_for}
 use Rattle.capnp_wire.specs.Tree.{Form, null, struct, numbers, pointers, structs, Trees, none, tree, count}
-use Rattle.capnp_wire.specs.Tree.{own_words, total_words}
+use Rattle.capnp_wire.specs.Tree.{object_size, total_words}
 use Rattle.capnp_wire.specs.Layout.{run, row_run, slots, pointers_to, woven, own, body, HasRoom, AllHaveRoom}
 use Rattle.capnp_wire.proofs.words.DigitLemmas.{length-digits}
 use Rattle.capnp_wire.proofs.pointers.SlotLemmas.{AllOf}
@@ -49,7 +49,7 @@ length-slots (numbers c values) n room = length-run 0 n
 length-slots pointers n room = length-run 0 n
 length-slots (structs d p rows) n room = length-row_run 1 d p rows ∙ sym room.4
 
-pub slots_before : (form : Form) (n : ℕ) → HasRoom form n → Before (own_words form n) (slots form n)
+pub slots_before : (form : Form) (n : ℕ) → HasRoom form n → Before (object_size form n) (slots form n)
 slots_before null n room = run_before 0 n 0 (omega arith)
 slots_before (struct words) n room = run_before (length words) n (length words + n) (omega arith)
 slots_before (numbers c values) n room = let empty : n ≡ 0 = room.2 in run_before 0 n (words_for (length values) (width c)) (omega arith)
@@ -68,7 +68,7 @@ length-woven d p (row ∷ rows) links even long =
 pub rows_even : (d : ℕ) (rows : List (List ℕ)) → All (λ row. (length row ≡ d) × All (λ w. w < 2 ^ 64) row) rows → AllOf d rows
 rows_even d rows all = λ k e within. (all k e within).0
 
-pub length-own : (form : Form) (links : List ℕ) → HasRoom form (length links) → length (own form links) ≡ own_words form (length links)
+pub length-own : (form : Form) (links : List ℕ) → HasRoom form (length links) → length (own form links) ≡ object_size form (length links)
 length-own null links room = refl
 length-own (struct words) links room = length-append words links
 length-own (numbers c values) links room = length-digits (2 ^ 64) (words_for (length values) (width c)) (number_of (2 ^ width c) values)
@@ -79,34 +79,34 @@ length-own (structs d p rows) links room =
 
 pub length-pointers_to : (slots : List ℕ) (next : ℕ) (trees : Trees) → length slots ≡ count trees → length (pointers_to slots next trees) ≡ count trees
 length-pointers_to slots next none long = refl
-length-pointers_to [] next (tree form held rest) long = absurd (omega arith)
-length-pointers_to (slot ∷ slots) next (tree form held rest) long =
-    let others = length-pointers_to slots (next + own_words form (count held) + total_words held) rest (omega arith) in
+length-pointers_to [] next (tree form children rest) long = absurd (omega arith)
+length-pointers_to (slot ∷ slots) next (tree form children rest) long =
+    let others = length-pointers_to slots (next + object_size form (count children) + total_words children) rest (omega arith) in
     omega arith
 
 -- the pointer words of an object
 abbrev pub links_of : Form → Trees → List ℕ
-links_of form held = pointers_to (slots form (count held)) (own_words form (count held)) held
+links_of form children = pointers_to (slots form (count children)) (object_size form (count children)) children
 
 -- all that is written of an object: its own words, and what it leads to
 abbrev pub own_layout : Form → Trees → List ℕ
-own_layout form held = own form (links_of form held) ++ body held
+own_layout form children = own form (links_of form children) ++ body children
 
-pub length-links : (form : Form) (held : Trees) → HasRoom form (count held) → length (links_of form held) ≡ count held
-length-links form held room = length-pointers_to (slots form (count held)) (own_words form (count held)) held (length-slots form (count held) room)
+pub length-links : (form : Form) (children : Trees) → HasRoom form (count children) → length (links_of form children) ≡ count children
+length-links form children room = length-pointers_to (slots form (count children)) (object_size form (count children)) children (length-slots form (count children) room)
 
-pub length-own_of : (form : Form) (held : Trees) → HasRoom form (count held) → length (own form (links_of form held)) ≡ own_words form (count held)
-length-own_of form held room =
-    let long : length (links_of form held) ≡ count held = length-links form held room in
-    let own_long : length (own form (links_of form held)) ≡ own_words form (length (links_of form held)) =
-    length-own form (links_of form held) (subst (λ (n : ℕ). HasRoom form n) (sym long) room) in
-    own_long ∙ ap (own_words form) long
+pub length-own_of : (form : Form) (children : Trees) → HasRoom form (count children) → length (own form (links_of form children)) ≡ object_size form (count children)
+length-own_of form children room =
+    let long : length (links_of form children) ≡ count children = length-links form children room in
+    let own_long : length (own form (links_of form children)) ≡ object_size form (length (links_of form children)) =
+    length-own form (links_of form children) (subst (λ (n : ℕ). HasRoom form n) (sym long) room) in
+    own_long ∙ ap (object_size form) long
 
 pub length-body : (trees : Trees) → AllHaveRoom trees → length (body trees) ≡ total_words trees
 length-body none room = refl
-length-body (tree form held rest) room =
-    let links : List ℕ = links_of form held in
-    let first : length (own form (links_of form held)) ≡ own_words form (count held) = length-own_of form held room.0 in
-    let inner = length-body held room.1 in
+length-body (tree form children rest) room =
+    let links : List ℕ = links_of form children in
+    let first : length (own form (links_of form children)) ≡ object_size form (count children) = length-own_of form children room.0 in
+    let inner = length-body children room.1 in
     let others = length-body rest room.2 in
-    omega (arith, length-append (own form (links_of form held) ++ body held) (body rest), length-append (own form (links_of form held)) (body held))
+    omega (arith, length-append (own form (links_of form children) ++ body children) (body rest), length-append (own form (links_of form children)) (body children))

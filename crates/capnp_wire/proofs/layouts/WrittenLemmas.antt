@@ -5,37 +5,37 @@ use Rattle.capnp_wire.specs.Pointer.{digits, number_of, words_from, pointer_kind
 use Rattle.capnp_wire.specs.Element.{width, words_for}
 use Rattle.capnp_wire.specs.Tree.{Form, struct, numbers, pointers, structs}
 use Rattle.capnp_wire.specs.declared.layout.place.Place.{Place}
-use Rattle.capnp_wire.specs.Object.{Lands, near, following, Shape, ShapeStands, places, row_places, rows_from, struct_shape, numbers_shape, pointers_shape, structs_shape, a_struct}
+use Rattle.capnp_wire.specs.Object.{Lands, local, following, Shape, ShapeStands, places, row_places, rows_from, struct_shape, numbers_shape, pointers_shape, structs_shape, a_struct}
 use Rattle.capnp_wire.specs.Object.{some_numbers, some_pointers, some_structs, PointsTo, is_object}
 use Rattle.capnp_wire.specs.Layout.{run, row_run, slots, woven}
 use Rattle.capnp_wire.specs.Layout.{placed}
-use Rattle.capnp_wire.proofs.words.StretchLemmas.{Holds, holds_left, holds_right, holds_words, holds_first, holds_room}
+use Rattle.capnp_wire.proofs.words.SubsliceLemmas.{Holds, holds_left, holds_right, holds_words, holds_first, holds_room}
 use Rattle.capnp_wire.proofs.words.DigitLemmas.{length-digits, numbers_back}
 use Rattle.capnp_wire.proofs.pointers.TagLemmas.{StructFields, ListFields}
 use Rattle.capnp_wire.proofs.pointers.SlotLemmas.{Linked, linked_run, linked_rows, placed-run, placed-row_run, rows_woven, AllOf}
 use Rattle.capnp_wire.proofs.layouts.SizeLemmas.{length-woven}
 
--- an object of some form is read, and its pointers stand in its slots
+-- an object of some form is read, and its pointers are in its slots
 pub record Read (m : List (List ℕ)) (k : ℕ) (segment : List ℕ) (word start : ℕ) (form : Form) (links : List ℕ) : Type 0 where
   pub traversed : ℕ
-  pub object : PointsTo m (record { segment = k; word = word }) (record { form = form; held = placed k start (slots form (length links)); traversed = traversed })
+  pub object : PointsTo m (record { segment = k; word = word }) (record { form = form; children = placed k start (slots form (length links)); traversed = traversed })
   pub linked : Linked segment start (slots form (length links)) links
 
 -- a pointer word at a word of the segment, and the start of what it points to
 pub record Points (segment : List ℕ) (word tag start : ℕ) : Type 0 where
   pub stands : slice_get segment word ≡ Some tag
   pub positive : 0 < tag
-  pub is_near : pointer_kind tag < 2
+  pub is_local : pointer_kind tag < 2
   pub target : start + 2 ^ 30 * (offset tag / 2 ^ 29) ≡ word + 1 + offset tag
 
--- an object as it stands, under other names for its parts
-read_as : (m : List (List ℕ)) (k : ℕ) (segment : List ℕ) (there : slice_get m k ≡ Some segment) (word start tag : ℕ) (form : Form) (held : List Place) (shape : Shape)
-    → Points segment word tag start → ShapeStands segment (record { segment = k; word = start }) tag shape → shape.form ≡ form → shape.held ≡ held
-    → PointsTo m (record { segment = k; word = word }) (record { form = form; held = held; traversed = 0 + shape.traversed })
-read_as m k segment there word start tag form held shape p stands f h =
-    let same : ◌≡◌ {A = Shape} (record { form = shape.form; held = shape.held; traversed = 0 + shape.traversed }) (record { form = form; held = held; traversed = 0 + shape.traversed }) = cc in
+-- an object as it is, under other names for its parts
+read_as : (m : List (List ℕ)) (k : ℕ) (segment : List ℕ) (there : slice_get m k ≡ Some segment) (word start tag : ℕ) (form : Form) (children : List Place) (shape : Shape)
+    → Points segment word tag start → ShapeStands segment (record { segment = k; word = start }) tag shape → shape.form ≡ form → shape.children ≡ children
+    → PointsTo m (record { segment = k; word = word }) (record { form = form; children = children; traversed = 0 + shape.traversed })
+read_as m k segment there word start tag form children shape p stands f h =
+    let same : ◌≡◌ {A = Shape} (record { form = shape.form; children = shape.children; traversed = 0 + shape.traversed }) (record { form = form; children = children; traversed = 0 + shape.traversed }) = cc in
     let lands : Lands m (record { segment = k; word = word }) (record { segment = k; origin = following word; tag = tag; landing_pads = 0 }) =
-    near (rw there p.stands) p.positive p.is_near in
+    local (rw there p.stands) p.positive p.is_local in
     subst (λ (s : Shape). PointsTo m (record { segment = k; word = word }) s) same (is_object lands there p.target stands)
 
 pub read_struct : (m : List (List ℕ)) (k : ℕ) (segment : List ℕ) (there : slice_get m k ≡ Some segment) (word start tag o : ℕ) (words links : List ℕ) → Points segment word tag start
@@ -49,11 +49,11 @@ read_struct m k segment there word start tag o words links p f h =
     let data_same : words_from segment start (data_words tag) ≡ words = rw f.data_is data_there in
     let run_there : placed k start (run (length words) (length links)) ≡ places k (start + length words) (length links) = placed-run k start (start + length words) (length words)
     (length links) refl in
-    let held_same : places k (start + data_words tag) (pointer_words tag) ≡ placed k start (run (length words) (length links)) = rw (f.data_is, f.pointers_are) (sym run_there) in
+    let children_same : places k (start + data_words tag) (pointer_words tag) ≡ placed k start (run (length words) (length links)) = rw (f.data_is, f.pointers_are) (sym run_there) in
     record {
       traversed = 0 + (data_words tag + pointer_words tag);
       object = read_as m k segment there word start tag (struct words) (placed k start (run (length words) (length links))) (struct_shape segment (record { segment = k; word = start })
-          (data_words tag) (pointer_words tag)) p stands (ap struct data_same) held_same;
+          (data_words tag) (pointer_words tag)) p stands (ap struct data_same) children_same;
       linked = linked_run segment start (start + length words) (length words) links refl (holds_right segment start (length words) words links refl h);
     }
 
@@ -64,11 +64,11 @@ read_pointers m k segment there word start tag o links p f h =
     let room : start + list_count tag ≤ length segment = omega (arith, holds_room segment start links h, f.count_is) in
     let stands : ShapeStands segment (record { segment = k; word = start }) tag (pointers_shape (record { segment = k; word = start }) (list_count tag)) = some_pointers f.kind_is f.code_is room in
     let run_there : placed k start (run 0 (length links)) ≡ places k start (length links) = placed-run k start start 0 (length links) (omega arith) in
-    let held_same : places k start (list_count tag) ≡ placed k start (run 0 (length links)) = rw f.count_is (sym run_there) in
+    let children_same : places k start (list_count tag) ≡ placed k start (run 0 (length links)) = rw f.count_is (sym run_there) in
     record {
       traversed = 0 + list_count tag;
       object = read_as m k segment there word start tag pointers (placed k start (run 0 (length links))) (pointers_shape (record { segment = k; word = start })
-          (list_count tag)) p stands refl held_same;
+          (list_count tag)) p stands refl children_same;
       linked = linked_run segment start start 0 links (omega arith) h;
     }
 
@@ -117,11 +117,11 @@ read_structs m k segment there word start tag o inner d q rows links p f g even 
     let form_same : structs (data_words inner) (pointer_words inner) (rows_from segment (start + 1) (data_words inner) (pointer_words inner) (offset inner)) ≡ structs d q rows =
     rw (g.data_is, g.pointers_are, g.offset_is, rows_there) refl in
     let slots_there : placed k start (row_run 1 d q rows) ≡ row_places k (start + 1) d q (length rows) = placed-row_run k start (start + 1) 1 d q rows refl in
-    let held_same : row_places k (start + 1) (data_words inner) (pointer_words inner) (offset inner) ≡ placed k start (row_run 1 d q rows) =
+    let children_same : row_places k (start + 1) (data_words inner) (pointer_words inner) (offset inner) ≡ placed k start (row_run 1 d q rows) =
     rw (g.data_is, g.pointers_are, g.offset_is) (sym slots_there) in
     record {
       traversed = 0 + (structs_shape segment (record { segment = k; word = start }) (data_words inner) (pointer_words inner) (offset inner) (list_count tag)).traversed;
       object = read_as m k segment there word start tag (structs d q rows) (placed k start (row_run 1 d q rows)) (structs_shape segment (record { segment = k; word = start }) (data_words inner)
-          (pointer_words inner) (offset inner) (list_count tag)) p stands form_same held_same;
+          (pointer_words inner) (offset inner) (list_count tag)) p stands form_same children_same;
       linked = linked_rows segment start (start + 1) 1 d q rows links refl even long following;
     }

@@ -1,4 +1,4 @@
--- The bytes and words of lists, as they stand in a segment.
+-- The bytes and words of lists, as they are in a segment.
 use Rattle.std.proofs.lemmas.List.{take-take, get_or-take, get_or-drop, get_or_past}
 use Rattle.std.proofs.lemmas.Option.{slice_get_cases}
 use native.Mathlib.Nat.{pow-suc, add-mul-div_left}

@@ -1,8 +1,8 @@
--- At most one object, and one tree, stands at a place.
+-- At most one object, and one tree, is at a place.
 use Rattle.std.proofs.Common.{◌≡◌, ℕ, List, Some, refl, ap, subst, sym, ◌∙◌, arith}
 use Rattle.capnp_wire.specs.Pointer.{list_count, offset, data_words, pointer_words}
 use Rattle.capnp_wire.specs.Tree.{Trees}
-use Rattle.capnp_wire.specs.Object.{word_at, Origin, following, exactly, IsStart, Target, Lands, near, far, double_far, landing_pad, landing_pad_tag, Shape, ShapeStands, structs_shape, a_struct, some_numbers}
+use Rattle.capnp_wire.specs.Object.{word_at, Origin, following, exactly, IsStart, Target, Lands, local, far, double_far, landing_pad, landing_pad_tag, Shape, ShapeStands, structs_shape, a_struct, some_numbers}
 use Rattle.capnp_wire.specs.Object.{some_pointers, some_structs, PointsTo, is_null, is_object}
 use Rattle.capnp_wire.specs.Reached.{At, nowhere, at}
 use Rattle.capnp_wire.specs.declared.layout.place.Place.{Place}
@@ -15,17 +15,17 @@ one_start (following word) tag s t p q = omega arith
 one_start (exactly word) tag s t p q = p ∙ sym q
 
 pub one_landing : (m : List (List ℕ)) (place : Place) (c d : Target) → Lands m place c → Lands m place d → c ≡ d
-one_landing m place c d (near {word = v} e _ _) (near {word = w} f _ _) =
+one_landing m place c d (local {word = v} e _ _) (local {word = w} f _ _) =
     let same : v ≡ w = same_word m place v w e f in cc
-one_landing m place c d (near {word = v} e _ k) (far {word = w} f x _ _) = let same : v ≡ w = same_word m place v w e f in absurd (omega arith)
-one_landing m place c d (near {word = v} e _ k) (double_far {word = w} f x _ _ _ _ _) = let same : v ≡ w = same_word m place v w e f in absurd (omega arith)
-one_landing m place c d (far {word = v} e x _ _) (near {word = w} f _ k) = let same : v ≡ w = same_word m place v w e f in absurd (omega arith)
+one_landing m place c d (local {word = v} e _ k) (far {word = w} f x _ _) = let same : v ≡ w = same_word m place v w e f in absurd (omega arith)
+one_landing m place c d (local {word = v} e _ k) (double_far {word = w} f x _ _ _ _ _) = let same : v ≡ w = same_word m place v w e f in absurd (omega arith)
+one_landing m place c d (far {word = v} e x _ _) (local {word = w} f _ k) = let same : v ≡ w = same_word m place v w e f in absurd (omega arith)
 one_landing m place c d (far {word = v} {tag = a} e x p _) (far {word = w} {tag = b} f y q _) =
     let same : v ≡ w = same_word m place v w e f in
     let tags : a ≡ b = same_word m (landing_pad w) a b (subst (λ z. word_at m (landing_pad z) ≡ Some a) same p) q in
     cc
 one_landing m place c d (far {word = v} e x _ _) (double_far {word = w} f y _ _ _ _ _) = let same : v ≡ w = same_word m place v w e f in absurd (omega arith)
-one_landing m place c d (double_far {word = v} e x _ _ _ _ _) (near {word = w} f _ k) = let same : v ≡ w = same_word m place v w e f in absurd (omega arith)
+one_landing m place c d (double_far {word = v} e x _ _ _ _ _) (local {word = w} f _ k) = let same : v ≡ w = same_word m place v w e f in absurd (omega arith)
 one_landing m place c d (double_far {word = v} e x _ _ _ _ _) (far {word = w} f y _ _) = let same : v ≡ w = same_word m place v w e f in absurd (omega arith)
 one_landing m place c d (double_far {word = v} {inner = i} {tag = a} e _ p _ x _ _) (double_far {word = w} {inner = j} {tag = b} f _ q _ y _ _) =
     let same : v ≡ w = same_word m place v w e f in
@@ -54,7 +54,7 @@ one_shape words start pointer s t (some_structs {tag = v} _ _ _ e _ _) (some_str
     ap (λ x. structs_shape words start (data_words x) (pointer_words x) (offset x) (list_count pointer)) same
 
 pub null_lands_nowhere : (m : List (List ℕ)) (place : Place) (c : Target) → word_at m place ≡ Some 0 → Lands m place c → ⊥
-null_lands_nowhere m place c e (near {word = w} f positive _) = let none : 0 ≡ w = same_word m place 0 w e f in omega arith
+null_lands_nowhere m place c e (local {word = w} f positive _) = let none : 0 ≡ w = same_word m place 0 w e f in omega arith
 null_lands_nowhere m place c e (far {word = w} f k _ _) = let none : 0 ≡ w = same_word m place 0 w e f in omega arith
 null_lands_nowhere m place c e (double_far {word = w} f k _ _ _ _ _) = let none : 0 ≡ w = same_word m place 0 w e f in omega arith
 
@@ -75,9 +75,9 @@ one_object m place s t (is_object {landing = c} {words = v} {start = i} {shape =
 
 pub one_tree : (m : List (List ℕ)) (places : List Place) (a b : Trees) (x y : ℕ) → At m places a x → At m places b y → (a ≡ b) × (x ≡ y)
 one_tree m places a b x y nowhere nowhere = (refl, refl)
-one_tree m places a b x y (at {others = others} {shape = s} {held = h} {rest = r} {inside = i} {following = n} o inner after)
-    (at {shape = t} {held = h'} {rest = r'} {inside = i'} {following = n'} o' inner' after') =
+one_tree m places a b x y (at {others = others} {shape = s} {children = h} {rest = r} {inside = i} {following = n} o inner after)
+    (at {shape = t} {children = h'} {rest = r'} {inside = i'} {following = n'} o' inner' after') =
     let shape : s ≡ t = one_object m _ s t o o' in
-    let held = one_tree m t.held h h' i i' (subst (λ z. At m z.held h i) shape inner) inner' in
+    let children = one_tree m t.children h h' i i' (subst (λ z. At m z.children h i) shape inner) inner' in
     let rest = one_tree m others r r' n n' after after' in
     (cc, cc)

@@ -5,7 +5,7 @@ use Rattle.capnp_wire.specs.Element.{code_of, width, words_for}
 use Rattle.capnp_wire.specs.Landing.{shape_of, room_of, words_in}
 use Rattle.capnp_wire.specs.declared.layout.object.Body.{Body}
 use Rattle.capnp_wire.specs.declared.layout.object.Body.TheVariants.{Struct, Numbers, Pointers, Structs}
-use Rattle.capnp_wire.specs.Tree.{own_words}
+use Rattle.capnp_wire.specs.Tree.{object_size}
 use Rattle.capnp_wire.specs.Object.{rows_from}
 use Rattle.capnp_wire.specs.declared.layout.place.Place.{Place}
 use Rattle.capnp_wire.proofs.objects.FieldLemmas.{length-places}
@@ -19,7 +19,7 @@ length-digits base zero x = refl
 length-digits base (suc n) x = ap (λ (k : ℕ). suc k) (length-digits base n (x / base))
 
 pub own_words_are : (words : List ℕ) (start : Place) (body : Body) → start.word + room_of body ≤ length words
-    → words_in body ≡ own_words (shape_of words start body).form (length (shape_of words start body).held)
+    → words_in body ≡ object_size (shape_of words start body).form (length (shape_of words start body).children)
 own_words_are words start (Struct size) room =
     let data_len : size.data_words ≡ length (words_from words start.word size.data_words) =
     omega (arith, length-take size.data_words (drop start.word words), length-drop start.word words) in

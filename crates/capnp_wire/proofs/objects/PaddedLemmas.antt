@@ -12,7 +12,7 @@ use Rattle.capnp_wire.specs.Canonical.{Padded}
 use Rattle.capnp_wire.proofs.words.WordLemmas.{number-append, take-add}
 use Rattle.capnp_wire.proofs.words.DigitLemmas.{length-digits, digits-number_of, number_below, number-digits, room_for, pow-mul}
 use Rattle.capnp_wire.proofs.trees.RoomLemmas.{digits_below, words_below as stretch_below}
-use Rattle.capnp_wire.proofs.forms.TightLemmas.{length-stretch, drop_first}
+use Rattle.capnp_wire.proofs.forms.TruncatedLemmas.{length-subslice, drop_first}
 
 -- words are padded where their number has no more bits than the elements
 padded_small : (words : List ℕ) (s w n k : ℕ) → All (λ x. x < 2 ^ 64) words → k ≡ words_for n w → s + k ≤ length words
@@ -20,7 +20,7 @@ padded_small : (words : List ℕ) (s w n k : ℕ) → All (λ x. x < 2 ^ 64) wor
     → words_from words s k ≡ digits (2 ^ 64) k (number_of (2 ^ w) (digits (2 ^ w) n (number_of (2 ^ 64) (words_from words s k))))
 padded_small words s w n k all is room small =
     let back = number-digits (2 ^ w) n (number_of (2 ^ 64) (words_from words s k)) (pow_pos w) small in
-    let long = length-stretch words s k room in
+    let long = length-subslice words s k room in
     let same = digits-number_of (2 ^ 64) (words_from words s k) (stretch_below words s k all) in
     rw back (sym (ap (λ (j : ℕ). digits (2 ^ 64) j (number_of (2 ^ 64) (words_from words s k))) (sym long) ∙ same))
 
@@ -44,7 +44,7 @@ whole_small : (words : List ℕ) (s w n k : ℕ) → All (λ x. x < 2 ^ 64) word
     → number_of (2 ^ 64) (words_from words s k) < (2 ^ w) ^ n
 whole_small words s w n k all room bits =
     let below = number_below (2 ^ 64) (words_from words s k) (stretch_below words s k all) in
-    let long = length-stretch words s k room in
+    let long = length-subslice words s k room in
     let swap : w * n ≡ 64 * k = omega arith in
     let same : (2 ^ 64) ^ k ≡ (2 ^ w) ^ n = sym (pow-mul 2 64 k) ∙ ap (λ (j : ℕ). 2 ^ j) (sym swap) ∙ pow-mul 2 w n in
     subst (λ (m : ℕ). number_of (2 ^ 64) (words_from words s k) < m) (ap (λ (j : ℕ). (2 ^ 64) ^ j) long ∙ same) below
@@ -68,10 +68,10 @@ part_small words s w n q r all room bits =
     let last = slice_index_or words (s + q) 0 in
     let split : number_of (2 ^ 64) (words_from words s (q + 1)) ≡ number_of (2 ^ 64) (words_from words s q) + (2 ^ 64) ^ q * slice_index_or words (s + q) 0 =
     ap (number_of (2 ^ 64)) (last_word words s q room) ∙ number-append (2 ^ 64) (words_from words s q) (slice_index_or words (s + q) 0 ∷ [])
-    ∙ ap (λ (j : ℕ). number_of (2 ^ 64) (words_from words s q) + (2 ^ 64) ^ j * (slice_index_or words (s + q) 0 + 2 ^ 64 * 0)) (length-stretch words s q (omega arith))
+    ∙ ap (λ (j : ℕ). number_of (2 ^ 64) (words_from words s q) + (2 ^ 64) ^ j * (slice_index_or words (s + q) 0 + 2 ^ 64 * 0)) (length-subslice words s q (omega arith))
     ∙ ap (λ (j : ℕ). number_of (2 ^ 64) (words_from words s q) + (2 ^ 64) ^ q * j) (omega arith) in
     let below : number_of (2 ^ 64) (words_from words s q) < (2 ^ 64) ^ q =
-    subst (λ (j : ℕ). number_of (2 ^ 64) (words_from words s q) < (2 ^ 64) ^ j) (length-stretch words s q (omega arith)) (number_below (2 ^ 64) (words_from words s q) (stretch_below words s q all)) in
+    subst (λ (j : ℕ). number_of (2 ^ 64) (words_from words s q) < (2 ^ 64) ^ j) (length-subslice words s q (omega arith)) (number_below (2 ^ 64) (words_from words s q) (stretch_below words s q all)) in
     let swap : w * n ≡ 64 * q + r = omega arith in
     let whole : (2 ^ w) ^ n ≡ (2 ^ 64) ^ q * 2 ^ r = sym (pow-mul 2 w n) ∙ ap (λ (j : ℕ). 2 ^ j) swap ∙ pow-add 2 (64 * q) r ∙ ap (λ (j : ℕ). j * 2 ^ r) (pow-mul 2 64 q) in (
       λ small. rw (split, whole) (last_small (number_of (2 ^ 64) (words_from words s q)) ((2 ^ 64) ^ q) (slice_index_or words (s + q) 0) (2 ^ r) below small),

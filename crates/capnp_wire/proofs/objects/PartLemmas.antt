@@ -20,7 +20,7 @@ use Rattle.capnp_wire.specs.declared.layout.element.ElementSize.{ElementSize}
 use Rattle.capnp_wire.specs.declared.layout.element.ElementSize.TheVariants.{Void, Bit, Byte, TwoBytes, FourBytes, EightBytes}
 use Rattle.capnp_wire.proofs.words.WordLemmas.{number_of_eight}
 
--- a struct has as many data words as stand there
+-- a struct has as many data words as are there
 pub length-own_data : (part : Option WordPart) (words : List ℕ) → length (own_data part words) ≡ length words
 length-own_data None words = refl
 length-own_data (Some part) words = length-map words (own_part (Some part))
@@ -94,25 +94,25 @@ pub alone : (m : List (List ℕ)) (words copied : List ℕ) (start there : Place
     → fields_at m copied there size nesting limit ≡ record {
       message = m;
       words = own_data part (words_from words start.word size.data_words);
-      held = places start.segment (start.word + size.data_words) size.pointers;
+      children = places start.segment (start.word + size.data_words) size.pointers;
       nesting = nesting;
       limit = limit;
     }
 alone m words copied start there size part nesting limit word one none first long word_is copied_is =
     let own = own_data part (words_from words start.word size.data_words) in
-    let fields : List ℕ → List Place → Struct = λ row held. record { message = m; words = row; held = held; nesting = nesting; limit = limit } in
+    let fields : List ℕ → List Place → Struct = λ row children. record { message = m; words = row; children = children; nesting = nesting; limit = limit } in
     let own_is : own ≡ word ∷ [] = single own (length-own_data part (words_from words start.word size.data_words) ∙ long) ∙ ap (λ (k : ℕ). k ∷ []) (sym word_is) in
     let copied_one : words_from copied there.word size.data_words ≡ word ∷ [] =
     ap (λ (k : ℕ). words_from copied k size.data_words) first ∙ ap (λ (k : ℕ). words_from copied 0 k) one ∙ ap (λ (l : List ℕ). words_from l 0 1) copied_is in
     ap (λ (row : List ℕ). fields row (places there.segment (there.word + size.data_words) size.pointers)) (copied_one ∙ sym own_is)
     ∙ ap (fields own) (no_places there.segment (there.word + size.data_words) start.segment (start.word + size.data_words) size.pointers none)
 
--- a struct that is no number is the struct where it stands
+-- a struct that is no number is the struct where it is
 pub whole : (m : List (List ℕ)) (words : List ℕ) (start : Place) (size : StructSize) (part : Option WordPart) (nesting : ℕ) (limit : Option ℕ) → part ≡ None
     → fields_at m words start size nesting limit ≡ record {
       message = m;
       words = own_data part (words_from words start.word size.data_words);
-      held = places start.segment (start.word + size.data_words) size.pointers;
+      children = places start.segment (start.word + size.data_words) size.pointers;
       nesting = nesting;
       limit = limit;
     }
@@ -120,13 +120,13 @@ whole m words start size part nesting limit is =
     let fields : List ℕ → Struct = λ row. record {
       message = m;
       words = row;
-      held = places start.segment (start.word + size.data_words) size.pointers;
+      children = places start.segment (start.word + size.data_words) size.pointers;
       nesting = nesting;
       limit = limit;
     } in
     ap (λ (o : Option WordPart). fields (own_data o (words_from words start.word size.data_words))) (sym is)
 
--- an element that has bits stands in a word of its list
+-- an element that has bits is in a word of its list
 pub element_fits : (size : ElementSize) (n i : ℕ) → 0 < code_of size → i < n → width (code_of size) * i / 64 + 1 ≤ words_for n (width (code_of size))
 element_fits Void n i some within = absurd (omega arith)
 element_fits Bit n i some within = omega arith

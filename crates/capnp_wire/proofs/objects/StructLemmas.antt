@@ -4,14 +4,14 @@ use Rattle.std.proofs.Common.{subst, arith, Some, slice_get, length-take}
 use Rattle.std.specs.Prelude.{All}
 use Rattle.capnp_frame.specs.declared.error.Error.{Error}
 use Rattle.capnp_wire.specs.Pointer.{words_from}
-use Rattle.capnp_wire.specs.Tree.{struct, Trees, none, tree, count, own_words, total_words}
+use Rattle.capnp_wire.specs.Tree.{struct, Trees, none, tree, count, object_size, total_words}
 use Rattle.capnp_wire.specs.Object.{places}
 use Rattle.capnp_wire.specs.Landing.{words_in}
 use Rattle.capnp_wire.specs.Reached.{At}
 use Rattle.capnp_wire.specs.Traversed.{WalkedAll}
-use Rattle.capnp_wire.specs.Layout.{formed, HasRoom, AllHaveRoom}
+use Rattle.capnp_wire.specs.Layout.{output, HasRoom, AllHaveRoom}
 use Rattle.capnp_wire.specs.Block.{fill}
-use Rattle.capnp_wire.specs.Copy.{formed_body, pointer_of_body, put_own, IsCopied, CopiesAll}
+use Rattle.capnp_wire.specs.Copy.{output_body_of, pointer_of_body, put_own, IsCopied, CopiesAll}
 use Rattle.capnp_wire.specs.declared.layout.copy.Copied.{Copied}
 use Rattle.capnp_wire.specs.Rows.{row_size, kept_in, slots_of}
 use Rattle.capnp_wire.specs.Values.{HasWords, LacksWords, HasRoomAt, IsTreeOf, StopsInside, HoldsPointers, fields_at, too_large}
@@ -19,7 +19,7 @@ use Rattle.capnp_wire.specs.declared.layout.place.Place.{Place}
 use Rattle.capnp_wire.specs.declared.layout.pointer.StructSize.{StructSize}
 use Rattle.capnp_wire.specs.declared.layout.object.Body.{Body}
 use Rattle.capnp_wire.specs.declared.layout.object.Body.TheVariants.{Struct}
-use Rattle.capnp_wire.proofs.pointers.PointerRowLemmas.{kept_nothing}
+use Rattle.capnp_wire.proofs.pointers.PointerSlotLemmas.{kept_nothing}
 use Rattle.capnp_wire.proofs.objects.FieldLemmas.{length-places}
 use Rattle.capnp_wire.proofs.objects.ObjectLemmas.{one_tree}
 use Rattle.capnp_wire.proofs.trees.StandLemmas.{count_at}
@@ -31,21 +31,21 @@ use Rattle.capnp_wire.proofs.layouts.OpenLemmas.{Opened}
 use Rattle.capnp_wire.proofs.layouts.OpenedLemmas.{struct_plain, struct_trimmed}
 
 -- its own words, with those of what it holds
-formed_total : (m : List (List ℕ)) (words : List ℕ) (start : Place) (size : StructSize) (c : Bool) (held : Trees) (inside : ℕ) → HoldsPointers m words start size
-    → start.word + (size.data_words + size.pointers) ≤ length words → At m (places start.segment (start.word + size.data_words) size.pointers) held inside → AllHaveRoom held
-    → words_in (formed_body c words start.word (Struct size)) + total_words (formed c held) ≡ total_words (formed c (tree (struct (words_from words start.word size.data_words)) held none))
-formed_total m words start size false held inside here room stand rooms =
+output_total : (m : List (List ℕ)) (words : List ℕ) (start : Place) (size : StructSize) (c : Bool) (children : Trees) (inside : ℕ) → HoldsPointers m words start size
+    → start.word + (size.data_words + size.pointers) ≤ length words → At m (places start.segment (start.word + size.data_words) size.pointers) children inside → AllHaveRoom children
+    → words_in (output_body_of c words start.word (Struct size)) + total_words (output c children) ≡ total_words (output c (tree (struct (words_from words start.word size.data_words)) children none))
+output_total m words start size false children inside here room stand rooms =
     let own = own_words_are words start (Struct size) room in
-    let many = count_at m (places start.segment (start.word + size.data_words) size.pointers) held inside stand in
-    omega (arith, own, ap (own_words (struct (words_from words start.word size.data_words))) many)
-formed_total m words start size true held inside here room stand rooms =
-    struct_total m words start.segment start.word size.data_words size.pointers held inside here stand (room_trim held rooms)
+    let many = count_at m (places start.segment (start.word + size.data_words) size.pointers) children inside stand in
+    omega (arith, own, ap (object_size (struct (words_from words start.word size.data_words))) many)
+output_total m words start size true children inside here room stand rooms =
+    struct_total m words start.segment start.word size.data_words size.pointers children inside here stand (room_trim children rooms)
 
-struct_room : (m : List (List ℕ)) (words : List ℕ) (start : Place) (size : StructSize) (held : Trees) (inside : ℕ) → size.data_words < 2 ^ 16 → size.pointers < 2 ^ 16 → All (λ w. w < 2 ^ 64) words
-    → At m (places start.segment (start.word + size.data_words) size.pointers) held inside → HasRoom (struct (words_from words start.word size.data_words)) (count held)
-struct_room m words start size held inside d p all stand = (
+struct_room : (m : List (List ℕ)) (words : List ℕ) (start : Place) (size : StructSize) (children : Trees) (inside : ℕ) → size.data_words < 2 ^ 16 → size.pointers < 2 ^ 16 → All (λ w. w < 2 ^ 64) words
+    → At m (places start.segment (start.word + size.data_words) size.pointers) children inside → HasRoom (struct (words_from words start.word size.data_words)) (count children)
+struct_room m words start size children inside d p all stand = (
   omega (arith, length-take size.data_words (drop start.word words)),
-  omega (arith, count_at m (places start.segment (start.word + size.data_words) size.pointers) held inside stand, length-places start.segment (start.word + size.data_words) size.pointers),
+  omega (arith, count_at m (places start.segment (start.word + size.data_words) size.pointers) children inside stand, length-places start.segment (start.word + size.data_words) size.pointers),
   words_below words start.word size.data_words all,
 )
 
@@ -53,29 +53,29 @@ tree_of : (m : List (List ℕ)) (words : List ℕ) (start : Place) (size : Struc
     → (w : WalkedAll m c (places start.segment (start.word + size.data_words) size.pointers) nesting limit left counted_then counted_now)
     → IsTreeOf (fields_at m words start size nesting limit) (tree (struct (words_from words start.word size.data_words)) w.stand.trees none)
 tree_of m words start size nesting limit left c counted_then counted_now w =
-    record { held = w.stand.trees; traversed = w.traversed; stand = w.stand.stand; shallow = w.stand.shallow; within = w.within; whole = refl }
+    record { children = w.stand.trees; traversed = w.traversed; stand = w.stand.stand; shallow = w.stand.shallow; within = w.within; whole = refl }
 
 -- what is measured of it
 pub struct_measured : (m : List (List ℕ)) (words : List ℕ) (start : Place) (size : StructSize) (nesting : ℕ) (limit left : Option ℕ) (c : Bool) (counted_then counted_now : Option ℕ)
     → HoldsPointers m words start size → start.word + (size.data_words + size.pointers) ≤ length words → size.data_words < 2 ^ 16 → size.pointers < 2 ^ 16 → All (λ w. w < 2 ^ 64) words
     → (w : WalkedAll m c (places start.segment (start.word + size.data_words) size.pointers) nesting limit left counted_then counted_now) → (total : ℕ)
-    → total ≡ words_in (formed_body c words start.word (Struct size)) + w.words → (r : Result ℕ Error)
+    → total ≡ words_in (output_body_of c words start.word (Struct size)) + w.words → (r : Result ℕ Error)
     → MatchResult r (λ number. (number ≡ total) × (number < 2 ^ 29)) (λ error. (2 ^ 29 ≤ total) × (error.kind ≡ too_large c total))
     → MatchResult r (λ number. HasWords (IsTreeOf (fields_at m words start size nesting limit)) c number)
     (λ error. LacksWords (IsTreeOf (fields_at m words start size nesting limit)) (StopsInside (fields_at m words start size nesting limit)) c error.kind)
 struct_measured m words start size nesting limit left c counted_then counted_now here room d p all w total total_is (Ok number) returned =
-    let sum = formed_total m words start size c w.stand.trees w.traversed here room w.stand.stand w.stand.rooms in
+    let sum = output_total m words start size c w.stand.trees w.traversed here room w.stand.stand w.stand.rooms in
     record {
       trees = tree (struct (words_from words start.word size.data_words)) w.stand.trees none;
       tree_is = tree_of m words start size nesting limit left c counted_then counted_now w;
       rooms = (struct_room m words start size w.stand.trees w.traversed d p all w.stand.stand, w.stand.rooms, tt);
-      words_are = returned.0 ∙ total_is ∙ ap (λ (k : ℕ). words_in (formed_body c words start.word (Struct size)) + k) (sym w.stand.words_are) ∙ sum;
+      words_are = returned.0 ∙ total_is ∙ ap (λ (k : ℕ). words_in (output_body_of c words start.word (Struct size)) + k) (sym w.stand.words_are) ∙ sum;
       few = returned.1;
     }
 struct_measured m words start size nesting limit left c counted_then counted_now here room d p all w total total_is (Err error) returned =
-    let sum = formed_total m words start size c w.stand.trees w.traversed here room w.stand.stand w.stand.rooms in
-    let whole : total ≡ total_words (formed c (tree (struct (words_from words start.word size.data_words)) w.stand.trees none)) =
-    total_is ∙ ap (λ (k : ℕ). words_in (formed_body c words start.word (Struct size)) + k) (sym w.stand.words_are) ∙ sum in
+    let sum = output_total m words start size c w.stand.trees w.traversed here room w.stand.stand w.stand.rooms in
+    let whole : total ≡ total_words (output c (tree (struct (words_from words start.word size.data_words)) w.stand.trees none)) =
+    total_is ∙ ap (λ (k : ℕ). words_in (output_body_of c words start.word (Struct size)) + k) (sym w.stand.words_are) ∙ sum in
     inr (
       tree (struct (words_from words start.word size.data_words)) w.stand.trees none,
       tree_of m words start size nesting limit left c counted_then counted_now w,
@@ -86,16 +86,16 @@ struct_measured m words start size nesting limit left c counted_then counted_now
 -- what is copied of it
 struct_opened : (m : List (List ℕ)) (words : List ℕ) (start : Place) (size : StructSize) (nesting : ℕ) (limit : Option ℕ) (c : Bool) (next room : ℕ) → HoldsPointers m words start size
     → start.word + (size.data_words + size.pointers) ≤ length words → (w : HasRoomAt (IsTreeOf (fields_at m words start size nesting limit)) c next room)
-    → Opened m words start (Struct size) (formed_body c words start.word (Struct size)) nesting c next room w.trees
+    → Opened m words start (Struct size) (output_body_of c words start.word (Struct size)) nesting c next room w.trees
 struct_opened m words start size nesting limit false next room here there w =
-    struct_plain m words start size nesting next room w.trees w.tree_is.held w.tree_is.traversed w.tree_is.whole w.tree_is.stand w.tree_is.shallow (subst AllHaveRoom w.tree_is.whole w.rooms).1 w.rooms there
+    struct_plain m words start size nesting next room w.trees w.tree_is.children w.tree_is.traversed w.tree_is.whole w.tree_is.stand w.tree_is.shallow (subst AllHaveRoom w.tree_is.whole w.rooms).1 w.rooms there
     w.fits
 struct_opened m words start size nesting limit true next room here there w =
-    struct_trimmed m words start size nesting next room w.trees w.tree_is.held w.tree_is.traversed here w.tree_is.whole w.tree_is.stand w.tree_is.shallow (subst AllHaveRoom w.tree_is.whole w.rooms).1
+    struct_trimmed m words start size nesting next room w.trees w.tree_is.children w.tree_is.traversed here w.tree_is.whole w.tree_is.stand w.tree_is.shallow (subst AllHaveRoom w.tree_is.whole w.rooms).1
     (room_trim w.trees w.rooms) there w.fits
 
 pub struct_opened_as : (m : List (List ℕ)) (words : List ℕ) (start : Place) (size : StructSize) (copied : Body) (nesting : ℕ) (limit : Option ℕ) (c : Bool) (next room : ℕ)
-    → HoldsPointers m words start size → start.word + (size.data_words + size.pointers) ≤ length words → copied ≡ formed_body c words start.word (Struct size)
+    → HoldsPointers m words start size → start.word + (size.data_words + size.pointers) ≤ length words → copied ≡ output_body_of c words start.word (Struct size)
     → (w : HasRoomAt (IsTreeOf (fields_at m words start size nesting limit)) c next room)
     → Opened m words start (Struct size) copied nesting c next room w.trees
 struct_opened_as m words start size copied nesting limit c next room here there is w =
@@ -105,11 +105,11 @@ struct_opened_as m words start size copied nesting limit c next room here there 
 pub struct_written : {m : List (List ℕ)} {words : List ℕ} {start : Place} {size : StructSize} {copied : Body} {nesting : ℕ} {c : Bool} {gap next room : ℕ} {trees : Trees} {old mid new : List ℕ}
     {done : Copied} → Opened m words start (Struct size) copied nesting c next room trees → length old ≡ room → mid ≡ put_own words start.word (Struct size) copied next old
     → CopiesAll m (kept_in start (Struct size) (row_size copied).pointers) c (slots_of next copied) (next + words_in copied) mid new done.next
-    → done.pointer ≡ pointer_of_body copied gap → IsCopied (formed c trees) gap next old new done
+    → done.pointer ≡ pointer_of_body copied gap → IsCopied (output c trees) gap next old new done
 struct_written {m} {words} {start} {size} {copied} {nesting} {c} {gap} {next} {room} {trees} {old} {mid} {new} {done} o long mid_is all pointer_is =
     let k = o.kept in
     record {
-      words_are = all.words_are k.trees k.traversed k.stand ∙ ap (λ (b : List ℕ). fill (slots_of next copied) (next + words_in copied) (formed c k.trees) b) mid_is ∙ o.fills old long;
+      words_are = all.words_are k.trees k.traversed k.stand ∙ ap (λ (b : List ℕ). fill (slots_of next copied) (next + words_in copied) (output c k.trees) b) mid_is ∙ o.fills old long;
       pointer_is = pointer_is ∙ o.pointers_are gap;
       next_is = omega (arith, all.next_is k.trees k.traversed k.stand, o.totals);
     }
@@ -120,11 +120,11 @@ pub same_struct : (m : List (List ℕ)) (words : List ℕ) (start : Place) (size
 same_struct m words start size nesting limit other a b x y =
     x.whole
     ∙ ap (λ (t : Trees). tree (struct (words_from words start.word size.data_words)) t none)
-    (one_tree m (places start.segment (start.word + size.data_words) size.pointers) x.held y.held x.traversed y.traversed x.stand y.stand).0
+    (one_tree m (places start.segment (start.word + size.data_words) size.pointers) x.children y.children x.traversed y.traversed x.stand y.stand).0
     ∙ sym y.whole
 
--- a struct that has pointers to keep stands in a segment of the message
-pub struct_held : (m : List (List ℕ)) (words : List ℕ) (start : Place) (size : StructSize) (q : ℕ) → HoldsPointers m words start size → q ≤ size.pointers
+-- a struct that has pointers to keep is in a segment of the message
+pub struct_children : (m : List (List ℕ)) (words : List ℕ) (start : Place) (size : StructSize) (q : ℕ) → HoldsPointers m words start size → q ≤ size.pointers
     → kept_in start (Struct size) q ≢ [] → slice_get m start.segment ≡ Some words
-struct_held m words start size zero holds le some = absurd (some (kept_nothing {B = ℕ} start.segment start.word size.data_words size.pointers 0 1 (inl refl)))
-struct_held m words start size (suc q) holds le some = holds (omega arith)
+struct_children m words start size zero holds le some = absurd (some (kept_nothing {B = ℕ} start.segment start.word size.data_words size.pointers 0 1 (inl refl)))
+struct_children m words start size (suc q) holds le some = holds (omega arith)

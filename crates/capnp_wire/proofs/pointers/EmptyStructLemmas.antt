@@ -3,15 +3,15 @@ use Rattle.std.proofs.Common.{◌≡◌, ℕ, ◌<◌, ◌^◌, Bool, true, fals
 use Rattle.std.proofs.lemmas.List.Elements.{All-nil}
 use Rattle.std.proofs.lemmas.Option.{slice_get_within}
 use Rattle.capnp_wire.specs.Tree.{struct, Trees, none, tree, total_words}
-use Rattle.capnp_wire.specs.Object.{Shape, PointsTo, near, a_struct, is_object, is_null as null_there}
+use Rattle.capnp_wire.specs.Object.{Shape, PointsTo, local, a_struct, is_object, is_null as null_there}
 use Rattle.capnp_wire.specs.Reached.{nowhere, at}
-use Rattle.capnp_wire.specs.Layout.{body, pointer_to, formed}
+use Rattle.capnp_wire.specs.Layout.{body, pointer_to, output}
 use Rattle.capnp_wire.specs.Block.{put}
-use Rattle.capnp_wire.specs.Near.{empty_struct, IsBare}
+use Rattle.capnp_wire.specs.Local.{empty_struct, IsNullOrEmptyStruct}
 use Rattle.capnp_wire.specs.Traversed.{Walked}
 use Rattle.capnp_wire.specs.Copy.{Copies}
 use Rattle.capnp_wire.specs.declared.layout.place.Place.{Place}
-use Rattle.capnp_wire.proofs.pointers.NearLemmas.{word_there}
+use Rattle.capnp_wire.proofs.pointers.LocalLemmas.{word_there}
 use Rattle.capnp_wire.proofs.trees.StandLemmas.{within_none, less_none, counts_none}
 use Rattle.capnp_wire.proofs.layouts.BlockLemmas.{put_none}
 use Rattle.capnp_wire.proofs.layouts.CopyLemmas.{none_at}
@@ -20,20 +20,20 @@ use Rattle.capnp_wire.proofs.layouts.CopiedLemmas.{null_is_copied}
 use Rattle.capnp_wire.proofs.walks.ProgressLemmas.{walked_null}
 
 abbrev empty_shape : Shape
-empty_shape = record { form = struct []; held = []; traversed = 0 }
+empty_shape = record { form = struct []; children = []; traversed = 0 }
 
 abbrev empty_tree : Trees
 empty_tree = tree (struct []) none none
 
-empty_formed : (c : Bool) → formed c empty_tree ≡ empty_tree
-empty_formed true = refl
-empty_formed false = refl
+empty_output : (c : Bool) → output c empty_tree ≡ empty_tree
+empty_output true = refl
+empty_output false = refl
 
--- it stands where its pointer does
+-- it is where its pointer does
 empty_struct_stands : {m : List (List ℕ)} {place : Place} {words : List ℕ} → slice_get m place.segment ≡ Some words → slice_get words place.word ≡ Some empty_struct
     → PointsTo m place empty_shape
 empty_struct_stands {m} {place} {words} there is =
-    is_object {start = place.word} (near (word_there m place words empty_struct there is) (lit< tt) (lit< tt)) there (omega arith)
+    is_object {start = place.word} (local (word_there m place words empty_struct there is) (lit< tt) (lit< tt)) there (omega arith)
     (a_struct refl (omega (arith, slice_get_within words place.word empty_struct is)))
 
 -- a walk over it counts nothing
@@ -47,7 +47,7 @@ empty_struct_walked {nesting = nesting} {left = left} {counted_now = now} c ther
     stand = at (empty_struct_stands there is) nowhere nowhere;
     shallow = omega (arith, deep);
     rooms = ((lit< tt, lit< tt, All-nil (λ w. w < 2 ^ 64)), tt, tt);
-    words_are = ap total_words (empty_formed c);
+    words_are = ap total_words (empty_output c);
   };
   within = within_none left;
   left_is = sym (less_none left);
@@ -60,8 +60,8 @@ empty_struct_copied : {m : List (List ℕ)} {place : Place} {words : List ℕ} {
 empty_struct_copied {m} {place} {gap = gap} {next = next} {block = block} c there is = record {
   is = λ trees traversed stand.
       let u = under m place empty_shape trees traversed stand (empty_struct_stands there is) in
-      let whole : formed c trees ≡ empty_tree =
-      ap (formed c) (u.whole ∙ ap (λ (t : Trees). tree (struct []) t none) (none_at m u.held u.inside u.stand)) ∙ empty_formed c in
+      let whole : output c trees ≡ empty_tree =
+      ap (output c) (u.whole ∙ ap (λ (t : Trees). tree (struct []) t none) (none_at m u.children u.inside u.stand)) ∙ empty_output c in
       record {
         words_are = sym (ap (λ (t : Trees). put next (body t) block) whole ∙ put_none next block);
         pointer_is = sym (ap (λ (t : Trees). pointer_to t gap) whole);
@@ -70,16 +70,16 @@ empty_struct_copied {m} {place} {gap = gap} {next = next} {block = block} c ther
 }
 
 -- so it is with null
-pub bare_walked : {m : List (List ℕ)} {place : Place} {words : List ℕ} {pointer nesting : ℕ} {left counted_now : Option ℕ} (c : Bool) → slice_get m place.segment ≡ Some words
-    → slice_get words place.word ≡ Some pointer → IsBare pointer nesting → Walked m c place nesting left left counted_now counted_now
-bare_walked {m} {place} {words} {nesting = nesting} {left = left} {counted_now = now} c there is (inl zero_is) =
+pub null_or_empty_walked : {m : List (List ℕ)} {place : Place} {words : List ℕ} {pointer nesting : ℕ} {left counted_now : Option ℕ} (c : Bool) → slice_get m place.segment ≡ Some words
+    → slice_get words place.word ≡ Some pointer → IsNullOrEmptyStruct pointer nesting → Walked m c place nesting left left counted_now counted_now
+null_or_empty_walked {m} {place} {words} {nesting = nesting} {left = left} {counted_now = now} c there is (inl zero_is) =
     walked_null m c place nesting left now (null_there (word_there m place words 0 there (is ∙ ap Some zero_is)))
-bare_walked c there is (inr empty) = empty_struct_walked c there (is ∙ ap Some empty.0) empty.1
+null_or_empty_walked c there is (inr empty) = empty_struct_walked c there (is ∙ ap Some empty.0) empty.1
 
-pub bare_copied : {m : List (List ℕ)} {place : Place} {words : List ℕ} {pointer nesting gap next : ℕ} {block : List ℕ} (c : Bool) → slice_get m place.segment ≡ Some words
-    → slice_get words place.word ≡ Some pointer → IsBare pointer nesting → Copies m place c gap next block block (record { pointer = pointer; next = next })
-bare_copied {m} {place} {words} {gap = gap} {next = next} {block = block} c there is (inl zero_is) =
+pub null_or_empty_copied : {m : List (List ℕ)} {place : Place} {words : List ℕ} {pointer nesting gap next : ℕ} {block : List ℕ} (c : Bool) → slice_get m place.segment ≡ Some words
+    → slice_get words place.word ≡ Some pointer → IsNullOrEmptyStruct pointer nesting → Copies m place c gap next block block (record { pointer = pointer; next = next })
+null_or_empty_copied {m} {place} {words} {gap = gap} {next = next} {block = block} c there is (inl zero_is) =
     subst (λ (p : ℕ). Copies m place c gap next block block (record { pointer = p; next = next })) (sym zero_is)
     (null_is_copied c (word_there m place words 0 there (is ∙ ap Some zero_is)))
-bare_copied {m} {place} {gap = gap} {next = next} {block = block} c there is (inr empty) =
+null_or_empty_copied {m} {place} {gap = gap} {next = next} {block = block} c there is (inr empty) =
     subst (λ (p : ℕ). Copies m place c gap next block block (record { pointer = p; next = next })) (sym empty.0) (empty_struct_copied c there (is ∙ ap Some empty.0))

@@ -1,28 +1,28 @@
--- Where a pointer is refused, no object stands within the nesting depth left.
+-- Where a pointer is rejected, no object is within the nesting depth left.
 use Rattle.std.proofs.Common.{◌≡◌, ℕ, ◌+◌, ◌*◌, ◌<◌, ◌≤◌, true, false, List, Some, None, slice_get, refl, sym, ◌∙◌, ap, subst, arith}
 use Rattle.capnp_frame.specs.declared.error.ErrorKind.{ErrorKind}
 use Rattle.capnp_wire.specs.Element.{width, words_for}
 use Rattle.capnp_wire.specs.Pointer.{pointer_kind, code, has_wide_landing_pad, landing_pad_segment, offset, data_words, pointer_words, list_count}
 use Rattle.capnp_wire.specs.Tree.{is_null}
-use Rattle.capnp_wire.specs.Object.{word_at, IsFar, landing_pad, landing_pad_tag, IsStart, Target, Lands, near, far, double_far, Shape, ShapeStands, a_struct}
+use Rattle.capnp_wire.specs.Object.{word_at, IsFar, landing_pad, landing_pad_tag, IsStart, Target, Lands, local, far, double_far, Shape, ShapeStands, a_struct}
 use Rattle.capnp_wire.specs.Object.{some_numbers, some_pointers, some_structs, PointsTo, nothing, is_null as null_there, is_object}
-use Rattle.capnp_wire.specs.Faults.{NoWord, no_segment, past_segment, BadLandingPad, no_landing_pad, far_again, landing_pad_capability, no_tag, not_far, no_content, far_tag, capability_tag, Misfits}
+use Rattle.capnp_wire.specs.Faults.{NoWord, no_segment, past_segment, BadLandingPad, no_landing_pad, far_again, landing_pad_capability, no_tag, not_far, no_content, far_tag, capability_tag, RejectsSize}
 use Rattle.capnp_wire.specs.Faults.{struct_outside, list_outside, structs_outside, odd_tag, many_elements, Fault, no_word, capability, bad_landing_pad, too_deep, no_start, misfits}
 use Rattle.capnp_wire.specs.declared.layout.place.Place.{Place}
 use Rattle.capnp_wire.proofs.objects.ObjectLemmas.{same_word, one_landing, one_start, null_lands_nowhere}
 
--- a word stands where none is missing
+-- a word is where none is missing
 pub no_word_there : (m : List (List ℕ)) (place : Place) (kind : ErrorKind) → NoWord m place kind → word_at m place ≡ None
 no_word_there m place kind (no_segment e) = rw e refl
 no_word_there m place kind (past_segment {words = w} e f) = rw e f
 
 pub lands_by_a_word : (m : List (List ℕ)) (place : Place) (c : Target) → word_at m place ≡ None → Lands m place c → ⊥
-lands_by_a_word m place c none (near e _ _) = cc
+lands_by_a_word m place c none (local e _ _) = cc
 lands_by_a_word m place c none (far e _ _ _) = cc
 lands_by_a_word m place c none (double_far e _ _ _ _ _ _) = cc
 
 pub capability_lands_nowhere : (m : List (List ℕ)) (place : Place) (word : ℕ) (c : Target) → word_at m place ≡ Some word → pointer_kind word ≡ 3 → Lands m place c → ⊥
-capability_lands_nowhere m place word c e k (near {word = w} f _ t) = let same : word ≡ w = cc in omega arith
+capability_lands_nowhere m place word c e k (local {word = w} f _ t) = let same : word ≡ w = cc in omega arith
 capability_lands_nowhere m place word c e k (far {word = w} f t _ _) = let same : word ≡ w = cc in omega arith
 capability_lands_nowhere m place word c e k (double_far {word = w} f t _ _ _ _ _) = let same : word ≡ w = cc in omega arith
 
@@ -30,7 +30,7 @@ capability_lands_nowhere m place word c e k (double_far {word = w} f t _ _ _ _ _
 record Narrow (m : List (List ℕ)) (word : ℕ) : Type 0 where
   tag : ℕ
   there : word_at m (landing_pad word) ≡ Some tag
-  near_kind : pointer_kind tag < 2
+  local_kind : pointer_kind tag < 2
 
 record Wide (m : List (List ℕ)) (word : ℕ) : Type 0 where
   inner : ℕ
@@ -40,16 +40,16 @@ record Wide (m : List (List ℕ)) (word : ℕ) : Type 0 where
   is_far : IsFar inner 0
   second : word_at m (landing_pad_tag word) ≡ Some tag
   content : slice_get m (landing_pad_segment inner) ≡ Some words
-  near_kind : pointer_kind tag < 2
+  local_kind : pointer_kind tag < 2
 
 narrow_landing_pad : (m : List (List ℕ)) (place : Place) (word : ℕ) (c : Target) → word_at m place ≡ Some word → pointer_kind word ≡ 2 → has_wide_landing_pad word ≡ 0 → Lands m place c → Narrow m word
-narrow_landing_pad m place word c e k narrow (near {word = w} f _ t) = let same : word ≡ w = cc in absurd (omega arith)
+narrow_landing_pad m place word c e k narrow (local {word = w} f _ t) = let same : word ≡ w = cc in absurd (omega arith)
 narrow_landing_pad m place word c e k narrow (far {word = w} {tag = a} f x p t) =
-    let same : w ≡ word = cc in record { tag = a; there = subst (λ z. word_at m (landing_pad z) ≡ Some a) same p; near_kind = t }
+    let same : w ≡ word = cc in record { tag = a; there = subst (λ z. word_at m (landing_pad z) ≡ Some a) same p; local_kind = t }
 narrow_landing_pad m place word c e k narrow (double_far {word = w} f x _ _ _ _ _) = let same : word ≡ w = cc in absurd (omega arith)
 
 wide_landing_pad : (m : List (List ℕ)) (place : Place) (word : ℕ) (c : Target) → word_at m place ≡ Some word → pointer_kind word ≡ 2 → has_wide_landing_pad word ≡ 1 → Lands m place c → Wide m word
-wide_landing_pad m place word c e k wide (near {word = w} f _ t) = let same : word ≡ w = cc in absurd (omega arith)
+wide_landing_pad m place word c e k wide (local {word = w} f _ t) = let same : word ≡ w = cc in absurd (omega arith)
 wide_landing_pad m place word c e k wide (far {word = w} f x _ _) = let same : word ≡ w = cc in absurd (omega arith)
 wide_landing_pad m place word c e k wide (double_far {word = w} {inner = i} {tag = a} {words = l} f _ p x q s t) =
     let same : w ≡ word = cc in
@@ -61,11 +61,11 @@ wide_landing_pad m place word c e k wide (double_far {word = w} {inner = i} {tag
       is_far = x;
       second = subst (λ z. word_at m (landing_pad_tag z) ≡ Some a) same q;
       content = s;
-      near_kind = t;
+      local_kind = t;
     }
 
 first_of_landing_pad : (m : List (List ℕ)) (place : Place) (word : ℕ) (c : Target) → word_at m place ≡ Some word → pointer_kind word ≡ 2 → word_at m (landing_pad word) ≡ None → Lands m place c → ⊥
-first_of_landing_pad m place word c e k none (near {word = w} f _ t) = let same : word ≡ w = cc in omega arith
+first_of_landing_pad m place word c e k none (local {word = w} f _ t) = let same : word ≡ w = cc in omega arith
 first_of_landing_pad m place word c e k none (far {word = w} {tag = a} f x p t) =
     let same : w ≡ word = cc in let there : word_at m (landing_pad word) ≡ Some a = subst (λ z. word_at m (landing_pad z) ≡ Some a) same p in cc
 first_of_landing_pad m place word c e k none (double_far {word = w} {inner = i} f _ p x q s t) =
@@ -76,10 +76,10 @@ pub bad_landing_pad_leads_nowhere : (m : List (List ℕ)) (place : Place) (word 
 bad_landing_pad_leads_nowhere m place word kind c e k (no_landing_pad none) lands = first_of_landing_pad m place word c e k (no_word_there m (landing_pad word) kind none) lands
 bad_landing_pad_leads_nowhere m place word kind c e k (far_again {tag = a} narrow f g) lands =
     let n = narrow_landing_pad m place word c e k narrow lands in
-    let same : a ≡ n.tag = same_word m (landing_pad word) a n.tag f n.there in omega (arith, n.near_kind)
+    let same : a ≡ n.tag = same_word m (landing_pad word) a n.tag f n.there in omega (arith, n.local_kind)
 bad_landing_pad_leads_nowhere m place word kind c e k (landing_pad_capability {tag = a} narrow f g) lands =
     let n = narrow_landing_pad m place word c e k narrow lands in
-    let same : a ≡ n.tag = same_word m (landing_pad word) a n.tag f n.there in omega (arith, n.near_kind)
+    let same : a ≡ n.tag = same_word m (landing_pad word) a n.tag f n.there in omega (arith, n.local_kind)
 bad_landing_pad_leads_nowhere m place word kind c e k (no_tag wide f g) lands =
     let w = wide_landing_pad m place word c e k wide lands in let second = w.second in cc
 bad_landing_pad_leads_nowhere m place word kind c e k (not_far {inner = i} wide f g none) lands =
@@ -91,17 +91,17 @@ bad_landing_pad_leads_nowhere m place word kind c e k (no_content {inner = i} wi
     cc
 bad_landing_pad_leads_nowhere m place word kind c e k (far_tag {tag = a} wide f g _ _ h) lands =
     let w = wide_landing_pad m place word c e k wide lands in
-    let same : a ≡ w.tag = same_word m (landing_pad_tag word) a w.tag g w.second in omega (arith, w.near_kind)
+    let same : a ≡ w.tag = same_word m (landing_pad_tag word) a w.tag g w.second in omega (arith, w.local_kind)
 bad_landing_pad_leads_nowhere m place word kind c e k (capability_tag {tag = a} wide f g _ _ h) lands =
     let w = wide_landing_pad m place word c e k wide lands in
-    let same : a ≡ w.tag = same_word m (landing_pad_tag word) a w.tag g w.second in omega (arith, w.near_kind)
+    let same : a ≡ w.tag = same_word m (landing_pad_tag word) a w.tag g w.second in omega (arith, w.local_kind)
 
 -- a list of pointers has a word for each
 pub words_for_pointers : (n code : ℕ) → code ≡ 6 → words_for n (width code) ≡ n
 words_for_pointers n code six = let whole : words_for n 64 ≡ n = omega arith in ap (λ (c : ℕ). words_for n (width c)) six ∙ whole
 
 -- what fits does not misfit
-fits_or_not : (words : List ℕ) (start : Place) (pointer : ℕ) (kind : ErrorKind) (s : Shape) → Misfits words start.word pointer kind → ShapeStands words start pointer s → ⊥
+fits_or_not : (words : List ℕ) (start : Place) (pointer : ℕ) (kind : ErrorKind) (s : Shape) → RejectsSize words start.word pointer kind → ShapeStands words start pointer s → ⊥
 fits_or_not words start pointer kind s (struct_outside k l) (a_struct j f) = omega arith
 fits_or_not words start pointer kind s (struct_outside k l) (some_numbers j _ _) = omega arith
 fits_or_not words start pointer kind s (struct_outside k l) (some_pointers j _ _) = omega arith

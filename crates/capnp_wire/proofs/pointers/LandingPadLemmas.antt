@@ -6,16 +6,16 @@ use Rattle.capnp_frame.specs.declared.error.Error.{Error}
 use Rattle.capnp_frame.specs.declared.error.ErrorKind.{ErrorKind}
 use Rattle.capnp_frame.specs.declared.error.ErrorKind.TheVariants.{PointerOutOfBounds, InvalidSegmentId}
 use Rattle.capnp_wire.specs.Pointer.{words_of, has_wide_landing_pad, landing_pad_segment, landing_pad_position}
-use Rattle.capnp_wire.specs.PointerWord.{IsNear, IsNearShape, IsFarPointer}
+use Rattle.capnp_wire.specs.PointerWord.{IsLocal, IsLocalShape, IsFarPointer}
 use Rattle.capnp_wire.specs.Object.{message_of, word_at, landing_pad, landing_pad_tag, IsFar, following, exactly, IsStart, Lands, far as by_landing_pad, double_far, ShapeStands, PointsTo, is_object}
-use Rattle.capnp_wire.specs.Landing.{HasWideLandingPad, IsLanding, NotNear, shape_of, traversed_of}
+use Rattle.capnp_wire.specs.Landing.{HasWideLandingPad, IsLanding, NotLocal, shape_of, traversed_of}
 use Rattle.capnp_wire.specs.Faults.{NoWord, no_segment, past_segment, BadLandingPad, no_landing_pad, far_again, landing_pad_capability, far_tag, capability_tag}
 use Rattle.capnp_wire.specs.declared.layout.place.Place.{Place}
 use Rattle.capnp_wire.specs.declared.layout.object.Body.{Body}
 use Rattle.capnp_wire.specs.declared.layout.object.Body.TheVariants.{Struct, Numbers, Pointers, Structs}
 use Rattle.capnp_wire.specs.declared.layout.landing.Landing.{Landing as ReadLanding}
 use Rattle.capnp_wire.specs.declared.layout.pointer.FarPointer.{FarPointer}
-use Rattle.capnp_wire.specs.declared.layout.pointer.NearPointer.{NearPointer}
+use Rattle.capnp_wire.specs.declared.layout.pointer.LocalPointer.{LocalPointer}
 use Rattle.capnp_wire.proofs.words.MessageLemmas.{segment_stands, no_segment_stands, word_stands, no_word_stands}
 
 -- what `?` passes on is of the same kind as the error that it returns
@@ -29,26 +29,26 @@ LeadsTo found bits word =
     MatchOption found ((start : ℕ) → start + 2 ^ 30 * (bits / 2 ^ 29) ≡ word + 1 + bits → ⊥) (λ start. start + 2 ^ 30 * (bits / 2 ^ 29) ≡ word + 1 + bits)
 
 -- what the caller has seen of a near pointer, and what is read of where it leads
-pub record Seen (from : Place) (landing_pads : ℕ) (near : NearPointer) (bytes : List ℕ) (read : ReadLanding) : Type 0 where
+pub record Seen (from : Place) (landing_pads : ℕ) (local : LocalPointer) (bytes : List ℕ) (read : ReadLanding) : Type 0 where
   pub segment : read.segment.now ≡ bytes
   pub number : read.number ≡ from.segment
-  pub shape : read.shape ≡ near.shape
+  pub shape : read.shape ≡ local.shape
   pub landing_pads_are : read.landing_pads ≡ landing_pads
-  pub start : LeadsTo read.start near.offset.0 from.word
+  pub start : LeadsTo read.start local.offset.0 from.word
 
-pub near_landing : (m : List (List ℕ)) (place from : Place) (word landing_pads : ℕ) (near : NearPointer) (bytes : List ℕ) (read : ReadLanding)
+pub local_landing : (m : List (List ℕ)) (place from : Place) (word landing_pads : ℕ) (local : LocalPointer) (bytes : List ℕ) (read : ReadLanding)
     → Lands m place (record { segment = from.segment; origin = following from.word; tag = word; landing_pads = landing_pads }) → landing_pads ≤ 2
-    → slice_get m from.segment ≡ Some (words_of bytes) → IsNear word near → Seen from landing_pads near bytes read → IsLanding m place read
-near_landing m place from word landing_pads near bytes read lands few content near_is seen = record {
+    → slice_get m from.segment ≡ Some (words_of bytes) → IsLocal word local → Seen from landing_pads local bytes read → IsLanding m place read
+local_landing m place from word landing_pads local bytes read lands few content local_is seen = record {
   landing = record { segment = from.segment; origin = following from.word; tag = word; landing_pads = landing_pads };
   lands = lands;
   number = sym seen.number;
   content = content ∙ ap (λ (l : List ℕ). Some (words_of l)) (sym seen.segment);
-  shape = subst (IsNearShape word) (sym seen.shape) near_is.shape_is;
-  start = subst (λ (x : ℕ). LeadsTo read.start x from.word) near_is.offset_is seen.start;
+  shape = subst (IsLocalShape word) (sym seen.shape) local_is.shape_is;
+  start = subst (λ (x : ℕ). LeadsTo read.start x from.word) local_is.offset_is seen.start;
   landing_pads = sym seen.landing_pads_are;
   few_landing_pads = few;
-  small = near_is.small;
+  small = local_is.small;
 }
 
 pub not_is_true : (b : Bool) → not b ≡ true → b ≡ false
@@ -111,12 +111,12 @@ no_landing_pad_word segments word far bytes kind far_is segment none is =
 
 -- the tag in a landing pad
 pub narrow_refused : (m : List (List ℕ)) (word tag : ℕ) (kind : ErrorKind) → has_wide_landing_pad word ≡ 0 → word_at m (landing_pad word) ≡ Some tag
-    → NotNear tag kind → BadLandingPad m word kind
+    → NotLocal tag kind → BadLandingPad m word kind
 narrow_refused m word tag kind narrow e (inl far) = subst (BadLandingPad m word) (sym far.1) (far_again narrow e far.0)
 narrow_refused m word tag kind narrow e (inr other) = subst (BadLandingPad m word) (sym other.1) (landing_pad_capability narrow e other.0)
 
 pub wide_refused : (m : List (List ℕ)) (word inner tag : ℕ) (words : List ℕ) (kind : ErrorKind) → has_wide_landing_pad word ≡ 1 → word_at m (landing_pad word) ≡ Some inner
-    → word_at m (landing_pad_tag word) ≡ Some tag → IsFar inner 0 → slice_get m (landing_pad_segment inner) ≡ Some words → NotNear tag kind → BadLandingPad m word kind
+    → word_at m (landing_pad_tag word) ≡ Some tag → IsFar inner 0 → slice_get m (landing_pad_segment inner) ≡ Some words → NotLocal tag kind → BadLandingPad m word kind
 wide_refused m word inner tag words kind wide e f is_far content (inl far) = subst (BadLandingPad m word) (sym far.1) (far_tag wide e f is_far content far.0)
 wide_refused m word inner tag words kind wide e f is_far content (inr other) = subst (BadLandingPad m word) (sym other.1) (capability_tag wide e f is_far content other.0)
 
@@ -128,16 +128,16 @@ pub wide_far_word : (word : ℕ) (f : FarPointer) → IsFarPointer word f → f.
 wide_far_word word f f_is wide = record { far = f_is.far_kind; wide = is_wide word f f_is wide }
 
 -- where it leads by that landing pad
-pub narrow_landing : (segments : List (List ℕ)) (place : Place) (word : ℕ) (far : FarPointer) (bytes : List ℕ) (first : ℕ) (near : NearPointer) (read : ReadLanding)
+pub narrow_landing : (segments : List (List ℕ)) (place : Place) (word : ℕ) (far : FarPointer) (bytes : List ℕ) (first : ℕ) (local : LocalPointer) (read : ReadLanding)
     → word_at (message_of segments) place ≡ Some word → IsFarPointer word far → far.is_wide ≡ false → slice_get segments far.landing_pad.segment ≡ Some bytes
-    → slice_get (words_of bytes) far.landing_pad.word ≡ Some first → IsNear first near → Seen far.landing_pad 1 near bytes read → IsLanding (message_of segments) place read
-narrow_landing segments place word far bytes first near read there far_is narrow segment here near_is seen =
+    → slice_get (words_of bytes) far.landing_pad.word ≡ Some first → IsLocal first local → Seen far.landing_pad 1 local bytes read → IsLanding (message_of segments) place read
+narrow_landing segments place word far bytes first local read there far_is narrow segment here local_is seen =
     let m = message_of segments in
     let lands : Lands m place (record { segment = (landing_pad word).segment; origin = following (landing_pad word).word; tag = first; landing_pads = 1 }) =
-    by_landing_pad there (is_far_word word far far_is narrow) (landing_pad_word segments word far bytes first far_is segment here) near_is.near_kind in
+    by_landing_pad there (is_far_word word far far_is narrow) (landing_pad_word segments word far bytes first far_is segment here) local_is.local_kind in
     let from_landing_pad : Lands m place (record { segment = far.landing_pad.segment; origin = following far.landing_pad.word; tag = first; landing_pads = 1 }) =
     subst (λ (x : Place). Lands m place (record { segment = x.segment; origin = following x.word; tag = first; landing_pads = 1 })) (sym far_is.landing_pad_is) lands in
-    near_landing m place far.landing_pad first 1 near bytes read from_landing_pad (omega arith) (segment_stands segments far.landing_pad.segment bytes segment) near_is seen
+    local_landing m place far.landing_pad first 1 local bytes read from_landing_pad (omega arith) (segment_stands segments far.landing_pad.segment bytes segment) local_is seen
 
 -- the two words of a wide landing pad
 pub wide_landing_pad : {bytes : List ℕ} {first tag : ℕ} (segments : List (List ℕ)) (word : ℕ) (far : FarPointer) → IsFarPointer word far → far.is_wide ≡ true
@@ -156,24 +156,24 @@ not_far_word inner none is_far = none (record { landing_pad = landing_pad inner;
 pub content_place : (inner : ℕ) (f : FarPointer) (place : Place) → IsFarPointer inner f → place ≡ f.landing_pad → place ≡ landing_pad inner
 content_place inner f place f_is e = e ∙ f_is.landing_pad_is
 
-pub wide_landing : (m : List (List ℕ)) (place content : Place) (word inner tag : ℕ) (near : NearPointer) (bytes : List ℕ) (read : ReadLanding)
+pub wide_landing : (m : List (List ℕ)) (place content : Place) (word inner tag : ℕ) (local : LocalPointer) (bytes : List ℕ) (read : ReadLanding)
     → word_at m place ≡ Some word → IsFar word 1 → word_at m (landing_pad word) ≡ Some inner → IsFar inner 0 → word_at m (landing_pad_tag word) ≡ Some tag
-    → content ≡ landing_pad inner → slice_get m content.segment ≡ Some (words_of bytes) → IsNear tag near
-    → read.segment.now ≡ bytes → read.number ≡ content.segment → read.start ≡ Some content.word → read.shape ≡ near.shape → read.landing_pads ≡ 2
+    → content ≡ landing_pad inner → slice_get m content.segment ≡ Some (words_of bytes) → IsLocal tag local
+    → read.segment.now ≡ bytes → read.number ≡ content.segment → read.start ≡ Some content.word → read.shape ≡ local.shape → read.landing_pads ≡ 2
     → IsLanding m place read
-wide_landing m place content word inner tag near bytes read e wide first inner_far second content_is there near_is segment number start shape landing_pads_are =
+wide_landing m place content word inner tag local bytes read e wide first inner_far second content_is there local_is segment number start shape landing_pads_are =
     let there_too : slice_get m (landing_pad_segment inner) ≡ Some (words_of bytes) = subst (λ (x : Place). slice_get m x.segment ≡ Some (words_of bytes)) content_is there in
     let starts : read.start ≡ Some (landing_pad_position inner) = start ∙ ap (λ (x : Place). Some x.word) content_is in
     record {
       landing = record { segment = landing_pad_segment inner; origin = exactly (landing_pad_position inner); tag = tag; landing_pads = 2 };
-      lands = double_far e wide first inner_far second there_too near_is.near_kind;
+      lands = double_far e wide first inner_far second there_too local_is.local_kind;
       number = sym (number ∙ ap (λ (x : Place). x.segment) content_is);
       content = there_too ∙ ap (λ (l : List ℕ). Some (words_of l)) (sym segment);
-      shape = subst (IsNearShape tag) (sym shape) near_is.shape_is;
+      shape = subst (IsLocalShape tag) (sym shape) local_is.shape_is;
       start = subst (λ (o : Option ℕ). MatchOption o ((s : ℕ) → s ≡ landing_pad_position inner → ⊥) (λ s. s ≡ landing_pad_position inner)) (sym starts) refl;
       landing_pads = sym landing_pads_are;
       few_landing_pads = omega arith;
-      small = near_is.small;
+      small = local_is.small;
     }
 
 -- the object to which a landing leads
@@ -184,7 +184,7 @@ traversed_of_shape words start (Pointers count) = refl
 traversed_of_shape words start (Structs elements after_tag) = refl
 
 pub object_stands : (m : List (List ℕ)) (place : Place) (read : ReadLanding) (start : ℕ) (body : Body) (traversed : ℕ) → IsLanding m place read → read.start ≡ Some start
-    → ((tag number : ℕ) → IsNearShape tag read.shape
+    → ((tag number : ℕ) → IsLocalShape tag read.shape
     → ShapeStands (words_of read.segment.now) (record { segment = number; word = start }) tag (shape_of (words_of read.segment.now) (record { segment = number; word = start }) body))
     → traversed ≡ traversed_of body
     → PointsTo m place (record (shape_of (words_of read.segment.now) (record { segment = read.number; word = start }) body) { traversed = read.landing_pads + traversed })
@@ -201,7 +201,7 @@ object_stands m place read start body traversed l e stands traversed_is =
     subst (λ (n : ℕ). PointsTo m place (record (shape_of words (record { segment = n; word = start }) body) { traversed = read.landing_pads + traversed })) l.number
     (subst (λ (x : ℕ). PointsTo m place (record (shape_of words here body) { traversed = x })) total object)
 
--- what is found, or refused, by way of a landing pad of two words
+-- what is found, or rejected, by way of a landing pad of two words
 pub wide_found : {m : List (List ℕ)} {far : FarPointer} {first tag : ℕ} (result : Result ReadLanding Error) → ((word : ℕ) → IsFarPointer word far → HasWideLandingPad m word first tag)
     → IfOk result (λ landing. (place : Place) (word : ℕ) → word_at m place ≡ Some word → HasWideLandingPad m word first tag → IsLanding m place landing)
     → IfOk result (λ landing. (place : Place) (word : ℕ) → word_at m place ≡ Some word → IsFarPointer word far → IsLanding m place landing)

@@ -3,7 +3,7 @@ use Rattle.std.proofs.Common.{◌≡◌, ℕ, zero, suc, ◌+◌, ◌-◌, ◌*�
 use Rattle.std.specs.Prelude.{◌↔◌}
 use Rattle.capnp_wire.specs.Pointer.{pointer_kind, offset, data_words, pointer_words, code, list_count, words_from, number_of}
 use Rattle.capnp_wire.specs.Element.{width, words_for}
-use Rattle.capnp_wire.specs.Tree.{struct, own_words}
+use Rattle.capnp_wire.specs.Tree.{struct, object_size}
 use Rattle.capnp_wire.specs.Object.{Shape, ShapeStands, places, rows_from, elements, a_struct, some_numbers, some_pointers, some_structs}
 use Rattle.capnp_wire.specs.Layout.{struct_pointer, list_pointer, minus_one, pointer, Reaches}
 use Rattle.capnp_wire.specs.Tested.{LeadsTo, IsNext}
@@ -71,7 +71,7 @@ a_struct_next tag word next (w ∷ words) n k d p = some_struct tag word next (w
 
 -- the object says what the pointer's word is but for its offset
 pub next_is_laid_out : (segment : List ℕ) (start : Place) (tag word next : ℕ) (shape : Shape) → ShapeStands segment start tag shape
-    → IsNext tag word next shape.form (length shape.held) ↔ ((tag ≡ pointer shape.form (length shape.held) (next - (word + 1))) × Reaches shape.form (length shape.held) (next - (word + 1)))
+    → IsNext tag word next shape.form (length shape.children) ↔ ((tag ≡ pointer shape.form (length shape.children) (next - (word + 1))) × Reaches shape.form (length shape.children) (next - (word + 1)))
 next_is_laid_out segment start tag word next shape (a_struct k room) =
     a_struct_next tag word next (words_from segment start.word (data_words tag)) (length (places start.segment (start.word + data_words tag) (pointer_words tag)))
     k (omega (arith, length-take (data_words tag) (drop start.word segment), length-drop start.word segment))
@@ -99,7 +99,7 @@ struct_room segment start tag word next (w ∷ words) n room before within targe
 -- and where it leads there, the object's words lie after that word
 pub next_room : (segment : List ℕ) (start tag word next : ℕ) (shape : Shape) → ShapeStands segment (record { segment = 0; word = start }) tag shape → word < next → next ≤ length segment
     → start + 2 ^ 30 * (offset tag / 2 ^ 29) ≡ word + 1 + offset tag
-    → IsNext tag word next shape.form (length shape.held) → next + own_words shape.form (length shape.held) ≤ length segment
+    → IsNext tag word next shape.form (length shape.children) → next + object_size shape.form (length shape.children) ≤ length segment
 next_room segment start tag word next shape (a_struct k room) before within target is =
     let d : length (words_from segment start (data_words tag)) ≡ data_words tag = omega (arith, length-take (data_words tag) (drop start segment), length-drop start segment) in
     let p = length-places 0 (start + data_words tag) (pointer_words tag) in

@@ -9,13 +9,13 @@ use Rattle.capnp_wire.specs.Trim.{keep_word, cut_zeros, trim}
 use Rattle.capnp_wire.specs.Object.{places, is_null as null_there}
 use Rattle.capnp_wire.specs.Landing.{IsObject}
 use Rattle.capnp_wire.specs.Reached.{At, nowhere, at}
-use Rattle.capnp_wire.specs.Layout.{formed, run, AllHaveRoom}
+use Rattle.capnp_wire.specs.Layout.{output, run, AllHaveRoom}
 use Rattle.capnp_wire.specs.Block.{put, fill}
-use Rattle.capnp_wire.specs.Near.{AreNull, near_struct_of}
+use Rattle.capnp_wire.specs.Local.{AreNull, local_struct_of}
 use Rattle.capnp_wire.specs.Traversed.{WalkedAll}
-use Rattle.capnp_wire.specs.Copy.{CanCopy, Copies, least_size, formed_body, pointer_of_body}
+use Rattle.capnp_wire.specs.Copy.{CanCopy, Copies, least_size, output_body_of, pointer_of_body}
 use Rattle.capnp_wire.specs.declared.layout.place.Place.{Place}
-use Rattle.capnp_wire.specs.declared.layout.near.NearStruct.{NearStruct}
+use Rattle.capnp_wire.specs.declared.layout.fast_path.LocalStruct.{LocalStruct}
 use Rattle.capnp_wire.specs.declared.layout.pointer.StructSize.{StructSize}
 use Rattle.capnp_wire.specs.declared.layout.object.Body.TheVariants.{Struct}
 use Rattle.capnp_wire.proofs.words.WordLemmas.{take-add, length-words_of}
@@ -23,9 +23,9 @@ use Rattle.capnp_wire.proofs.layouts.BlockLemmas.{put_none, put_both, length-put
 use Rattle.capnp_wire.proofs.words.CutLemmas.{cut-cut}
 use Rattle.capnp_wire.proofs.trees.FrontLemmas.{cut_words}
 use Rattle.capnp_wire.proofs.words.UsedLemmas.{most_within}
-use Rattle.capnp_wire.proofs.forms.TightLemmas.{drop_first}
+use Rattle.capnp_wire.proofs.forms.TruncatedLemmas.{drop_first}
 use Rattle.capnp_wire.proofs.objects.ObjectLemmas.{one_tree}
-use Rattle.capnp_wire.proofs.pointers.NearLemmas.{word_there}
+use Rattle.capnp_wire.proofs.pointers.LocalLemmas.{word_there}
 use Rattle.capnp_wire.proofs.layouts.CopiedLemmas.{opened_here, object_begins}
 use Rattle.capnp_wire.proofs.trees.StandLemmas.{within_none, less_none, counts_none}
 
@@ -46,9 +46,9 @@ trim_nulls : (n : ℕ) → trim (nulls n) ≡ nulls n
 trim_nulls zero = refl
 trim_nulls (suc n) = ap (λ (t : Trees). tree null none t) (trim_nulls n)
 
-nulls_formed : (c : Bool) (n : ℕ) → formed c (nulls n) ≡ nulls n
-nulls_formed true n = trim_nulls n
-nulls_formed false n = refl
+nulls_output : (c : Bool) (n : ℕ) → output c (nulls n) ≡ nulls n
+nulls_output true n = trim_nulls n
+nulls_output false n = refl
 
 no_words : (n : ℕ) → total_words (nulls n) ≡ 0
 no_words zero = refl
@@ -76,7 +76,7 @@ first_null words start n room are =
       words_are = split ∙ ap (λ (w : ℕ). w ∷ words_from words (start + 1) n) both.0;
     }
 
--- they stand where the words are zero
+-- they are where the words are zero
 pub nulls_stand : (m : List (List ℕ)) (segment : ℕ) (words : List ℕ) (start n : ℕ) → slice_get m segment ≡ Some words → start + n ≤ length words → AreNull words start n
     → At m (places segment start n) (nulls n) 0
 nulls_stand m segment words start zero there room are = nowhere
@@ -96,7 +96,7 @@ nulls_walked {m} {c} {nesting} {left} {counted_now = b} segment words start n th
     stand = nulls_stand m segment words start n there room are;
     shallow = shallow_nulls nesting n;
     rooms = roomy_nulls n;
-    words_are = ap total_words (nulls_formed c n) ∙ no_words n;
+    words_are = ap total_words (nulls_output c n) ∙ no_words n;
   };
   within = within_none left;
   left_is = sym (less_none left);
@@ -117,7 +117,7 @@ nulls_filled words start (suc n) slot next block room are fits =
     ∙ ap (λ (l : List ℕ). put slot l block) (sym f.words_are)
 
 -- Where the kept pointers of a struct are null, none of them are kept, or all of its data.
-none_or_whole : (c : Bool) (words : List ℕ) (start : ℕ) (from size : StructSize) → Struct size ≡ formed_body c words start (Struct from)
+none_or_whole : (c : Bool) (words : List ℕ) (start : ℕ) (from size : StructSize) → Struct size ≡ output_body_of c words start (Struct from)
     → AreNull words (start + from.data_words) size.pointers → (size.pointers ≡ 0) ⊎ (size.data_words ≡ from.data_words)
 none_or_whole false words start from size is are =
     let same : size ≡ from = cc in
@@ -137,9 +137,9 @@ seam words start d e q (inr all_data) =
     ∙ ap (λ (k : ℕ). words_from words start e ++ words_from words (start + k) q) all_data
 
 -- Its words are its copy then.
-pub struct_of_nulls : {m : List (List ℕ)} {place : Place} {found : NearStruct} {size : StructSize} {nesting : ℕ} {c : Bool} {gap next free pointer : ℕ} {old new : List ℕ}
-    (can : CanCopy m (place ∷ []) nesting c next (length old)) → IsObject m place (near_struct_of found)
-    → Struct size ≡ formed_body c (words_of found.segment.now) found.start.word (Struct found.size) → size.data_words ≤ found.size.data_words → size.pointers ≤ found.size.pointers
+pub struct_of_nulls : {m : List (List ℕ)} {place : Place} {found : LocalStruct} {size : StructSize} {nesting : ℕ} {c : Bool} {gap next free pointer : ℕ} {old new : List ℕ}
+    (can : CanCopy m (place ∷ []) nesting c next (length old)) → IsObject m place (local_struct_of found)
+    → Struct size ≡ output_body_of c (words_of found.segment.now) found.start.word (Struct found.size) → size.data_words ≤ found.size.data_words → size.pointers ≤ found.size.pointers
     → AreNull (words_of found.segment.now) (found.start.word + found.size.data_words) size.pointers
     → new ≡ put next (words_from (words_of found.segment.now) found.start.word (size.data_words + size.pointers)) old
     → pointer ≡ pointer_of_body (Struct size) gap → free ≡ next + (size.data_words + size.pointers)
@@ -162,12 +162,12 @@ struct_of_nulls {m} {place} {found} {size} {nesting} {c} {gap} {next} {free} {po
       length-drop found.start.word (words_of found.segment.now),
     ) in
     let room_there : found.start.word + found.size.data_words + size.pointers ≤ length (words_of found.segment.now) = omega (arith, is.room, size_there, fewer) in
-    let held_is : (trees : Trees) (traversed : ℕ) → At m (places found.start.segment (found.start.word + found.size.data_words) size.pointers ++ []) trees traversed → formed c trees ≡ nulls size.pointers =
+    let children_is : (trees : Trees) (traversed : ℕ) → At m (places found.start.segment (found.start.word + found.size.data_words) size.pointers ++ []) trees traversed → output c trees ≡ nulls size.pointers =
     λ trees traversed stand.
     let there = nulls_stand m found.start.segment (words_of found.segment.now) (found.start.word + found.size.data_words) size.pointers is.content room_there are in
     let plain : At m (places found.start.segment (found.start.word + found.size.data_words) size.pointers) trees traversed =
     subst (λ (l : List Place). At m l trees traversed) (append-nil (places found.start.segment (found.start.word + found.size.data_words) size.pointers)) stand in
-    ap (formed c) (one_tree m (places found.start.segment (found.start.word + found.size.data_words) size.pointers) trees (nulls size.pointers) traversed 0 plain there).0 ∙ nulls_formed c size.pointers in
+    ap (output c) (one_tree m (places found.start.segment (found.start.word + found.size.data_words) size.pointers) trees (nulls size.pointers) traversed 0 plain there).0 ∙ nulls_output c size.pointers in
     let put_data : length (put next (words_from (words_of found.segment.now) found.start.word size.data_words) old) ≡ length old =
     length-put next (words_from (words_of found.segment.now) found.start.word size.data_words) old (omega (arith, o.kept.fits, long_data)) in
     let filled : new ≡ fill (run (next + size.data_words) size.pointers) (next + (size.data_words + size.pointers)) (nulls size.pointers)
@@ -180,6 +180,6 @@ struct_of_nulls {m} {place} {found} {size} {nesting} {c} {gap} {next} {free} {po
     (object_begins can o refl put_data pointer_is).ends new free (record {
       words_are = λ trees traversed stand.
           filled ∙ ap (λ (l : List ℕ). fill l (next + (e + q)) (nulls q) (put next own old)) (sym (append-nil (run (next + e) q)))
-          ∙ ap (λ (t : Trees). fill (run (next + e) q ++ []) (next + (e + q)) t (put next own old)) (sym (held_is trees traversed stand));
-      next_is = λ trees traversed stand. omega (arith, free_is, ap total_words (held_is trees traversed stand), no_words size.pointers);
+          ∙ ap (λ (t : Trees). fill (run (next + e) q ++ []) (next + (e + q)) t (put next own old)) (sym (children_is trees traversed stand));
+      next_is = λ trees traversed stand. omega (arith, free_is, ap total_words (children_is trees traversed stand), no_words size.pointers);
     })

@@ -1,11 +1,11 @@
--- At most one refusal stands at a pointer.
+-- At most one error is at a pointer.
 use Rattle.std.proofs.Common.{◌≡◌, ◌⊎◌, inl, inr, ℕ, ◌+◌, ◌<◌, ◌≤◌, List, length, Some, None, slice_get, refl, sym, ◌∙◌, subst, arith}
 use Rattle.capnp_frame.specs.declared.error.ErrorKind.{ErrorKind}
 use Rattle.capnp_frame.specs.declared.error.ErrorKind.TheVariants.{PointerOutOfBounds, InvalidSegmentId, NestingLimitExceeded, CapabilityRefused, WrongPointerKind}
 use Rattle.capnp_wire.specs.Pointer.{pointer_kind, code, has_wide_landing_pad, landing_pad_segment, list_count}
 use Rattle.capnp_wire.specs.Object.{word_at, IsFar, landing_pad, landing_pad_tag, IsStart, Target, Lands}
-use Rattle.capnp_wire.specs.Landing.{NotNear}
-use Rattle.capnp_wire.specs.Faults.{NoWord, no_segment, past_segment, BadLandingPad, no_landing_pad, far_again, landing_pad_capability, no_tag, not_far, no_content, far_tag, capability_tag, Misfits}
+use Rattle.capnp_wire.specs.Landing.{NotLocal}
+use Rattle.capnp_wire.specs.Faults.{NoWord, no_segment, past_segment, BadLandingPad, no_landing_pad, far_again, landing_pad_capability, no_tag, not_far, no_content, far_tag, capability_tag, RejectsSize}
 use Rattle.capnp_wire.specs.Faults.{struct_outside, list_outside, structs_outside, odd_tag, many_elements, Fault, no_word, capability, bad_landing_pad, too_deep, no_start, misfits}
 use Rattle.capnp_wire.specs.declared.layout.place.Place.{Place}
 use Rattle.capnp_wire.proofs.objects.ObjectLemmas.{same_word, one_landing, one_start}
@@ -17,20 +17,20 @@ one_missing_word m place a b (no_segment e) (past_segment f _) = absurd cc
 one_missing_word m place a b (past_segment e _) (no_segment f) = absurd cc
 one_missing_word m place a b (past_segment e _) (past_segment f _) = refl
 
-one_odd_word : (word : ℕ) (a b : ErrorKind) → NotNear word a → NotNear word b → a ≡ b
+one_odd_word : (word : ℕ) (a b : ErrorKind) → NotLocal word a → NotLocal word b → a ≡ b
 one_odd_word word a b (inl p) (inl q) = p.1 ∙ sym q.1
 one_odd_word word a b (inl p) (inr q) = absurd (omega (arith, p.0, q.0))
 one_odd_word word a b (inr p) (inl q) = absurd (omega (arith, p.0, q.0))
 one_odd_word word a b (inr p) (inr q) = p.1 ∙ sym q.1
 
--- how a landing pad of two words is refused after its first word
+-- how a landing pad of two words is rejected after its first word
 data WideRefused (m : List (List ℕ)) (word inner : ℕ) : ErrorKind → Type 0 where
   without_tag : word_at m (landing_pad_tag word) ≡ None → WideRefused m word inner PointerOutOfBounds
   leads_no_further : {tag : ℕ} → word_at m (landing_pad_tag word) ≡ Some tag → (IsFar inner 0 → ⊥) → WideRefused m word inner PointerOutOfBounds
   without_content : {tag : ℕ} → word_at m (landing_pad_tag word) ≡ Some tag → IsFar inner 0 → slice_get m (landing_pad_segment inner) ≡ None
       → WideRefused m word inner (InvalidSegmentId (landing_pad_segment inner))
   by_tag : {tag : ℕ} {words : List ℕ} {kind : ErrorKind} → word_at m (landing_pad_tag word) ≡ Some tag → IsFar inner 0 → slice_get m (landing_pad_segment inner) ≡ Some words
-      → NotNear tag kind → WideRefused m word inner kind
+      → NotLocal tag kind → WideRefused m word inner kind
 
 one_wide_refusal : (m : List (List ℕ)) (word inner : ℕ) (a b : ErrorKind) → WideRefused m word inner a → WideRefused m word inner b → a ≡ b
 one_wide_refusal m word inner a b (without_tag e) (without_tag f) = refl
@@ -49,12 +49,12 @@ one_wide_refusal m word inner a b (by_tag e far _ _) (without_tag f) = absurd cc
 one_wide_refusal m word inner a b (by_tag e far _ _) (leads_no_further f none) = absurd (none far)
 one_wide_refusal m word inner a b (by_tag e _ content _) (without_content f _ missing) = absurd cc
 one_wide_refusal m word inner a b (by_tag {tag = v} e _ _ p) (by_tag {tag = w} f _ _ q) =
-    let same : v ≡ w = same_word m (landing_pad_tag word) v w e f in one_odd_word w a b (subst (λ (t : ℕ). NotNear t a) same p) q
+    let same : v ≡ w = same_word m (landing_pad_tag word) v w e f in one_odd_word w a b (subst (λ (t : ℕ). NotLocal t a) same p) q
 
--- how a landing pad is refused, by its first word
+-- how a landing pad is rejected, by its first word
 data LandingPadRefused (m : List (List ℕ)) (word : ℕ) : ErrorKind → Type 0 where
   by_none : {kind : ErrorKind} → NoWord m (landing_pad word) kind → LandingPadRefused m word kind
-  narrow : {tag : ℕ} {kind : ErrorKind} → has_wide_landing_pad word ≡ 0 → word_at m (landing_pad word) ≡ Some tag → NotNear tag kind → LandingPadRefused m word kind
+  narrow : {tag : ℕ} {kind : ErrorKind} → has_wide_landing_pad word ≡ 0 → word_at m (landing_pad word) ≡ Some tag → NotLocal tag kind → LandingPadRefused m word kind
   wide : {inner : ℕ} {kind : ErrorKind} → has_wide_landing_pad word ≡ 1 → word_at m (landing_pad word) ≡ Some inner → WideRefused m word inner kind → LandingPadRefused m word kind
 
 landing_pad_refused : (m : List (List ℕ)) (word : ℕ) (kind : ErrorKind) → BadLandingPad m word kind → LandingPadRefused m word kind
@@ -73,7 +73,7 @@ one_landing_pad_refused m word a b (by_none p) (narrow _ f _) = let e = no_word_
 one_landing_pad_refused m word a b (by_none p) (wide _ f _) = let e = no_word_there m (landing_pad word) a p in absurd cc
 one_landing_pad_refused m word a b (narrow _ e _) (by_none q) = let f = no_word_there m (landing_pad word) b q in absurd cc
 one_landing_pad_refused m word a b (narrow {tag = v} _ e p) (narrow {tag = w} _ f q) =
-    let same : v ≡ w = same_word m (landing_pad word) v w e f in one_odd_word w a b (subst (λ (t : ℕ). NotNear t a) same p) q
+    let same : v ≡ w = same_word m (landing_pad word) v w e f in one_odd_word w a b (subst (λ (t : ℕ). NotLocal t a) same p) q
 one_landing_pad_refused m word a b (narrow k _ _) (wide l _ _) = absurd (omega arith)
 one_landing_pad_refused m word a b (wide _ e _) (by_none q) = let f = no_word_there m (landing_pad word) b q in absurd cc
 one_landing_pad_refused m word a b (wide k _ _) (narrow l _ _) = absurd (omega arith)
@@ -92,7 +92,7 @@ record OddTag (words : List ℕ) (start pointer : ℕ) : Type 0 where
   there : slice_get words start ≡ Some tag
   odd : 0 < pointer_kind tag
 
-misfit_is_odd : (words : List ℕ) (start pointer : ℕ) (kind : ErrorKind) → OddTag words start pointer → Misfits words start pointer kind → kind ≡ WrongPointerKind
+misfit_is_odd : (words : List ℕ) (start pointer : ℕ) (kind : ErrorKind) → OddTag words start pointer → RejectsSize words start pointer kind → kind ≡ WrongPointerKind
 misfit_is_odd words start pointer kind o (struct_outside k _) = absurd (omega (arith, o.is_list))
 misfit_is_odd words start pointer kind o (list_outside _ c _) = absurd (omega (arith, o.of_structs))
 misfit_is_odd words start pointer kind o (structs_outside _ _ l) = absurd (omega (arith, o.inside))
@@ -100,14 +100,14 @@ misfit_is_odd words start pointer kind o (odd_tag _ _ _ _ _) = refl
 misfit_is_odd words start pointer kind o (many_elements {tag = v} _ _ _ e even _) =
     let there = o.there in let same : v ≡ o.tag = cc in absurd (omega (arith, o.odd))
 
-odd_or_outside : (words : List ℕ) (start pointer : ℕ) (kind : ErrorKind) → Misfits words start pointer kind → OddTag words start pointer ⊎ (kind ≡ PointerOutOfBounds)
+odd_or_outside : (words : List ℕ) (start pointer : ℕ) (kind : ErrorKind) → RejectsSize words start pointer kind → OddTag words start pointer ⊎ (kind ≡ PointerOutOfBounds)
 odd_or_outside words start pointer kind (struct_outside _ _) = inr refl
 odd_or_outside words start pointer kind (list_outside _ _ _) = inr refl
 odd_or_outside words start pointer kind (structs_outside _ _ _) = inr refl
 odd_or_outside words start pointer kind (odd_tag {tag = v} k c i e o) = inl (record { tag = v; is_list = k; of_structs = c; inside = i; there = e; odd = o })
 odd_or_outside words start pointer kind (many_elements _ _ _ _ _ _) = inr refl
 
-one_misfit : (words : List ℕ) (start pointer : ℕ) (a b : ErrorKind) → Misfits words start pointer a → Misfits words start pointer b → a ≡ b
+one_misfit : (words : List ℕ) (start pointer : ℕ) (a b : ErrorKind) → RejectsSize words start pointer a → RejectsSize words start pointer b → a ≡ b
 one_misfit words start pointer a b p q =
     elim (odd_or_outside words start pointer a p) as (λ _. a ≡ b) [
       | inl odd ↦ misfit_is_odd words start pointer a odd p ∙ sym (misfit_is_odd words start pointer b odd q)
@@ -117,7 +117,7 @@ one_misfit words start pointer a b p q =
       ]
     ]
 
--- a pointer that leads nowhere, and how it is refused
+-- a pointer that leads nowhere, and how it is rejected
 data LeadsNowhere (m : List (List ℕ)) (place : Place) : ErrorKind → Type 0 where
   by_no_word : {kind : ErrorKind} → NoWord m place kind → LeadsNowhere m place kind
   by_capability : {word : ℕ} → word_at m place ≡ Some word → pointer_kind word ≡ 3 → LeadsNowhere m place CapabilityRefused
@@ -140,12 +140,12 @@ one_way_nowhere m place a b (by_landing_pad {word = v} e k _) (by_capability {wo
 one_way_nowhere m place a b (by_landing_pad {word = v} e _ p) (by_landing_pad {word = w} f _ q) =
     let same : v ≡ w = same_word m place v w e f in one_bad_landing_pad m w a b (subst (λ (x : ℕ). BadLandingPad m x a) same p) q
 
--- how a landing is refused
+-- how a landing is rejected
 data LandingRefused (m : List (List ℕ)) (landing : Target) (nesting : ℕ) : ErrorKind → Type 0 where
   deeper : nesting ≡ 0 → LandingRefused m landing nesting NestingLimitExceeded
   before_all : 0 < nesting → ((start : ℕ) → IsStart landing.origin landing.tag start → ⊥) → LandingRefused m landing nesting PointerOutOfBounds
   by_misfit : {words : List ℕ} {start : ℕ} {kind : ErrorKind} → 0 < nesting → IsStart landing.origin landing.tag start
-      → slice_get m landing.segment ≡ Some words → Misfits words start landing.tag kind → LandingRefused m landing nesting kind
+      → slice_get m landing.segment ≡ Some words → RejectsSize words start landing.tag kind → LandingRefused m landing nesting kind
 
 one_landing_refusal : (m : List (List ℕ)) (c : Target) (nesting : ℕ) (a b : ErrorKind) → LandingRefused m c nesting a → LandingRefused m c nesting b → a ≡ b
 one_landing_refusal m c nesting a b (deeper _) (deeper _) = refl
@@ -159,10 +159,10 @@ one_landing_refusal m c nesting a b (by_misfit {start = i} _ begins _ _) (before
 one_landing_refusal m c nesting a b (by_misfit {words = v} {start = i} _ begins e p) (by_misfit {words = w} {start = j} _ begins_too f q) =
     let words : v ≡ w = cc in
     let start : i ≡ j = one_start c.origin c.tag i j begins begins_too in
-    let moved : Misfits w j c.tag a = subst (λ (x : ℕ). Misfits w x c.tag a) start (subst (λ (x : List ℕ). Misfits x i c.tag a) words p) in
+    let moved : RejectsSize w j c.tag a = subst (λ (x : ℕ). RejectsSize w x c.tag a) start (subst (λ (x : List ℕ). RejectsSize x i c.tag a) words p) in
     one_misfit w j c.tag a b moved q
 
--- a pointer is refused on its way, or after it
+-- a pointer is rejected on its way, or after it
 data FailsWithKind (m : List (List ℕ)) (place : Place) (nesting : ℕ) (kind : ErrorKind) : Type 0 where
   on_its_way : LeadsNowhere m place kind → FailsWithKind m place nesting kind
   after_it : {landing : Target} → Lands m place landing → LandingRefused m landing nesting kind → FailsWithKind m place nesting kind

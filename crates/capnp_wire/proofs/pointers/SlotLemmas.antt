@@ -8,9 +8,9 @@ use Rattle.capnp_wire.specs.declared.layout.place.Place.{Place}
 use Rattle.capnp_wire.specs.Object.{places, row_places, rows_from}
 use Rattle.capnp_wire.specs.Layout.{run, row_run, woven}
 use Rattle.capnp_wire.specs.Layout.{placed}
-use Rattle.capnp_wire.proofs.words.StretchLemmas.{Holds, holds_left, holds_right, holds_words, holds_first}
+use Rattle.capnp_wire.proofs.words.SubsliceLemmas.{Holds, holds_left, holds_right, holds_words, holds_first}
 
--- each of some links stands in its slot, counted from a base
+-- each of some links is in its slot, counted from a base
 abbrev pub Linked : List ℕ → ℕ → List ℕ → List ℕ → Type 0
 Linked segment base [] links = links ≡ []
 Linked segment base (slot ∷ slots) [] = ⊥

@@ -4,22 +4,22 @@ use Rattle.std.proofs.Common.{◌≡◌, ℕ, zero, suc, ◌+◌, ◌≤◌, Boo
 use Rattle.std.proofs.Common.{◌∙◌, ap, arith}
 use Rattle.capnp_wire.specs.Pointer.{words_from}
 use Rattle.capnp_wire.specs.Tree.{Form, null, struct, numbers, pointers, structs, Trees, none, tree, count, is_null}
-use Rattle.capnp_wire.specs.Trim.{first, following, before, keep_word, cut_zeros, keep_tree, cut_nulls, narrowed, trim_form, trim_held, trim}
+use Rattle.capnp_wire.specs.Trim.{first, following, before, keep_word, cut_zeros, keep_tree, cut_nulls, narrowed, trim_form, trim_children, trim}
 
 -- trimming, chunk by chunk
 pub trim_first : (n : ℕ) (t : Trees) → trim (first n t) ≡ first n (trim t)
 trim_first zero t = refl
 trim_first (suc n) none = refl
-trim_first (suc n) (tree form held rest) = ap (λ (r : Trees). tree (trim_form form (trim held)) (trim_held form (trim held)) r) (trim_first n rest)
+trim_first (suc n) (tree form children rest) = ap (λ (r : Trees). tree (trim_form form (trim children)) (trim_children form (trim children)) r) (trim_first n rest)
 
 pub trim_after : (n : ℕ) (t : Trees) → trim (following n t) ≡ following n (trim t)
 trim_after zero t = refl
 trim_after (suc n) none = refl
-trim_after (suc n) (tree form held rest) = trim_after n rest
+trim_after (suc n) (tree form children rest) = trim_after n rest
 
 pub trim_before : (a b : Trees) → trim (before a b) ≡ before (trim a) (trim b)
 trim_before none b = refl
-trim_before (tree form held rest) b = ap (λ (r : Trees). tree (trim_form form (trim held)) (trim_held form (trim held)) r) (trim_before rest b)
+trim_before (tree form children rest) b = ap (λ (r : Trees). tree (trim_form form (trim children)) (trim_children form (trim children)) r) (trim_before rest b)
 
 pub trim_narrowed : (q p : ℕ) (rows : List (List ℕ)) (t : Trees) → trim (narrowed q p rows t) ≡ narrowed q p rows (trim t)
 trim_narrowed q p [] t = refl
@@ -28,20 +28,20 @@ trim_narrowed q p (row ∷ rows) t =
     let two : trim (narrowed q p rows (following p t)) ≡ narrowed q p rows (following p (trim t)) = trim_narrowed q p rows (following p t) ∙ ap (narrowed q p rows) (trim_after p t) in
     rw (trim_before (first q (first p t)) (narrowed q p rows (following p t)), one, two) refl
 
-first_keep : (rest whole : Trees) (form : Form) (held : Trees) → first (count rest) whole ≡ rest → first (count (keep_tree rest form held)) (tree form held whole) ≡ keep_tree rest form held
-first_keep (tree f h r) whole form held e =
+first_keep : (rest whole : Trees) (form : Form) (children : Trees) → first (count rest) whole ≡ rest → first (count (keep_tree rest form children)) (tree form children whole) ≡ keep_tree rest form children
+first_keep (tree f h r) whole form children e =
     let more : count r + 1 + 1 ≡ suc (count r + 1) = omega arith in
-    ap (λ (n : ℕ). first n (tree form held whole)) more ∙ ap (λ (t : Trees). tree form held t) e
-first_keep none whole null held e = refl
-first_keep none whole (struct words) held e = ap (λ (t : Trees). tree (struct words) held t) e
-first_keep none whole (numbers c values) held e = ap (λ (t : Trees). tree (numbers c values) held t) e
-first_keep none whole pointers held e = ap (λ (t : Trees). tree pointers held t) e
-first_keep none whole (structs d p rows) held e = ap (λ (t : Trees). tree (structs d p rows) held t) e
+    ap (λ (n : ℕ). first n (tree form children whole)) more ∙ ap (λ (t : Trees). tree form children t) e
+first_keep none whole null children e = refl
+first_keep none whole (struct words) children e = ap (λ (t : Trees). tree (struct words) children t) e
+first_keep none whole (numbers c values) children e = ap (λ (t : Trees). tree (numbers c values) children t) e
+first_keep none whole pointers children e = ap (λ (t : Trees). tree pointers children t) e
+first_keep none whole (structs d p rows) children e = ap (λ (t : Trees). tree (structs d p rows) children t) e
 
 -- what is cut is a front
 pub first_cut : (t : Trees) → first (count (cut_nulls t)) t ≡ cut_nulls t
 first_cut none = refl
-first_cut (tree form held rest) = first_keep (cut_nulls rest) rest form held (first_cut rest)
+first_cut (tree form children rest) = first_keep (cut_nulls rest) rest form children (first_cut rest)
 
 -- trimming leaves null what is null, and nothing else
 abbrev kept_count : ℕ → Bool → ℕ
@@ -49,31 +49,31 @@ kept_count (suc n) b = suc (suc n)
 kept_count zero true = 0
 kept_count zero false = 1
 
-count_keep : (rest : Trees) (form : Form) (held : Trees) → count (keep_tree rest form held) ≡ kept_count (count rest) (is_null form)
-count_keep none null held = refl
-count_keep none (struct words) held = refl
-count_keep none (numbers c values) held = refl
-count_keep none pointers held = refl
-count_keep none (structs d p rows) held = refl
-count_keep (tree f h r) form held =
+count_keep : (rest : Trees) (form : Form) (children : Trees) → count (keep_tree rest form children) ≡ kept_count (count rest) (is_null form)
+count_keep none null children = refl
+count_keep none (struct words) children = refl
+count_keep none (numbers c values) children = refl
+count_keep none pointers children = refl
+count_keep none (structs d p rows) children = refl
+count_keep (tree f h r) form children =
     let more : count r + 1 ≡ suc (count r) = omega arith in
     let two : count r + 1 + 1 ≡ suc (suc (count r)) = omega arith in
     rw (more) (omega arith)
 
-pub null_trimmed : (form : Form) (held : Trees) → is_null (trim_form form held) ≡ is_null form
-null_trimmed null held = refl
-null_trimmed (struct words) held = refl
-null_trimmed (numbers c values) held = refl
-null_trimmed pointers held = refl
-null_trimmed (structs d p rows) held = refl
+pub null_trimmed : (form : Form) (children : Trees) → is_null (trim_form form children) ≡ is_null form
+null_trimmed null children = refl
+null_trimmed (struct words) children = refl
+null_trimmed (numbers c values) children = refl
+null_trimmed pointers children = refl
+null_trimmed (structs d p rows) children = refl
 
 pub count_cut_trim : (t : Trees) → count (cut_nulls (trim t)) ≡ count (cut_nulls t)
 count_cut_trim none = refl
-count_cut_trim (tree form held rest) =
-    count_keep (cut_nulls (trim rest)) (trim_form form (trim held)) (trim_held form (trim held))
-    ∙ ap (λ (n : ℕ). kept_count n (is_null (trim_form form (trim held)))) (count_cut_trim rest)
-    ∙ ap (λ (b : Bool). kept_count (count (cut_nulls rest)) b) (null_trimmed form (trim held))
-    ∙ sym (count_keep (cut_nulls rest) form held)
+count_cut_trim (tree form children rest) =
+    count_keep (cut_nulls (trim rest)) (trim_form form (trim children)) (trim_children form (trim children))
+    ∙ ap (λ (n : ℕ). kept_count n (is_null (trim_form form (trim children)))) (count_cut_trim rest)
+    ∙ ap (λ (b : Bool). kept_count (count (cut_nulls rest)) b) (null_trimmed form (trim children))
+    ∙ sym (count_keep (cut_nulls rest) form children)
 
 -- words without zeros at the end are a front
 front_keep : (rest whole : List ℕ) (w : ℕ) → take (length rest) whole ≡ rest → take (length (keep_word rest w)) (w ∷ whole) ≡ keep_word rest w

@@ -1,4 +1,4 @@
--- The trees that trimming keeps, and where they stand.
+-- The trees that trimming keeps, and where they are.
 use Rattle.std.proofs.lemmas.List.{take-take}
 use Rattle.std.proofs.Common.{◌≡◌, ℕ, zero, suc, ◌+◌, ◌-◌, ◌<◌, ◌≤◌, false, if◌then◌else◌, max, List, [], ◌∷◌, ◌++◌, length, map, take, drop, Option, Some, slice_get, refl, sym}
 use Rattle.std.proofs.Common.{◌∙◌, ap, subst, arith}
@@ -6,7 +6,7 @@ use Rattle.std.specs.Prelude.{option_and_then}
 use Rattle.capnp_wire.specs.Pointer.{words_from}
 use Rattle.capnp_wire.specs.Tree.{Form, null, struct, numbers, pointers, structs, Trees, none, tree, count, depth, is_null}
 use Rattle.capnp_wire.specs.Trim.{first, following, before, keep_word, cut_zeros, keep_tree, cut_nulls, least_data, least_pointers, narrowed, trim}
-use Rattle.capnp_wire.specs.Object.{is_null as null_there, is_object, Lands, near, far, double_far, Target, word_at, places, row_places, rows_from}
+use Rattle.capnp_wire.specs.Object.{is_null as null_there, is_object, Lands, local, far, double_far, Target, word_at, places, row_places, rows_from}
 use Rattle.capnp_wire.specs.Reached.{At, nowhere, at}
 use Rattle.capnp_wire.specs.Block.{most_used}
 use Rattle.capnp_wire.specs.Rows.{kept_places}
@@ -17,7 +17,7 @@ use Rattle.capnp_wire.proofs.trees.TrimLemmas.{RoomOne, each_room, room_each}
 use Rattle.capnp_wire.proofs.pointers.FaultLemmas.{not_null}
 use Rattle.capnp_wire.proofs.trees.FrontLemmas.{trim_first, trim_after, count_cut_trim}
 
--- trees that stand at places, in two parts
+-- trees that are at places, in two parts
 pub record Halves (m : List (List ℕ)) (ps qs : List Place) (n : ℕ) (t : Trees) : Type 0 where
   pub one : ℕ
   pub two : ℕ
@@ -28,7 +28,7 @@ pub halves : (m : List (List ℕ)) (ps qs : List Place) (n : ℕ) (t : Trees) (t
 halves m [] qs zero t traversed long stand = record { one = 0; two = traversed; front = nowhere; back = stand }
 halves m [] qs (suc n) t traversed long stand = absurd (omega arith)
 halves m (place ∷ ps) qs zero t traversed long stand = absurd (omega arith)
-halves m (place ∷ ps) qs (suc n) t traversed long (at {shape = s} {held = h} {rest = r} {inside = i} {following = b} object inner after) =
+halves m (place ∷ ps) qs (suc n) t traversed long (at {shape = s} {children = h} {rest = r} {inside = i} {following = b} object inner after) =
     let h2 = halves m ps qs n r b (omega arith) after in
     record { one = s.traversed + i + h2.one; two = h2.two; front = at object inner h2.front; back = h2.back }
 
@@ -56,7 +56,7 @@ front_stands m segment start q p t traversed le stand =
 
 both_stand : (m : List (List ℕ)) (ps qs : List Place) (a b : Trees) (x y : ℕ) → At m ps a x → At m qs b y → (c : ℕ) × At m (ps ++ qs) (before a b) c
 both_stand m ps qs a b x y nowhere q = (y, q)
-both_stand m ps qs a b x y (at {others = others} {shape = s} {held = h} {rest = r} {inside = i} {following = n} o inner after) q =
+both_stand m ps qs a b x y (at {others = others} {shape = s} {children = h} {rest = r} {inside = i} {following = n} o inner after) q =
     let rest = both_stand m others qs r b n y after q in (s.traversed + i + rest.0, at o inner rest.1)
 
 pub kept_stand : (m : List (List ℕ)) (segment start d p q : ℕ) (rows : List (List ℕ)) (t : Trees) (traversed : ℕ) → q ≤ p → At m (row_places segment start d p (length rows)) t traversed
@@ -70,29 +70,29 @@ kept_stand m segment start d p q (row ∷ rows) t traversed le stand =
 
 -- pointers that are needed, by their words
 lands_word : (m : List (List ℕ)) (place : Place) (l : Target) → Lands m place l → (w : ℕ) × (word_at m place ≡ Some (suc w))
-lands_word m place l (near {word = suc w} e p k) = (w, e)
-lands_word m place l (near {word = zero} e p k) = absurd (omega arith)
+lands_word m place l (local {word = suc w} e p k) = (w, e)
+lands_word m place l (local {word = zero} e p k) = absurd (omega arith)
 lands_word m place l (far {word = suc w} e f g k) = (w, e)
 lands_word m place l (far {word = zero} e f g k) = absurd (omega (arith, f.far))
 lands_word m place l (double_far {word = suc w} e f g i q there k) = (w, e)
 lands_word m place l (double_far {word = zero} e f g i q there k) = absurd (omega (arith, f.far))
 
-keep_both : (rest : Trees) (words : List ℕ) (form : Form) (held : Trees) (w : ℕ) → count rest ≡ length words → is_null form ≡ false
-    → count (keep_tree rest form held) ≡ length (keep_word words (suc w))
-keep_both (tree f h r) (x ∷ words) form held w e some = omega arith
-keep_both (tree f h r) [] form held w e some = absurd (omega arith)
-keep_both none (x ∷ words) form held w e some = absurd (omega arith)
-keep_both none [] null held w e some = cc
-keep_both none [] (struct words) held w e some = refl
-keep_both none [] (numbers c values) held w e some = refl
-keep_both none [] pointers held w e some = refl
-keep_both none [] (structs d p rows) held w e some = refl
+keep_both : (rest : Trees) (words : List ℕ) (form : Form) (children : Trees) (w : ℕ) → count rest ≡ length words → is_null form ≡ false
+    → count (keep_tree rest form children) ≡ length (keep_word words (suc w))
+keep_both (tree f h r) (x ∷ words) form children w e some = omega arith
+keep_both (tree f h r) [] form children w e some = absurd (omega arith)
+keep_both none (x ∷ words) form children w e some = absurd (omega arith)
+keep_both none [] null children w e some = cc
+keep_both none [] (struct words) children w e some = refl
+keep_both none [] (numbers c values) children w e some = refl
+keep_both none [] pointers children w e some = refl
+keep_both none [] (structs d p rows) children w e some = refl
 
-keep_neither : (rest : Trees) (words : List ℕ) (held : Trees) → count rest ≡ length words → count (keep_tree rest null held) ≡ length (keep_word words 0)
-keep_neither (tree f h r) (x ∷ words) held e = omega arith
-keep_neither (tree f h r) [] held e = absurd (omega arith)
-keep_neither none (x ∷ words) held e = absurd (omega arith)
-keep_neither none [] held e = refl
+keep_neither : (rest : Trees) (words : List ℕ) (children : Trees) → count rest ≡ length words → count (keep_tree rest null children) ≡ length (keep_word words 0)
+keep_neither (tree f h r) (x ∷ words) children e = omega arith
+keep_neither (tree f h r) [] children e = absurd (omega arith)
+keep_neither none (x ∷ words) children e = absurd (omega arith)
+keep_neither none [] children e = refl
 
 drop_get : (start : ℕ) (words : List ℕ) (w : ℕ) → slice_get words start ≡ Some w → drop start words ≡ w ∷ drop (start + 1) words
 drop_get start [] w e = absurd (cc)
@@ -109,11 +109,11 @@ there_word m segment word words w there e =
 pub used_pointers : (m : List (List ℕ)) (words : List ℕ) (segment start p : ℕ) (t : Trees) (traversed : ℕ) → slice_get m segment ≡ Some words → At m (places segment start p) t traversed
     → count (cut_nulls t) ≡ length (cut_zeros (words_from words start p))
 used_pointers m words segment start zero t traversed there nowhere = refl
-used_pointers m words segment start (suc p) t traversed there (at {held = h} {rest = r} {following = b} (null_there e) inner after) =
+used_pointers m words segment start (suc p) t traversed there (at {children = h} {rest = r} {following = b} (null_there e) inner after) =
     let rest = used_pointers m words segment (start + 1) p r b there after in
     let front = drop_get start words 0 (there_word m segment start words 0 there e) in
     keep_neither (cut_nulls r) (cut_zeros (words_from words (start + 1) p)) h rest ∙ ap (λ (l : List ℕ). length (cut_zeros (take (suc p) l))) (sym front)
-used_pointers m words segment start (suc p) t traversed there (at {held = h} {rest = r} {following = b} (is_object {landing = l} {start = s} {shape = shape} lands e begins stands) inner after) =
+used_pointers m words segment start (suc p) t traversed there (at {children = h} {rest = r} {following = b} (is_object {landing = l} {start = s} {shape = shape} lands e begins stands) inner after) =
     let rest = used_pointers m words segment (start + 1) p r b there after in
     let word = lands_word m (record { segment = segment; word = start }) l lands in
     let front = drop_get start words (suc word.0) (there_word m segment start words (suc word.0) there word.1) in
@@ -155,7 +155,7 @@ no_pointers_used : (words : List ℕ) (start step : ℕ) (rows : List (List ℕ)
 no_pointers_used words start step [] t = refl
 no_pointers_used words start step (row ∷ rows) t = ap (λ (k : ℕ). max 0 k) (no_pointers_used words (start + step) step rows t)
 
--- also where there are none, wherever they would stand
+-- also where there are none, wherever they would be
 pub least_pointers_are : (m : List (List ℕ)) (words : List ℕ) (segment start d p : ℕ) (rows : List (List ℕ)) (t : Trees) (traversed : ℕ) → (0 < p → slice_get m segment ≡ Some words)
     → At m (row_places segment start d p (length rows)) t traversed → least_pointers p rows (trim t) ≡ most_used words (start + d) p (d + p) (length rows)
 least_pointers_are m words segment start d zero rows t traversed there stand = no_pointers_used words (start + d) (d + 0) rows (trim t)
@@ -163,15 +163,15 @@ least_pointers_are m words segment start d (suc p) rows t traversed there stand 
 
 -- depth and room of what is kept
 abbrev Shallow : ℕ → Form → Trees → Type 0
-Shallow nesting form held = (if is_null form then 0 else depth held + 1) ≤ nesting
+Shallow nesting form children = (if is_null form then 0 else depth children + 1) ≤ nesting
 
 each_shallow : (nesting : ℕ) (t : Trees) → depth t ≤ nesting → Each (Shallow nesting) t
 each_shallow nesting none le = tt
-each_shallow nesting (tree form held rest) le = (omega arith, each_shallow nesting rest (omega arith))
+each_shallow nesting (tree form children rest) le = (omega arith, each_shallow nesting rest (omega arith))
 
 shallow_each : (nesting : ℕ) (t : Trees) → Each (Shallow nesting) t → depth t ≤ nesting
 shallow_each nesting none all = omega arith
-shallow_each nesting (tree form held rest) all = omega (arith, all.0, shallow_each nesting rest all.1)
+shallow_each nesting (tree form children rest) all = omega (arith, all.0, shallow_each nesting rest all.1)
 
 pub shallow_first : (nesting n : ℕ) (t : Trees) → depth t ≤ nesting → depth (first n t) ≤ nesting
 shallow_first nesting n t le = shallow_each nesting (first n t) (each_first (Shallow nesting) n t (each_shallow nesting t le))

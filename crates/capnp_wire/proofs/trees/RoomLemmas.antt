@@ -8,7 +8,7 @@ use Rattle.std.specs.Prelude.{All, option_and_then}
 use Rattle.capnp_wire.specs.Pointer.{digits, number_of, words_from, offset, data_words, pointer_words, code, list_count}
 use Rattle.capnp_wire.specs.Element.{width, words_for}
 use Rattle.capnp_wire.specs.declared.layout.place.Place.{Place}
-use Rattle.capnp_wire.specs.Object.{word_at, Lands, Target, near, far, double_far, landing_pad, landing_pad_tag, Shape, ShapeStands, rows_from, places, row_places, a_struct, some_numbers, some_pointers}
+use Rattle.capnp_wire.specs.Object.{word_at, Lands, Target, local, far, double_far, landing_pad, landing_pad_tag, Shape, ShapeStands, rows_from, places, row_places, a_struct, some_numbers, some_pointers}
 use Rattle.capnp_wire.specs.Object.{some_structs, PointsTo, is_null, is_object}
 use Rattle.capnp_wire.specs.Reached.{At, nowhere, at}
 use Rattle.capnp_wire.specs.Layout.{HasRoom}
@@ -55,7 +55,7 @@ rows_below words start d p (suc n) room all =
     All-cons (λ row. (length row ≡ d) × All (λ w. w < 2 ^ 64) row) (words_from words start d) (rows_from words (start + d + p) d p n) (wide, words_below words start d all)
     (rows_below words (start + d + p) d p n (omega arith) all)
 
-pub stands_room : (words : List ℕ) (start : Place) (tag : ℕ) (shape : Shape) → tag < 2 ^ 64 → All (λ w. w < 2 ^ 64) words → ShapeStands words start tag shape → HasRoom shape.form (length shape.held)
+pub stands_room : (words : List ℕ) (start : Place) (tag : ℕ) (shape : Shape) → tag < 2 ^ 64 → All (λ w. w < 2 ^ 64) words → ShapeStands words start tag shape → HasRoom shape.form (length shape.children)
 stands_room words start tag shape small all (a_struct k room) =
     let d : ℕ = data_words tag in (
       omega (arith, length-take (data_words tag) (drop start.word words)),
@@ -89,19 +89,19 @@ stands_room words start tag shape small all (some_structs {tag = inner} k c room
     )
 
 tag_below : (m : List (List ℕ)) (place : Place) (landing : Target) → AllWords m → Lands m place landing → landing.tag < 2 ^ 64
-tag_below m place landing all (near {word = w} e p k) = word_below m place w all e
+tag_below m place landing all (local {word = w} e p k) = word_below m place w all e
 tag_below m place landing all (far {word = w} {tag = tag} e f p k) = word_below m (landing_pad w) tag all p
 tag_below m place landing all (double_far {word = w} {tag = tag} e f p g q there k) = word_below m (landing_pad_tag w) tag all q
 
-pub object_room : (m : List (List ℕ)) (place : Place) (shape : Shape) → AllWords m → PointsTo m place shape → HasRoom shape.form (length shape.held)
+pub object_room : (m : List (List ℕ)) (place : Place) (shape : Shape) → AllWords m → PointsTo m place shape → HasRoom shape.form (length shape.children)
 object_room m place shape all (is_null e) = refl
 object_room m place shape all (is_object {landing = l} {words = words} {start = start} {shape = s} lands e begins stands) =
     stands_room words (record { segment = l.segment; word = start }) l.tag s (tag_below m place l all lands) (all_get (λ (words : List ℕ). All (λ w. w < 2 ^ 64) words) m l.segment words all e) stands
 
 pub read_has_room : (m : List (List ℕ)) (places : List Place) (trees : Trees) (traversed : ℕ) → AllWords m → At m places trees traversed → AllHaveRoom trees
 read_has_room m places trees traversed all nowhere = tt
-read_has_room m places trees traversed all (at {place = place} {others = others} {shape = s} {held = held} {rest = rest} {inside = i} {following = b} object inner after) =
-    (subst (λ (n : ℕ). HasRoom s.form n) (sym (count_at m s.held held i inner)) (object_room m place s all object), read_has_room m s.held held i all inner, read_has_room m others rest b all after)
+read_has_room m places trees traversed all (at {place = place} {others = others} {shape = s} {children = children} {rest = rest} {inside = i} {following = b} object inner after) =
+    (subst (λ (n : ℕ). HasRoom s.form n) (sym (count_at m s.children children i inner)) (object_room m place s all object), read_has_room m s.children children i all inner, read_has_room m others rest b all after)
 
 pub one_segment : (segment : List ℕ) → All (λ w. w < 2 ^ 64) segment → AllWords (segment ∷ [])
 one_segment segment all = All-cons (λ (words : List ℕ). All (λ w. w < 2 ^ 64) words) segment [] all (All-nil (λ (words : List ℕ). All (λ w. w < 2 ^ 64) words))

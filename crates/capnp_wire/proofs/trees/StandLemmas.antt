@@ -41,12 +41,12 @@ counts_both a b c x y p q = λ before h. subst (Counts c) (omega arith) (q (befo
 -- trees at places, and others after them
 pub at_both : (m : List (List ℕ)) (ps qs : List Place) (a b : Trees) (x y : ℕ) → At m ps a x → At m qs b y → At m (ps ++ qs) (before a b) (x + y)
 at_both m ps qs a b x y nowhere q = subst (λ (n : ℕ). At m qs b n) (sym (zero-add y)) q
-at_both m ps qs a b x y (at {others = others} {shape = s} {held = h} {rest = r} {inside = i} {following = n} o inner after) q =
+at_both m ps qs a b x y (at {others = others} {shape = s} {children = h} {rest = r} {inside = i} {following = n} o inner after) q =
     subst (At m (ps ++ qs) (before a b)) (omega arith) (at o inner (at_both m others qs r b n y after q))
 
 pub depth_both : (a b : Trees) (nesting : ℕ) → depth a ≤ nesting → depth b ≤ nesting → depth (before a b) ≤ nesting
 depth_both none b nesting p q = q
-depth_both (tree form held rest) b nesting p q = let rest_too = depth_both rest b nesting (omega arith) q in omega arith
+depth_both (tree form children rest) b nesting p q = let rest_too = depth_both rest b nesting (omega arith) q in omega arith
 
 -- as many trees as places
 pub count_at : (m : List (List ℕ)) (ps : List Place) (t : Trees) (c : ℕ) → At m ps t c → count t ≡ length ps

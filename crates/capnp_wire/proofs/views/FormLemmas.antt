@@ -45,8 +45,8 @@ entered_view p object shows declines (Ok view) entered holds = entered_reads p o
 entered_view p object shows declines (Err error) entered holds = inr (entered_shows p object (λ form. declines form error.kind) entered holds)
 
 pub entered_shown : (p : Pointer) (object : ReadObject) (fact : Form → List Place → Type 0) → IsEntered p object
-    → (let shape = shape_of (words_of object.segment.now) object.start object.body in fact shape.form shape.held)
-    → Shows p (λ shape. fact shape.form shape.held × Within p.limit shape.traversed)
+    → (let shape = shape_of (words_of object.segment.now) object.start object.body in fact shape.form shape.children)
+    → Shows p (λ shape. fact shape.form shape.children × Within p.limit shape.traversed)
 entered_shown p object fact entered holds = (
   record (shape_of (words_of object.segment.now) object.start object.body) { traversed = object.traversed },
   at_place entered.stands entered.object_is.object (λ not. entered.nesting),
@@ -94,11 +94,11 @@ other_than_struct object kind none is = (other_struct (words_of object.segment.n
 -- the fields of a struct that was entered
 pub struct_shows : (p : Pointer) (object : ReadObject) (size : StructSize) → IsEntered p object → object.body ≡ Struct size
     → Shows p (λ shape. HasData shape.form (words_from (words_of object.segment.now) object.start.word size.data_words)
-    × (places object.start.segment (object.start.word + size.data_words) size.pointers ≡ shape.held) × Within p.limit shape.traversed)
+    × (places object.start.segment (object.start.word + size.data_words) size.pointers ≡ shape.children) × Within p.limit shape.traversed)
 struct_shows p object size entered body =
     let words = words_of object.segment.now in
     let fact : Body → Type 0 = λ b. HasData (shape_of words object.start b).form (words_from words object.start.word size.data_words)
-    × (places object.start.segment (object.start.word + size.data_words) size.pointers ≡ (shape_of words object.start b).held) in
+    × (places object.start.segment (object.start.word + size.data_words) size.pointers ≡ (shape_of words object.start b).children) in
     let holds : fact object.body = subst fact (sym body) (refl, refl) in (
       record (shape_of words object.start object.body) { traversed = object.traversed },
       at_place entered.stands entered.object_is.object (λ not. entered.nesting),

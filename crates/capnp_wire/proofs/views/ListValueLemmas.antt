@@ -9,7 +9,7 @@ use Rattle.capnp_wire.specs.Object.{places, row_places, rows_from}
 use Rattle.capnp_wire.specs.Reached.{At}
 use Rattle.capnp_wire.specs.Faults.{StopsWalk, no_word, no_segment, at_pointer}
 use Rattle.capnp_wire.specs.Traversed.{WalkedAll}
-use Rattle.capnp_wire.specs.Layout.{run, formed, struct_pointer, list_pointer, HasRoom, AllHaveRoom}
+use Rattle.capnp_wire.specs.Layout.{run, output, struct_pointer, list_pointer, HasRoom, AllHaveRoom}
 use Rattle.capnp_wire.specs.Block.{put, put_rows, fill}
 use Rattle.capnp_wire.specs.Copy.{CanCopy, CopiesAll, IsCopied, least_size}
 use Rattle.capnp_wire.specs.Rows.{kept_places, row_slots}
@@ -29,10 +29,10 @@ use Rattle.capnp_wire.proofs.trees.TrimLemmas.{count-trim, room_trim}
 use Rattle.capnp_wire.proofs.trees.StoodLemmas.{structs_total}
 use Rattle.capnp_wire.proofs.walks.StopLemmas.{stops_has_no_trees, one_stop}
 use Rattle.capnp_wire.proofs.walks.ProgressLemmas.{progress_begins, progress_done}
-use Rattle.capnp_wire.proofs.pointers.PointerRowLemmas.{kept_nothing}
+use Rattle.capnp_wire.proofs.pointers.PointerSlotLemmas.{kept_nothing}
 use Rattle.capnp_wire.proofs.layouts.CopyLemmas.{split_first}
 use Rattle.capnp_wire.proofs.layouts.CopiedLemmas.{fault_no_tree, in_run}
-use Rattle.capnp_wire.proofs.layouts.OpenLemmas.{Opened, OpenedRows, pointers_open, room_formed}
+use Rattle.capnp_wire.proofs.layouts.OpenLemmas.{Opened, OpenedRows, pointers_open, room_output}
 use Rattle.capnp_wire.proofs.layouts.OpenedLemmas.{rows_plain, rows_trimmed}
 use Rattle.capnp_wire.proofs.views.OneValueLemmas.{IsOne}
 
@@ -40,57 +40,57 @@ use Rattle.capnp_wire.proofs.views.OneValueLemmas.{IsOne}
 pub one_of_list : (form : Form) (list : PointerList) → IsOne (IsListTree form list) (StopsInList list)
 one_of_list form list = record {
   same_tree = λ a b x y.
-      x.whole ∙ ap (λ (t : Trees). tree form t none) (one_tree list.message list.held x.held y.held x.traversed y.traversed x.stand y.stand).0 ∙ sym y.whole;
-  same_refusal = one_stop list.message list.held list.nesting list.limit;
-  apart = λ kind trees stops t. stops_has_no_trees list.message list.held list.nesting t.traversed list.limit kind t.held stops t.stand t.shallow t.within;
+      x.whole ∙ ap (λ (t : Trees). tree form t none) (one_tree list.message list.children x.children y.children x.traversed y.traversed x.stand y.stand).0 ∙ sym y.whole;
+  same_refusal = one_stop list.message list.children list.nesting list.limit;
+  apart = λ kind trees stops t. stops_has_no_trees list.message list.children list.nesting t.traversed list.limit kind t.children stops t.stand t.shallow t.within;
 }
 
 -- and the same whatever the limit
 pub same_list : (form : Form) (m : List (List ℕ)) (at : List Place) (nesting : ℕ) (limit other : Option ℕ) (a b : Trees)
-    → IsListTree form (record { message = m; held = at; nesting = nesting; limit = limit }) a → IsListTree form (record { message = m; held = at; nesting = nesting; limit = other }) b → a ≡ b
+    → IsListTree form (record { message = m; children = at; nesting = nesting; limit = limit }) a → IsListTree form (record { message = m; children = at; nesting = nesting; limit = other }) b → a ≡ b
 same_list form m at nesting limit other a b x y =
-    x.whole ∙ ap (λ (t : Trees). tree form t none) (one_tree m at x.held y.held x.traversed y.traversed x.stand y.stand).0 ∙ sym y.whole
+    x.whole ∙ ap (λ (t : Trees). tree form t none) (one_tree m at x.children y.children x.traversed y.traversed x.stand y.stand).0 ∙ sym y.whole
 
 -- its own words, with those of what it holds, and the room that its fields have
 pub record OwnWords (form : Form) (m : List (List ℕ)) (at : List Place) (c : Bool) (own : ℕ) : Type 0 where
-  pub totals : (held : Trees) (inside : ℕ) → At m at held inside → AllHaveRoom held → own + total_words (formed c held) ≡ total_words (formed c (tree form held none))
-  pub room : (held : Trees) (inside : ℕ) → At m at held inside → HasRoom form (count held)
+  pub totals : (children : Trees) (inside : ℕ) → At m at children inside → AllHaveRoom children → own + total_words (output c children) ≡ total_words (output c (tree form children none))
+  pub room : (children : Trees) (inside : ℕ) → At m at children inside → HasRoom form (count children)
 
 -- what is measured of it
 pub list_measured : (form : Form) (m : List (List ℕ)) (at : List Place) (nesting : ℕ) (limit left : Option ℕ) (c : Bool) (counted_then counted_now : Option ℕ) (own : ℕ) → OwnWords form m at c own
     → (w : WalkedAll m c at nesting limit left counted_then counted_now) → (total : ℕ) → total ≡ own + w.words → (r : Result ℕ Error)
     → MatchResult r (λ number. (number ≡ total) × (number < 2 ^ 29)) (λ error. (2 ^ 29 ≤ total) × (error.kind ≡ too_large c total))
-    → let list : PointerList = record { message = m; held = at; nesting = nesting; limit = limit } in
+    → let list : PointerList = record { message = m; children = at; nesting = nesting; limit = limit } in
     MatchResult r (λ number. HasWords (IsListTree form list) c number) (λ error. LacksWords (IsListTree form list) (StopsInList list) c error.kind)
 list_measured form m at nesting limit left c counted_then counted_now own o w total total_is (Ok number) returned = record {
   trees = tree form w.stand.trees none;
-  tree_is = record { held = w.stand.trees; traversed = w.traversed; stand = w.stand.stand; shallow = w.stand.shallow; within = w.within; whole = refl };
+  tree_is = record { children = w.stand.trees; traversed = w.traversed; stand = w.stand.stand; shallow = w.stand.shallow; within = w.within; whole = refl };
   rooms = (o.room w.stand.trees w.traversed w.stand.stand, w.stand.rooms, tt);
   words_are = returned.0 ∙ total_is ∙ ap (λ (k : ℕ). own + k) (sym w.stand.words_are) ∙ o.totals w.stand.trees w.traversed w.stand.stand w.stand.rooms;
   few = returned.1;
 }
 list_measured form m at nesting limit left c counted_then counted_now own o w total total_is (Err error) returned =
-    let whole : total ≡ total_words (formed c (tree form w.stand.trees none)) =
+    let whole : total ≡ total_words (output c (tree form w.stand.trees none)) =
     total_is ∙ ap (λ (k : ℕ). own + k) (sym w.stand.words_are) ∙ o.totals w.stand.trees w.traversed w.stand.stand w.stand.rooms in
     inr (
       tree form w.stand.trees none,
-      record { held = w.stand.trees; traversed = w.traversed; stand = w.stand.stand; shallow = w.stand.shallow; within = w.within; whole = refl },
+      record { children = w.stand.trees; traversed = w.traversed; stand = w.stand.stand; shallow = w.stand.shallow; within = w.within; whole = refl },
       subst (λ (k : ℕ). 2 ^ 29 ≤ k) whole returned.0,
       returned.1 ∙ ap (too_large c) whole,
     )
 
 -- a list of pointers
-pointers_total : (c : Bool) (n : ℕ) (held : Trees) → count held ≡ n → n + total_words (formed c held) ≡ total_words (formed c (tree pointers held none))
-pointers_total true n held many = omega (arith, count-trim held)
-pointers_total false n held many = omega (arith, many)
+pointers_total : (c : Bool) (n : ℕ) (children : Trees) → count children ≡ n → n + total_words (output c children) ≡ total_words (output c (tree pointers children none))
+pointers_total true n children many = omega (arith, count-trim children)
+pointers_total false n children many = omega (arith, many)
 
 pub own_pointers : (m : List (List ℕ)) (first : Place) (n : ℕ) (c : Bool) → n < 2 ^ 29 → OwnWords pointers m (places first.segment first.word n) c n
 own_pointers m first n c few =
-    let many : (held : Trees) (inside : ℕ) → At m (places first.segment first.word n) held inside → count held ≡ n =
-    λ held inside stand. count_at m (places first.segment first.word n) held inside stand ∙ long_places first.segment first.word n in
+    let many : (children : Trees) (inside : ℕ) → At m (places first.segment first.word n) children inside → count children ≡ n =
+    λ children inside stand. count_at m (places first.segment first.word n) children inside stand ∙ long_places first.segment first.word n in
     record {
-      totals = λ held inside stand rooms. pointers_total c n held (many held inside stand);
-      room = λ held inside stand. subst (λ (k : ℕ). k < 2 ^ 29) (sym (many held inside stand)) few;
+      totals = λ children inside stand rooms. pointers_total c n children (many children inside stand);
+      room = λ children inside stand. subst (λ (k : ℕ). k < 2 ^ 29) (sym (many children inside stand)) few;
     }
 
 -- a walk over no pointers
@@ -105,21 +105,21 @@ pub no_segment_stops : (m : List (List ℕ)) (first : Place) (n nesting : ℕ) (
 no_segment_stops m first zero nesting limit some missing = absurd (omega arith)
 no_segment_stops m first (suc n) nesting limit some missing = at_pointer (no_word (no_segment missing))
 
-formed_pointers : (c : Bool) (held : Trees) → formed c (tree pointers held none) ≡ tree pointers (formed c held) none
-formed_pointers true held = refl
-formed_pointers false held = refl
+output_pointers : (c : Bool) (children : Trees) → output c (tree pointers children none) ≡ tree pointers (output c children) none
+output_pointers true children = refl
+output_pointers false children = refl
 
-formed_count : (c : Bool) (held : Trees) → count (formed c held) ≡ count held
-formed_count true held = count-trim held
-formed_count false held = refl
+output_count : (c : Bool) (children : Trees) → count (output c children) ≡ count children
+output_count true children = count-trim children
+output_count false children = refl
 
 pub pointers_opened : (m : List (List ℕ)) (first : Place) (n nesting : ℕ) (limit : Option ℕ) (c : Bool) (next room : ℕ)
     (w : HasRoomAt (IsListTree pointers (pointers_along m first n nesting limit)) c next room) → Opened m [] first (Pointers n) (Pointers n) nesting c next room w.trees
 pointers_opened m first n nesting limit c next room w =
     let t = w.tree_is in
-    pointers_open m [] first n nesting c next room w.trees t.held (formed c t.held) t.traversed (ap (formed c) t.whole ∙ formed_pointers c t.held) refl t.stand t.shallow
-    (subst AllHaveRoom t.whole w.rooms).1 (room_formed c w.trees w.rooms)
-    (formed_count c t.held ∙ count_at m (places first.segment first.word n) t.held t.traversed t.stand ∙ long_places first.segment first.word n) w.fits
+    pointers_open m [] first n nesting c next room w.trees t.children (output c t.children) t.traversed (ap (output c) t.whole ∙ output_pointers c t.children) refl t.stand t.shallow
+    (subst AllHaveRoom t.whole w.rooms).1 (room_output c w.trees w.rooms)
+    (output_count c t.children ∙ count_at m (places first.segment first.word n) t.children t.traversed t.stand ∙ long_places first.segment first.word n) w.fits
 
 pub pointers_copyable : {m : List (List ℕ)} {first : Place} {n nesting : ℕ} {c : Bool} {next room : ℕ} {trees : Trees} → Opened m [] first (Pointers n) (Pointers n) nesting c next room trees
     → CanCopy m (places first.segment first.word n) nesting c (next + n) room
@@ -137,28 +137,28 @@ no_pointers_there m first (suc n) nesting c next room missing can =
 
 pub pointers_written : {m : List (List ℕ)} {first : Place} {n nesting : ℕ} {c : Bool} {gap next room : ℕ} {trees : Trees} {old new : List ℕ} {done : Copied}
     → Opened m [] first (Pointers n) (Pointers n) nesting c next room trees → length old ≡ room
-    → CopiesAll m (places first.segment first.word n) c (run next n) (next + n) old new done.next → done.pointer ≡ list_pointer gap 6 n → IsCopied (formed c trees) gap next old new done
+    → CopiesAll m (places first.segment first.word n) c (run next n) (next + n) old new done.next → done.pointer ≡ list_pointer gap 6 n → IsCopied (output c trees) gap next old new done
 pointers_written {m} {first} {n} {nesting} {c} {gap} {next} {room} {trees} {old} {new} {done} o long all pointer_is =
     let k = o.kept in
     let r = in_run first (Pointers n) (Pointers n) next n refl refl in
     let there : At m (places first.segment first.word n) k.trees k.traversed = subst (λ (l : List Place). At m l k.trees k.traversed) r.places_are k.stand in
     record {
-      words_are = all.words_are k.trees k.traversed there ∙ ap (λ (l : List ℕ). fill l (next + n) (formed c k.trees) old) (sym r.slots_are) ∙ o.fills old long;
+      words_are = all.words_are k.trees k.traversed there ∙ ap (λ (l : List ℕ). fill l (next + n) (output c k.trees) old) (sym r.slots_are) ∙ o.fills old long;
       pointer_is = pointer_is ∙ o.pointers_are gap;
       next_is = omega (arith, all.next_is k.trees k.traversed there, o.totals);
     }
 
--- A list of structs, as it stands and as it is kept: in canonical form without what stands at the ends of all for nothing.
+-- A list of structs, as it is and as it is kept: in canonical form without what is at the ends of all for nothing.
 abbrev pub kept_size : Bool → List ℕ → Place → Elements → StructSize
 kept_size c words first elements = if c then least_size words first.word elements.size elements.count else elements.size
 
-rows_total : (m : List (List ℕ)) (words : List ℕ) (first : Place) (elements : Elements) (c : Bool) (held : Trees) (inside : ℕ) → HoldsPointers m words first elements.size
-    → At m (row_places first.segment first.word elements.size.data_words elements.size.pointers elements.count) held inside → AllHaveRoom held
-    → 1 + elements.count * ((kept_size c words first elements).data_words + (kept_size c words first elements).pointers) + total_words (formed c held)
-    ≡ total_words (formed c (tree (structs_along words first elements) held none))
-rows_total m words first elements true held inside content stand rooms =
-    structs_total m words first.segment first.word elements.size.data_words elements.size.pointers elements.count held inside content stand (room_trim held rooms)
-rows_total m words first elements false held inside content stand rooms =
+rows_total : (m : List (List ℕ)) (words : List ℕ) (first : Place) (elements : Elements) (c : Bool) (children : Trees) (inside : ℕ) → HoldsPointers m words first elements.size
+    → At m (row_places first.segment first.word elements.size.data_words elements.size.pointers elements.count) children inside → AllHaveRoom children
+    → 1 + elements.count * ((kept_size c words first elements).data_words + (kept_size c words first elements).pointers) + total_words (output c children)
+    ≡ total_words (output c (tree (structs_along words first elements) children none))
+rows_total m words first elements true children inside content stand rooms =
+    structs_total m words first.segment first.word elements.size.data_words elements.size.pointers elements.count children inside content stand (room_trim children rooms)
+rows_total m words first elements false children inside content stand rooms =
     omega (arith, ap (λ (k : ℕ). 1 + k * (elements.size.data_words + elements.size.pointers)) (length-rows_from words first.word elements.size.data_words elements.size.pointers elements.count))
 
 pub own_structs : (m : List (List ℕ)) (words : List ℕ) (first : Place) (elements : Elements) (c : Bool) → HoldsPointers m words first elements.size
@@ -172,13 +172,13 @@ own_structs m words first elements c content room all few_data few_pointers few 
     let n : ℕ = elements.count in
     let long : length (rows_from words first.word d p n) ≡ n = length-rows_from words first.word d p n in
     record {
-      totals = λ held inside stand rooms. rows_total m words first elements c held inside content stand rooms;
-      room = λ held inside stand. (
+      totals = λ children inside stand rooms. rows_total m words first elements c children inside content stand rooms;
+      room = λ children inside stand. (
         few_data,
         few_pointers,
         subst (λ (k : ℕ). k < 2 ^ 30) (sym long) few,
         subst (λ (k : ℕ). k * (d + p) < 2 ^ 29) (sym long) few_words,
-        count_at m (row_places first.segment first.word d p n) held inside stand ∙ length-row_places first.segment first.word d p n ∙ ap (λ (k : ℕ). k * p) (sym long),
+        count_at m (row_places first.segment first.word d p n) children inside stand ∙ length-row_places first.segment first.word d p n ∙ ap (λ (k : ℕ). k * p) (sym long),
         rows_below words first.word d p n room all,
       );
     }
@@ -189,10 +189,10 @@ rows_opened_as : (m : List (List ℕ)) (words : List ℕ) (first : Place) (eleme
     → OpenedRows m words first.segment first.word elements.size (kept_size c words first elements) elements.count nesting c next room w.trees
 rows_opened_as m words first elements nesting limit false next room content there w =
     let t = w.tree_is in
-    rows_plain m words first.segment first.word elements nesting next room w.trees t.held t.traversed t.whole t.stand t.shallow (subst AllHaveRoom t.whole w.rooms).1 w.rooms there w.fits
+    rows_plain m words first.segment first.word elements nesting next room w.trees t.children t.traversed t.whole t.stand t.shallow (subst AllHaveRoom t.whole w.rooms).1 w.rooms there w.fits
 rows_opened_as m words first elements nesting limit true next room content there w =
     let t = w.tree_is in
-    rows_trimmed m words first.segment first.word elements nesting next room w.trees t.held t.traversed content t.whole t.stand t.shallow (subst AllHaveRoom t.whole w.rooms).1
+    rows_trimmed m words first.segment first.word elements nesting next room w.trees t.children t.traversed content t.whole t.stand t.shallow (subst AllHaveRoom t.whole w.rooms).1
     (room_trim w.trees w.rooms) there w.fits
 
 pub rows_opened : {m : List (List ℕ)} {words : List ℕ} {first : Place} {elements kept : Elements} {nesting : ℕ} {limit : Option ℕ} {c : Bool} {next room : ℕ}
@@ -211,22 +211,22 @@ pub rows_written : {m : List (List ℕ)} {words : List ℕ} {segment begin : ℕ
     → mid ≡ put_rows (next + 1) size.pointers (rows_from words begin size.data_words (from.data_words + from.pointers - size.data_words) n) tagged
     → end ≡ next + (1 + n * (size.data_words + size.pointers))
     → CopiesAll m (kept_places segment begin from.data_words from.pointers size.pointers n) c (row_slots (next + 1) size.data_words size.pointers n) end mid new done.next
-    → done.pointer ≡ list_pointer gap 7 (n * (size.data_words + size.pointers)) → IsCopied (formed c trees) gap next old new done
+    → done.pointer ≡ list_pointer gap 7 (n * (size.data_words + size.pointers)) → IsCopied (output c trees) gap next old new done
 rows_written {m} {words} {segment} {begin} {from} {size} {n} {nesting} {c} {gap} {next} {room} {end} {trees} {old} {tagged} {mid} {new} {done} o long tagged_is mid_is end_is all pointer_is =
     let k = o.kept in
     let slots = row_slots (next + 1) size.data_words size.pointers n in
     let rows = rows_from words begin size.data_words (from.data_words + from.pointers - size.data_words) n in
     record {
       words_are = all.words_are k.trees k.traversed k.stand
-          ∙ ap (λ (b : List ℕ). fill slots end (formed c k.trees) b) (mid_is ∙ ap (put_rows (next + 1) size.pointers rows) tagged_is)
-          ∙ ap (λ (e : ℕ). fill slots e (formed c k.trees) (put_rows (next + 1) size.pointers rows (put next (struct_pointer n size.data_words size.pointers ∷ []) old))) end_is
+          ∙ ap (λ (b : List ℕ). fill slots end (output c k.trees) b) (mid_is ∙ ap (put_rows (next + 1) size.pointers rows) tagged_is)
+          ∙ ap (λ (e : ℕ). fill slots e (output c k.trees) (put_rows (next + 1) size.pointers rows (put next (struct_pointer n size.data_words size.pointers ∷ []) old))) end_is
           ∙ o.fills old long;
       pointer_is = pointer_is ∙ o.pointers_are gap;
       next_is = omega (arith, all.next_is k.trees k.traversed k.stand, o.totals, end_is);
     }
 
--- structs that have pointers to keep stand in a segment of the message
-pub rows_held : (m : List (List ℕ)) (words : List ℕ) (first : Place) (size : StructSize) (q n : ℕ) → HoldsPointers m words first size → q ≤ size.pointers
+-- structs that have pointers to keep are in a segment of the message
+pub rows_children : (m : List (List ℕ)) (words : List ℕ) (first : Place) (size : StructSize) (q n : ℕ) → HoldsPointers m words first size → q ≤ size.pointers
     → kept_places first.segment first.word size.data_words size.pointers q n ≢ [] → slice_get m first.segment ≡ Some words
-rows_held m words first size zero n holds le some = absurd (some (kept_nothing {B = ℕ} first.segment first.word size.data_words size.pointers 0 n (inl refl)))
-rows_held m words first size (suc q) n holds le some = holds (omega arith)
+rows_children m words first size zero n holds le some = absurd (some (kept_nothing {B = ℕ} first.segment first.word size.data_words size.pointers 0 n (inl refl)))
+rows_children m words first size (suc q) n holds le some = holds (omega arith)

@@ -1,4 +1,4 @@
--- What views show of lists of structs and of pointers, and when they are refused.
+-- What views show of lists of structs and of pointers, and when they are rejected.
 use Rattle.std.proofs.Common.{◌≡◌, ℕ, ◌+◌, ◌*◌, ◌/◌, ◌^◌, ◌<◌, ◌≤◌, List, length, refl, sym, ap, subst, arith}
 use Rattle.capnp_frame.specs.declared.error.ErrorKind.{ErrorKind}
 use Rattle.capnp_frame.specs.declared.error.ErrorKind.TheVariants.{WrongPointerKind}
@@ -76,13 +76,13 @@ other_than_pointers object kind none is = (other_pointers (words_of object.segme
 pub structs_show : (p : Pointer) (object : ReadObject) (elements : Elements) (following : ℕ) → IsEntered p object → object.body ≡ Structs elements following
     → Shows p (λ shape. HasRows shape.form elements.size.pointers
     (rows_from (words_of object.segment.now) (object.start.word + 1) elements.size.data_words elements.size.pointers elements.count)
-    × (row_places object.start.segment (object.start.word + 1) elements.size.data_words elements.size.pointers elements.count ≡ shape.held)
+    × (row_places object.start.segment (object.start.word + 1) elements.size.data_words elements.size.pointers elements.count ≡ shape.children)
     × Within p.limit shape.traversed)
 structs_show p object elements following entered body =
     let words = words_of object.segment.now in
     let size = elements.size in
     let fact : Body → Type 0 = λ b. HasRows (shape_of words object.start b).form size.pointers (rows_from words (object.start.word + 1) size.data_words size.pointers elements.count)
-    × (row_places object.start.segment (object.start.word + 1) size.data_words size.pointers elements.count ≡ (shape_of words object.start b).held) in
+    × (row_places object.start.segment (object.start.word + 1) size.data_words size.pointers elements.count ≡ (shape_of words object.start b).children) in
     let holds : fact object.body = subst fact (sym body) ((refl, refl), refl) in (
       record (shape_of words object.start object.body) { traversed = object.traversed },
       at_place entered.stands entered.object_is.object (λ not. entered.nesting),
@@ -109,10 +109,10 @@ structs_within p object elements following entered body =
 
 -- the pointers of a list that was entered
 pub pointers_show : (p : Pointer) (object : ReadObject) (n : ℕ) → IsEntered p object → object.body ≡ Pointers n
-    → Shows p (λ shape. TakesPointers shape.form × (places object.start.segment object.start.word n ≡ shape.held) × Within p.limit shape.traversed)
+    → Shows p (λ shape. TakesPointers shape.form × (places object.start.segment object.start.word n ≡ shape.children) × Within p.limit shape.traversed)
 pointers_show p object n entered body =
     let words = words_of object.segment.now in
-    let fact : Body → Type 0 = λ b. TakesPointers (shape_of words object.start b).form × (places object.start.segment object.start.word n ≡ (shape_of words object.start b).held) in
+    let fact : Body → Type 0 = λ b. TakesPointers (shape_of words object.start b).form × (places object.start.segment object.start.word n ≡ (shape_of words object.start b).children) in
     let holds : fact object.body = subst fact (sym body) (tt, refl) in (
       record (shape_of words object.start object.body) { traversed = object.traversed },
       at_place entered.stands entered.object_is.object (λ not. entered.nesting),
@@ -132,9 +132,9 @@ numbers_accepted p code values read = (read.0, read.1, numbers_taken read.0.form
 
 -- a list that was entered has no more elements, and of structs no more words, than a pointer tells
 room_entered : (p : Pointer) (object : ReadObject) (body : Body) → IsEntered p object → object.body ≡ body
-    → let shape = shape_of (words_of object.segment.now) object.start body in HasRoom shape.form (length shape.held)
+    → let shape = shape_of (words_of object.segment.now) object.start body in HasRoom shape.form (length shape.children)
 room_entered p object body entered is =
-    subst (λ (b : Body). let shape = shape_of (words_of object.segment.now) object.start b in HasRoom shape.form (length shape.held)) is entered.object_is.has_room
+    subst (λ (b : Body). let shape = shape_of (words_of object.segment.now) object.start b in HasRoom shape.form (length shape.children)) is entered.object_is.has_room
 
 pub few_structs : (p : Pointer) (object : ReadObject) (elements : Elements) (following : ℕ) → IsEntered p object → object.body ≡ Structs elements following
     → (elements.count < 2 ^ 30) × (elements.count * (elements.size.data_words + elements.size.pointers) < 2 ^ 29)

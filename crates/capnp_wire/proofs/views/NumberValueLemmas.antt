@@ -7,7 +7,7 @@ use Rattle.capnp_wire.specs.Pointer.{number_of, words_from}
 use Rattle.capnp_wire.specs.Element.{code_of, width, words_for}
 use Rattle.capnp_wire.specs.Tree.{numbers, none, tree, total_words}
 use Rattle.capnp_wire.specs.Object.{elements as numerals}
-use Rattle.capnp_wire.specs.Layout.{formed}
+use Rattle.capnp_wire.specs.Layout.{output}
 use Rattle.capnp_wire.specs.Values.{HasWords, LacksWords}
 use Rattle.capnp_wire.specs.ListValues.{IsNumbersTree, TooManyNumbers}
 use Rattle.capnp_wire.specs.declared.layout.element.ElementSize.{ElementSize}
@@ -58,7 +58,7 @@ numbers_measured size words n c (Ok number) m =
     let values : List ℕ = numerals words 0 (code_of size) n in
     let long : length values ≡ n = numbers_long words 0 code n in
     let few : length values < 2 ^ 29 = omega (arith, m.0, long) in
-    let total : total_words (formed c (tree (numbers code values) none none)) ≡ words_for (length values) (width code) = numbers_total c code values (tree (numbers code values) none none) refl in
+    let total : total_words (output c (tree (numbers code values) none none)) ≡ words_for (length values) (width code) = numbers_total c code values (tree (numbers code values) none none) refl in
     record {
       trees = tree (numbers code values) none none;
       tree_is = (few, refl);

@@ -6,7 +6,7 @@ use Rattle.capnp_frame.specs.declared.message.segments.ReaderSegments.{Ghosts}
 use Rattle.capnp_wire.specs.Pointer.{words_of}
 use Rattle.capnp_wire.specs.Tree.{Form}
 use Rattle.capnp_wire.specs.Landing.{shape_of}
-use Rattle.capnp_wire.specs.Views.{Pointer, IsViewOf, Accepts, Refuses, Unreadable}
+use Rattle.capnp_wire.specs.Views.{Pointer, IsViewOf, Accepts, Refuses, RejectsReading}
 use Rattle.capnp_wire.specs.Readers.{IsEntered}
 use Rattle.capnp_wire.specs.ObjectViews.{IsObjectView, TakesAll}
 use Rattle.capnp_wire.specs.declared.any_object.reader.Reader.{Reader}
@@ -40,13 +40,13 @@ module _ {S : Type 0} {ghosts : Ghosts S} (segments : S → List (List ℕ)) (p 
   taken : (view : Reader S ghosts) → IsObjectView segments p view → Accepts p TakesAll
   taken view shown = (shown.kind.0, shown.kind.1, tt)
 
-  refused : (result : Result (Reader S ghosts) Error) → MatchResult result (IsObjectView segments p) (λ error. Unreadable p error.kind)
+  refused : (result : Result (Reader S ghosts) Error) → MatchResult result (IsObjectView segments p) (λ error. RejectsReading p error.kind)
       → MatchResult result (IsObjectView segments p) (λ error. Refuses p DeclinesNone error.kind)
   refused (Ok view) returned = returned
   refused (Err error) returned = inl returned
 
-  pub is_object_view : (result : Result (Reader S ghosts) Error) → MatchResult result (IsObjectView segments p) (λ error. Unreadable p error.kind)
-      → IsViewOf p (IsObjectView segments p) (Accepts p TakesAll) (Unreadable p) (λ kind. ⊥) result
+  pub is_object_view : (result : Result (Reader S ghosts) Error) → MatchResult result (IsObjectView segments p) (λ error. RejectsReading p error.kind)
+      → IsViewOf p (IsObjectView segments p) (Accepts p TakesAll) (RejectsReading p) (λ kind. ⊥) result
   is_object_view result returned =
       let view = is_view_of p TakesAll DeclinesNone (IsObjectView segments p) all_decide taken result (refused result returned) in record {
         returned = returned;

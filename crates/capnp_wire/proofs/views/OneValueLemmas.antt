@@ -1,10 +1,10 @@
--- A value is one tree, or is refused for one reason, and so its measure is decided.
+-- A value is one tree, or is rejected for one reason, and so its measure is decided.
 use Rattle.std.proofs.Common.{◌≡◌, ℕ, Bool, List, [], ◌∷◌, Option, Some, None, MatchOption, Result, Ok, Err, MatchResult, inl, inr, sym, ◌∙◌, ap, subst, arith}
 use Rattle.std.specs.Result.{IsErrAnd}
 use Rattle.capnp_frame.specs.declared.error.Error.{Error}
 use Rattle.capnp_frame.specs.declared.error.ErrorKind.{ErrorKind}
 use Rattle.capnp_wire.specs.Tree.{null, struct, Trees, none, tree, total_words}
-use Rattle.capnp_wire.specs.Layout.{formed}
+use Rattle.capnp_wire.specs.Layout.{output}
 use Rattle.capnp_wire.specs.Faults.{StopsWalk}
 use Rattle.capnp_wire.specs.Views.{Pointer, Struct}
 use Rattle.capnp_wire.specs.Values.{TreeAt, HasWords, LacksWords, LeadsToTree, StopsWalkFrom, IsTreeOf, StopsInside, too_large}
@@ -21,19 +21,19 @@ pub record IsOne (has_tree : Trees → Type 0) (refuses : ErrorKind → Type 0) 
 has_or_lacks : (h : Trees → Type 0) (r : ErrorKind → Type 0) → IsOne h r → (c : Bool) (words : ℕ) (kind : ErrorKind) → HasWords h c words → LacksWords h r c kind → ⊥
 has_or_lacks h r one c words kind w (inl refused) = one.apart kind w.trees refused w.tree_is
 has_or_lacks h r one c words kind w (inr many) =
-    let same : total_words (formed c w.trees) ≡ total_words (formed c many.0) = ap (λ (t : Trees). total_words (formed c t)) (one.same_tree w.trees many.0 w.tree_is many.1) in
+    let same : total_words (output c w.trees) ≡ total_words (output c many.0) = ap (λ (t : Trees). total_words (output c t)) (one.same_tree w.trees many.0 w.tree_is many.1) in
     omega (arith, w.words_are, w.few, many.2, same)
 
 one_measure : (h : Trees → Type 0) (r : ErrorKind → Type 0) → IsOne h r → (c : Bool) (words others : ℕ) → HasWords h c words → HasWords h c others → words ≡ others
 one_measure h r one c words others w o =
-    w.words_are ∙ ap (λ (t : Trees). total_words (formed c t)) (one.same_tree w.trees o.trees w.tree_is o.tree_is) ∙ sym o.words_are
+    w.words_are ∙ ap (λ (t : Trees). total_words (output c t)) (one.same_tree w.trees o.trees w.tree_is o.tree_is) ∙ sym o.words_are
 
 one_lack : (h : Trees → Type 0) (r : ErrorKind → Type 0) → IsOne h r → (c : Bool) (a b : ErrorKind) → LacksWords h r c a → LacksWords h r c b → a ≡ b
 one_lack h r one c a b (inl x) (inl y) = one.same_refusal a b x y
 one_lack h r one c a b (inl x) (inr y) = absurd (one.apart a y.0 x y.1)
 one_lack h r one c a b (inr x) (inl y) = absurd (one.apart b x.0 y x.1)
 one_lack h r one c a b (inr x) (inr y) =
-    x.3 ∙ ap (λ (t : Trees). too_large c (total_words (formed c t))) (one.same_tree x.0 y.0 x.1 y.1) ∙ sym y.3
+    x.3 ∙ ap (λ (t : Trees). too_large c (total_words (output c t))) (one.same_tree x.0 y.0 x.1 y.1) ∙ sym y.3
 
 -- a value that lacks words fails for just that
 pub measured_exactly : (h : Trees → Type 0) (r : ErrorKind → Type 0) → IsOne h r → (c : Bool) (returned : Result ℕ Error)
@@ -78,7 +78,7 @@ one_of_pointer p = record {
 pub one_of_struct : (fields : Struct) → IsOne (IsTreeOf fields) (StopsInside fields)
 one_of_struct fields = record {
   same_tree = λ a b x y.
-      x.whole ∙ ap (λ (t : Trees). tree (struct fields.words) t none) (one_tree fields.message fields.held x.held y.held x.traversed y.traversed x.stand y.stand).0 ∙ sym y.whole;
-  same_refusal = one_stop fields.message fields.held fields.nesting fields.limit;
-  apart = λ kind trees stops t. stops_has_no_trees fields.message fields.held fields.nesting t.traversed fields.limit kind t.held stops t.stand t.shallow t.within;
+      x.whole ∙ ap (λ (t : Trees). tree (struct fields.words) t none) (one_tree fields.message fields.children x.children y.children x.traversed y.traversed x.stand y.stand).0 ∙ sym y.whole;
+  same_refusal = one_stop fields.message fields.children fields.nesting fields.limit;
+  apart = λ kind trees stops t. stops_has_no_trees fields.message fields.children fields.nesting t.traversed fields.limit kind t.children stops t.stand t.shallow t.within;
 }

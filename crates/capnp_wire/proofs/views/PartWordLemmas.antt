@@ -6,7 +6,7 @@ use Rattle.capnp_frame.specs.declared.error.Error.{Error}
 use Rattle.capnp_wire.specs.Tree.{null, Trees, none, tree, total_words, is_null}
 use Rattle.capnp_wire.specs.Object.{Shape, ShapeStands, a_struct, some_numbers, some_pointers, some_structs, PointsTo, is_null as null_there, is_object, nothing}
 use Rattle.capnp_wire.specs.Reached.{At, nowhere as nothing_more, at}
-use Rattle.capnp_wire.specs.Layout.{formed, AllHaveRoom}
+use Rattle.capnp_wire.specs.Layout.{output, AllHaveRoom}
 use Rattle.capnp_wire.specs.Views.{Pointer, Denotes, nowhere, at_place}
 use Rattle.capnp_wire.specs.Values.{HasWords, HasPart, LeadsToTree, TreeAt, starts_with_null}
 use Rattle.capnp_wire.specs.declared.layout.place.Place.{Place}
@@ -14,30 +14,30 @@ use Rattle.capnp_wire.specs.declared.traits.PartWords.{PartWords}
 use Rattle.capnp_wire.proofs.objects.ObjectLemmas.{one_object}
 use Rattle.capnp_wire.proofs.trees.TrimLemmas.{total-trim}
 
--- a part by its words as it stands, and in the form that is made
-pub formed_less : (c : Bool) (trees : Trees) → AllHaveRoom trees → total_words (formed c trees) ≤ total_words trees
-formed_less true trees rooms = total-trim trees rooms
-formed_less false trees rooms = omega arith
+-- a part by its words as it is, and in the form that is made
+pub output_less : (c : Bool) (trees : Trees) → AllHaveRoom trees → total_words (output c trees) ≤ total_words trees
+output_less true trees rooms = total-trim trees rooms
+output_less false trees rooms = omega arith
 
-pub standing_words : (h : Trees → Type 0) (c : Bool) (words : PartWords) → HasPart h c words → HasWords h false words.standing
-standing_words h c words p = record { trees = p.trees; tree_is = p.tree_is; rooms = p.rooms; words_are = p.standing_is; few = p.few }
+pub as_is_words : (h : Trees → Type 0) (c : Bool) (words : PartWords) → HasPart h c words → HasWords h false words.as_is
+as_is_words h c words p = record { trees = p.trees; tree_is = p.tree_is; rooms = p.rooms; words_are = p.as_is_same; few = p.few }
 
-pub formed_words : (h : Trees → Type 0) (c : Bool) (words : PartWords) → HasPart h c words → HasWords h c words.formed
-formed_words h c words p = record {
+pub output_words : (h : Trees → Type 0) (c : Bool) (words : PartWords) → HasPart h c words → HasWords h c words.output
+output_words h c words p = record {
   trees = p.trees;
   tree_is = p.tree_is;
   rooms = p.rooms;
-  words_are = p.formed_is;
-  few = omega (arith, p.formed_is, p.standing_is, p.few, formed_less c p.trees p.rooms);
+  words_are = p.output_is;
+  few = omega (arith, p.output_is, p.as_is_same, p.few, output_less c p.trees p.rooms);
 }
 
-pub part_words : (h : Trees → Type 0) (c : Bool) (words : ℕ) → (w : HasWords h false words) → HasPart h c (record { standing = words; formed = total_words (formed c w.trees) })
-part_words h c words w = record { trees = w.trees; tree_is = w.tree_is; rooms = w.rooms; standing_is = w.words_are; formed_is = refl; few = w.few }
+pub part_words : (h : Trees → Type 0) (c : Bool) (words : ℕ) → (w : HasWords h false words) → HasPart h c (record { as_is = words; output = total_words (output c w.trees) })
+part_words h c words w = record { trees = w.trees; tree_is = w.tree_is; rooms = w.rooms; as_is_same = w.words_are; output_is = refl; few = w.few }
 
-pub same_part : (a b : PartWords) → a.standing ≡ b.standing → a.formed ≡ b.formed → a ≡ b
+pub same_part : (a b : PartWords) → a.as_is ≡ b.as_is → a.output ≡ b.output → a ≡ b
 same_part a b s f =
-    let p : ℕ → ℕ → PartWords = λ x y. record { standing = x; formed = y } in
-    ap (λ (x : ℕ). p x a.formed) s ∙ ap (λ (y : ℕ). p b.standing y) f
+    let p : ℕ → ℕ → PartWords = λ x y. record { as_is = x; output = y } in
+    ap (λ (x : ℕ). p x a.output) s ∙ ap (λ (y : ℕ). p b.as_is y) f
 
 same_ok : (r : Result ℕ Error) (x y : ℕ) → r ≡ Ok x → r ≡ Ok y → x ≡ y
 same_ok r x y a b = cc
@@ -46,42 +46,42 @@ unwrapped : (r : Result ℕ Error) (other x y : ℕ) → r ≡ Ok x → y ≡ re
 unwrapped r other x y a b = b ∙ ap (λ (e : Result ℕ Error). result_unwrap_or e other) a
 
 -- what is returned of it: where no canonical form is made, its words once; else both
-pub standing_found : (h : Trees → Type 0) (c : Bool) (returned : Result ℕ Error) (standing : ℕ) (words : PartWords) → returned ≡ Ok standing → ((n : ℕ) → HasWords h false n → returned ≡ Ok n)
-    → c ≡ false → HasPart h c words → record { standing = standing; formed = standing } ≡ words
-standing_found h c returned standing words was found plain p =
-    let same : standing ≡ words.standing = same_ok returned standing words.standing was (found words.standing (standing_words h c words p)) in
-    let formed_is : words.formed ≡ words.standing = p.formed_is ∙ ap (λ (b : Bool). total_words (formed b p.trees)) plain ∙ sym p.standing_is in
-    same_part (record { standing = standing; formed = standing }) words same (same ∙ sym formed_is)
+pub as_is_found : (h : Trees → Type 0) (c : Bool) (returned : Result ℕ Error) (as_is : ℕ) (words : PartWords) → returned ≡ Ok as_is → ((n : ℕ) → HasWords h false n → returned ≡ Ok n)
+    → c ≡ false → HasPart h c words → record { as_is = as_is; output = as_is } ≡ words
+as_is_found h c returned as_is words was found plain p =
+    let same : as_is ≡ words.as_is = same_ok returned as_is words.as_is was (found words.as_is (as_is_words h c words p)) in
+    let output_is : words.output ≡ words.as_is = p.output_is ∙ ap (λ (b : Bool). total_words (output b p.trees)) plain ∙ sym p.as_is_same in
+    same_part (record { as_is = as_is; output = as_is }) words same (same ∙ sym output_is)
 
-pub both_returned : (h : Trees → Type 0) (c : Bool) (standing formed_words_are : ℕ) (other : Result ℕ Error) → c ≡ true → HasWords h false standing → ((n : ℕ) → HasWords h true n → other ≡ Ok n)
-    → formed_words_are ≡ result_unwrap_or other 0 → HasPart h c (record { standing = standing; formed = formed_words_are })
-both_returned h c standing formed_words_are other canonical w found is =
-    let n : ℕ = total_words (formed true w.trees) in
-    let there = found n (formed_words h true (record { standing = standing; formed = n }) (part_words h true standing w)) in
-    let formed_is : formed_words_are ≡ n = unwrapped other 0 n formed_words_are there is in
+pub both_returned : (h : Trees → Type 0) (c : Bool) (as_is output_words_are : ℕ) (other : Result ℕ Error) → c ≡ true → HasWords h false as_is → ((n : ℕ) → HasWords h true n → other ≡ Ok n)
+    → output_words_are ≡ result_unwrap_or other 0 → HasPart h c (record { as_is = as_is; output = output_words_are })
+both_returned h c as_is output_words_are other canonical w found is =
+    let n : ℕ = total_words (output true w.trees) in
+    let there = found n (output_words h true (record { as_is = as_is; output = n }) (part_words h true as_is w)) in
+    let output_is : output_words_are ≡ n = unwrapped other 0 n output_words_are there is in
     record {
       trees = w.trees;
       tree_is = w.tree_is;
       rooms = w.rooms;
-      standing_is = w.words_are;
-      formed_is = formed_is ∙ ap (λ (b : Bool). total_words (formed b w.trees)) (sym canonical);
+      as_is_same = w.words_are;
+      output_is = output_is ∙ ap (λ (b : Bool). total_words (output b w.trees)) (sym canonical);
       few = w.few;
     }
 
-pub both_found : (h : Trees → Type 0) (c : Bool) (returned other : Result ℕ Error) (standing formed_words_are : ℕ) (words : PartWords) → returned ≡ Ok standing
-    → ((n : ℕ) → HasWords h false n → returned ≡ Ok n) → c ≡ true → ((n : ℕ) → HasWords h true n → other ≡ Ok n) → formed_words_are ≡ result_unwrap_or other 0 → HasPart h c words
-    → record { standing = standing; formed = formed_words_are } ≡ words
-both_found h c returned other standing formed_words_are words was found canonical found_formed is p =
-    let same : standing ≡ words.standing = same_ok returned standing words.standing was (found words.standing (standing_words h c words p)) in
-    let there = found_formed words.formed (subst (λ (b : Bool). HasWords h b words.formed) canonical (formed_words h c words p)) in
-    same_part (record { standing = standing; formed = formed_words_are }) words same (unwrapped other 0 words.formed formed_words_are there is)
+pub both_found : (h : Trees → Type 0) (c : Bool) (returned other : Result ℕ Error) (as_is output_words_are : ℕ) (words : PartWords) → returned ≡ Ok as_is
+    → ((n : ℕ) → HasWords h false n → returned ≡ Ok n) → c ≡ true → ((n : ℕ) → HasWords h true n → other ≡ Ok n) → output_words_are ≡ result_unwrap_or other 0 → HasPart h c words
+    → record { as_is = as_is; output = output_words_are } ≡ words
+both_found h c returned other as_is output_words_are words was found canonical found_output is p =
+    let same : as_is ≡ words.as_is = same_ok returned as_is words.as_is was (found words.as_is (as_is_words h c words p)) in
+    let there = found_output words.output (subst (λ (b : Bool). HasWords h b words.output) canonical (output_words h c words p)) in
+    same_part (record { as_is = as_is; output = output_words_are }) words same (unwrapped other 0 words.output output_words_are there is)
 
--- where a pointer stands nowhere, its tree is null
+-- where a pointer is nowhere, its tree is null
 pub null_there_tree : (p : Pointer) (trees : Trees) → p.place ≡ None → LeadsToTree p trees → trees ≡ tree null none none
 null_there_tree p trees e t =
     subst (λ (o : Option Place). MatchOption o (trees ≡ tree null none none) (λ there. TreeAt p.message there p.nesting p.limit trees)) e t
 
--- what stands somewhere is null where its pointer is
+-- what is somewhere is null where its pointer is
 some_form : (words : List ℕ) (start : Place) (tag : ℕ) (shape : Shape) → ShapeStands words start tag shape → is_null shape.form ≡ false
 some_form words start tag shape (a_struct _ _) = refl
 some_form words start tag shape (some_numbers _ _ _) = refl
@@ -116,5 +116,5 @@ null_at (Some place) p trees result e told is =
     ])
     (λ null_is. told.1 (at_place e (null_stands p.message place trees is.traversed is.stand null_is) (λ not. absurd (cc))))
 
-pub null_told : (p : Pointer) (trees : Trees) (result : Bool) → (IsTrue result ↔ Denotes p nothing) → LeadsToTree p trees → result ≡ starts_with_null trees
-null_told p trees result told is = null_at p.place p trees result refl told is
+pub null_declared : (p : Pointer) (trees : Trees) (result : Bool) → (IsTrue result ↔ Denotes p nothing) → LeadsToTree p trees → result ≡ starts_with_null trees
+null_declared p trees result told is = null_at p.place p trees result refl told is

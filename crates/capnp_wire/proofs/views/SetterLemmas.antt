@@ -10,21 +10,21 @@ use Rattle.capnp_frame.specs.declared.error.Error.{Error}
 use Rattle.capnp_frame.specs.declared.words.Word.{Word}
 use Rattle.capnp_wire.specs.Pointer.{number_of, words_of}
 use Rattle.capnp_wire.specs.Tree.{Form, null, Trees, none, tree, total_words}
-use Rattle.capnp_wire.specs.Trim.{trim, trim_form, trim_held}
+use Rattle.capnp_wire.specs.Trim.{trim, trim_form, trim_children}
 use Rattle.capnp_wire.specs.Reached.{At, nowhere, at, root}
-use Rattle.capnp_wire.specs.Layout.{body, layout, canon, formed, AllHaveRoom, AllReach}
+use Rattle.capnp_wire.specs.Layout.{body, layout, canon, output, AllHaveRoom, AllReach}
 use Rattle.capnp_wire.specs.Canonical.{IsCanonical}
 use Rattle.capnp_wire.specs.Views.{Pointer}
 use Rattle.capnp_wire.specs.Block.{numbers_of}
 use Rattle.capnp_wire.specs.Copy.{IsCopied}
-use Rattle.capnp_wire.specs.Values.{TreeAt, Measured, UnmeasuredTree, HasWords, LacksWords, LeadsToTree, StopsWalkFrom, IsCanonicalForm}
+use Rattle.capnp_wire.specs.Values.{TreeAt, Measured, RejectsTreeSize, HasWords, LacksWords, LeadsToTree, StopsWalkFrom, IsCanonicalForm}
 use Rattle.capnp_wire.specs.declared.layout.copy.Copied.{Copied}
 use Rattle.capnp_wire.specs.declared.layout.place.Place.{Place}
 use Rattle.capnp_wire.proofs.forms.CanonLemmas.{root_of_canon, canon_tells}
 use Rattle.capnp_wire.proofs.layouts.LayoutLemmas.{small_reaches}
 use Rattle.capnp_wire.proofs.trees.TrimLemmas.{trim_twice}
 use Rattle.capnp_wire.proofs.layouts.SizeLemmas.{length-body}
-use Rattle.capnp_wire.proofs.layouts.OpenLemmas.{room_formed}
+use Rattle.capnp_wire.proofs.layouts.OpenLemmas.{room_output}
 use Rattle.capnp_wire.proofs.layouts.FreeLemmas.{whole_written}
 use Rattle.capnp_wire.proofs.objects.PartLemmas.{one_word}
 use Rattle.capnp_wire.proofs.words.WordLemmas.{length-words_of}
@@ -38,7 +38,7 @@ to_tree p place trees e t =
 pub from_tree : (p : Pointer) (place : Place) (trees : Trees) → p.place ≡ Some place → LeadsToTree p trees → TreeAt p.message place p.nesting p.limit trees
 from_tree p place trees e t = subst (λ (o : Option Place). MatchOption o (trees ≡ tree null none none) (λ there. TreeAt p.message there p.nesting p.limit trees)) e t
 
-pub null_words : (c : Bool) → 0 ≡ total_words (formed c (tree null none none))
+pub null_words : (c : Bool) → 0 ≡ total_words (output c (tree null none none))
 null_words true = refl
 null_words false = refl
 
@@ -52,7 +52,7 @@ none_has_words p c e = record {
 }
 
 pub measured_value : (p : Pointer) (place : Place) (c : Bool) (r : Result ℕ Error) → p.place ≡ Some place
-    → MatchResult r (λ words. Measured p.message place p.nesting p.limit c words) (λ error. UnmeasuredTree p.message place p.nesting p.limit c error.kind)
+    → MatchResult r (λ words. Measured p.message place p.nesting p.limit c words) (λ error. RejectsTreeSize p.message place p.nesting p.limit c error.kind)
     → MatchResult r (λ words. HasWords (LeadsToTree p) c words) (λ error. LacksWords (LeadsToTree p) (StopsWalkFrom p) c error.kind)
 measured_value p place c (Ok words) e m = record { trees = m.trees; tree_is = to_tree p place m.trees e m.tree_is; rooms = m.rooms; words_are = m.words_are; few = m.few }
 measured_value p place c (Err error) e (inl stops) = inl (place, e, stops)
@@ -66,15 +66,15 @@ after_eight old block some long =
     ap (λ (n : ℕ). drop n (take 8 old ++ (block ++ drop (length old - 8) (drop 8 old)))) (sym eight) ∙ drop-append_seam (take 8 old) (block ++ drop (length old - 8) (drop 8 old))
     ∙ ap (λ (l : List ℕ). block ++ l) none ∙ append-nil block
 
-size_of : (trees : Trees) → AllHaveRoom trees → length (body (formed true trees)) ≡ total_words (formed true trees)
-size_of trees rooms = length-body (formed true trees) (room_formed true trees rooms)
+size_of : (trees : Trees) → AllHaveRoom trees → length (body (output true trees)) ≡ total_words (output true trees)
+size_of trees rooms = length-body (output true trees) (room_output true trees rooms)
 
-pub whole_form : (p : Pointer) (copied : Copied) (front old held block : List ℕ) → front ≡ to_le_bytes w64 copied.pointer → copied.pointer < 2 ^ 64
+pub whole_form : (p : Pointer) (copied : Copied) (front old children block : List ℕ) → front ≡ to_le_bytes w64 copied.pointer → copied.pointer < 2 ^ 64
     → length front ≡ length (take 8 (take 8 old ++ (block ++ drop (length old - 8) (drop 8 old)))) → (w : (following : ℕ) × HasWords (LeadsToTree p) true following × (length old ≡ 8 * (following + 1)))
-    → length block ≡ length old - 8 → length held ≡ length old - 8
-    → ((trees : Trees) → LeadsToTree p trees → IsCopied (formed true trees) (0 - 0) 0 (words_of held) (words_of block) copied)
+    → length block ≡ length old - 8 → length children ≡ length old - 8
+    → ((trees : Trees) → LeadsToTree p trees → IsCopied (output true trees) (0 - 0) 0 (words_of children) (words_of block) copied)
     → IsCanonicalForm p (words_of (front ++ drop 8 (take 8 old ++ (block ++ drop (length old - 8) (drop 8 old)))))
-whole_form p copied front old held block front_is small room w long held_long written =
+whole_form p copied front old children block front_is small room w long children_long written =
     let h = w.1 in
     let eight : length front ≡ 8 =
     omega (
@@ -88,38 +88,38 @@ whole_form p copied front old held block front_is small room w long held_long wr
     let rest = after_eight old block (omega (arith, w.2)) long in
     let parts : words_of (front ++ block) ≡ words_of front ++ words_of block = words_split 1 front block eight in
     let head : words_of front ≡ copied.pointer ∷ [] = one_word front copied.pointer small front_is in
-    let total : total_words (formed true h.trees) ≡ length (words_of held) = omega (arith, h.words_are, w.2, held_long, length-words_of held) in
+    let total : total_words (output true h.trees) ≡ length (words_of children) = omega (arith, h.words_are, w.2, children_long, length-words_of children) in
     record {
       trees = h.trees;
       tree_is = h.tree_is;
       rooms = h.rooms;
       few = omega (arith, h.words_are, h.few);
       words_are = ap (λ (l : List ℕ). words_of (front ++ l)) rest ∙ parts ∙ ap (λ (l : List ℕ). l ++ words_of block) head
-          ∙ whole_written (formed true h.trees) (words_of held) (words_of block) copied (size_of h.trees h.rooms ∙ total) (written h.trees h.tree_is);
+          ∙ whole_written (output true h.trees) (words_of children) (words_of block) copied (size_of h.trees h.rooms ∙ total) (written h.trees h.tree_is);
     }
 
 -- the same in words
-pub words_form : (p : Pointer) (copied : Copied) (word : Word) (old held block : List Word) → number_of 256 (bytes_of word) ≡ copied.pointer
-    → (w : (following : ℕ) × HasWords (LeadsToTree p) true following × (length old ≡ following + 1)) → length held ≡ length old - 1
-    → ((trees : Trees) → LeadsToTree p trees → IsCopied (formed true trees) (0 - 0) 0 (numbers_of held) (numbers_of block) copied)
+pub words_form : (p : Pointer) (copied : Copied) (word : Word) (old children block : List Word) → number_of 256 (bytes_of word) ≡ copied.pointer
+    → (w : (following : ℕ) × HasWords (LeadsToTree p) true following × (length old ≡ following + 1)) → length children ≡ length old - 1
+    → ((trees : Trees) → LeadsToTree p trees → IsCopied (output true trees) (0 - 0) 0 (numbers_of children) (numbers_of block) copied)
     → IsCanonicalForm p (numbers_of (set (take 1 old ++ (block ++ drop (length old - 1) (drop 1 old))) 0 word))
-words_form p copied word [] held block word_is w long written = absurd (omega (arith, w.2))
-words_form p copied word (x ∷ xs) held block word_is w long written =
+words_form p copied word [] children block word_is w long written = absurd (omega (arith, w.2))
+words_form p copied word (x ∷ xs) children block word_is w long written =
     let h = w.1 in
     let none : drop (length (x ∷ xs) - 1) xs ≡ [] = drop_all (length (x ∷ xs) - 1) xs (omega arith) in
     let whole : block ++ drop (length (x ∷ xs) - 1) xs ≡ block = ap (λ (l : List Word). block ++ l) none ∙ append-nil block in
-    let total : total_words (formed true h.trees) ≡ length (numbers_of held) = omega (arith, h.words_are, w.2, long, length-numbers_of held) in
+    let total : total_words (output true h.trees) ≡ length (numbers_of children) = omega (arith, h.words_are, w.2, long, length-numbers_of children) in
     record {
       trees = h.trees;
       tree_is = h.tree_is;
       rooms = h.rooms;
       few = omega (arith, h.words_are, h.few);
       words_are = ap (λ (l : List Word). numbers_of (word ∷ l)) whole ∙ ap (λ (n : ℕ). n ∷ numbers_of block) word_is
-          ∙ whole_written (formed true h.trees) (numbers_of held) (numbers_of block) copied (size_of h.trees h.rooms ∙ total) (written h.trees h.tree_is);
+          ∙ whole_written (output true h.trees) (numbers_of children) (numbers_of block) copied (size_of h.trees h.rooms ∙ total) (written h.trees h.tree_is);
     }
 
 one_root : (m : List (List ℕ)) (place : Place) (trees : Trees) (traversed : ℕ) → At m (place ∷ []) trees traversed → (f : Form) × (h : Trees) × (trees ≡ tree f h none)
-one_root m place trees traversed (at {shape = s} {held = h} object inner nowhere) = (s.form, h, refl)
+one_root m place trees traversed (at {shape = s} {children = h} object inner nowhere) = (s.form, h, refl)
 
 one_root_at : (o : Option Place) (m : List (List ℕ)) (nesting : ℕ) (limit : Option ℕ) (trees : Trees) → MatchOption o (trees ≡ tree null none none) (λ place. TreeAt m place nesting limit trees)
     → (f : Form) × (h : Trees) × (trees ≡ tree f h none)
@@ -152,11 +152,11 @@ form_is_canonical p words a =
       words,
       refl,
       trim_form x.0 (trim x.1),
-      trim_held x.0 (trim x.1),
+      trim_children x.0 (trim x.1),
       there.0,
       subst (λ (l : List ℕ). At (l ∷ []) (root ∷ []) (trim (tree x.0 x.1 none)) there.0) (sym is) there.1,
       (
         is ∙ ap layout (sym twice),
-        subst (λ (t : Trees). AllReach (0 ∷ []) 1 t) (sym twice) (small_reaches (trim_form x.0 (trim x.1)) (trim_held x.0 (trim x.1)) few),
+        subst (λ (t : Trees). AllReach (0 ∷ []) 1 t) (sym twice) (small_reaches (trim_form x.0 (trim x.1)) (trim_children x.0 (trim x.1)) few),
       ),
     )

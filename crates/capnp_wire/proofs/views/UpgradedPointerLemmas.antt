@@ -29,16 +29,16 @@ first_pointers_decide = record {
   unlimited = λ form kind declined. wrong_kind_unlimited kind declined.1;
 }
 
-first_pointers_taken : (form : Form) (held there : List Place) → ReadsAsPointers form held there → TakesFirstPointers form
-first_pointers_taken null held there t = tt
-first_pointers_taken (struct words) held there t = t
-first_pointers_taken (numbers code values) held there t = t
-first_pointers_taken pointers held there t = tt
-first_pointers_taken (structs d p rows) held there t = t.0
+first_pointers_taken : (form : Form) (children there : List Place) → ReadsAsPointers form children there → TakesFirstPointers form
+first_pointers_taken null children there t = tt
+first_pointers_taken (struct words) children there t = t
+first_pointers_taken (numbers code values) children there t = t
+first_pointers_taken pointers children there t = tt
+first_pointers_taken (structs d p rows) children there t = t.0
 
 pub first_pointers_accepted : (p : Pointer) (list : PointerList) → IsUpgradedPointers p list → Accepts p TakesFirstPointers
 first_pointers_accepted p list read =
-    (read.shown.0, read.shown.1, first_pointers_taken read.shown.0.form read.shown.0.held list.held read.shown.2.0)
+    (read.shown.0, read.shown.1, first_pointers_taken read.shown.0.form read.shown.0.children list.children read.shown.2.0)
 
 -- places that are a step from one another
 pub length-stepped_places : (segment word step n : ℕ) → length (stepped_places segment word step n) ≡ n
@@ -52,7 +52,7 @@ stepped_within segment word step (suc n) (suc i) within =
     let more : suc i * step ≡ step + i * step = omega arith in
     stepped_within segment (word + step) step n i (omega arith) ∙ ap (λ (w : ℕ). Some (record { segment = segment; word = w })) (omega (arith, more))
 
--- the last of them stands before the list's end
+-- the last of them is before the list's end
 pub step_ends : (i n step : ℕ) → i < n → i * step ≤ n * step
 step_ends i zero step within = absurd (omega arith)
 step_ends zero (suc n) step within = omega arith
@@ -78,10 +78,10 @@ first_of_each segment word d (suc q) (suc n) some =
     ∙ ap (first_pointers (suc q) n) (sym past))
 
 upgraded : (p : Pointer) (object : ReadObject) (list : PointerList) → IsEntered p object → list.message ≡ p.message → list.nesting ≡ p.nesting - 1 → list.limit ≡ p.limit
-    → (let shape = shape_of (words_of object.segment.now) object.start object.body in ReadsAsPointers shape.form shape.held list.held) → IsUpgradedPointers p list
+    → (let shape = shape_of (words_of object.segment.now) object.start object.body in ReadsAsPointers shape.form shape.children list.children) → IsUpgradedPointers p list
 upgraded p object list entered message nesting limit reads = record {
   same_message = message;
-  shown = entered_shown p object (λ form held. ReadsAsPointers form held list.held) entered reads;
+  shown = entered_shown p object (λ form children. ReadsAsPointers form children list.children) entered reads;
   nesting_below = nesting;
   same_limit = limit;
 }
@@ -90,7 +90,7 @@ pub pointers_read : (p : Pointer) (object : ReadObject) (n : ℕ) (list : Pointe
     → list ≡ pointers_from p object.start 1 n → IsUpgradedPointers p list
 pointers_read p object n list entered body is =
     let wanted = pointers_from p object.start 1 n in
-    let fact : Body → Type 0 = λ b. let shape = shape_of (words_of object.segment.now) object.start b in ReadsAsPointers shape.form shape.held wanted.held in
+    let fact : Body → Type 0 = λ b. let shape = shape_of (words_of object.segment.now) object.start b in ReadsAsPointers shape.form shape.children wanted.children in
     subst (IsUpgradedPointers p) (sym is)
     (upgraded p object wanted entered refl refl refl (subst fact (sym body) (one_step object.start.segment object.start.word n)))
 
@@ -104,15 +104,15 @@ first_pointers_read p object there following step first list entered body some s
     let n = there.count in
     let start = object.start.word + 1 in
     let wanted = pointers_from p first step n in
-    let fact : Body → Type 0 = λ b. let shape = shape_of words object.start b in ReadsAsPointers shape.form shape.held wanted.held in
+    let fact : Body → Type 0 = λ b. let shape = shape_of words object.start b in ReadsAsPointers shape.form shape.children wanted.children in
     let rows = rows_from words start d q n in
-    let held_are : wanted.held ≡ first_pointers q (length rows) (row_places object.start.segment start d q n) =
+    let children_are : wanted.children ≡ first_pointers q (length rows) (row_places object.start.segment start d q n) =
     ap (λ (s : ℕ). stepped_places s first.word step n) segment_is
     ∙ ap (λ (w : ℕ). stepped_places object.start.segment w step n) word_is
     ∙ ap (λ (k : ℕ). stepped_places object.start.segment (start + d) k n) step_is
     ∙ first_of_each object.start.segment start d q n some
     ∙ ap (λ (k : ℕ). first_pointers q k (row_places object.start.segment start d q n)) (sym (length-rows_from words start d q n)) in
-    subst (IsUpgradedPointers p) (sym is) (upgraded p object wanted entered refl refl refl (subst fact (sym body) (some, held_are)))
+    subst (IsUpgradedPointers p) (sym is) (upgraded p object wanted entered refl refl refl (subst fact (sym body) (some, children_are)))
 
 -- other objects, and structs that have no pointers
 no_pointers_taken : (words : List ℕ) (start : Place) (body : Body) → ((n : ℕ) → body ≡ Pointers n → ⊥) → ((there : Elements) (following : ℕ) → body ≡ Structs there following → there.size.pointers ≡ 0)

@@ -12,7 +12,7 @@ use Rattle.capnp_wire.specs.Landing.{shape_of}
 use Rattle.capnp_wire.specs.Views.{Pointer, Accepts, Refuses}
 use Rattle.capnp_wire.specs.Readers.{IsEntered, form_of}
 use Rattle.capnp_wire.specs.ListViews.{StructList, structs_in}
-use Rattle.capnp_wire.specs.UpgradedViews.{number_row, ReadsAsRows, TakesRows, DeclinesRows, IsUpgradedStructs, bare_elements}
+use Rattle.capnp_wire.specs.UpgradedViews.{number_row, ReadsAsRows, TakesRows, DeclinesRows, IsUpgradedStructs, elements_without_data}
 use Rattle.capnp_wire.specs.declared.layout.place.Place.{Place}
 use Rattle.capnp_wire.specs.declared.layout.element.ElementSize.{ElementSize}
 use Rattle.capnp_wire.specs.declared.layout.element.ElementSize.TheVariants.{Void, Bit, Byte, TwoBytes, FourBytes, EightBytes}
@@ -42,7 +42,7 @@ rows_taken (structs d q there) n p rows t = tt
 
 pub rows_accepted : (p : Pointer) (list : StructList) → IsUpgradedStructs p list → Accepts p TakesRows
 rows_accepted p list read =
-    (read.shown.0, read.shown.1, rows_taken read.shown.0.form (length read.shown.0.held) list.pointer_words list.rows read.shown.2.0)
+    (read.shown.0, read.shown.1, rows_taken read.shown.0.form (length read.shown.0.children) list.pointer_words list.rows read.shown.2.0)
 
 -- elements by how many bits they have
 pub one_bit : (size : ElementSize) → width (code_of size) ≡ 1 → size ≡ Bit
@@ -72,9 +72,9 @@ other_than_bits EightBytes other = λ (same : 5 ≡ 1). absurd (omega (arith, sa
 -- a list of the object that was entered, by what the elements are
 upgraded : (p : Pointer) (object : ReadObject) (list : StructList) → IsEntered p object → list.message ≡ p.message → list.nesting ≡ p.nesting - 1 → list.limit ≡ p.limit
     → (let shape = shape_of (words_of object.segment.now) object.start object.body in
-    ReadsAsRows shape.form (length shape.held) list.pointer_words list.rows × (list.held ≡ shape.held)) → IsUpgradedStructs p list
+    ReadsAsRows shape.form (length shape.children) list.pointer_words list.rows × (list.children ≡ shape.children)) → IsUpgradedStructs p list
 upgraded p object list entered message nesting limit reads =
-    let shown = entered_shown p object (λ form held. ReadsAsRows form (length held) list.pointer_words list.rows × (list.held ≡ held)) entered reads in
+    let shown = entered_shown p object (λ form children. ReadsAsRows form (length children) list.pointer_words list.rows × (list.children ≡ children)) entered reads in
     record {
       same_message = message;
       shown = (shown.0, shown.1, (shown.2.0.0, shown.2.0.1, shown.2.1));
@@ -89,7 +89,7 @@ structs_upgraded p object there following list entered body is =
     let words = words_of object.segment.now in
     let wanted = structs_in p object 1 there in
     let fact : Body → Type 0 = λ b. let shape = shape_of words object.start b in
-    ReadsAsRows shape.form (length shape.held) wanted.pointer_words wanted.rows × (wanted.held ≡ shape.held) in
+    ReadsAsRows shape.form (length shape.children) wanted.pointer_words wanted.rows × (wanted.children ≡ shape.children) in
     subst (IsUpgradedStructs p) (sym is) (upgraded p object wanted entered refl refl refl (subst fact (sym body) ((refl, refl), refl)))
 
 -- pointers, and elements of nothing, which have no data words
@@ -111,30 +111,30 @@ nothing_each : (values : List ℕ) → replicate (length values) [] ≡ map (num
 nothing_each [] = refl
 nothing_each (value ∷ values) = ap (λ (rows : List (List ℕ)). [] ∷ rows) (nothing_each values)
 
-pub pointers_upgraded : (p : Pointer) (object : ReadObject) (n : ℕ) (there : Elements) (list : StructList) → IsEntered p object → object.body ≡ Pointers n → there ≡ bare_elements 1 n
+pub pointers_upgraded : (p : Pointer) (object : ReadObject) (n : ℕ) (there : Elements) (list : StructList) → IsEntered p object → object.body ≡ Pointers n → there ≡ elements_without_data 1 n
     → list ≡ structs_in p object 0 there → IsUpgradedStructs p list
 pointers_upgraded p object n there list entered body there_is is =
     let words = words_of object.segment.now in
     let start = object.start in
-    let wanted = structs_in p object 0 (bare_elements 1 n) in
+    let wanted = structs_in p object 0 (elements_without_data 1 n) in
     let fact : Body → Type 0 = λ b. let shape = shape_of words start b in
-    ReadsAsRows shape.form (length shape.held) wanted.pointer_words wanted.rows × (wanted.held ≡ shape.held) in
+    ReadsAsRows shape.form (length shape.children) wanted.pointer_words wanted.rows × (wanted.children ≡ shape.children) in
     let first : start.word + 0 ≡ start.word = omega arith in
     let rows_are : wanted.rows ≡ replicate (length (places start.segment start.word n)) [] =
     no_data words (start.word + 0) 1 n ∙ ap (λ (k : ℕ). replicate k []) (length-places start.segment start.word n) in
-    let held_are : wanted.held ≡ places start.segment start.word n =
+    let children_are : wanted.children ≡ places start.segment start.word n =
     ap (λ (w : ℕ). row_places start.segment w 0 1 n) first ∙ one_pointer_each start.segment start.word n in
     subst (IsUpgradedStructs p) (sym (is ∙ ap (structs_in p object 0) there_is))
-    (upgraded p object wanted entered refl refl refl (subst fact (sym body) ((refl, rows_are), held_are)))
+    (upgraded p object wanted entered refl refl refl (subst fact (sym body) ((refl, rows_are), children_are)))
 
-pub nothings_upgraded : (p : Pointer) (object : ReadObject) (n : ℕ) (there : Elements) (list : StructList) → IsEntered p object → object.body ≡ Numbers Void n → there ≡ bare_elements 0 n
+pub nothings_upgraded : (p : Pointer) (object : ReadObject) (n : ℕ) (there : Elements) (list : StructList) → IsEntered p object → object.body ≡ Numbers Void n → there ≡ elements_without_data 0 n
     → list ≡ structs_in p object 0 there → IsUpgradedStructs p list
 nothings_upgraded p object n there list entered body there_is is =
     let words = words_of object.segment.now in
     let start = object.start in
-    let wanted = structs_in p object 0 (bare_elements 0 n) in
+    let wanted = structs_in p object 0 (elements_without_data 0 n) in
     let fact : Body → Type 0 = λ b. let shape = shape_of words start b in
-    ReadsAsRows shape.form (length shape.held) wanted.pointer_words wanted.rows × (wanted.held ≡ shape.held) in
+    ReadsAsRows shape.form (length shape.children) wanted.pointer_words wanted.rows × (wanted.children ≡ shape.children) in
     let rows_are : wanted.rows ≡ map (number_row 0) (elements words start.word 0 n) =
     no_data words (start.word + 0) 0 n
     ∙ ap (λ (k : ℕ). replicate k []) (sym (length-digits 1 n _))
@@ -149,7 +149,7 @@ pub numbers_upgraded : (p : Pointer) (object : ReadObject) (size : ElementSize) 
       message = p.message;
       rows = map (number_row (code_of size)) values;
       pointer_words = 0;
-      held = [];
+      children = [];
       nesting = p.nesting - 1;
       limit = p.limit;
     } → IsUpgradedStructs p list
@@ -160,12 +160,12 @@ numbers_upgraded p object size n values list entered body no_bits values_are is 
       message = p.message;
       rows = map (number_row (code_of size)) values;
       pointer_words = 0;
-      held = [];
+      children = [];
       nesting = p.nesting - 1;
       limit = p.limit;
     } in
     let fact : Body → Type 0 = λ b. let shape = shape_of words object.start b in
-    ReadsAsRows shape.form (length shape.held) wanted.pointer_words wanted.rows × (wanted.held ≡ shape.held) in
+    ReadsAsRows shape.form (length shape.children) wanted.pointer_words wanted.rows × (wanted.children ≡ shape.children) in
     subst (IsUpgradedStructs p) (sym is)
     (upgraded p object wanted entered refl refl refl (subst fact (sym body) ((no_bits, refl, ap (map (number_row (code_of size))) values_are), refl)))
 

@@ -1,4 +1,4 @@
--- When views are refused.
+-- When views are rejected.
 use Rattle.std.proofs.Common.{◌≡◌, ◌≢◌, ◌⊎◌, ℕ, List, Some, None, Result, Ok, Err, IsOk, IfErr, MatchResult, inl, inr, refl, sym, ◌∙◌, subst}
 use Rattle.std.specs.Result.{IsErrAnd}
 use Rattle.capnp_frame.specs.declared.error.Error.{Error}
@@ -6,9 +6,9 @@ use Rattle.capnp_frame.specs.declared.error.ErrorKind.{ErrorKind}
 use Rattle.capnp_frame.specs.declared.error.ErrorKind.TheVariants.{ReadLimitExceeded, WrongPointerKind, TextNotTerminated}
 use Rattle.capnp_wire.specs.Tree.{Form, null, struct, numbers, pointers, structs}
 use Rattle.capnp_wire.specs.Object.{Shape, PointsTo}
-use Rattle.capnp_wire.specs.Faults.{NoWord, no_segment, past_segment, BadLandingPad, no_landing_pad, far_again, landing_pad_capability, no_tag, not_far, no_content, far_tag, capability_tag, Misfits}
+use Rattle.capnp_wire.specs.Faults.{NoWord, no_segment, past_segment, BadLandingPad, no_landing_pad, far_again, landing_pad_capability, no_tag, not_far, no_content, far_tag, capability_tag, RejectsSize}
 use Rattle.capnp_wire.specs.Faults.{struct_outside, list_outside, structs_outside, odd_tag, many_elements, Fault, no_word, capability, bad_landing_pad, too_deep, no_start, misfits}
-use Rattle.capnp_wire.specs.Views.{Pointer, Struct, IsViewOf, Denotes, nowhere, at_place, Unreadable, IsInvalidPointer, MeetsLimit, Reads, Accepts, Declines, Refuses, IsData}
+use Rattle.capnp_wire.specs.Views.{Pointer, Struct, IsViewOf, Denotes, nowhere, at_place, RejectsReading, IsInvalidPointer, MeetsLimit, Reads, Accepts, Declines, Refuses, IsData}
 use Rattle.capnp_wire.specs.Views.{IsText, HasData, IsStruct, TakesNumbers, TakesText, TakesStruct, DeclinesNumbers, DeclinesText, DeclinesStruct}
 use Rattle.capnp_wire.specs.declared.layout.place.Place.{Place}
 use Rattle.capnp_wire.proofs.objects.ObjectLemmas.{one_object}
@@ -33,7 +33,7 @@ fault_denotes_nothing p place kind s e fault (at_place {place = b} f o deep) =
 invalid_pointer_denotes_nothing : (p : Pointer) (kind : ErrorKind) (s : Shape) → IsInvalidPointer p kind → Denotes p s → ⊥
 invalid_pointer_denotes_nothing p kind s invalid_pointer there = fault_denotes_nothing p invalid_pointer.0 kind s invalid_pointer.1 invalid_pointer.2 there
 
-unreadable_denotes_nothing : (p : Pointer) (kind : ErrorKind) (s : Shape) → Unreadable p kind → p.limit ≡ None → Denotes p s → ⊥
+unreadable_denotes_nothing : (p : Pointer) (kind : ErrorKind) (s : Shape) → RejectsReading p kind → p.limit ≡ None → Denotes p s → ⊥
 unreadable_denotes_nothing p kind s (inl invalid_pointer) free there = invalid_pointer_denotes_nothing p kind s invalid_pointer there
 unreadable_denotes_nothing p kind s (inr met) free there = met.1 free
 
@@ -52,7 +52,7 @@ bad_landing_pad_unlimited m word kind (no_content _ _ _ _ _) = λ is. cc
 bad_landing_pad_unlimited m word kind (far_tag _ _ _ _ _ _) = λ is. cc
 bad_landing_pad_unlimited m word kind (capability_tag _ _ _ _ _ _) = λ is. cc
 
-misfits_unlimited : (words : List ℕ) (start pointer : ℕ) (kind : ErrorKind) → Misfits words start pointer kind → kind ≢ ReadLimitExceeded
+misfits_unlimited : (words : List ℕ) (start pointer : ℕ) (kind : ErrorKind) → RejectsSize words start pointer kind → kind ≢ ReadLimitExceeded
 misfits_unlimited words start pointer kind (struct_outside _ _) = λ is. cc
 misfits_unlimited words start pointer kind (list_outside _ _ _) = λ is. cc
 misfits_unlimited words start pointer kind (structs_outside _ _ _) = λ is. cc
@@ -67,7 +67,7 @@ fault_unlimited m place nesting kind (too_deep _ _) = λ is. cc
 fault_unlimited m place nesting kind (no_start _ _ _) = λ is. cc
 fault_unlimited m place nesting kind (misfits _ _ _ _ misfit) = misfits_unlimited _ _ _ kind misfit
 
-unreadable_unlimited : (p : Pointer) (kind : ErrorKind) → Unreadable p kind → p.limit ≡ None → kind ≢ ReadLimitExceeded
+unreadable_unlimited : (p : Pointer) (kind : ErrorKind) → RejectsReading p kind → p.limit ≡ None → kind ≢ ReadLimitExceeded
 unreadable_unlimited p kind (inl invalid_pointer) free = fault_unlimited p.message invalid_pointer.0 p.nesting kind invalid_pointer.2
 unreadable_unlimited p kind (inr met) free = absurd (met.1 free)
 
@@ -101,7 +101,7 @@ module _ {V : Type 0} (p : Pointer) (takes : Form → Type 0) (declines : Form �
   unlimited (Ok v) returned free = tt
   unlimited (Err e) returned free = refused_unlimited e.kind returned free
 
-  -- where no object stands, by just the one error
+  -- where no object is, by just the one error
   refused_invalid_pointer : (kind other : ErrorKind) → IsInvalidPointer p kind → Refuses p declines other → other ≡ kind
   refused_invalid_pointer kind other invalid_pointer (inl (inl another)) =
       let there : p.place ≡ Some another.0 = another.1 in

@@ -1,29 +1,29 @@
--- Where a walk that tests ends early, that no canonical trees stand there, and that it ends in one way.
+-- Where a walk that tests ends early, that no canonical trees are there, and that it ends in one way.
 use Rattle.std.proofs.Common.{◌≡◌, ℕ, ◌+◌, ◌-◌, ◌^◌, ◌<◌, ◌≤◌, List, [], ◌∷◌, length, Option, Some, slice_get, slice_index_or, refl, sym, ◌∙◌, ap, subst, arith}
 use Rattle.std.specs.Prelude.{All}
 use Rattle.capnp_frame.specs.declared.error.ErrorKind.{ErrorKind}
 use Rattle.capnp_wire.specs.Pointer.{pointer_kind}
-use Rattle.capnp_wire.specs.Tree.{Trees, none, tree, count, own_words, total_words}
-use Rattle.capnp_wire.specs.Trim.{trim_form, trim_held}
+use Rattle.capnp_wire.specs.Tree.{Trees, none, tree, count, object_size, total_words}
+use Rattle.capnp_wire.specs.Trim.{trim_form, trim_children}
 use Rattle.capnp_wire.specs.Object.{Shape}
 use Rattle.capnp_wire.specs.Reached.{At, nowhere, at}
 use Rattle.capnp_wire.specs.Traversed.{less, TreesAt}
 use Rattle.capnp_wire.specs.Faults.{StopsWalk, at_pointer as stops_at, over_limit as stops_over, inside as stops_inside, later as stops_later}
 use Rattle.capnp_wire.specs.Layout.{pointer, slots, HasRoom, placed, Trimmed}
-use Rattle.capnp_wire.specs.Canonical.{Padded, Tidy}
+use Rattle.capnp_wire.specs.Canonical.{Padded, IsInPreorder}
 use Rattle.capnp_wire.specs.Tested.{IsFarAt, IsLaidOut, MeetsObject, Passes, refused, not_canonical, Ends, far, at_pointer, over_limit, elsewhere, inside, later}
 use Rattle.capnp_wire.specs.declared.layout.place.Place.{Place}
 use Rattle.capnp_wire.proofs.objects.ObjectLemmas.{one_object, one_tree}
 use Rattle.capnp_wire.proofs.layouts.SizeLemmas.{Before, slots_before}
-use Rattle.capnp_wire.proofs.forms.TidyLemmas.{tidy_object}
+use Rattle.capnp_wire.proofs.forms.PreorderLemmas.{preorder_object}
 use Rattle.capnp_wire.proofs.trees.StandLemmas.{count_at}
-use Rattle.capnp_wire.proofs.walks.StepLemmas.{tidy_step}
+use Rattle.capnp_wire.proofs.walks.StepLemmas.{preorder_step}
 use Rattle.capnp_wire.proofs.trees.RoomLemmas.{object_room, one_segment}
-use Rattle.capnp_wire.proofs.forms.TightLemmas.{or_there}
-use Rattle.capnp_wire.proofs.layouts.LaidOutLemmas.{word_of, IsPlaced, laid_is_placed, laid_room, tight_is_trimmed}
-use Rattle.capnp_wire.proofs.trees.PlacedLemmas.{pointer_near}
+use Rattle.capnp_wire.proofs.forms.TruncatedLemmas.{or_there}
+use Rattle.capnp_wire.proofs.layouts.LaidOutLemmas.{word_of, IsPlaced, laid_is_placed, laid_room, truncated_is_trimmed}
+use Rattle.capnp_wire.proofs.trees.PlacedLemmas.{pointer_local}
 
--- refusals stop every walk
+-- errors stop every walk
 stand_of : (segment : List ℕ) (places : List Place) (nesting traversed next after : ℕ) (p : Passes segment places nesting traversed next after) → TreesAt (segment ∷ []) places nesting traversed (total_words p.trees)
 stand_of segment places nesting traversed next after p = record { trees = p.trees; stand = p.stand; shallow = p.shallow; words_are = refl }
 
@@ -32,12 +32,12 @@ pub ends_stops : (segment : List ℕ) (places : List Place) (nesting next : ℕ)
 ends_stops segment places nesting next limit kind (at_pointer n f) = stops_at f
 ends_stops segment places nesting next limit kind (over_limit n o d p) = stops_over o d p
 ends_stops segment places nesting next limit kind (inside {shape = s} m l e) =
-    stops_inside m.object m.deep m.within (ends_stops segment s.held (nesting - 1) (next + own_words s.form (length s.held)) (less limit s.traversed) kind e)
+    stops_inside m.object m.deep m.within (ends_stops segment s.children (nesting - 1) (next + object_size s.form (length s.children)) (less limit s.traversed) kind e)
 ends_stops segment places nesting next limit kind (later {place = place} {others = others} {traversed = traversed} {after = after} p w e) =
     stops_later (stand_of segment (place ∷ []) nesting traversed next after p) w (ends_stops segment others nesting after (less limit traversed) kind e)
 
-far_is_not_near : (segment : List ℕ) (place : Place) (tag : ℕ) → IsFarAt segment place → slice_get segment place.word ≡ Some tag → pointer_kind tag < 2 → ⊥
-far_is_not_near segment place tag f there is_near =
+far_is_not_local : (segment : List ℕ) (place : Place) (tag : ℕ) → IsFarAt segment place → slice_get segment place.word ≡ Some tag → pointer_kind tag < 2 → ⊥
+far_is_not_local segment place tag f there is_local =
     let here : slice_index_or segment place.word 0 ≡ f.0 = word_of segment place.segment place.word f.0 f.1 in
     let too : slice_index_or segment place.word 0 ≡ tag = or_there segment place.word tag there in
     let same : f.0 ≡ tag = sym here ∙ too in
@@ -64,61 +64,61 @@ from_first : (P : Place → Type 0) (place : Place) → place.segment ≡ 0 → 
 from_first P place zero_there p = subst (λ (k : ℕ). P (record { segment = k; word = place.word })) (sym zero_there) p
 
 -- what is laid out by its tree is laid out by its tests
-tidy_lays : (segment : List ℕ) (word nesting next inside : ℕ) (limit : Option ℕ) (shape : Shape) (held : Trees) → All (λ w. w < 2 ^ 64) segment
+preorder_lays : (segment : List ℕ) (word nesting next inside : ℕ) (limit : Option ℕ) (shape : Shape) (children : Trees) → All (λ w. w < 2 ^ 64) segment
     → MeetsObject segment (record { segment = 0; word = word }) nesting limit shape
-    → At (segment ∷ []) shape.held held inside → IsPlaced segment word next shape.form (count held) → Padded segment next shape.form
-    → (trim_form shape.form held ≡ shape.form) × (trim_held shape.form held ≡ held)
+    → At (segment ∷ []) shape.children children inside → IsPlaced segment word next shape.form (count children) → Padded segment next shape.form
+    → (trim_form shape.form children ≡ shape.form) × (trim_children shape.form children ≡ children)
     → IsLaidOut segment (record { segment = 0; word = word }) next shape
-tidy_lays segment word nesting next amount limit shape held all meets stand there padded trims =
-    let many : length shape.held ≡ count held = sym (count_at (segment ∷ []) shape.held held amount stand) in
-    let room : HasRoom shape.form (count held) =
+preorder_lays segment word nesting next amount limit shape children all meets stand there padded trims =
+    let many : length shape.children ≡ count children = sym (count_at (segment ∷ []) shape.children children amount stand) in
+    let room : HasRoom shape.form (count children) =
     subst (λ (n : ℕ). HasRoom shape.form n) many (object_room (segment ∷ []) (record { segment = 0; word = word }) shape (one_segment segment all) meets.object) in
     (laid_is_placed segment word nesting next limit shape meets).1
-    (subst (λ (n : ℕ). IsPlaced segment word next shape.form n) (sym many) there, padded, (tight_is_trimmed segment shape.form shape.held held amount stand room).1 trims)
+    (subst (λ (n : ℕ). IsPlaced segment word next shape.form n) (sym many) there, padded, (truncated_is_trimmed segment shape.form shape.children children amount stand room).1 trims)
 
-pub held_before : (segment : List ℕ) (word nesting next : ℕ) (limit : Option ℕ) (shape : Shape) → All (λ w. w < 2 ^ 64) segment → word < next → next ≤ length segment
+pub children_before : (segment : List ℕ) (word nesting next : ℕ) (limit : Option ℕ) (shape : Shape) → All (λ w. w < 2 ^ 64) segment → word < next → next ≤ length segment
     → MeetsObject segment (record { segment = 0; word = word }) nesting limit shape
-    → IsLaidOut segment (record { segment = 0; word = word }) next shape → AllBefore (next + own_words shape.form (length shape.held)) shape.held
-held_before segment word nesting next limit shape all before within meets l =
+    → IsLaidOut segment (record { segment = 0; word = word }) next shape → AllBefore (next + object_size shape.form (length shape.children)) shape.children
+children_before segment word nesting next limit shape all before within meets l =
     let t = (laid_is_placed segment word nesting next limit shape meets).0 l in
-    let room : HasRoom shape.form (length shape.held) = object_room (segment ∷ []) (record { segment = 0; word = word }) shape (one_segment segment all) meets.object in
-    let exact = tidy_object segment word next shape.form shape.held shape.traversed before within room t.0.0 t.0.1 t.1 meets.object in
-    subst (λ (l : List Place). AllBefore (next + own_words shape.form (length shape.held)) l) (sym exact.held_is)
-    (before_placed next (own_words shape.form (length shape.held)) (slots shape.form (length shape.held)) (slots_before shape.form (length shape.held) room))
+    let room : HasRoom shape.form (length shape.children) = object_room (segment ∷ []) (record { segment = 0; word = word }) shape (one_segment segment all) meets.object in
+    let exact = preorder_object segment word next shape.form shape.children shape.traversed before within room t.0.0 t.0.1 t.1 meets.object in
+    subst (λ (l : List Place). AllBefore (next + object_size shape.form (length shape.children)) l) (sym exact.children_is)
+    (before_placed next (object_size shape.form (length shape.children)) (slots shape.form (length shape.children)) (slots_before shape.form (length shape.children) room))
 
--- where a walk ends that is not refused, no trees stand as the canonical form has them
+-- where a walk ends that is not rejected, no trees are as the canonical form has them
 pub ends_not : (segment : List ℕ) (places : List Place) (nesting next : ℕ) (limit : Option ℕ) (trees : Trees) (traversed : ℕ) → All (λ w. w < 2 ^ 64) segment
-    → Ends segment places nesting limit next not_canonical → At (segment ∷ []) places trees traversed → AllBefore next places → next ≤ length segment → Tidy segment places next trees → Trimmed trees → ⊥
-ends_not segment places nesting next limit trees traversed all (far {place = place} f) (at {shape = s} {held = h} o inner tail) before within tidy trimmed =
-    far_is_not_near segment place (pointer s.form (count h) (next - (place.word + 1))) f tidy.0 (pointer_near s.form (count h) (next - (place.word + 1)))
-ends_not segment places nesting next limit trees traversed all (elsewhere {place = place} {shape = shape} meets not_laid) (at {shape = s} {held = h} {inside = i} o inner tail) before within tidy trimmed =
+    → Ends segment places nesting limit next not_canonical → At (segment ∷ []) places trees traversed → AllBefore next places → next ≤ length segment → IsInPreorder segment places next trees → Trimmed trees → ⊥
+ends_not segment places nesting next limit trees traversed all (far {place = place} f) (at {shape = s} {children = h} o inner tail) before within in_preorder trimmed =
+    far_is_not_local segment place (pointer s.form (count h) (next - (place.word + 1))) f in_preorder.0 (pointer_local s.form (count h) (next - (place.word + 1)))
+ends_not segment places nesting next limit trees traversed all (elsewhere {place = place} {shape = shape} meets not_laid) (at {shape = s} {children = h} {inside = i} o inner tail) before within in_preorder trimmed =
     let same : s ≡ shape = one_object (segment ∷ []) place s shape o meets.object in
-    let stand : At (segment ∷ []) shape.held h i = subst (λ (x : Shape). At (segment ∷ []) x.held h i) same inner in
-    let there : IsPlaced segment place.word next shape.form (count h) = subst (λ (x : Shape). IsPlaced segment place.word next x.form (count h)) same (tidy.0, tidy.1) in
-    let padded : Padded segment next shape.form = subst (λ (x : Shape). Padded segment next x.form) same tidy.2 in
-    let trims : (trim_form shape.form h ≡ shape.form) × (trim_held shape.form h ≡ h) =
-    subst (λ (x : Shape). (trim_form x.form h ≡ x.form) × (trim_held x.form h ≡ h)) same (trimmed.0.0, trimmed.0.1) in
-    let laid = tidy_lays segment place.word nesting next i limit shape h all (in_first (λ (x : Place). MeetsObject segment x nesting limit shape) place before.0 meets) stand there padded trims in
+    let stand : At (segment ∷ []) shape.children h i = subst (λ (x : Shape). At (segment ∷ []) x.children h i) same inner in
+    let there : IsPlaced segment place.word next shape.form (count h) = subst (λ (x : Shape). IsPlaced segment place.word next x.form (count h)) same (in_preorder.0, in_preorder.1) in
+    let padded : Padded segment next shape.form = subst (λ (x : Shape). Padded segment next x.form) same in_preorder.2 in
+    let trims : (trim_form shape.form h ≡ shape.form) × (trim_children shape.form h ≡ h) =
+    subst (λ (x : Shape). (trim_form x.form h ≡ x.form) × (trim_children x.form h ≡ h)) same (trimmed.0.0, trimmed.0.1) in
+    let laid = preorder_lays segment place.word nesting next i limit shape h all (in_first (λ (x : Place). MeetsObject segment x nesting limit shape) place before.0 meets) stand there padded trims in
     not_laid (from_first (λ (x : Place). IsLaidOut segment x next shape) place before.0 laid)
 ends_not segment places nesting next limit trees traversed all (inside {place = place} {others = others} {shape = shape} meets laid e)
-    (at {shape = s} {held = h} {rest = r} {inside = i} o inner tail) before within tidy trimmed =
+    (at {shape = s} {children = h} {rest = r} {inside = i} o inner tail) before within in_preorder trimmed =
     let same : s ≡ shape = one_object (segment ∷ []) place s shape o meets.object in
-    let stand : At (segment ∷ []) shape.held h i = subst (λ (x : Shape). At (segment ∷ []) x.held h i) same inner in
-    let many : count h ≡ length shape.held = count_at (segment ∷ []) shape.held h i stand in
+    let stand : At (segment ∷ []) shape.children h i = subst (λ (x : Shape). At (segment ∷ []) x.children h i) same inner in
+    let many : count h ≡ length shape.children = count_at (segment ∷ []) shape.children h i stand in
     let meets_first = in_first (λ (x : Place). MeetsObject segment x nesting limit shape) place before.0 meets in
     let laid_first = in_first (λ (x : Place). IsLaidOut segment x next shape) place before.0 laid in
-    let tidy_first : Tidy segment (record { segment = 0; word = place.word } ∷ others) next (tree shape.form h r) =
-    in_first (λ (x : Place). Tidy segment (x ∷ others) next (tree shape.form h r)) place before.0 (subst (λ (x : Shape). Tidy segment (place ∷ others) next (tree x.form h r)) same tidy) in
-    let steps = (tidy_step segment place.word next shape.held others shape.form h r shape.traversed i all meets_first.object stand before.1 within).0 tidy_first in
-    let held_tidy : Tidy segment shape.held (next + own_words shape.form (length shape.held)) h = subst (λ (n : ℕ). Tidy segment shape.held (next + own_words shape.form n) h) many steps.3 in
-    ends_not segment shape.held (nesting - 1) (next + own_words shape.form (length shape.held)) (less limit shape.traversed) h i all e stand
-    (held_before segment place.word nesting next limit shape all before.1 within meets_first laid_first)
-    (laid_room segment place.word nesting next limit shape meets_first laid_first before.1 within) held_tidy trimmed.0.2
+    let preorder_first : IsInPreorder segment (record { segment = 0; word = place.word } ∷ others) next (tree shape.form h r) =
+    in_first (λ (x : Place). IsInPreorder segment (x ∷ others) next (tree shape.form h r)) place before.0 (subst (λ (x : Shape). IsInPreorder segment (place ∷ others) next (tree x.form h r)) same in_preorder) in
+    let steps = (preorder_step segment place.word next shape.children others shape.form h r shape.traversed i all meets_first.object stand before.1 within).0 preorder_first in
+    let children_preorder : IsInPreorder segment shape.children (next + object_size shape.form (length shape.children)) h = subst (λ (n : ℕ). IsInPreorder segment shape.children (next + object_size shape.form n) h) many steps.3 in
+    ends_not segment shape.children (nesting - 1) (next + object_size shape.form (length shape.children)) (less limit shape.traversed) h i all e stand
+    (children_before segment place.word nesting next limit shape all before.1 within meets_first laid_first)
+    (laid_room segment place.word nesting next limit shape meets_first laid_first before.1 within) children_preorder trimmed.0.2
 ends_not segment places nesting next limit trees traversed all (later {place = place} {others = others} {traversed = own} {after = after} p w e)
-    (at {shape = s} {held = h} {rest = r} {inside = i} {following = n} o inner tail) before within tidy trimmed =
+    (at {shape = s} {children = h} {rest = r} {inside = i} {following = n} o inner tail) before within in_preorder trimmed =
     let one : At (segment ∷ []) (place ∷ []) (tree s.form h none) (s.traversed + i + 0) = at o inner nowhere in
     let same = one_tree (segment ∷ []) (place ∷ []) p.trees (tree s.form h none) own (s.traversed + i + 0) p.stand one in
     let words : total_words p.trees ≡ total_words (tree s.form h none) = ap total_words same.0 in
-    let is : next + own_words s.form (count h) + total_words h ≡ after = omega (arith, p.after_is, words) in
+    let is : next + object_size s.form (count h) + total_words h ≡ after = omega (arith, p.after_is, words) in
     ends_not segment others nesting after (less limit own) r n all e tail (before_later next after others (omega arith) before.2) p.room
-    (subst (λ (k : ℕ). Tidy segment others k r) is tidy.4) trimmed.1
+    (subst (λ (k : ℕ). IsInPreorder segment others k r) is in_preorder.4) trimmed.1

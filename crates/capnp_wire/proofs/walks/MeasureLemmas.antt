@@ -8,7 +8,7 @@ use Rattle.capnp_frame.specs.declared.error.ErrorKind.TheVariants.{AllocationToo
 use Rattle.capnp_wire.specs.Tree.{total_words}
 use Rattle.capnp_wire.specs.Traversed.{Within, TreesAt, TreesWithRoom, Walked}
 use Rattle.capnp_wire.specs.Faults.{StopsWalk}
-use Rattle.capnp_wire.specs.Views.{Pointer, Measures, Unmeasured}
+use Rattle.capnp_wire.specs.Views.{Pointer, Measures, RejectsMeasuring}
 use Rattle.capnp_wire.specs.declared.layout.place.Place.{Place}
 use Rattle.capnp_wire.specs.declared.message_size.MessageSize.{MessageSize}
 use Rattle.capnp_wire.proofs.objects.ObjectLemmas.{one_tree}
@@ -43,12 +43,12 @@ walk_measures p place words left e w =
     measures_at p place words w.traversed e (subst (λ (n : ℕ). TreesAt p.message (place ∷ []) p.nesting w.traversed n) same (as_stood p.message place p.nesting w.traversed w.words w.stand)) w.within
 
 pub walk_overflows : (p : Pointer) (place : Place) (left : Option ℕ) (kind : ErrorKind) → p.place ≡ Some place → Walked p.message false place p.nesting p.limit left (Some 0) None
-    → kind ≡ AllocationTooLarge (2 ^ 32 - 1) → Unmeasured p kind
+    → kind ≡ AllocationTooLarge (2 ^ 32 - 1) → RejectsMeasuring p kind
 walk_overflows p place left kind e w is =
     let counted : 2 ^ 64 ≤ 0 + w.words = w.counted 0 refl in
     (place, e, inr (w.words, measures_at p place w.words w.traversed e (as_stood p.message place p.nesting w.traversed w.words w.stand) w.within, omega arith, is))
 
-pub walk_stops : (p : Pointer) (place : Place) (kind : ErrorKind) → p.place ≡ Some place → StopsWalk p.message (place ∷ []) p.nesting p.limit kind → Unmeasured p kind
+pub walk_stops : (p : Pointer) (place : Place) (kind : ErrorKind) → p.place ≡ Some place → StopsWalk p.message (place ∷ []) p.nesting p.limit kind → RejectsMeasuring p kind
 walk_stops p place kind e stops = (place, e, inl stops)
 
 same_words : (p : Pointer) (place : Place) (v w : ℕ) → p.place ≡ Some place → Measures p v → Measures p w → v ≡ w
@@ -70,7 +70,7 @@ stops_or_measures p place words kind e m small (inr large) =
     let same : words ≡ large.0 = same_words p place words large.0 e m large.1 in
     omega (arith, large.2)
 
-pub measured_is_ok : {V : Type 0} (p : Pointer) (shows : V → Type 0) (r : Result V Error) → MatchResult r shows (λ e. Unmeasured p e.kind)
+pub measured_is_ok : {V : Type 0} (p : Pointer) (shows : V → Type 0) (r : Result V Error) → MatchResult r shows (λ e. RejectsMeasuring p e.kind)
     → (words : ℕ) → Measures p words → words < 2 ^ 64 → IsOk r
 measured_is_ok p shows (Ok v) found words m small = refl
 measured_is_ok p shows (Err e) refused words m small = absurd (stops_or_measures p refused.0 words e.kind refused.1 m small refused.2)
@@ -84,7 +84,7 @@ one_way_to_stop p place a b e (inl stops) (inr large) = absurd (stops_unmeasured
 one_way_to_stop p place a b e (inr large) (inl stops) = absurd (stops_unmeasured p place large.0 b e large.1 stops)
 one_way_to_stop p place a b e (inr large) (inr others) = large.3 ∙ sym others.3
 
-one_unmeasured : (p : Pointer) (a b : ErrorKind) → Unmeasured p a → Unmeasured p b → a ≡ b
+one_unmeasured : (p : Pointer) (a b : ErrorKind) → RejectsMeasuring p a → RejectsMeasuring p b → a ≡ b
 one_unmeasured p a b x y =
     let there = x.1 in
     let there_too = y.1 in
@@ -92,7 +92,7 @@ one_unmeasured p a b x y =
     one_way_to_stop p x.0 a b x.1 x.2
     (subst (λ (place : Place). StopsWalk p.message (place ∷ []) p.nesting p.limit b ⊎ ((n : ℕ) × Measures p n × (2 ^ 64 ≤ n) × (b ≡ AllocationTooLarge (2 ^ 32 - 1)))) same y.2)
 
-pub unmeasured_is_err : (p : Pointer) (r : Result MessageSize Error) → MatchResult r (λ size. Measures p size.word_count × (size.cap_count ≡ 0)) (λ e. Unmeasured p e.kind)
-    → IfOk r (λ size. size.word_count < 2 ^ 64) → (kind : ErrorKind) → Unmeasured p kind → IsErrAnd r (λ e. e.kind ≡ kind)
+pub unmeasured_is_err : (p : Pointer) (r : Result MessageSize Error) → MatchResult r (λ size. Measures p size.word_count × (size.cap_count ≡ 0)) (λ e. RejectsMeasuring p e.kind)
+    → IfOk r (λ size. size.word_count < 2 ^ 64) → (kind : ErrorKind) → RejectsMeasuring p kind → IsErrAnd r (λ e. e.kind ≡ kind)
 unmeasured_is_err p (Ok size) found small kind is = absurd (stops_or_measures p is.0 size.word_count kind is.1 found.0 small is.2)
 unmeasured_is_err p (Err e) refused small kind is = one_unmeasured p e.kind kind refused is

@@ -12,15 +12,15 @@ use Rattle.capnp_wire.specs.Rows.{places_in, end_of}
 use Rattle.capnp_wire.specs.Faults.{NoWord, Fault, no_word}
 use Rattle.capnp_wire.specs.Layout.{minus_one}
 use Rattle.capnp_wire.specs.Landing.{IsObject, shape_of, words_in}
-use Rattle.capnp_wire.specs.Tested.{IsFarAt, LeadsTo, NextOf, PaddedOf, IsTight, links_at, IsLaidOut, MeetsObject, MeetsPointers, Ends, refused, at_pointer, over_limit}
+use Rattle.capnp_wire.specs.Tested.{IsFarAt, LeadsTo, NextOf, PaddedOf, IsTruncated, links_at, IsLaidOut, MeetsObject, MeetsPointers, Ends, refused, at_pointer, over_limit}
 use Rattle.capnp_wire.specs.declared.layout.place.Place.{Place}
-use Rattle.capnp_wire.specs.declared.layout.rows.PointerRows.{PointerRows}
+use Rattle.capnp_wire.specs.declared.layout.pointer_slots.PointerSlots.{PointerSlots}
 use Rattle.capnp_wire.specs.declared.layout.object.Body.{Body}
 use Rattle.capnp_wire.specs.declared.layout.object.Body.TheVariants.{Struct, Numbers, Pointers, Structs}
 use Rattle.capnp_wire.specs.declared.layout.object.Object.{Object as ReadObject}
 use Rattle.capnp_wire.proofs.pointers.FaultLemmas.{no_word_there}
 use Rattle.capnp_wire.proofs.pointers.NextLemmas.{lead_start}
-use Rattle.capnp_wire.proofs.objects.ReadNearLemmas.{ReadNear, read_near, read_room, shape_as, laid_out_is}
+use Rattle.capnp_wire.proofs.objects.ReadLocalLemmas.{ReadLocal, read_local, read_room, shape_as, laid_out_is}
 use Rattle.capnp_wire.proofs.objects.OwnWordLemmas.{own_words_are}
 
 body_some : (segment : List ℕ) (start : Place) (body : Body) → is_null (shape_of segment start body).form ≡ false
@@ -38,7 +38,7 @@ not_far_at segment word pointer there not_far f =
 -- what is read of it
 pub record Met (segment : List ℕ) (word nesting next pointer : ℕ) (limit : Option ℕ) (object : ReadObject) : Type 0 where
   pub there : slice_get segment word ≡ Some pointer
-  pub near : ReadNear segment word pointer object
+  pub local : ReadLocal segment word pointer object
   pub deep : 0 < nesting
   pub meets : Within limit object.traversed → MeetsObject segment (record { segment = 0; word = word }) nesting limit (shape_as segment object)
 
@@ -47,10 +47,10 @@ pub met : (segment : List ℕ) (m : List (List ℕ)) (word nesting next pointer 
     → Met segment word nesting next pointer limit object
 met segment m word nesting next pointer limit object one found long there not_far deep =
     let here : slice_get segment word ≡ Some pointer = subst (λ (x : List (List ℕ)). word_at x (record { segment = 0; word = word }) ≡ Some pointer) one there in
-    let r = read_near segment word pointer object (subst (λ (x : List (List ℕ)). IsObject x (record { segment = 0; word = word }) object) one found) long here not_far in
+    let r = read_local segment word pointer object (subst (λ (x : List (List ℕ)). IsObject x (record { segment = 0; word = word }) object) one found) long here not_far in
     record {
       there = here;
-      near = r;
+      local = r;
       deep = deep;
       meets = λ within. record {
         object = r.object_is;
@@ -64,13 +64,13 @@ met segment m word nesting next pointer limit object one found long there not_fa
 -- its tests, done on its own segment
 tests_as : {segment : List ℕ} {word nesting next pointer : ℕ} {limit : Option ℕ} {object : ReadObject} → Met segment word nesting next pointer limit object → word < next
     → (NextOf pointer word next object.body × PaddedOf segment next object.body
-    × IsTight (shape_of (words_of object.segment.now) object.start object.body).form (links_at (words_of object.segment.now) (shape_of (words_of object.segment.now) object.start object.body).held))
+    × IsTruncated (shape_of (words_of object.segment.now) object.start object.body).form (links_at (words_of object.segment.now) (shape_of (words_of object.segment.now) object.start object.body).children))
     ↔ IsLaidOut segment (record { segment = 0; word = word }) next (shape_as segment object)
 tests_as {segment} {word} {nesting} {next} {pointer} {limit} {object} m before =
-    let e = laid_out_is segment word pointer next object m.near before m.there in
-    let tight : List ℕ → Type 0 = λ l. IsTight (shape_of l object.start object.body).form (links_at l (shape_of l object.start object.body).held) in (
-      λ t. e.0 (t.0, t.1, subst tight m.near.content t.2),
-      λ l. let t = e.1 l in (t.0, t.1, subst tight (sym m.near.content) t.2),
+    let e = laid_out_is segment word pointer next object m.local before m.there in
+    let truncated : List ℕ → Type 0 = λ l. IsTruncated (shape_of l object.start object.body).form (links_at l (shape_of l object.start object.body).children) in (
+      λ t. e.0 (t.0, t.1, subst truncated m.local.content t.2),
+      λ l. let t = e.1 l in (t.0, t.1, subst truncated (sym m.local.content) t.2),
     )
 
 -- what the test of these returns says of it, where the segment has a given number of words
@@ -79,11 +79,11 @@ pub tests_say : {segment : List ℕ} {word nesting next pointer there : ℕ} {li
     → word < next → next ≤ there → length segment ≡ there
     → ((NextOf pointer word next object.body → next + words_in object.body ≤ there)
     → IsTrue returned ↔ (NextOf pointer word next object.body × PaddedOf segment next object.body
-    × IsTight (shape_of (words_of object.segment.now) object.start object.body).form (links_at (words_of object.segment.now) (shape_of (words_of object.segment.now) object.start object.body).held)))
+    × IsTruncated (shape_of (words_of object.segment.now) object.start object.body).form (links_at (words_of object.segment.now) (shape_of (words_of object.segment.now) object.start object.body).children)))
     → IsTrue returned ↔ IsLaidOut segment (record { segment = 0; word = word }) next (shape_as segment object)
 tests_say {segment} {word} {nesting} {next} {pointer} {there} {limit} {object} returned m before within long said =
     let inside : next ≤ length segment = omega (arith, within, long) in
-    let tests = said (λ is. omega (arith, long, read_room segment word pointer next object m.near before inside is)) in
+    let tests = said (λ is. omega (arith, long, read_room segment word pointer next object m.local before inside is)) in
     let laid = tests_as m before in
     (λ yes. laid.0 (tests.0 yes), λ is. tests.1 (laid.1 is))
 
@@ -109,35 +109,35 @@ met_end : {segment : List ℕ} {word nesting next pointer : ℕ} {limit : Option
     → NextOf pointer word next object.body
     → object.start.word + words_in object.body ≤ next + words_in object.body
 met_end {segment} {word} {nesting} {next} {pointer} {limit} {object} m before is =
-    let start = start_of object.body word next pointer object.start.word before m.near.target is in
+    let start = start_of object.body word next pointer object.start.word before m.local.target is in
     omega arith
 
--- it stands as the canonical form has it, and its pointers are to be tested yet
-pub met_pointers : {segment : List ℕ} {word nesting next pointer : ℕ} {limit : Option ℕ} {object : ReadObject} (left : Option ℕ) (more : ℕ) (pointers : PointerRows)
+-- it is as the canonical form has it, and its pointers are to be tested yet
+pub met_pointers : {segment : List ℕ} {word nesting next pointer : ℕ} {limit : Option ℕ} {object : ReadObject} (left : Option ℕ) (more : ℕ) (pointers : PointerSlots)
     → Met segment word nesting next pointer limit object → word < next → next ≤ length segment
     → IsLaidOut segment (record { segment = 0; word = word }) next (shape_as segment object)
     → Within limit object.traversed → left ≡ less limit object.traversed → more ≡ words_in object.body
-    → places_in pointers ≡ (shape_of (words_of object.segment.now) object.start object.body).held → pointers.next.segment ≡ object.start.segment
+    → places_in pointers ≡ (shape_of (words_of object.segment.now) object.start object.body).children → pointers.next.segment ≡ object.start.segment
     → end_of pointers ≤ object.start.word + words_in object.body
     → MeetsPointers segment (record { segment = 0; word = word }) nesting limit left next (next + more) pointers
 met_pointers {segment} {word} {nesting} {next} {pointer} {limit} {object} left more pointers m before within laid fits left_is more_is places_are first end =
     let passed = (tests_as m before).1 laid in
-    let room = read_room segment word pointer next object m.near before within passed.0 in
+    let room = read_room segment word pointer next object m.local before within passed.0 in
     let ends = met_end m before passed.0 in
-    let own = own_words_are segment object.start object.body m.near.room in
+    let own = own_words_are segment object.start object.body m.local.room in
     record {
       shape = shape_as segment object;
       meets = m.meets fits;
       laid_out = laid;
-      all = places_are ∙ ap (λ (l : List ℕ). (shape_of l object.start object.body).held) m.near.content;
-      first = first ∙ m.near.number;
+      all = places_are ∙ ap (λ (l : List ℕ). (shape_of l object.start object.body).children) m.local.content;
+      first = first ∙ m.local.number;
       before = omega (arith, end, ends, more_is);
       left_is = left_is;
       after_is = omega (arith, own, more_is);
       room = omega (arith, room, more_is);
     }
 
--- refusals
+-- errors
 pub no_word_ends : (segment : List ℕ) (m : List (List ℕ)) (word nesting next : ℕ) (limit : Option ℕ) (kind : ErrorKind) → m ≡ segment ∷ [] → NoWord m (record { segment = 0; word = word }) kind
     → Ends segment (record { segment = 0; word = word } ∷ []) nesting limit next (refused kind)
 no_word_ends segment m word nesting next limit kind one none =
@@ -156,6 +156,6 @@ pub limit_ends : {segment : List ℕ} {word nesting next pointer : ℕ} {limit :
     → Exceeds limit object.traversed → kind ≡ ReadLimitExceeded → Ends segment (record { segment = 0; word = word } ∷ []) nesting limit next (refused kind)
 limit_ends {segment} {word} {nesting} {next} {pointer} {limit} {object} kind m not_far deep past is =
     let there : Ends segment (record { segment = 0; word = word } ∷ []) nesting (Some past.0) next (refused ReadLimitExceeded) =
-    over_limit (not_far_at segment word pointer m.there not_far) m.near.object_is deep past.2 in
+    over_limit (not_far_at segment word pointer m.there not_far) m.local.object_is deep past.2 in
     subst (λ (l : Option ℕ). Ends segment (record { segment = 0; word = word } ∷ []) nesting l next (refused kind)) (sym past.1)
     (subst (λ (k : ErrorKind). Ends segment (record { segment = 0; word = word } ∷ []) nesting (Some past.0) next (refused k)) (sym is) there)

@@ -2,7 +2,7 @@
 use Rattle.std.proofs.Common.{◌≡◌, ℕ, ◌+◌, ◌-◌, ◌^◌, ◌<◌, ◌≤◌, List, [], ◌∷◌, length, Option, Some, sym, ◌∙◌, ap, subst, arith}
 use Rattle.std.specs.Prelude.{All}
 use Rattle.capnp_frame.specs.declared.error.ErrorKind.{ErrorKind}
-use Rattle.capnp_wire.specs.Tree.{own_words, total_words}
+use Rattle.capnp_wire.specs.Tree.{object_size, total_words}
 use Rattle.capnp_wire.specs.Object.{Shape}
 use Rattle.capnp_wire.specs.Traversed.{Within, less}
 use Rattle.capnp_wire.specs.Tested.{IsLaidOut, MeetsObject, Passes, refused, not_canonical, Ends, far, at_pointer, over_limit, elsewhere, inside, later}
@@ -11,9 +11,9 @@ use Rattle.capnp_wire.proofs.objects.ObjectLemmas.{one_object, one_tree}
 use Rattle.capnp_wire.proofs.pointers.FaultLemmas.{refused_has_no_object}
 use Rattle.capnp_wire.proofs.walks.StopLemmas.{stops_has_no_trees, one_stop}
 use Rattle.capnp_wire.proofs.layouts.LaidOutLemmas.{laid_room}
-use Rattle.capnp_wire.proofs.walks.EndLemmas.{AllBefore, ends_stops, ends_not, held_before, before_later, in_first}
+use Rattle.capnp_wire.proofs.walks.EndLemmas.{AllBefore, ends_stops, ends_not, children_before, before_later, in_first}
 
--- a walk that is refused does not pass
+-- a walk that is rejected does not pass
 pub refused_passes : (segment : List ℕ) (places : List Place) (nesting traversed next start after : ℕ) (limit : Option ℕ) (kind : ErrorKind) → Ends segment places nesting limit next (refused kind)
     → Passes segment places nesting traversed start after → Within limit traversed → ⊥
 refused_passes segment places nesting traversed next start after limit kind ends p fits =
@@ -23,7 +23,7 @@ refused_passes segment places nesting traversed next start after limit kind ends
 pub not_passes : (segment : List ℕ) (places : List Place) (nesting traversed next after : ℕ) (limit : Option ℕ) → All (λ w. w < 2 ^ 64) segment → AllBefore next places → next ≤ length segment
     → Ends segment places nesting limit next not_canonical → Passes segment places nesting traversed next after → ⊥
 not_passes segment places nesting traversed next after limit all before within ends p =
-    ends_not segment places nesting next limit p.trees traversed all ends p.stand before within p.tidy p.trimmed
+    ends_not segment places nesting next limit p.trees traversed all ends p.stand before within p.in_preorder p.trimmed
 
 within_or_past : (most traversed : ℕ) → most < traversed → Within (Some most) traversed → ⊥
 within_or_past most traversed past fits = omega arith
@@ -52,12 +52,12 @@ one_way_to_end segment places nesting next limit kind all before within (inside 
     not_laid (subst (λ (x : Shape). IsLaidOut segment place next x) same laid)
 one_way_to_end segment places nesting next limit kind all before within (inside {place = place} {shape = s} meets laid e) (inside {shape = t} others laid_too f) =
     let same : t ≡ s = one_object (segment ∷ []) place t s others.object meets.object in
-    let there : Ends segment s.held (nesting - 1) (less limit s.traversed) (next + own_words s.form (length s.held)) not_canonical =
-    subst (λ (x : Shape). Ends segment x.held (nesting - 1) (less limit x.traversed) (next + own_words x.form (length x.held)) not_canonical) same f in
+    let there : Ends segment s.children (nesting - 1) (less limit s.traversed) (next + object_size s.form (length s.children)) not_canonical =
+    subst (λ (x : Shape). Ends segment x.children (nesting - 1) (less limit x.traversed) (next + object_size x.form (length x.children)) not_canonical) same f in
     let meets_first = in_first (λ (x : Place). MeetsObject segment x nesting limit s) place before.0 meets in
     let laid_first = in_first (λ (x : Place). IsLaidOut segment x next s) place before.0 laid in
-    one_way_to_end segment s.held (nesting - 1) (next + own_words s.form (length s.held)) (less limit s.traversed) kind all
-    (held_before segment place.word nesting next limit s all before.1 within meets_first laid_first)
+    one_way_to_end segment s.children (nesting - 1) (next + object_size s.form (length s.children)) (less limit s.traversed) kind all
+    (children_before segment place.word nesting next limit s all before.1 within meets_first laid_first)
     (laid_room segment place.word nesting next limit s meets_first laid_first before.1 within) e there
 one_way_to_end segment places nesting next limit kind all before within (inside {place = place} meets laid e) (later {traversed = traversed} {after = after} p w f) =
     refused_passes segment (place ∷ []) nesting traversed next next after limit kind (inside meets laid e) p w
@@ -74,7 +74,7 @@ one_way_to_end segment places nesting next limit kind all before within (later {
     subst (λ (k : ℕ). Ends segment others nesting (less limit x) k not_canonical) ends_same (subst (λ (k : ℕ). Ends segment others nesting (less limit k) end not_canonical) same.1 f) in
     one_way_to_end segment others nesting after (less limit x) kind all (before_later next after others (omega (arith, p.after_is)) before.2) p.room e there
 
--- one refusal alone
+-- one error alone
 pub one_refusal_ends : (segment : List ℕ) (places : List Place) (nesting next : ℕ) (limit : Option ℕ) (a b : ErrorKind) → Ends segment places nesting limit next (refused a)
     → Ends segment places nesting limit next (refused b) → a ≡ b
 one_refusal_ends segment places nesting next limit a b x y =

@@ -2,47 +2,47 @@
 use Rattle.std.proofs.Common.{◌≡◌, ◌≢◌, Bool, ℕ, ◌+◌, ◌-◌, List, [], ◌∷◌, ◌++◌, length, slice_get, Option, refl, ◌∙◌, ap, arith, length-append}
 use Rattle.capnp_frame.specs.declared.error.ErrorKind.{ErrorKind}
 use Rattle.capnp_wire.specs.Object.{places}
-use Rattle.capnp_wire.specs.Near.{near_struct_of}
+use Rattle.capnp_wire.specs.Local.{local_struct_of}
 use Rattle.capnp_wire.specs.Traversed.{EntersObject, EntersRun, Walked, WalkedAll, WalkedTo}
 use Rattle.capnp_wire.specs.Faults.{StopsWalk}
 use Rattle.capnp_wire.specs.Rows.{places_in}
 use Rattle.capnp_wire.specs.declared.layout.place.Place.{Place}
-use Rattle.capnp_wire.specs.declared.layout.rows.PointerRows.{PointerRows}
-use Rattle.capnp_wire.specs.declared.layout.near.NearStruct.{NearStruct}
+use Rattle.capnp_wire.specs.declared.layout.pointer_slots.PointerSlots.{PointerSlots}
+use Rattle.capnp_wire.specs.declared.layout.fast_path.LocalStruct.{LocalStruct}
 use Rattle.capnp_wire.specs.declared.layout.pointer_run.PointerRun.{PointerRun}
 use Rattle.capnp_wire.proofs.walks.ProgressLemmas.{Progress, Going, entered, progress_front, progress_over, progress_next, progress_stops, walk_over, walk_stops_inside}
 
 -- a struct that is entered holds its pointers
-pub struct_holds : {m : List (List ℕ)} {c : Bool} {place : Place} {nesting : ℕ} {limit left counted_then counted_now : Option ℕ} (found : NearStruct) (held : PointerRun)
-    → EntersObject m c place (near_struct_of found) nesting limit left counted_then counted_now
-    → held.segment.now ≡ found.segment.now → held.first.word ≡ found.start.word + found.size.data_words → held.first.segment ≡ found.start.segment → held.count ≡ found.size.pointers
-    → EntersRun m c place held nesting limit left counted_then counted_now
-struct_holds found held enters same word_is segment_is count_is = record {
-  object = near_struct_of found;
+pub struct_holds : {m : List (List ℕ)} {c : Bool} {place : Place} {nesting : ℕ} {limit left counted_then counted_now : Option ℕ} (found : LocalStruct) (children : PointerRun)
+    → EntersObject m c place (local_struct_of found) nesting limit left counted_then counted_now
+    → children.segment.now ≡ found.segment.now → children.first.word ≡ found.start.word + found.size.data_words → children.first.segment ≡ found.start.segment → children.count ≡ found.size.pointers
+    → EntersRun m c place children nesting limit left counted_then counted_now
+struct_holds found children enters same word_is segment_is count_is = record {
+  object = local_struct_of found;
   enters = enters;
-  held_are = rw (word_is, segment_is, count_is) refl;
+  children_are = rw (word_is, segment_is, count_is) refl;
   content = rw (segment_is, same) enters.there.content;
 }
 
 -- what is walked over below it, or where that stops
-pub run_walked : {m : List (List ℕ)} {c : Bool} {place : Place} {held : PointerRun} {pointers : List Place} {nesting : ℕ} {limit mid after counted_then counted_mid counted_after : Option ℕ}
-    → EntersRun m c place held nesting limit mid counted_then counted_mid → pointers ≡ places held.first.segment held.first.word held.count
+pub run_walked : {m : List (List ℕ)} {c : Bool} {place : Place} {children : PointerRun} {pointers : List Place} {nesting : ℕ} {limit mid after counted_then counted_mid counted_after : Option ℕ}
+    → EntersRun m c place children nesting limit mid counted_then counted_mid → pointers ≡ places children.first.segment children.first.word children.count
     → WalkedAll m c pointers (nesting - 1) mid after counted_mid counted_after → Walked m c place nesting limit after counted_then counted_after
-run_walked e all walked = walk_over (entered e.enters) (all ∙ e.held_are) walked
+run_walked e all walked = walk_over (entered e.enters) (all ∙ e.children_are) walked
 
-pub run_stops : {m : List (List ℕ)} {c : Bool} {place : Place} {held : PointerRun} {pointers : List Place} {nesting : ℕ} {limit mid counted_then counted_mid : Option ℕ} {kind : ErrorKind}
-    → EntersRun m c place held nesting limit mid counted_then counted_mid → pointers ≡ places held.first.segment held.first.word held.count
+pub run_stops : {m : List (List ℕ)} {c : Bool} {place : Place} {children : PointerRun} {pointers : List Place} {nesting : ℕ} {limit mid counted_then counted_mid : Option ℕ} {kind : ErrorKind}
+    → EntersRun m c place children nesting limit mid counted_then counted_mid → pointers ≡ places children.first.segment children.first.word children.count
     → StopsWalk m pointers (nesting - 1) mid kind → StopsWalk m (place ∷ []) nesting limit kind
-run_stops e all stops = walk_stops_inside (entered e.enters) (all ∙ e.held_are) stops
+run_stops e all stops = walk_stops_inside (entered e.enters) (all ∙ e.children_are) stops
 
 -- among other pointers a walk comes to it
-pub parent_met : {m : List (List ℕ)} {c : Bool} {held rest others : List Place} {place : Place} {run : PointerRun} {nesting : ℕ} {limit left after counted_then counted_now counted_after : Option ℕ}
-    → rest ≡ place ∷ others → Progress m c held rest nesting limit left counted_then counted_now → EntersRun m c place run nesting left after counted_now counted_after
-    → WalkedTo m c held others run nesting limit after counted_then counted_after
+pub parent_met : {m : List (List ℕ)} {c : Bool} {children rest others : List Place} {place : Place} {run : PointerRun} {nesting : ℕ} {limit left after counted_then counted_now counted_after : Option ℕ}
+    → rest ≡ place ∷ others → Progress m c children rest nesting limit left counted_then counted_now → EntersRun m c place run nesting left after counted_now counted_after
+    → WalkedTo m c children others run nesting limit after counted_then counted_after
 parent_met {place = place} {left = left} {counted_now = counted_now} is p enters = record {
   front = p.front;
   place = place;
-  at_is = p.held_is ∙ ap (λ (l : List Place). p.front ++ l) is;
+  at_is = p.children_is ∙ ap (λ (l : List Place). p.front ++ l) is;
   left_there = left;
   words_there = counted_now;
   in_front = progress_front p;
@@ -55,18 +55,18 @@ pub some_before : {m : List (List ℕ)} {c : Bool} {at rest : List Place} {run :
 some_before {rest = rest} w none = absurd (omega (arith, ap length w.at_is, ap length none, length-append w.front (w.place ∷ rest)))
 
 -- and goes over what it holds, or stops there
-pub parent_walked : {m : List (List ℕ)} {c : Bool} {held at rest pointers : List Place} {run : PointerRun} {nesting : ℕ} {limit left mid after counted_then counted_now counted_mid counted_after : Option ℕ}
-    → Progress m c held at nesting limit left counted_then counted_now → WalkedTo m c at rest run nesting left mid counted_now counted_mid
+pub parent_walked : {m : List (List ℕ)} {c : Bool} {children at rest pointers : List Place} {run : PointerRun} {nesting : ℕ} {limit left mid after counted_then counted_now counted_mid counted_after : Option ℕ}
+    → Progress m c children at nesting limit left counted_then counted_now → WalkedTo m c at rest run nesting left mid counted_now counted_mid
     → pointers ≡ places run.first.segment run.first.word run.count → WalkedAll m c pointers (nesting - 1) mid after counted_mid counted_after
-    → Progress m c held rest nesting limit after counted_then counted_after
+    → Progress m c children rest nesting limit after counted_then counted_after
 parent_walked p w all walked = progress_next refl (progress_over w.at_is p w.in_front) (run_walked w.enters all walked)
 
-pub parent_stops : {m : List (List ℕ)} {c : Bool} {held at rest pointers : List Place} {run : PointerRun} {nesting : ℕ} {limit left mid counted_then counted_now counted_mid : Option ℕ} {kind : ErrorKind}
-    → Progress m c held at nesting limit left counted_then counted_now → WalkedTo m c at rest run nesting left mid counted_now counted_mid
-    → pointers ≡ places run.first.segment run.first.word run.count → StopsWalk m pointers (nesting - 1) mid kind → StopsWalk m held nesting limit kind
+pub parent_stops : {m : List (List ℕ)} {c : Bool} {children at rest pointers : List Place} {run : PointerRun} {nesting : ℕ} {limit left mid counted_then counted_now counted_mid : Option ℕ} {kind : ErrorKind}
+    → Progress m c children at nesting limit left counted_then counted_now → WalkedTo m c at rest run nesting left mid counted_now counted_mid
+    → pointers ≡ places run.first.segment run.first.word run.count → StopsWalk m pointers (nesting - 1) mid kind → StopsWalk m children nesting limit kind
 parent_stops p w all stops = progress_stops refl (progress_over w.at_is p w.in_front) (run_stops w.enters all stops)
 
-pub going_below : {m : List (List ℕ)} {segment : List ℕ} {c : Bool} {whole at rest : PointerRows} {pointers : List Place} {run : PointerRun} {nesting : ℕ}
+pub going_below : {m : List (List ℕ)} {segment : List ℕ} {c : Bool} {whole at rest : PointerSlots} {pointers : List Place} {run : PointerRun} {nesting : ℕ}
     {limit left mid after counted_then counted_now counted_mid counted_after : Option ℕ} → Going m segment c whole at nesting limit left counted_then counted_now
     → WalkedTo m c (places_in at) (places_in rest) run nesting left mid counted_now counted_mid → rest.next.segment ≡ at.next.segment
     → pointers ≡ places run.first.segment run.first.word run.count → WalkedAll m c pointers (nesting - 1) mid after counted_mid counted_after

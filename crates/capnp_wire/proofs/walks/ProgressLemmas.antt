@@ -8,21 +8,21 @@ use Rattle.capnp_wire.specs.Tree.{total_words}
 use Rattle.capnp_wire.specs.Object.{Shape, PointsTo, nothing}
 use Rattle.capnp_wire.specs.Landing.{shape_of, words_in}
 use Rattle.capnp_wire.specs.Traversed.{Within, CountsMore, EntersObject, Walked, WalkedAll, less, TreesWithRoom}
-use Rattle.capnp_wire.specs.Copy.{formed_body}
+use Rattle.capnp_wire.specs.Copy.{output_body_of}
 use Rattle.capnp_wire.specs.Faults.{StopsWalk, inside}
 use Rattle.capnp_wire.specs.Rows.{places_in, Takes}
 use Rattle.capnp_wire.specs.declared.layout.place.Place.{Place}
-use Rattle.capnp_wire.specs.declared.layout.rows.PointerRows.{PointerRows}
+use Rattle.capnp_wire.specs.declared.layout.pointer_slots.PointerSlots.{PointerSlots}
 use Rattle.capnp_wire.specs.declared.layout.object.Object.{Object as ReadObject}
 use Rattle.capnp_wire.proofs.trees.StandLemmas.{within_none, less_none, within_both, less_both, counts_none, counts_both}
-use Rattle.capnp_wire.proofs.trees.StoodLemmas.{OwnOf, own_formed, stood_nowhere, stood_both, stood_over, stood_null, plain_stand}
+use Rattle.capnp_wire.proofs.trees.StoodLemmas.{OwnOf, own_output, stood_nowhere, stood_both, stood_over, stood_null, plain_stand}
 use Rattle.capnp_wire.proofs.walks.StopLemmas.{stops_more, stops_after}
 
 -- How far a walk over the places that an object holds has come: which are done, and what is left of the limit
 -- and counted since.
-pub record Progress (m : List (List ℕ)) (c : Bool) (held rest : List Place) (nesting : ℕ) (limit left words_before words_now : Option ℕ) : Type 0 where
+pub record Progress (m : List (List ℕ)) (c : Bool) (children rest : List Place) (nesting : ℕ) (limit left words_before words_now : Option ℕ) : Type 0 where
   pub front : List Place
-  pub held_is : held ≡ front ++ rest
+  pub children_is : children ≡ front ++ rest
   pub traversed : ℕ
   pub words : ℕ
   pub stand : TreesWithRoom m front nesting traversed c words
@@ -30,10 +30,10 @@ pub record Progress (m : List (List ℕ)) (c : Bool) (held rest : List Place) (n
   pub left_is : left ≡ less limit traversed
   pub counted : CountsMore words_before words_now words
 
-pub progress_begins : (m : List (List ℕ)) (c : Bool) (held : List Place) (nesting : ℕ) (limit words : Option ℕ) → Progress m c held held nesting limit limit words words
-progress_begins m c held nesting limit words = record {
+pub progress_begins : (m : List (List ℕ)) (c : Bool) (children : List Place) (nesting : ℕ) (limit words : Option ℕ) → Progress m c children children nesting limit limit words words
+progress_begins m c children nesting limit words = record {
   front = [];
-  held_is = refl;
+  children_is = refl;
   traversed = 0;
   words = 0;
   stand = stood_nowhere m c nesting;
@@ -46,14 +46,14 @@ pub some_left : {place : Place} {rest others : List Place} → rest ≡ place �
 some_left is none = absurd (omega (arith, ap length is, ap length none))
 
 -- then over some more of them, or over one
-pub progress_over : {m : List (List ℕ)} {c : Bool} {held rest front others : List Place} {nesting : ℕ} {limit left after counted_then counted_now counted_after : Option ℕ}
-    → rest ≡ front ++ others → Progress m c held rest nesting limit left counted_then counted_now → WalkedAll m c front nesting left after counted_now counted_after
-    → Progress m c held others nesting limit after counted_then counted_after
-progress_over {m} {c} {held} {rest} {front} {others} {nesting} {limit} {left} {after} {counted_then} {counted_now} {counted_after} is p w =
+pub progress_over : {m : List (List ℕ)} {c : Bool} {children rest front others : List Place} {nesting : ℕ} {limit left after counted_then counted_now counted_after : Option ℕ}
+    → rest ≡ front ++ others → Progress m c children rest nesting limit left counted_then counted_now → WalkedAll m c front nesting left after counted_now counted_after
+    → Progress m c children others nesting limit after counted_then counted_after
+progress_over {m} {c} {children} {rest} {front} {others} {nesting} {limit} {left} {after} {counted_then} {counted_now} {counted_after} is p w =
     let fits : Within (less limit p.traversed) w.traversed = subst (λ (l : Option ℕ). Within l w.traversed) p.left_is w.within in
     record {
       front = p.front ++ front;
-      held_is = p.held_is ∙ ap (λ (l : List Place). p.front ++ l) is ∙ sym (append_assoc p.front front others);
+      children_is = p.children_is ∙ ap (λ (l : List Place). p.front ++ l) is ∙ sym (append_assoc p.front front others);
       traversed = p.traversed + w.traversed;
       words = p.words + w.words;
       stand = stood_both m c p.front front nesting p.traversed w.traversed p.words w.words p.stand w.stand;
@@ -62,52 +62,52 @@ progress_over {m} {c} {held} {rest} {front} {others} {nesting} {limit} {left} {a
       counted = counts_both counted_then counted_now counted_after p.words w.words p.counted w.counted;
     }
 
-pub progress_next : {m : List (List ℕ)} {c : Bool} {held rest others : List Place} {place : Place} {nesting : ℕ} {limit left after counted_then counted_now counted_after : Option ℕ}
-    → rest ≡ place ∷ others → Progress m c held rest nesting limit left counted_then counted_now → Walked m c place nesting left after counted_now counted_after
-    → Progress m c held others nesting limit after counted_then counted_after
-progress_next {m} {c} {held} {rest} {others} {place} {nesting} {limit} {left} {after} {counted_then} {counted_now} {counted_after} is p w =
+pub progress_next : {m : List (List ℕ)} {c : Bool} {children rest others : List Place} {place : Place} {nesting : ℕ} {limit left after counted_then counted_now counted_after : Option ℕ}
+    → rest ≡ place ∷ others → Progress m c children rest nesting limit left counted_then counted_now → Walked m c place nesting left after counted_now counted_after
+    → Progress m c children others nesting limit after counted_then counted_after
+progress_next {m} {c} {children} {rest} {others} {place} {nesting} {limit} {left} {after} {counted_then} {counted_now} {counted_after} is p w =
     progress_over {front = place ∷ []} is p w
 
 -- it stops among those that are left, or at the first of them
-pub progress_stopped : {m : List (List ℕ)} {c : Bool} {held rest : List Place} {nesting : ℕ} {limit left counted_then counted_now : Option ℕ} {kind : ErrorKind}
-    → Progress m c held rest nesting limit left counted_then counted_now → StopsWalk m rest nesting left kind → StopsWalk m held nesting limit kind
-progress_stopped {m} {c} {held} {rest} {nesting} {limit} {left} {kind = kind} p stops =
-    subst (λ (l : List Place). StopsWalk m l nesting limit kind) (sym p.held_is)
+pub progress_stopped : {m : List (List ℕ)} {c : Bool} {children rest : List Place} {nesting : ℕ} {limit left counted_then counted_now : Option ℕ} {kind : ErrorKind}
+    → Progress m c children rest nesting limit left counted_then counted_now → StopsWalk m rest nesting left kind → StopsWalk m children nesting limit kind
+progress_stopped {m} {c} {children} {rest} {nesting} {limit} {left} {kind = kind} p stops =
+    subst (λ (l : List Place). StopsWalk m l nesting limit kind) (sym p.children_is)
     (stops_after m p.front rest nesting p.traversed (total_words p.stand.trees) limit kind (plain_stand m p.front nesting p.traversed c p.words p.stand) p.within
     (subst (λ (l : Option ℕ). StopsWalk m rest nesting l kind) p.left_is stops))
 
-pub progress_stops : {m : List (List ℕ)} {c : Bool} {held rest others : List Place} {place : Place} {nesting : ℕ} {limit left counted_then counted_now : Option ℕ} {kind : ErrorKind}
-    → rest ≡ place ∷ others → Progress m c held rest nesting limit left counted_then counted_now → StopsWalk m (place ∷ []) nesting left kind → StopsWalk m held nesting limit kind
+pub progress_stops : {m : List (List ℕ)} {c : Bool} {children rest others : List Place} {place : Place} {nesting : ℕ} {limit left counted_then counted_now : Option ℕ} {kind : ErrorKind}
+    → rest ≡ place ∷ others → Progress m c children rest nesting limit left counted_then counted_now → StopsWalk m (place ∷ []) nesting left kind → StopsWalk m children nesting limit kind
 progress_stops {m} {others = others} {place = place} {nesting = nesting} {left = left} {kind = kind} is p stops =
     progress_stopped p (subst (λ (l : List Place). StopsWalk m l nesting left kind) (sym is) (stops_more m place others nesting left kind stops))
 
 -- what it is over
-pub progress_front : {m : List (List ℕ)} {c : Bool} {held rest : List Place} {nesting : ℕ} {limit left counted_then counted_now : Option ℕ}
-    (p : Progress m c held rest nesting limit left counted_then counted_now) → WalkedAll m c p.front nesting limit left counted_then counted_now
+pub progress_front : {m : List (List ℕ)} {c : Bool} {children rest : List Place} {nesting : ℕ} {limit left counted_then counted_now : Option ℕ}
+    (p : Progress m c children rest nesting limit left counted_then counted_now) → WalkedAll m c p.front nesting limit left counted_then counted_now
 progress_front p = record { traversed = p.traversed; words = p.words; stand = p.stand; within = p.within; left_is = p.left_is; counted = p.counted }
 
-pub progress_done : {m : List (List ℕ)} {c : Bool} {held rest : List Place} {nesting : ℕ} {limit left counted_then counted_now : Option ℕ}
-    → rest ≡ [] → Progress m c held rest nesting limit left counted_then counted_now → WalkedAll m c held nesting limit left counted_then counted_now
-progress_done {m} {c} {held} {rest} {nesting} {limit} {left} {counted_then} {counted_now} done p =
-    let all : held ≡ p.front = p.held_is ∙ ap (λ (l : List Place). p.front ++ l) done ∙ append-nil p.front in
+pub progress_done : {m : List (List ℕ)} {c : Bool} {children rest : List Place} {nesting : ℕ} {limit left counted_then counted_now : Option ℕ}
+    → rest ≡ [] → Progress m c children rest nesting limit left counted_then counted_now → WalkedAll m c children nesting limit left counted_then counted_now
+progress_done {m} {c} {children} {rest} {nesting} {limit} {left} {counted_then} {counted_now} done p =
+    let all : children ≡ p.front = p.children_is ∙ ap (λ (l : List Place). p.front ++ l) done ∙ append-nil p.front in
     subst (λ (l : List Place). WalkedAll m c l nesting limit left counted_then counted_now) (sym all) (progress_front p)
 
--- The walk is over some of an object's pointers in a segment; those that are left stand there, too.
-pub record Going (m : List (List ℕ)) (segment : List ℕ) (c : Bool) (whole rows : PointerRows) (nesting : ℕ) (limit left words_before words_now : Option ℕ) : Type 0 where
+-- The walk is over some of an object's pointers in a segment; those that are left are there, too.
+pub record Going (m : List (List ℕ)) (segment : List ℕ) (c : Bool) (whole rows : PointerSlots) (nesting : ℕ) (limit left words_before words_now : Option ℕ) : Type 0 where
   pub progress : Progress m c (places_in whole) (places_in rows) nesting limit left words_before words_now
   pub content : places_in rows ≢ [] → slice_get m rows.next.segment ≡ Some segment
   pub same_segment : rows.next.segment ≡ whole.next.segment
 
-pub going_begins : {m : List (List ℕ)} {segment : List ℕ} {c : Bool} {rows : PointerRows} {nesting : ℕ} {limit words : Option ℕ} → (places_in rows ≢ [] → slice_get m rows.next.segment ≡ Some segment)
+pub going_begins : {m : List (List ℕ)} {segment : List ℕ} {c : Bool} {rows : PointerSlots} {nesting : ℕ} {limit words : Option ℕ} → (places_in rows ≢ [] → slice_get m rows.next.segment ≡ Some segment)
     → Going m segment c rows rows nesting limit limit words words
 going_begins {m} {segment} {c} {rows} {nesting} {limit} {words} content =
     record { progress = progress_begins m c (places_in rows) nesting limit words; content = content; same_segment = refl }
 
-pub going_there : {m : List (List ℕ)} {segment : List ℕ} {c : Bool} {whole rows others : PointerRows} {place : Place} {nesting : ℕ} {limit left words_before words_now : Option ℕ}
+pub going_there : {m : List (List ℕ)} {segment : List ℕ} {c : Bool} {whole rows others : PointerSlots} {place : Place} {nesting : ℕ} {limit left words_before words_now : Option ℕ}
     → Going m segment c whole rows nesting limit left words_before words_now → Takes rows others place → place.segment ≡ rows.next.segment → slice_get m place.segment ≡ Some segment
 going_there {m} going takes segment_is = ap (slice_get m) segment_is ∙ going.content (some_left takes.places_are)
 
-pub going_on : {m : List (List ℕ)} {segment : List ℕ} {c : Bool} {whole rows others : PointerRows} {place : Place} {nesting : ℕ} {limit left after words_before words_now words_after : Option ℕ}
+pub going_on : {m : List (List ℕ)} {segment : List ℕ} {c : Bool} {whole rows others : PointerSlots} {place : Place} {nesting : ℕ} {limit left after words_before words_now words_after : Option ℕ}
     → Going m segment c whole rows nesting limit left words_before words_now → Takes rows others place → others.next.segment ≡ rows.next.segment
     → Walked m c place nesting left after words_now words_after → Going m segment c whole others nesting limit after words_before words_after
 going_on {m} going takes same walked = record {
@@ -116,7 +116,7 @@ going_on {m} going takes same walked = record {
   same_segment = same ∙ going.same_segment;
 }
 
-pub going_done : {m : List (List ℕ)} {segment : List ℕ} {c : Bool} {whole rows : PointerRows} {nesting : ℕ} {limit left after words_before words_now words_after : Option ℕ}
+pub going_done : {m : List (List ℕ)} {segment : List ℕ} {c : Bool} {whole rows : PointerSlots} {nesting : ℕ} {limit left after words_before words_now words_after : Option ℕ}
     → Going m segment c whole rows nesting limit left words_before words_now → WalkedAll m c (places_in rows) nesting left after words_now words_after
     → WalkedAll m c (places_in whole) nesting limit after words_before words_after
 going_done {rows = rows} going walked = progress_done refl (progress_over (sym (append-nil (places_in rows))) going.progress walked)
@@ -147,8 +147,8 @@ pub entered : {m : List (List ℕ)} {c : Bool} {place : Place} {object : ReadObj
 entered {m} {c} {place} {object} e = record {
   object = e.there.object;
   deep = e.deep;
-  own = words_in (formed_body c (words_of object.segment.now) object.start.word object.body);
-  own_is = own_formed m object place c e.there;
+  own = words_in (output_body_of c (words_of object.segment.now) object.start.word object.body);
+  own_is = own_output m object place c e.there;
   within = e.within;
   left_is = e.left_is;
   counted = e.counted;
@@ -156,7 +156,7 @@ entered {m} {c} {place} {object} e = record {
 
 -- and then all below it
 pub walked_over : (m : List (List ℕ)) (c : Bool) (place : Place) (shape : Shape) (nesting : ℕ) (limit left after counted_then counted_now counted_after : Option ℕ)
-    → Entered m c place shape nesting limit left counted_then counted_now → WalkedAll m c shape.held (nesting - 1) left after counted_now counted_after
+    → Entered m c place shape nesting limit left counted_then counted_now → WalkedAll m c shape.children (nesting - 1) left after counted_now counted_after
     → Walked m c place nesting limit after counted_then counted_after
 walked_over m c place shape nesting limit left after counted_then counted_now counted_after e w = record {
   traversed = shape.traversed + w.traversed;
@@ -169,33 +169,33 @@ walked_over m c place shape nesting limit left after counted_then counted_now co
 
 -- below an object that holds nothing
 pub walked_alone : {m : List (List ℕ)} {c : Bool} {place : Place} {shape : Shape} {nesting : ℕ} {limit left counted_then counted_now : Option ℕ}
-    → Entered m c place shape nesting limit left counted_then counted_now → shape.held ≡ [] → Walked m c place nesting limit left counted_then counted_now
+    → Entered m c place shape nesting limit left counted_then counted_now → shape.children ≡ [] → Walked m c place nesting limit left counted_then counted_now
 walked_alone {m} {c} {place} {shape} {nesting} {limit} {left} {counted_then = a} {counted_now = b} e none =
-    walked_over m c place shape nesting limit left left a b b e (progress_done none (progress_begins m c shape.held (nesting - 1) left b))
+    walked_over m c place shape nesting limit left left a b b e (progress_done none (progress_begins m c shape.children (nesting - 1) left b))
 
 -- of an object whose pointers are these
 pub walk_over : {m : List (List ℕ)} {c : Bool} {place : Place} {shape : Shape} {nesting : ℕ} {limit left after counted_then counted_now counted_after : Option ℕ} {pointers : List Place}
-    → Entered m c place shape nesting limit left counted_then counted_now → pointers ≡ shape.held → WalkedAll m c pointers (nesting - 1) left after counted_now counted_after
+    → Entered m c place shape nesting limit left counted_then counted_now → pointers ≡ shape.children → WalkedAll m c pointers (nesting - 1) left after counted_now counted_after
     → Walked m c place nesting limit after counted_then counted_after
 walk_over {m} {c} {place} {shape} {nesting} {limit} {left} {after} {counted_then = a} {counted_now = b} {counted_after = d} e all w =
     walked_over m c place shape nesting limit left after a b d e (subst (λ (l : List Place). WalkedAll m c l (nesting - 1) left after b d) all w)
 
 pub walk_stops_inside : {m : List (List ℕ)} {c : Bool} {place : Place} {shape : Shape} {nesting : ℕ} {limit left counted_then counted_now : Option ℕ} {pointers : List Place} {kind : ErrorKind}
-    → Entered m c place shape nesting limit left counted_then counted_now → pointers ≡ shape.held → StopsWalk m pointers (nesting - 1) left kind → StopsWalk m (place ∷ []) nesting limit kind
+    → Entered m c place shape nesting limit left counted_then counted_now → pointers ≡ shape.children → StopsWalk m pointers (nesting - 1) left kind → StopsWalk m (place ∷ []) nesting limit kind
 walk_stops_inside {m = m} {shape = shape} {nesting = nesting} {left = left} {kind = kind} e all stops =
-    inside e.object e.deep e.within (subst (λ (l : Option ℕ). StopsWalk m shape.held (nesting - 1) l kind) e.left_is (subst (λ (l : List Place). StopsWalk m l
+    inside e.object e.deep e.within (subst (λ (l : Option ℕ). StopsWalk m shape.children (nesting - 1) l kind) e.left_is (subst (λ (l : List Place). StopsWalk m l
     (nesting - 1) left kind) all stops))
 
 pub walk_goes_on : {Y : Type 0} {m : List (List ℕ)} {c : Bool} {place : Place} {shape : Shape} {nesting : ℕ} {limit left counted_then counted_now : Option ℕ} (after counted_after : Option ℕ)
     (pointers : List Place) (result : Result Y Error)
-    → Entered m c place shape nesting limit left counted_then counted_now → pointers ≡ shape.held
+    → Entered m c place shape nesting limit left counted_then counted_now → pointers ≡ shape.children
     → OnOk result (WalkedAll m c pointers (nesting - 1) left after counted_now counted_after) → OnOk result (Walked m c place nesting limit after counted_then counted_after)
 walk_goes_on after d pointers (Ok y) e all w = walk_over e all w
 walk_goes_on after d pointers (Err error) e all w = tt
 
 pub walk_stops : {Y : Type 0} {m : List (List ℕ)} {c : Bool} {place : Place} {shape : Shape} {nesting : ℕ} {limit left counted_then counted_now : Option ℕ} (pointers : List Place)
     (result : Result Y Error)
-    → Entered m c place shape nesting limit left counted_then counted_now → pointers ≡ shape.held
+    → Entered m c place shape nesting limit left counted_then counted_now → pointers ≡ shape.children
     → IfErr result (λ error. StopsWalk m pointers (nesting - 1) left error.kind) → IfErr result (λ error. StopsWalk m (place ∷ []) nesting limit error.kind)
 walk_stops pointers (Ok y) e all stops = tt
 walk_stops pointers (Err error) e all stops = walk_stops_inside e all stops

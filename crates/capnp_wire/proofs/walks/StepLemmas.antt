@@ -1,10 +1,10 @@
 -- One step of a walk that tests a layout.
 use Rattle.std.proofs.Common.{◌≡◌, ℕ, ◌+◌, ◌-◌, List, [], ◌∷◌, length, Some, slice_get, sym, subst, ◌^◌, ◌<◌, ◌≤◌}
 use Rattle.capnp_wire.specs.Layout.{pointer, slots, HasRoom, Reaches, placed}
-use Rattle.capnp_wire.specs.Tree.{Form, Trees, tree, count, own_words, total_words}
+use Rattle.capnp_wire.specs.Tree.{Form, Trees, tree, count, object_size, total_words}
 use Rattle.capnp_wire.specs.declared.layout.place.Place.{Place}
-use Rattle.capnp_wire.specs.Canonical.{Padded, Tidy}
-use Rattle.capnp_wire.proofs.forms.TidyLemmas.{tidy_object}
+use Rattle.capnp_wire.specs.Canonical.{Padded, IsInPreorder}
+use Rattle.capnp_wire.proofs.forms.PreorderLemmas.{preorder_object}
 use Rattle.capnp_wire.proofs.trees.StandLemmas.{count_at}
 use Rattle.capnp_wire.proofs.trees.RoomLemmas.{object_room, one_segment}
 use Rattle.capnp_wire.specs.Object.{PointsTo}
@@ -12,22 +12,22 @@ use Rattle.capnp_wire.specs.Reached.{At}
 use Rattle.std.specs.Prelude.{All, ◌↔◌}
 
 -- one step of the walk, which goes on at the places that it read
-pub tidy_step : (segment : List ℕ) (word next : ℕ) (places others : List Place) (form : Form) (held rest : Trees) (traversed inside : ℕ) → All (λ w. w < 2 ^ 64) segment
-    → PointsTo (segment ∷ []) (record { segment = 0; word = word }) (record { form = form; held = places; traversed = traversed }) → At (segment ∷ []) places held inside
+pub preorder_step : (segment : List ℕ) (word next : ℕ) (places others : List Place) (form : Form) (children rest : Trees) (traversed inside : ℕ) → All (λ w. w < 2 ^ 64) segment
+    → PointsTo (segment ∷ []) (record { segment = 0; word = word }) (record { form = form; children = places; traversed = traversed }) → At (segment ∷ []) places children inside
     → word < next → next ≤ length segment
-    → Tidy segment (record { segment = 0; word = word } ∷ others) next (tree form held rest)
-    ↔ ((slice_get segment word ≡ Some (pointer form (count held) (next - (word + 1)))) × Reaches form (count held) (next - (word + 1)) × Padded segment next form
-    × Tidy segment places (next + own_words form (count held)) held × Tidy segment others (next + own_words form (count held) + total_words held) rest)
-tidy_step segment word next held_at others form held rest traversed inside all object inner before within =
-    let many : length held_at ≡ count held = sym (count_at (segment ∷ []) held_at held inside inner) in
-    let room : HasRoom form (length held_at) = object_room (segment ∷ []) (record { segment = 0; word = word }) (record { form = form; held = held_at; traversed = traversed })
+    → IsInPreorder segment (record { segment = 0; word = word } ∷ others) next (tree form children rest)
+    ↔ ((slice_get segment word ≡ Some (pointer form (count children) (next - (word + 1)))) × Reaches form (count children) (next - (word + 1)) × Padded segment next form
+    × IsInPreorder segment places (next + object_size form (count children)) children × IsInPreorder segment others (next + object_size form (count children) + total_words children) rest)
+preorder_step segment word next children_at others form children rest traversed inside all object inner before within =
+    let many : length children_at ≡ count children = sym (count_at (segment ∷ []) children_at children inside inner) in
+    let room : HasRoom form (length children_at) = object_room (segment ∷ []) (record { segment = 0; word = word }) (record { form = form; children = children_at; traversed = traversed })
     (one_segment segment all) object in
-    let same : (slice_get segment word ≡ Some (pointer form (count held) (next - (word + 1)))) → Reaches form (count held) (next - (word + 1)) → Padded segment next form
-    → held_at ≡ placed 0 next (slots form (count held)) =
+    let same : (slice_get segment word ≡ Some (pointer form (count children) (next - (word + 1)))) → Reaches form (count children) (next - (word + 1)) → Padded segment next form
+    → children_at ≡ placed 0 next (slots form (count children)) =
     λ there reach padded.
-    subst (λ (n : ℕ). held_at ≡ placed 0 next (slots form n)) many
-    (tidy_object segment word next form held_at traversed before within room (subst (λ (n : ℕ). slice_get segment word ≡ Some (pointer form n (next - (word + 1)))) (sym many) there)
-    (subst (λ (n : ℕ). Reaches form n (next - (word + 1))) (sym many) reach) padded object).held_is in (
-      λ t. (t.0, t.1, t.2, subst (λ (l : List Place). Tidy segment l (next + own_words form (count held)) held) (sym (same t.0 t.1 t.2)) t.3, t.4),
-      λ t. (t.0, t.1, t.2, subst (λ (l : List Place). Tidy segment l (next + own_words form (count held)) held) (same t.0 t.1 t.2) t.3, t.4),
+    subst (λ (n : ℕ). children_at ≡ placed 0 next (slots form n)) many
+    (preorder_object segment word next form children_at traversed before within room (subst (λ (n : ℕ). slice_get segment word ≡ Some (pointer form n (next - (word + 1)))) (sym many) there)
+    (subst (λ (n : ℕ). Reaches form n (next - (word + 1))) (sym many) reach) padded object).children_is in (
+      λ t. (t.0, t.1, t.2, subst (λ (l : List Place). IsInPreorder segment l (next + object_size form (count children)) children) (sym (same t.0 t.1 t.2)) t.3, t.4),
+      λ t. (t.0, t.1, t.2, subst (λ (l : List Place). IsInPreorder segment l (next + object_size form (count children)) children) (same t.0 t.1 t.2) t.3, t.4),
     )

@@ -1,4 +1,4 @@
--- Where a walk stops, that no trees stand there, and that one refusal alone stops it.
+-- Where a walk stops, that no trees are there, and that one error alone stops it.
 use Rattle.std.proofs.Common.{◌≡◌, ℕ, ◌+◌, ◌-◌, ◌<◌, ◌≤◌, max, Bool, true, false, if◌then◌else◌, List, [], ◌∷◌, ◌++◌, Option, Some, refl, sym, ◌∙◌, ap, subst, arith}
 use Rattle.capnp_frame.specs.declared.error.ErrorKind.{ErrorKind}
 use Rattle.capnp_frame.specs.declared.error.ErrorKind.TheVariants.{ReadLimitExceeded}
@@ -26,7 +26,7 @@ stops_following : (m : List (List ℕ)) (front rest : List Place) (trees : Trees
     → At m front trees traversed → depth trees ≤ nesting → Within limit traversed → StopsWalk m rest nesting (less limit traversed) kind → StopsWalk m (front ++ rest) nesting limit kind
 stops_following m front rest trees nesting traversed limit kind nowhere shallow fits stops =
     subst (λ (o : Option ℕ). StopsWalk m rest nesting o kind) (less_none limit) stops
-stops_following m front rest trees nesting traversed limit kind (at {place = p} {others = others} {shape = s} {held = h} {rest = r} {inside = i} {following = n} o inner after) shallow fits stops =
+stops_following m front rest trees nesting traversed limit kind (at {place = p} {others = others} {shape = s} {children = h} {rest = r} {inside = i} {following = n} o inner after) shallow fits stops =
     let one : TreesAt m (p ∷ []) nesting (s.traversed + i) (total_words (tree s.form h none)) = record {
       trees = tree s.form h none;
       stand = subst (At m (p ∷ []) (tree s.form h none)) (omega arith) (at o inner nowhere);
@@ -43,49 +43,49 @@ pub stops_after : (m : List (List ℕ)) (front rest : List Place) (nesting trave
     → TreesAt m front nesting traversed words → Within limit traversed → StopsWalk m rest nesting (less limit traversed) kind → StopsWalk m (front ++ rest) nesting limit kind
 stops_after m front rest nesting traversed words limit kind s fits stops = stops_following m front rest s.trees nesting traversed limit kind s.stand s.shallow fits stops
 
--- where a walk stops, no trees stand within the nesting depth left and the limit
+-- where a walk stops, no trees are within the nesting depth left and the limit
 null_or_deeper : (b : Bool) (d e nesting : ℕ) → max (if b then 0 else d + 1) e ≤ nesting → b ≡ false → 0 < nesting
 null_or_deeper true d e nesting p q = cc
 null_or_deeper false d e nesting p q = omega arith
 
-deeper_held : (b : Bool) (d e nesting : ℕ) → max (if b then 0 else d + 1) e ≤ nesting → b ≡ false → d ≤ nesting - 1
-deeper_held true d e nesting p q = cc
-deeper_held false d e nesting p q = omega arith
+deeper_children : (b : Bool) (d e nesting : ℕ) → max (if b then 0 else d + 1) e ≤ nesting → b ≡ false → d ≤ nesting - 1
+deeper_children true d e nesting p q = cc
+deeper_children false d e nesting p q = omega arith
 
 -- one of some places, and those after it
 record Split (m : List (List ℕ)) (place : Place) (others : List Place) (nesting traversed : ℕ) (shape : Shape) : Type 0 where
-  held : Trees
+  children : Trees
   rest : Trees
   inner : ℕ
   following : ℕ
-  held_stands : At m shape.held held inner
+  children_stands : At m shape.children children inner
   rest_stands : At m others rest following
   total : shape.traversed + inner + following ≡ traversed
   rest_shallow : depth rest ≤ nesting
-  held_shallow : is_null shape.form ≡ false → depth held ≤ nesting - 1
+  children_shallow : is_null shape.form ≡ false → depth children ≤ nesting - 1
   deep : is_null shape.form ≡ false → 0 < nesting
   object : PointsTo m place shape
 
 split : (m : List (List ℕ)) (place : Place) (others : List Place) (nesting traversed : ℕ) (trees : Trees) → At m (place ∷ others) trees traversed → depth trees ≤ nesting
     → (shape : Shape) × Split m place others nesting traversed shape
-split m place others nesting traversed trees (at {shape = s} {held = h} {rest = r} {inside = i} {following = n} o inner after) shallow = (
+split m place others nesting traversed trees (at {shape = s} {children = h} {rest = r} {inside = i} {following = n} o inner after) shallow = (
   s,
   record {
-    held = h;
+    children = h;
     rest = r;
     inner = i;
     following = n;
-    held_stands = inner;
+    children_stands = inner;
     rest_stands = after;
     total = refl;
     rest_shallow = omega arith;
-    held_shallow = deeper_held (is_null s.form) (depth h) (depth r) nesting shallow;
+    children_shallow = deeper_children (is_null s.form) (depth h) (depth r) nesting shallow;
     deep = null_or_deeper (is_null s.form) (depth h) (depth r) nesting shallow;
     object = o;
   },
 )
 
-holds_not_null : (m : List (List ℕ)) (place : Place) (shape : Shape) → PointsTo m place shape → (shape.held ≡ [] → ⊥) → is_null shape.form ≡ false
+holds_not_null : (m : List (List ℕ)) (place : Place) (shape : Shape) → PointsTo m place shape → (shape.children ≡ [] → ⊥) → is_null shape.form ≡ false
 holds_not_null m place shape (null_there e) some = absurd (some refl)
 holds_not_null m place shape (is_object {landing = c} {words = w} {start = i} {shape = s} _ _ _ stands) some = not_null w (record { segment = c.segment; word = i }) c.tag s stands
 
@@ -108,18 +108,18 @@ stops_has_no_trees m places nesting traversed limit kind trees (over_limit {plac
 stops_has_no_trees m places nesting traversed limit kind trees (inside {place = p} {others = others} {shape = t} o deep within stops) stand shallow fits =
     let s = split m p others nesting traversed trees stand shallow in
     let same : t ≡ s.0 = one_object m p t s.0 o s.1.object in
-    let held : At m t.held s.1.held s.1.inner = subst (λ (x : Shape). At m x.held s.1.held s.1.inner) (sym same) s.1.held_stands in
-    let not_null = holds_not_null m p t o (stops_somewhere m t.held (nesting - 1) (less limit t.traversed) kind stops) in
+    let children : At m t.children s.1.children s.1.inner = subst (λ (x : Shape). At m x.children s.1.children s.1.inner) (sym same) s.1.children_stands in
+    let not_null = holds_not_null m p t o (stops_somewhere m t.children (nesting - 1) (less limit t.traversed) kind stops) in
     let form : is_null s.0.form ≡ false = ap (λ (x : Shape). is_null x.form) (sym same) ∙ not_null in
     let traversal : t.traversed + s.1.inner + s.1.following ≡ traversed = ap (λ (x : Shape). x.traversed + s.1.inner + s.1.following) same ∙ s.1.total in
     let fits_all : Within limit (t.traversed + s.1.inner + s.1.following) = subst (Within limit) (sym traversal) fits in
     let fits_inner : Within (less limit t.traversed) s.1.inner = within_rest limit t.traversed s.1.inner (within_first limit (t.traversed + s.1.inner) s.1.following fits_all) in
-    stops_has_no_trees m t.held (nesting - 1) s.1.inner (less limit t.traversed) kind s.1.held stops held (s.1.held_shallow form) fits_inner
+    stops_has_no_trees m t.children (nesting - 1) s.1.inner (less limit t.traversed) kind s.1.children stops children (s.1.children_shallow form) fits_inner
 stops_has_no_trees m places nesting traversed limit kind trees (later {place = p} {others = others} {traversed = c} {words = w} one within stops) stand shallow fits =
     let s = split m p others nesting traversed trees stand shallow in
-    let alone : At m (p ∷ []) (tree s.0.form s.1.held none) (s.0.traversed + s.1.inner) =
-    subst (At m (p ∷ []) (tree s.0.form s.1.held none)) (omega arith) (at s.1.object s.1.held_stands nowhere) in
-    let same : s.0.traversed + s.1.inner ≡ c = (one_tree m (p ∷ []) (tree s.0.form s.1.held none) one.trees (s.0.traversed + s.1.inner) c alone one.stand).1 in
+    let alone : At m (p ∷ []) (tree s.0.form s.1.children none) (s.0.traversed + s.1.inner) =
+    subst (At m (p ∷ []) (tree s.0.form s.1.children none)) (omega arith) (at s.1.object s.1.children_stands nowhere) in
+    let same : s.0.traversed + s.1.inner ≡ c = (one_tree m (p ∷ []) (tree s.0.form s.1.children none) one.trees (s.0.traversed + s.1.inner) c alone one.stand).1 in
     let all : c + s.1.following ≡ traversed = omega (arith, s.1.total) in
     let fits_all : Within limit (c + s.1.following) = subst (Within limit) (sym all) fits in
     stops_has_no_trees m others nesting s.1.following (less limit c) kind s.1.rest stops s.1.rest_stands s.1.rest_shallow (within_rest limit c s.1.following fits_all)
@@ -131,7 +131,7 @@ exceeds_stops m place shape nesting limit kind object deep past is =
     subst (λ (r : ErrorKind). StopsWalk m (place ∷ []) nesting limit r) (sym is)
     (subst (λ (l : Option ℕ). StopsWalk m (place ∷ []) nesting l ReadLimitExceeded) (sym past.1) (over_limit object deep past.2))
 
--- at most one refusal stops a walk
+-- at most one error stops a walk
 past_and_within : (m : List (List ℕ)) (place : Place) (most : ℕ) (s t : Shape) → PointsTo m place s → PointsTo m place t → most < s.traversed → t.traversed ≤ most → ⊥
 past_and_within m place most s t o p past fits =
     let same : s ≡ t = one_object m place s t o p in
@@ -153,7 +153,7 @@ one_stop m places nesting limit a b (inside {place = p} {shape = s} o deep _ _) 
 one_stop m places nesting limit a b (inside {place = p} {shape = s} o _ fits _) (over_limit {most = most} {shape = t} q _ past) = absurd (past_and_within m p most t s q o past fits)
 one_stop m places nesting limit a b (inside {place = p} {shape = s} o _ _ stops) (inside {shape = t} q _ _ stops_too) =
     let same : t ≡ s = one_object m p t s q o in
-    one_stop m s.held (nesting - 1) (less limit s.traversed) a b stops (subst (λ (x : Shape). StopsWalk m x.held (nesting - 1) (less limit x.traversed) b) same stops_too)
+    one_stop m s.children (nesting - 1) (less limit s.traversed) a b stops (subst (λ (x : Shape). StopsWalk m x.children (nesting - 1) (less limit x.traversed) b) same stops_too)
 one_stop m places nesting limit a b (inside {place = p} o deep within stops) (later {traversed = d} one fits _) =
     absurd (stops_has_no_trees m (p ∷ []) nesting d limit a one.trees (inside o deep within stops) one.stand one.shallow fits)
 one_stop m places nesting limit a b (later {place = p} {traversed = c} one fits _) (at_pointer other) =

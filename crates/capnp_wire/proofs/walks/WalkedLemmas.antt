@@ -1,59 +1,59 @@
--- What a walk tests says that the words of a layout stand, and the other way round.
+-- What a walk tests says that the words of a layout are, and the other way round.
 use Rattle.std.proofs.Common.{◌≡◌, ℕ, ◌+◌, ◌-◌, ◌^◌, ◌<◌, ◌≤◌, List, [], ◌∷◌, ◌++◌, length, Some, slice_get, refl, sym, subst, arith, length-append}
 use Rattle.capnp_wire.specs.Pointer.{digits, number_of}
 use Rattle.capnp_wire.specs.Element.{width, words_for}
-use Rattle.capnp_wire.specs.Tree.{Form, null, struct, numbers, pointers, structs, Trees, none, tree, count, own_words, total_words}
+use Rattle.capnp_wire.specs.Tree.{Form, null, struct, numbers, pointers, structs, Trees, none, tree, count, object_size, total_words}
 use Rattle.capnp_wire.specs.declared.layout.place.Place.{Place}
 use Rattle.capnp_wire.specs.Reached.{At}
 use Rattle.capnp_wire.specs.Layout.{pointer, slots, pointers_to, own, body, HasRoom, AllHaveRoom, Reaches, AllReach, placed}
-use Rattle.capnp_wire.specs.Canonical.{Padded, Tidy}
-use Rattle.capnp_wire.proofs.words.StretchLemmas.{Holds, holds_none, holds_words}
+use Rattle.capnp_wire.specs.Canonical.{Padded, IsInPreorder}
+use Rattle.capnp_wire.proofs.words.SubsliceLemmas.{Holds, holds_none, holds_words}
 use Rattle.capnp_wire.proofs.words.DigitLemmas.{length-digits}
 use Rattle.capnp_wire.proofs.pointers.SlotLemmas.{Linked}
 use Rattle.capnp_wire.proofs.layouts.SizeLemmas.{links_of, length-links, length-own_of, length-body, length-slots, slots_before, Before, before_more}
 use Rattle.capnp_wire.proofs.layouts.ExactLemmas.{Exactly, holds_join}
-use Rattle.capnp_wire.proofs.forms.TidyLemmas.{at_parts, tidy_object}
+use Rattle.capnp_wire.proofs.forms.PreorderLemmas.{at_parts, preorder_object}
 use Rattle.capnp_wire.proofs.trees.StandLemmas.{count_at}
 use Rattle.capnp_wire.proofs.layouts.LayoutLemmas.{first_read}
 
--- the pointers of some trees stand in slots, and the trees' bodies from a word on
+-- the pointers of some trees are in slots, and the trees' bodies from a word on
 pub record Laid (segment : List ℕ) (base : ℕ) (slots : List ℕ) (next : ℕ) (trees : Trees) : Type 0 where
   pub linked : Linked segment base slots (pointers_to slots next trees)
   pub stand : Holds segment (base + next) (body trees)
 
-pub laid_of_tidy : (segment : List ℕ) (base : ℕ) (slots : List ℕ) (next : ℕ) (trees : Trees) (traversed : ℕ) → At (segment ∷ []) (placed 0 base slots) trees traversed → AllHaveRoom trees
-    → length slots ≡ count trees → Before next slots → base + next + total_words trees ≤ length segment → Tidy segment (placed 0 base slots) (base + next) trees → Laid segment base slots next trees
-laid_of_tidy segment base [] next none traversed stands room long before within tidy = record { linked = refl; stand = holds_none segment (base + next) (omega arith) }
-laid_of_tidy segment base (slot ∷ more) next none traversed stands room long before within tidy = absurd (omega arith)
-laid_of_tidy segment base [] next (tree form held rest) traversed stands room long before within tidy = absurd (omega arith)
-laid_of_tidy segment base (slot ∷ more) next (tree form held rest) traversed stands room long before within tidy =
-    let parts = at_parts (segment ∷ []) (record { segment = 0; word = base + slot }) (placed 0 base more) form held rest traversed stands in
-    let many : length parts.places ≡ count held = sym (count_at (segment ∷ []) parts.places held parts.inside parts.inner) in
+pub laid_of_preorder : (segment : List ℕ) (base : ℕ) (slots : List ℕ) (next : ℕ) (trees : Trees) (traversed : ℕ) → At (segment ∷ []) (placed 0 base slots) trees traversed → AllHaveRoom trees
+    → length slots ≡ count trees → Before next slots → base + next + total_words trees ≤ length segment → IsInPreorder segment (placed 0 base slots) (base + next) trees → Laid segment base slots next trees
+laid_of_preorder segment base [] next none traversed stands room long before within in_preorder = record { linked = refl; stand = holds_none segment (base + next) (omega arith) }
+laid_of_preorder segment base (slot ∷ more) next none traversed stands room long before within in_preorder = absurd (omega arith)
+laid_of_preorder segment base [] next (tree form children rest) traversed stands room long before within in_preorder = absurd (omega arith)
+laid_of_preorder segment base (slot ∷ more) next (tree form children rest) traversed stands room long before within in_preorder =
+    let parts = at_parts (segment ∷ []) (record { segment = 0; word = base + slot }) (placed 0 base more) form children rest traversed stands in
+    let many : length parts.places ≡ count children = sym (count_at (segment ∷ []) parts.places children parts.inside parts.inner) in
     let first : slot < next = before.0 in
     let own_room : HasRoom form (length parts.places) = subst (λ (n : ℕ). HasRoom form n) (sym many) room.0 in
     let there : slice_get segment (base + slot) ≡ Some (pointer form (length parts.places) (base + next - (base + slot + 1))) =
-    subst (λ (n : ℕ). slice_get segment (base + slot) ≡ Some (pointer form n (base + next - (base + slot + 1)))) (sym many) tidy.0 in
-    let reach : Reaches form (length parts.places) (base + next - (base + slot + 1)) = subst (λ (n : ℕ). Reaches form n (base + next - (base + slot + 1))) (sym many) tidy.1 in
-    let exact : Exactly segment (base + next) form parts.places (count held) =
+    subst (λ (n : ℕ). slice_get segment (base + slot) ≡ Some (pointer form n (base + next - (base + slot + 1)))) (sym many) in_preorder.0 in
+    let reach : Reaches form (length parts.places) (base + next - (base + slot + 1)) = subst (λ (n : ℕ). Reaches form n (base + next - (base + slot + 1))) (sym many) in_preorder.1 in
+    let exact : Exactly segment (base + next) form parts.places (count children) =
     subst (λ (n : ℕ). Exactly segment (base + next) form parts.places n) many
-    (tidy_object segment (base + slot) (base + next) form parts.places parts.traversed (omega arith) (omega arith) own_room there reach tidy.2 parts.object) in
-    let inner_at : At (segment ∷ []) (placed 0 (base + next) (slots form (count held))) held parts.inside = subst (λ (l : List Place). At
-    (segment ∷ []) l held parts.inside) exact.held_is parts.inner in
-    let inner = laid_of_tidy segment (base + next) (slots form (count held)) (own_words form (count held)) held parts.inside inner_at room.1
-    (length-slots form (count held) room.0) (slots_before form (count held) room.0) (omega arith) tidy.3 in
-    let onward : base + next + own_words form (count held) + total_words held ≡ base + (next + own_words form (count held) + total_words held) = omega arith in
-    let following = laid_of_tidy segment base more (next + own_words form (count held) + total_words held) rest parts.following parts.after room.2 (omega arith)
-    (before_more next (next + own_words form (count held) + total_words held) more (omega arith) before.1) (omega arith)
-    (subst (λ (n : ℕ). Tidy segment (placed 0 base more) n rest) onward tidy.4) in
+    (preorder_object segment (base + slot) (base + next) form parts.places parts.traversed (omega arith) (omega arith) own_room there reach in_preorder.2 parts.object) in
+    let inner_at : At (segment ∷ []) (placed 0 (base + next) (slots form (count children))) children parts.inside = subst (λ (l : List Place). At
+    (segment ∷ []) l children parts.inside) exact.children_is parts.inner in
+    let inner = laid_of_preorder segment (base + next) (slots form (count children)) (object_size form (count children)) children parts.inside inner_at room.1
+    (length-slots form (count children) room.0) (slots_before form (count children) room.0) (omega arith) in_preorder.3 in
+    let onward : base + next + object_size form (count children) + total_words children ≡ base + (next + object_size form (count children) + total_words children) = omega arith in
+    let following = laid_of_preorder segment base more (next + object_size form (count children) + total_words children) rest parts.following parts.after room.2 (omega arith)
+    (before_more next (next + object_size form (count children) + total_words children) more (omega arith) before.1) (omega arith)
+    (subst (λ (n : ℕ). IsInPreorder segment (placed 0 base more) n rest) onward in_preorder.4) in
     let offsets : base + next - (base + slot + 1) ≡ next - (slot + 1) = omega arith in
-    let own_there : Holds segment (base + next) (own form (links_of form held)) = exact.holds (links_of form held) (length-links form held room.0) inner.linked in
-    let own_long : length (own form (links_of form held)) ≡ own_words form (count held) = length-own_of form held room.0 in
-    let front : Holds segment (base + next) (own form (links_of form held) ++ body held) =
-    holds_join segment (base + next) (base + next + own_words form (count held)) (own form (links_of form held)) (body held) (omega arith) own_there inner.stand in
+    let own_there : Holds segment (base + next) (own form (links_of form children)) = exact.holds (links_of form children) (length-links form children room.0) inner.linked in
+    let own_long : length (own form (links_of form children)) ≡ object_size form (count children) = length-own_of form children room.0 in
+    let front : Holds segment (base + next) (own form (links_of form children) ++ body children) =
+    holds_join segment (base + next) (base + next + object_size form (count children)) (own form (links_of form children)) (body children) (omega arith) own_there inner.stand in
     record {
-      linked = (subst (λ (o : ℕ). slice_get segment (base + slot) ≡ Some (pointer form (count held) o)) offsets tidy.0, following.linked);
-      stand = holds_join segment (base + next) (base + (next + own_words form (count held) + total_words held)) (own form (links_of form held) ++ body held) (body rest)
-          (omega (arith, length-append (own form (links_of form held)) (body held), length-body held room.1)) front following.stand;
+      linked = (subst (λ (o : ℕ). slice_get segment (base + slot) ≡ Some (pointer form (count children) o)) offsets in_preorder.0, following.linked);
+      stand = holds_join segment (base + next) (base + (next + object_size form (count children) + total_words children)) (own form (links_of form children) ++ body children) (body rest)
+          (omega (arith, length-append (own form (links_of form children)) (body children), length-body children room.1)) front following.stand;
     }
 
 padded_own : (segment : List ℕ) (start : ℕ) (form : Form) (links : List ℕ) → Holds segment start (own form links) → Padded segment start form
@@ -65,23 +65,23 @@ padded_own segment start (numbers c values) links h =
 padded_own segment start pointers links h = tt
 padded_own segment start (structs d p rows) links h = tt
 
-pub tidy_of_laid : (segment : List ℕ) (base : ℕ) (slots : List ℕ) (next : ℕ) (trees : Trees) → AllReach slots next trees → AllHaveRoom trees
+pub preorder_of_laid : (segment : List ℕ) (base : ℕ) (slots : List ℕ) (next : ℕ) (trees : Trees) → AllReach slots next trees → AllHaveRoom trees
     → length slots ≡ count trees → Before next slots → Linked segment base slots (pointers_to slots next trees) → Holds segment (base + next) (body trees)
-    → Tidy segment (placed 0 base slots) (base + next) trees
-tidy_of_laid segment base [] next none reach room long before linked h = tt
-tidy_of_laid segment base (slot ∷ more) next none reach room long before linked h = absurd (omega arith)
-tidy_of_laid segment base [] next (tree form held rest) reach room long before linked h = absurd (omega arith)
-tidy_of_laid segment base (slot ∷ more) next (tree form held rest) reach room long before linked h =
-    let f = first_read (segment ∷ []) 0 segment refl base slot next form held rest before.0 reach.0 room linked.0 h in
+    → IsInPreorder segment (placed 0 base slots) (base + next) trees
+preorder_of_laid segment base [] next none reach room long before linked h = tt
+preorder_of_laid segment base (slot ∷ more) next none reach room long before linked h = absurd (omega arith)
+preorder_of_laid segment base [] next (tree form children rest) reach room long before linked h = absurd (omega arith)
+preorder_of_laid segment base (slot ∷ more) next (tree form children rest) reach room long before linked h =
+    let f = first_read (segment ∷ []) 0 segment refl base slot next form children rest before.0 reach.0 room linked.0 h in
     let offsets : next - (slot + 1) ≡ base + next - (base + slot + 1) = omega arith in
-    let onward : base + (next + own_words form (count held) + total_words held) ≡ base + next + own_words form (count held) + total_words held = omega arith in
-    let inner = tidy_of_laid segment (base + next) (slots form (count held)) (own_words form (count held)) held reach.1 room.1 (length-slots form (count held) room.0) (slots_before form
-    (count held) room.0) f.linked f.inner in
-    let following = tidy_of_laid segment base more (next + own_words form (count held) + total_words held) rest reach.2 room.2 (omega arith)
-    (before_more next (next + own_words form (count held) + total_words held) more (omega arith) before.1) linked.1 f.others in (
-      subst (λ (o : ℕ). slice_get segment (base + slot) ≡ Some (pointer form (count held) o)) offsets linked.0,
-      subst (λ (o : ℕ). Reaches form (count held) o) offsets reach.0,
-      padded_own segment (base + next) form (links_of form held) f.words,
+    let onward : base + (next + object_size form (count children) + total_words children) ≡ base + next + object_size form (count children) + total_words children = omega arith in
+    let inner = preorder_of_laid segment (base + next) (slots form (count children)) (object_size form (count children)) children reach.1 room.1 (length-slots form (count children) room.0) (slots_before form
+    (count children) room.0) f.linked f.inner in
+    let following = preorder_of_laid segment base more (next + object_size form (count children) + total_words children) rest reach.2 room.2 (omega arith)
+    (before_more next (next + object_size form (count children) + total_words children) more (omega arith) before.1) linked.1 f.others in (
+      subst (λ (o : ℕ). slice_get segment (base + slot) ≡ Some (pointer form (count children) o)) offsets linked.0,
+      subst (λ (o : ℕ). Reaches form (count children) o) offsets reach.0,
+      padded_own segment (base + next) form (links_of form children) f.words,
       inner,
-      subst (λ (n : ℕ). Tidy segment (placed 0 base more) n rest) onward following,
+      subst (λ (n : ℕ). IsInPreorder segment (placed 0 base more) n rest) onward following,
     )

@@ -4,7 +4,7 @@ ghost use Rattle.std.specs.Result.{IsErrAnd};
 ghost use Rattle.capnp_frame.specs.declared.error.ErrorKind.{ErrorKind};
 ghost use Rattle.capnp_frame.specs.declared.error.ErrorKind.TheVariants.{ReadLimitExceeded};
 ghost use Rattle.capnp_wire.specs.Object.{nothing};
-ghost use Rattle.capnp_wire.specs.Views.{Pointer, IsViewOf, Denotes, Unreadable, IsInvalidPointer, MeetsLimit, Measures, Unmeasured};
+ghost use Rattle.capnp_wire.specs.Views.{Pointer, IsViewOf, Denotes, RejectsReading, IsInvalidPointer, MeetsLimit, Measures, RejectsMeasuring};
 ghost use Rattle.capnp_wire.specs.Readers.{pointer_of, unlimited_root, IsEntered};
 
 use crate::layout::object::{Object, object_at};
@@ -69,10 +69,10 @@ impl<'a, S: ReaderSegments> Reader<'a, S> {
     pub fn target_size(&self) -> Result<MessageSize>
         ensures returned { let pointer = pointer_of S.segments self.now in MatchResult result
             (λ size. Measures pointer size.word_count × (size.cap_count ≡ 0))
-            (λ error. Unmeasured pointer error.kind) }
+            (λ error. RejectsMeasuring pointer error.kind) }
         ensures measured { (words : ℕ) → Measures (pointer_of S.segments self.now) words →
             words < 2 ^ 64 → IsOk result }
-        ensures exact { (kind : ErrorKind) → Unmeasured (pointer_of S.segments self.now) kind →
+        ensures exact { (kind : ErrorKind) → RejectsMeasuring (pointer_of S.segments self.now) kind →
             IsErrAnd result (λ error. error.kind ≡ kind) }
     {
         self.measure()
@@ -82,7 +82,7 @@ impl<'a, S: ReaderSegments> Reader<'a, S> {
     fn measure(&self) -> Result<MessageSize>
         ensures returned { let pointer = pointer_of S.segments self.now in MatchResult result
             (λ size. Measures pointer size.word_count × (size.cap_count ≡ 0))
-            (λ error. Unmeasured pointer error.kind) }
+            (λ error. RejectsMeasuring pointer error.kind) }
         ensures bound { IfOk result (λ size. size.word_count < 2 ^ 64) }
     {
         let mut walk = Walk::new(limit_in_words(self.limiter));
@@ -126,14 +126,14 @@ impl<'a, S: ReaderSegments> Reader<'a, S> {
             (kind : ErrorKind) → T.declines pointer kind →
             IsErrAnd result (λ error. (error.kind ≡ kind) ⊎ MeetsLimit pointer error.kind) }
     {
-        T::get_from_pointer(self.again())
+        T::get_from_pointer(self.copied())
     }
 
     /// A copy of this reader, for the slow path.
     /// Speed: the address of the original never escapes, so it stays in registers
     /// (`tools/time-reading`).
     #[inline(always)]
-    pub(crate) fn again(&self) -> Reader<'a, S>
+    pub(crate) fn copied(&self) -> Reader<'a, S>
         ensures { result ≡ self.now }
     {
         Reader {
@@ -151,7 +151,7 @@ impl<'a, S: ReaderSegments> Reader<'a, S> {
             IfOk result (λ found. MatchOption found (Denotes pointer nothing)
             (λ object. IsEntered pointer object)) }
         ensures refused { let pointer = pointer_of S.segments self.now in
-            IfErr result (λ error. Unreadable pointer error.kind) }
+            IfErr result (λ error. RejectsReading pointer error.kind) }
     {
         let Some(place) = self.place else {
             return Ok(None);

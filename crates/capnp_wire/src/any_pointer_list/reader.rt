@@ -2,9 +2,9 @@
 ghost use Rattle.std.specs.Prelude.{◌≡◌, ◌+◌, ◌^◌, ◌<◌, length, MatchResult};
 
 use crate::any_pointer;
-use crate::entered::wrong_kind;
 use crate::layout::object::words_fit;
 use crate::layout::place::Place;
+use crate::object_content::wrong_kind;
 use crate::read_limiter::ReadLimiter;
 use crate::traits::{FromPointerReader, IndexMove, ListIter};
 use capnp_frame::Result;
@@ -31,7 +31,7 @@ impl<'a, S: ReaderSegments> Reader<'a, S> {
 
     /// The number of elements.
     pub fn len(&self) -> u32
-        ensures { result ≡ length (pointer_list_of S.segments self.now).held }
+        ensures { result ≡ length (pointer_list_of S.segments self.now).children }
     {
         self.count
     }
@@ -39,7 +39,7 @@ impl<'a, S: ReaderSegments> Reader<'a, S> {
     /// The pointer of this index. What it leads to is counted against the traversal limit when it
     /// is followed.
     pub fn get(&self, index: u32) -> any_pointer::Reader<'a, S>
-        requires { index < length (pointer_list_of S.segments self.now).held }
+        requires { index < length (pointer_list_of S.segments self.now).children }
         ensures { pointer_of S.segments result
             ≡ pointer_at (pointer_list_of S.segments self.now) index }
     {
@@ -59,7 +59,7 @@ impl<'a, S: ReaderSegments> Reader<'a, S> {
 
     /// The element of this index, or `None` where there are no more elements than it.
     pub fn try_get(&self, index: u32) -> Option<any_pointer::Reader<'a, S>>
-        ensures { FindsElement (length (pointer_list_of S.segments self.now).held) index
+        ensures { FindsElement (length (pointer_list_of S.segments self.now).children) index
             (λ item. pointer_of S.segments item
             ≡ pointer_at (pointer_list_of S.segments self.now) index) result }
     {
@@ -120,7 +120,7 @@ impl<'a, S: ReaderSegments> IndexMove for Reader<'a, S> {
 
     ghost seen = { pointer_of S.segments };
 
-    ghost size = { λ list. length (pointer_list_of S.segments list).held };
+    ghost size = { λ list. length (pointer_list_of S.segments list).children };
 
     ghost element = { λ list index. pointer_at (pointer_list_of S.segments list) index };
 

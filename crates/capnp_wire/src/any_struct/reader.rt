@@ -6,10 +6,10 @@ ghost use Rattle.capnp_wire.specs.Values.{HoldsPointers};
 
 use crate::any_pointer;
 use crate::any_struct::part::{self, WordPart};
-use crate::entered::{rebuilt, wrong_kind};
 use crate::layout::object::Object;
 use crate::layout::place::{Place, word};
 use crate::layout::pointer::StructSize;
+use crate::object_content::{by_value, wrong_kind};
 use crate::read_limiter::ReadLimiter;
 use crate::traits::FromPointerReader;
 use capnp_frame::Result;
@@ -59,7 +59,7 @@ impl<'a, S: ReaderSegments> StructReader<'a, S> {
 
     /// The number of pointers.
     pub fn pointers(&self) -> u16
-        ensures { result ≡ length (struct_of S.segments self.now).held }
+        ensures { result ≡ length (struct_of S.segments self.now).children }
     {
         self.size.pointers
     }
@@ -91,9 +91,9 @@ impl<'a, S: ReaderSegments> StructReader<'a, S> {
             (λ view. IsStruct pointer (struct_of S.segments view))
             (λ error. Refuses pointer DeclinesStruct error.kind) }
     {
-        match reader.enter_near_struct() {
+        match reader.enter_local_struct() {
             Some(object) => StructReader::in_object(reader, &object),
-            None => rebuilt(StructReader::enter(&reader.again())),
+            None => by_value(StructReader::enter(&reader.copied())),
         }
     }
 

@@ -9,7 +9,7 @@ ghost use Rattle.capnp_wire.specs.Reached.{root, Root};
 ghost use Rattle.capnp_wire.specs.Traversed.{Within};
 ghost use Rattle.capnp_wire.specs.Faults.{NoWord, StopsWalk};
 ghost use Rattle.capnp_wire.specs.Canonical.{IsCanonical};
-ghost use Rattle.capnp_wire.specs.Tested.{Unsaid};
+ghost use Rattle.capnp_wire.specs.Tested.{RejectsCanonicity};
 ghost use Rattle.capnp_wire.specs.Readers.{pointer_of, nesting_of};
 
 use crate::any_pointer;
@@ -84,14 +84,14 @@ impl<S: ReaderSegments> ReaderArena<S> {
         ensures returned { let m = message_of (S.segments self.now.segments) in
             let nesting = nesting_of self.now.nesting_limit in
             MatchResult result (λ is. IsTrue is ↔ IsCanonical m)
-            (λ error. Unsaid m nesting self.now.limiter.limit error.kind) }
+            (λ error. RejectsCanonicity m nesting self.now.limiter.limit error.kind) }
         ensures exact { let m = message_of (S.segments self.now.segments) in
             let nesting = nesting_of self.now.nesting_limit in
-            (kind : ErrorKind) → Unsaid m nesting self.now.limiter.limit kind →
+            (kind : ErrorKind) → RejectsCanonicity m nesting self.now.limiter.limit kind →
             IsErrAnd result (λ error. error.kind ≡ kind) }
         ensures found { let m = message_of (S.segments self.now.segments) in
-            (form : Form) (held : Trees) (traversed : ℕ) → Root m form held traversed →
-            depth (tree form held none) ≤ nesting_of self.now.nesting_limit →
+            (form : Form) (children : Trees) (traversed : ℕ) → Root m form children traversed →
+            depth (tree form children none) ≤ nesting_of self.now.nesting_limit →
             Within self.now.limiter.limit traversed → IsOk result }
         ensures stops { let m = message_of (S.segments self.now.segments) in
             let nesting = nesting_of self.now.nesting_limit in

@@ -5,9 +5,9 @@ ghost use Rattle.capnp_wire.specs.Views.{IsViewOf, Accepts, Reads, Refuses, Decl
 ghost use Rattle.capnp_wire.specs.Readers.{pointer_of, form_of};
 
 use crate::any_pointer;
-use crate::entered::rebuilt;
 use crate::layout::element::ElementSize;
 use crate::layout::object::Object;
+use crate::object_content::by_value;
 use crate::traits::FromPointerReader;
 use capnp_frame::Result;
 use capnp_frame::message::ReaderSegments;
@@ -44,9 +44,9 @@ fn read_bytes<'a, S: ReaderSegments>(reader: &any_pointer::Reader<'a, S>) -> Res
         (λ bytes. Reads pointer (λ form. IsData form bytes.now))
         (λ error. Refuses pointer (DeclinesNumbers 2) error.kind) }
 {
-    match reader.enter_near_numbers(ElementSize::Byte) {
+    match reader.enter_local_numbers(ElementSize::Byte) {
         Some(object) => bytes_in(&object),
-        None => rebuilt(enter_bytes(&reader.again())),
+        None => by_value(enter_bytes(&reader.copied())),
     }
 }
 

@@ -8,14 +8,14 @@ ghost use Rattle.capnp_frame.specs.declared.error.ErrorKind.{ErrorKind};
 ghost use Rattle.capnp_wire.specs.Reached.{root};
 ghost use Rattle.capnp_wire.specs.Canonical.{IsCanonical};
 ghost use Rattle.capnp_wire.specs.Rows.{places_in, end_of};
-ghost use Rattle.capnp_wire.specs.Tested.{NextOf, PaddedOf, IsTight, links_at, PassesAt, MeetsAt, FailsAt, Ends, refused, not_canonical};
+ghost use Rattle.capnp_wire.specs.Tested.{NextOf, PaddedOf, IsTruncated, links_at, PassesAt, MeetsAt, FailsAt, Ends, refused, not_canonical};
 ghost use Rattle.capnp_wire.specs.declared.layout.place.Place.{Place};
 
-use crate::layout::near::{near_list, near_struct};
+use crate::layout::canonical_rules::{body_is_padded, is_next, is_truncated};
+use crate::layout::fast_path::{local_list, local_struct};
 use crate::layout::object::{Object, object_in};
 use crate::layout::place::{Place, existing_word, pointer_at};
-use crate::layout::rows::PointerRows;
-use crate::layout::tested::{body_is_padded, is_next, is_tight};
+use crate::layout::pointer_slots::PointerSlots;
 use crate::layout::walk::Walk;
 use capnp_frame::Result;
 use capnp_frame::message::ReaderSegments;
@@ -34,7 +34,7 @@ pub(crate) struct CanonicalWalk {
 pub(crate) enum Met {
     Null,
     NotCanonical,
-    Pointers(PointerRows),
+    Pointers(PointerSlots),
 }
 
 impl CanonicalWalk {
@@ -82,7 +82,7 @@ impl CanonicalWalk {
             IfErr result (λ error. Ends (words_of segment.now) (place ∷ []) nesting
             self.old.walk.left self.old.next (refused error.kind)) }
     {
-        match self.meet(segments, segment, word, nesting)? {
+        match self.visit(segments, segment, word, nesting)? {
             Met::Null => Ok(true),
             Met::NotCanonical => Ok(false),
             Met::Pointers(pointers) => {
@@ -104,7 +104,7 @@ impl CanonicalWalk {
         &mut self,
         segments: &S,
         segment: &[u8],
-        mut pointers: PointerRows,
+        mut pointers: PointerSlots,
         nesting: u32,
     ) -> Result<bool>
         requires one { message_of (S.segments segments.now) ≡ words_of segment.now ∷ [] }
@@ -132,7 +132,7 @@ impl CanonicalWalk {
     // Enters the object that the pointer at a word leads to, and tests it by itself.
     // Speed: what most pointers lead to is found in the segment in hand (workload `canon`).
     #[inline(always)]
-    fn meet<S: ReaderSegments>(
+    fn visit<S: ReaderSegments>(
         &mut self,
         segments: &S,
         segment: &[u8],
@@ -153,18 +153,18 @@ impl CanonicalWalk {
             return Ok(Met::NotCanonical);
         }
         let place = Place { segment: 0, word };
-        if let Some(found) = near_struct(segment, place, nesting) {
+        if let Some(found) = local_struct(segment, place, nesting) {
             return self.enter(segment, pointer, word, &found.object());
         }
-        if let Some(list) = near_list(segment, place, nesting) {
+        if let Some(list) = local_list(segment, place, nesting) {
             return self.enter(segment, pointer, word, &list.object());
         }
-        self.meet_object(segments, segment, pointer, word, nesting)
+        self.visit_object(segments, segment, pointer, word, nesting)
     }
 
     // Goes to what a pointer leads to that isn't far, of any kind.
     #[inline(never)]
-    fn meet_object<S: ReaderSegments>(
+    fn visit_object<S: ReaderSegments>(
         &mut self,
         segments: &S,
         segment: &[u8],
@@ -207,7 +207,7 @@ impl CanonicalWalk {
         ensures refused { (nesting : ℕ) → 0 < nesting →
             FailsAt (words_of segment.now) word nesting self.old result }
     {
-        self.walk.pay(object.traversed)?;
+        self.walk.count_traversed(object.traversed)?;
         if !is_laid_out(segment, pointer, word, self.next, object) {
             return Ok(Met::NotCanonical);
         }
@@ -257,9 +257,9 @@ fn is_laid_out(segment: &[u8], pointer: u64, word: usize, next: usize, object: &
         let is_next = NextOf pointer word next object.now.body in
         (is_next → next + words_in object.now.body ≤ length segment.now / 8) →
         IsTrue result ↔ (is_next × PaddedOf (words_of segment.now) next object.now.body
-        × IsTight shape.form (links_at words shape.held)) }
+        × IsTruncated shape.form (links_at words shape.children)) }
 {
     is_next(pointer, word, next, object.body)
         && body_is_padded(segment, next, object.body)
-        && is_tight(object)
+        && is_truncated(object)
 }

@@ -4,10 +4,12 @@ ghost use Rattle.capnp_wire.specs.Pointer.{words_of};
 ghost use Rattle.capnp_wire.specs.Object.{message_of};
 ghost use Rattle.capnp_wire.specs.Copy.{CanCopy, Copies};
 
-use crate::layout::begun::{StructCopy, begin, begin_list, begin_struct, copy_list};
 use crate::layout::block::BlockItem;
 use crate::layout::copy_rows::{copy_pointers, copy_run};
-use crate::layout::near::{bare_pointer, has_short_way, near_list, near_pointers, near_struct};
+use crate::layout::fast_path::{
+    has_fast_path, local_list, local_pointers, local_struct, null_or_empty_struct,
+};
+use crate::layout::pending::{StructCopy, begin, begin_list, begin_struct, copy_list};
 use crate::layout::place::{Place, word};
 use capnp_frame::message::ReaderSegments;
 
@@ -44,7 +46,7 @@ pub(crate) fn copy<S: ReaderSegments, T: BlockItem>(
     match segments.get_segment(place.segment) {
         Some(found) => {
             if let Some(pointer) = word(found, place.word)
-                && !has_short_way(pointer)
+                && !has_fast_path(pointer)
             {
                 return copy_object(
                     segments, found, place, nesting, canonical, block, following, next,
@@ -84,13 +86,13 @@ pub(crate) fn copy_target<S: ReaderSegments, T: BlockItem>(
         (next - following) next (T.as_words block.old) (T.as_words block.new) result }
     ensures len { length (T.as_words block.new) ≡ length (T.as_words block.old) }
 {
-    if let Some(pointer) = bare_pointer(segment, place.word, nesting) {
+    if let Some(pointer) = null_or_empty_struct(segment, place.word, nesting) {
         return Copied { pointer, next };
     }
-    if let Some(found) = near_struct(segment, place, nesting) {
+    if let Some(found) = local_struct(segment, place, nesting) {
         let left = match begin_struct(&found, canonical, block, following, next) {
             StructCopy::Whole(copied) => return copied,
-            StructCopy::Begun(left) => left,
+            StructCopy::Pending(left) => left,
         };
         let free = copy_run(
             segments,
@@ -108,10 +110,10 @@ pub(crate) fn copy_target<S: ReaderSegments, T: BlockItem>(
             next: free,
         };
     }
-    if let Some(list) = near_list(segment, place, nesting) {
+    if let Some(list) = local_list(segment, place, nesting) {
         return copy_list(&list, block, following, next);
     }
-    let Some(list) = near_pointers(segment, place, nesting) else {
+    let Some(list) = local_pointers(segment, place, nesting) else {
         return copy_object(
             segments, segment, place, nesting, canonical, block, following, next,
         );

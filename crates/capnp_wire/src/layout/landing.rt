@@ -2,15 +2,15 @@
 ghost use Rattle.std.specs.Prelude.{◌≡◌, ◌+◌, ◌*◌, ◌/◌, ◌^◌, ◌<◌, ℕ, slice_get, Some, None, IfOk, IfErr, MatchOption, MatchResult, false};
 ghost use Rattle.capnp_frame.specs.declared.error.ErrorKind.{ErrorKind};
 ghost use Rattle.capnp_wire.specs.Pointer.{words_of};
-ghost use Rattle.capnp_wire.specs.PointerWord.{IsNear, IsFarPointer};
+ghost use Rattle.capnp_wire.specs.PointerWord.{IsLocal, IsFarPointer};
 ghost use Rattle.capnp_wire.specs.Object.{message_of, word_at};
-ghost use Rattle.capnp_wire.specs.Landing.{HasWideLandingPad, IsLanding, NotNear};
+ghost use Rattle.capnp_wire.specs.Landing.{HasWideLandingPad, IsLanding, NotLocal};
 ghost use Rattle.capnp_wire.specs.Faults.{BadLandingPad, Fault};
 ghost use Rattle.capnp_wire.specs.declared.layout.place.Place.{Place};
 ghost use Rattle.capnp_wire.specs.declared.layout.pointer.FarPointer.{FarPointer};
 
 use crate::layout::place::{Place, existing_word, segment};
-use crate::layout::pointer::{FarPointer, NearPointer, NearShape, PointerWord};
+use crate::layout::pointer::{FarPointer, LocalPointer, LocalShape, PointerWord};
 use capnp_frame::message::ReaderSegments;
 use capnp_frame::{Error, ErrorKind, Result};
 
@@ -20,7 +20,7 @@ pub(crate) struct Landing<'a> {
     pub segment: &'a [u8],
     pub number: u32,
     pub start: Option<usize>,
-    pub shape: NearShape,
+    pub shape: LocalShape,
     pub landing_pads: u64,
 }
 
@@ -44,7 +44,7 @@ pub(crate) fn land<'a, S: ReaderSegments>(
         return Ok(None);
     }
     match PointerWord::read(pointer) {
-        PointerWord::Near(near) => Ok(Some(land_near(segment, place, near, 0))),
+        PointerWord::Local(local) => Ok(Some(land_local(segment, place, local, 0))),
         PointerWord::Far(far) => Ok(Some(land_far(segments, far)?)),
         PointerWord::Other => Err(Error::from_kind(ErrorKind::CapabilityRefused)),
     }
@@ -52,27 +52,27 @@ pub(crate) fn land<'a, S: ReaderSegments>(
 
 /// Where a struct or list pointer at a place of this segment leads.
 #[inline(always)]
-pub(crate) fn land_near(
+pub(crate) fn land_local(
     segment: &[u8],
     place: Place,
-    near: NearPointer,
+    local: LocalPointer,
     landing_pads: u64,
 ) -> Landing<'_>
-    requires offset { near.offset.0 < 2 ^ 30 }
+    requires offset { local.offset.0 < 2 ^ 30 }
     requires place { place.word < 2 ^ 61 }
     ensures segment { result.segment.now ≡ segment.now }
     ensures number { result.number ≡ place.segment }
-    ensures shape { result.shape ≡ near.shape }
+    ensures shape { result.shape ≡ local.shape }
     ensures landing_pads { result.landing_pads ≡ landing_pads }
     ensures start { let leads_to = λ (start : ℕ).
-        start + 2 ^ 30 * (near.offset.0 / 2 ^ 29) ≡ place.word + 1 + near.offset.0 in
+        start + 2 ^ 30 * (local.offset.0 / 2 ^ 29) ≡ place.word + 1 + local.offset.0 in
         MatchOption result.start ((start : ℕ) → leads_to start → ⊥) leads_to }
 {
     Landing {
         segment,
         number: place.segment,
-        start: near.offset.target(place.word),
-        shape: near.shape,
+        start: local.offset.target(place.word),
+        shape: local.shape,
         landing_pads,
     }
 }
@@ -88,8 +88,8 @@ fn land_far<S: ReaderSegments>(segments: &S, far: FarPointer) -> Result<Landing<
     let landing_pad = segment(segments, far.landing_pad.segment)?;
     let first = existing_word(landing_pad, far.landing_pad.word)?;
     if !far.is_wide {
-        let near = near_pointer(first)?;
-        return Ok(land_near(landing_pad, far.landing_pad, near, 1));
+        let local = local_pointer(first)?;
+        return Ok(land_local(landing_pad, far.landing_pad, local, 1));
     }
     let tag = existing_word(landing_pad, far.landing_pad.word + 1)?;
     land_wide(segments, first, tag)
@@ -106,12 +106,12 @@ fn land_wide<S: ReaderSegments>(segments: &S, first: u64, tag: u64) -> Result<La
 {
     let content = content_pointer(first)?;
     let segment = segment(segments, content.segment)?;
-    let near = near_pointer(tag)?;
+    let local = local_pointer(tag)?;
     Ok(Landing {
         segment,
         number: content.segment,
         start: Some(content.word),
-        shape: near.shape,
+        shape: local.shape,
         landing_pads: 2,
     })
 }
@@ -130,12 +130,12 @@ fn content_pointer(first: u64) -> Result<Place>
 }
 
 // A word that is a struct or list pointer.
-fn near_pointer(word: u64) -> Result<NearPointer>
-    ensures found { IfOk result (λ near. IsNear word near) }
-    ensures refused { IfErr result (λ error. NotNear word error.kind) }
+fn local_pointer(word: u64) -> Result<LocalPointer>
+    ensures found { IfOk result (λ local. IsLocal word local) }
+    ensures refused { IfErr result (λ error. NotLocal word error.kind) }
 {
     match PointerWord::read(word) {
-        PointerWord::Near(near) => Ok(near),
+        PointerWord::Local(local) => Ok(local),
         PointerWord::Far(_) => Err(Error::from_kind(ErrorKind::PointerOutOfBounds)),
         PointerWord::Other => Err(Error::from_kind(ErrorKind::CapabilityRefused)),
     }

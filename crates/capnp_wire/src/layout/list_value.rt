@@ -5,7 +5,7 @@ ghost use Rattle.capnp_wire.specs.Tree.{pointers, Trees};
 ghost use Rattle.capnp_wire.specs.Object.{message_of, places};
 ghost use Rattle.capnp_wire.specs.Traversed.{counted, WalkedAll};
 ghost use Rattle.capnp_wire.specs.Faults.{StopsWalk};
-ghost use Rattle.capnp_wire.specs.Layout.{formed};
+ghost use Rattle.capnp_wire.specs.Layout.{output};
 ghost use Rattle.capnp_wire.specs.Copy.{IsCopied};
 ghost use Rattle.capnp_wire.specs.Values.{HasWords, LacksWords, HasRoomAt};
 ghost use Rattle.capnp_wire.specs.ListValues.{IsListTree, StopsInList, pointers_along};
@@ -13,14 +13,14 @@ ghost use Rattle.capnp_wire.specs.ListValues.{IsListTree, StopsInList, pointers_
 use crate::layout::copy::Copied;
 use crate::layout::copy_rows::copy_run;
 use crate::layout::place::{Place, segment};
-use crate::layout::rows::PointerRows;
-use crate::layout::value::fitting;
+use crate::layout::pointer_slots::PointerSlots;
+use crate::layout::value::checked_word_count;
 use crate::layout::walk::Walk;
 use crate::pointer_word::list_word;
 use capnp_frame::Result;
 use capnp_frame::message::ReaderSegments;
 
-/// The words of a list of pointers with all below it, after its pointer, as it stands or in
+/// The words of a list of pointers with all below it, after its pointer, as it is or in
 /// canonical form.
 pub(crate) fn measure<S: ReaderSegments>(
     segments: &S,
@@ -40,7 +40,7 @@ pub(crate) fn measure<S: ReaderSegments>(
     let mut walk = Walk::new(limit);
     walk.count(count as u64);
     walk_list(&mut walk, segments, first, count, nesting, canonical)?;
-    fitting(walk.words(), canonical)
+    checked_word_count(walk.words(), canonical)
 }
 
 // Walks over all objects that the pointers of a list lead to, whose segment is still to be found.
@@ -64,7 +64,7 @@ fn walk_list<S: ReaderSegments>(
         return Ok(());
     }
     let segment = segment(segments, first.segment)?;
-    let pointers = PointerRows::run(first, count);
+    let pointers = PointerSlots::run(first, count);
     walk.walk_pointers(segments, segment, pointers, nesting, canonical)
 }
 
@@ -88,7 +88,7 @@ pub(crate) fn write<S: ReaderSegments>(
     requires following { following ≤ next }
     ensures written { (limit : Option ℕ) (trees : Trees) → IsListTree pointers
         (pointers_along (message_of (S.segments segments.now)) first count nesting limit) trees →
-        IsCopied (formed canonical trees) (next - following) next
+        IsCopied (output canonical trees) (next - following) next
         (words_of block.old) (words_of block.new) result }
     ensures len { length block.new ≡ length block.old }
 {

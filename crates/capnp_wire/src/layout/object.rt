@@ -2,12 +2,12 @@
 ghost use Rattle.std.specs.Prelude.{◌≡◌, ◌↔◌, ◌+◌, ◌/◌, ◌^◌, ◌<◌, ◌≤◌, ℕ, [], ◌∷◌, All, length, slice_get, Some, None, IfOk, IfErr, MatchOption, MatchResult, IsTrue};
 ghost use Rattle.capnp_frame.specs.declared.error.ErrorKind.{ErrorKind};
 ghost use Rattle.capnp_wire.specs.Pointer.{words_of};
-ghost use Rattle.capnp_wire.specs.PointerWord.{IsNearShape};
+ghost use Rattle.capnp_wire.specs.PointerWord.{IsLocalShape};
 ghost use Rattle.capnp_wire.specs.Object.{message_of, word_at, elements, ShapeStands};
 ghost use Rattle.capnp_wire.specs.Tree.{numbers, Trees, depth};
 ghost use Rattle.capnp_wire.specs.Reached.{At};
 ghost use Rattle.capnp_wire.specs.Landing.{IsObject, shape_of, room_of, words_in, traversed_of};
-ghost use Rattle.capnp_wire.specs.Faults.{Misfits, Fault};
+ghost use Rattle.capnp_wire.specs.Faults.{RejectsSize, Fault};
 ghost use Rattle.capnp_wire.specs.Rows.{places_in, end_of};
 ghost use Rattle.capnp_wire.specs.declared.layout.place.Place.{Place};
 ghost use Rattle.capnp_wire.specs.declared.layout.pointer.Elements.{Elements};
@@ -16,8 +16,8 @@ ghost use Rattle.capnp_wire.specs.declared.layout.pointer.StructSize.{StructSize
 use crate::layout::element::ElementSize;
 use crate::layout::landing::land;
 use crate::layout::place::{Place, existing_word, segment};
-use crate::layout::pointer::{Elements, NearShape, StructSize};
-use crate::layout::rows::PointerRows;
+use crate::layout::pointer::{Elements, LocalShape, StructSize};
+use crate::layout::pointer_slots::PointerSlots;
 use capnp_frame::message::ReaderSegments;
 use capnp_frame::{Error, ErrorKind, Result};
 
@@ -130,43 +130,43 @@ pub(crate) fn words_fit(segment: &[u8])
 
 // What is at a word of a segment, by its pointer.
 #[inline(always)]
-fn body_at(segment: &[u8], start: usize, shape: NearShape) -> Result<Body>
+fn body_at(segment: &[u8], start: usize, shape: LocalShape) -> Result<Body>
     ensures found { let words = words_of segment.now in
-        IfOk result (λ body. (tag number : ℕ) → IsNearShape tag shape →
+        IfOk result (λ body. (tag number : ℕ) → IsLocalShape tag shape →
         let place : Place = record { segment = number; word = start } in
         ShapeStands words place tag (shape_of words place body)) }
     ensures room { IfOk result (λ body. start + room_of body ≤ length segment.now / 8) }
     ensures elements { IfOk result (λ body. words_in body ≤ room_of body) }
-    ensures refused { IfErr result (λ error. (tag : ℕ) → IsNearShape tag shape →
-        Misfits (words_of segment.now) start tag error.kind) }
+    ensures refused { IfErr result (λ error. (tag : ℕ) → IsLocalShape tag shape →
+        RejectsSize (words_of segment.now) start tag error.kind) }
 {
     match shape {
-        NearShape::Struct(size) => {
+        LocalShape::Struct(size) => {
             expect_room(segment, start, size.words())?;
             Ok(Body::Struct(size))
         }
-        NearShape::Numbers(elements, count) => {
+        LocalShape::Numbers(elements, count) => {
             expect_room(segment, start, elements.words_of_list(count))?;
             Ok(Body::Numbers(elements, count))
         }
-        NearShape::Pointers(count) => {
+        LocalShape::Pointers(count) => {
             expect_room(segment, start, count as u64)?;
             Ok(Body::Pointers(count))
         }
-        NearShape::Structs(words) => structs(segment, start, words),
+        LocalShape::Structs(words) => structs(segment, start, words),
     }
 }
 
 // A list of structs at a word of a segment, with this many words after its tag.
 fn structs(segment: &[u8], start: usize, words: u32) -> Result<Body>
     ensures found { let words_there = words_of segment.now in
-        IfOk result (λ body. (tag number : ℕ) → IsNearShape tag (NearShape.Structs words) →
+        IfOk result (λ body. (tag number : ℕ) → IsLocalShape tag (LocalShape.Structs words) →
         let place : Place = record { segment = number; word = start } in
         ShapeStands words_there place tag (shape_of words_there place body)) }
     ensures room { IfOk result (λ body. start + room_of body ≤ length segment.now / 8) }
     ensures elements { IfOk result (λ body. words_in body ≤ room_of body) }
-    ensures refused { IfErr result (λ error. (tag : ℕ) → IsNearShape tag (NearShape.Structs words) →
-        Misfits (words_of segment.now) start tag error.kind) }
+    ensures refused { IfErr result (λ error. (tag : ℕ) → IsLocalShape tag (LocalShape.Structs words) →
+        RejectsSize (words_of segment.now) start tag error.kind) }
 {
     expect_room(segment, start, 1 + words as u64)?;
     let tag = existing_word(segment, start)?;
@@ -204,16 +204,16 @@ pub(crate) fn fits(segment: &[u8], start: usize, words: u64) -> bool
 impl<'a> Object<'a> {
     /// Its pointers.
     #[inline(always)]
-    pub(crate) fn pointers(&self) -> PointerRows
+    pub(crate) fn pointers(&self) -> PointerSlots
         requires room { self.now.start.word + room_of self.now.body
             ≤ length self.now.segment.now / 8 }
         requires elements { words_in self.now.body ≤ room_of self.now.body }
         ensures places { places_in result
-            ≡ (shape_of (words_of self.now.segment.now) self.now.start self.now.body).held }
+            ≡ (shape_of (words_of self.now.segment.now) self.now.start self.now.body).children }
         ensures end { end_of result ≤ self.now.start.word + words_in self.now.body }
         ensures segment { result.next.segment ≡ self.now.start.segment }
     {
-        PointerRows::of(self.start, self.body, self.body.row_size().pointers)
+        PointerSlots::of(self.start, self.body, self.body.row_size().pointers)
     }
 }
 

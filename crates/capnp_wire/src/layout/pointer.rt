@@ -1,7 +1,7 @@
 //! Pointer words.
 ghost use Rattle.std.specs.Prelude.{◌≡◌, ◌+◌, ◌*◌, ◌/◌, ◌%◌, ◌^◌, ◌<◌, ℕ, Some, MatchOption};
 ghost use Rattle.capnp_wire.specs.Pointer.{pointer_kind, offset};
-ghost use Rattle.capnp_wire.specs.PointerWord.{IsPointerWord, IsNearShape, IsElementsTag};
+ghost use Rattle.capnp_wire.specs.PointerWord.{IsPointerWord, IsLocalShape, IsElementsTag};
 
 use crate::layout::element::ElementSize;
 use crate::layout::place::Place;
@@ -9,7 +9,7 @@ use crate::layout::place::Place;
 /// What a word says that isn't a null pointer.
 #[derive(Clone, Copy)]
 pub(crate) enum PointerWord {
-    Near(NearPointer),
+    Local(LocalPointer),
     Far(FarPointer),
     /// A capability, or a kind that isn't defined yet.
     Other,
@@ -17,9 +17,9 @@ pub(crate) enum PointerWord {
 
 /// A struct or list pointer.
 #[derive(Clone, Copy)]
-pub(crate) struct NearPointer {
+pub(crate) struct LocalPointer {
     pub offset: Offset,
-    pub shape: NearShape,
+    pub shape: LocalShape,
 }
 
 /// A signed number of words, in 30 bits.
@@ -28,7 +28,7 @@ pub(crate) struct Offset(pub u32);
 
 /// What a struct or list pointer leads to.
 #[derive(Clone, Copy)]
-pub enum NearShape {
+pub enum LocalShape {
     Struct(StructSize),
     /// A list of numbers: their size, and how many they are.
     Numbers(ElementSize, u32),
@@ -72,11 +72,11 @@ impl PointerWord {
         ensures { IsPointerWord word result }
     {
         match word % 4 {
-            0 => PointerWord::Near(NearPointer {
+            0 => PointerWord::Local(LocalPointer {
                 offset: Offset::read(word),
-                shape: NearShape::Struct(StructSize::read(word)),
+                shape: LocalShape::Struct(StructSize::read(word)),
             }),
-            1 => PointerWord::Near(NearPointer {
+            1 => PointerWord::Local(LocalPointer {
                 offset: Offset::read(word),
                 shape: list_shape(word),
             }),
@@ -168,19 +168,19 @@ impl Elements {
 
 // What a word says that is a list pointer.
 #[inline(always)]
-fn list_shape(word: u64) -> NearShape
+fn list_shape(word: u64) -> LocalShape
     requires { pointer_kind word ≡ 1 }
-    ensures { IsNearShape word result }
+    ensures { IsLocalShape word result }
 {
     let count = (word / (1 << 35)) as u32;
     match word / (1 << 32) % 8 {
-        0 => NearShape::Numbers(ElementSize::Void, count),
-        1 => NearShape::Numbers(ElementSize::Bit, count),
-        2 => NearShape::Numbers(ElementSize::Byte, count),
-        3 => NearShape::Numbers(ElementSize::TwoBytes, count),
-        4 => NearShape::Numbers(ElementSize::FourBytes, count),
-        5 => NearShape::Numbers(ElementSize::EightBytes, count),
-        6 => NearShape::Pointers(count),
-        _ => NearShape::Structs(count),
+        0 => LocalShape::Numbers(ElementSize::Void, count),
+        1 => LocalShape::Numbers(ElementSize::Bit, count),
+        2 => LocalShape::Numbers(ElementSize::Byte, count),
+        3 => LocalShape::Numbers(ElementSize::TwoBytes, count),
+        4 => LocalShape::Numbers(ElementSize::FourBytes, count),
+        5 => LocalShape::Numbers(ElementSize::EightBytes, count),
+        6 => LocalShape::Pointers(count),
+        _ => LocalShape::Structs(count),
     }
 }

@@ -9,13 +9,13 @@ ghost use Rattle.capnp_wire.specs.Copy.{IsNarrower, ArePaired, TakesPair};
 use crate::layout::object::{Body, Object, words_fit};
 use crate::layout::place::Place;
 use crate::layout::pointer::{Elements, StructSize};
-use crate::layout::rows::PointerRows;
+use crate::layout::pointer_slots::PointerSlots;
 
 /// The pointers that are left to copy, and the slots of their copies.
 #[derive(Drop)]
 pub(crate) struct RowPair {
-    from: PointerRows,
-    to: PointerRows,
+    from: PointerSlots,
+    to: PointerSlots,
 }
 
 impl RowPair {
@@ -38,8 +38,8 @@ impl RowPair {
             segment: 0,
             word: next,
         };
-        let from = PointerRows::of(object.start, object.body, kept);
-        let to = PointerRows::of(begin, copied, kept);
+        let from = PointerSlots::of(object.start, object.body, kept);
+        let to = PointerSlots::of(begin, copied, kept);
         RowPair { from, to }
     }
 
@@ -55,8 +55,8 @@ impl RowPair {
             segment: 0,
             word: slot,
         };
-        let from = PointerRows::run(first, count);
-        let to = PointerRows::run(begin, count);
+        let from = PointerSlots::run(first, count);
+        let to = PointerSlots::run(begin, count);
         RowPair { from, to }
     }
 
@@ -78,8 +78,8 @@ impl RowPair {
             word: slots,
         };
         let rows = kept.size.row_size();
-        let from = PointerRows::new(first, size.row_size(), rows.pointers, kept.count);
-        let to = PointerRows::new(begin, rows, rows.pointers, kept.count);
+        let from = PointerSlots::new(first, size.row_size(), rows.pointers, kept.count);
+        let to = PointerSlots::new(begin, rows, rows.pointers, kept.count);
         RowPair { from, to }
     }
 

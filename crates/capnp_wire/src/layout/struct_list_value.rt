@@ -3,7 +3,7 @@ ghost use Rattle.std.specs.Prelude.{◌≡◌, if◌then◌else◌, ◌+◌, ◌
 ghost use Rattle.capnp_wire.specs.Pointer.{words_of};
 ghost use Rattle.capnp_wire.specs.Tree.{Trees};
 ghost use Rattle.capnp_wire.specs.Object.{message_of};
-ghost use Rattle.capnp_wire.specs.Layout.{formed};
+ghost use Rattle.capnp_wire.specs.Layout.{output};
 ghost use Rattle.capnp_wire.specs.Copy.{IsCopied, least_size};
 ghost use Rattle.capnp_wire.specs.Values.{HasWords, LacksWords, HasRoomAt, HoldsPointers};
 ghost use Rattle.capnp_wire.specs.ListValues.{IsListTree, StopsInList, pointers_of_structs, structs_along};
@@ -11,20 +11,20 @@ ghost use Rattle.capnp_wire.specs.ListValues.{IsListTree, StopsInList, pointers_
 use crate::layout::block::put_word;
 use crate::layout::copy::Copied;
 use crate::layout::copy_rows::copy_rows;
-use crate::layout::formed::formed_size;
+use crate::layout::data_words::put_rows;
 use crate::layout::object::words_fit;
-use crate::layout::own_words::put_rows;
+use crate::layout::output_size::output_size;
 use crate::layout::place::Place;
 use crate::layout::pointer::Elements;
+use crate::layout::pointer_slots::PointerSlots;
 use crate::layout::row_pair::RowPair;
-use crate::layout::rows::PointerRows;
-use crate::layout::value::fitting;
+use crate::layout::value::checked_word_count;
 use crate::layout::walk::Walk;
 use crate::pointer_word::{list_word, struct_word};
 use capnp_frame::Result;
 use capnp_frame::message::ReaderSegments;
 
-/// The words of a list of structs with all below it, after its pointer, as it stands or in
+/// The words of a list of structs with all below it, after its pointer, as it is or in
 /// canonical form. The elements begin at a place of a segment.
 pub(crate) fn measure<S: ReaderSegments>(
     segments: &S,
@@ -54,9 +54,9 @@ pub(crate) fn measure<S: ReaderSegments>(
     let mut walk = Walk::new(limit);
     walk.count(1 + kept.words());
     let size = elements.size.row_size();
-    let pointers = PointerRows::new(first, size, size.pointers, elements.count);
+    let pointers = PointerSlots::new(first, size, size.pointers, elements.count);
     walk.walk_pointers(segments, segment, pointers, nesting, canonical)?;
-    fitting(walk.words(), canonical)
+    checked_word_count(walk.words(), canonical)
 }
 
 /// Writes the words of a list of structs with all below it into a block, from the word `next` on.
@@ -85,7 +85,7 @@ pub(crate) fn write<S: ReaderSegments>(
     ensures written { (limit : Option ℕ) (trees : Trees) →
         IsListTree (structs_along (words_of segment.now) first elements)
         (pointers_of_structs (message_of (S.segments segments.now)) first elements nesting limit)
-        trees → IsCopied (formed canonical trees) (next - following) next
+        trees → IsCopied (output canonical trees) (next - following) next
         (words_of block.old) (words_of block.new) result }
     ensures len { length block.new ≡ length block.old }
 {
@@ -118,7 +118,7 @@ fn kept_elements(segment: &[u8], first: Place, elements: Elements, canonical: bo
     ensures pointers { result.size.pointers ≤ elements.size.pointers }
 {
     Elements {
-        size: formed_size(
+        size: output_size(
             segment,
             first.word,
             elements.size,

@@ -3,24 +3,24 @@ ghost use Rattle.std.specs.Prelude.{◌≡◌, ◌+◌, ◌-◌, ◌/◌, ◌^�
 ghost use Rattle.capnp_wire.specs.Pointer.{words_of};
 ghost use Rattle.capnp_wire.specs.Tree.{Trees};
 ghost use Rattle.capnp_wire.specs.Object.{message_of};
-ghost use Rattle.capnp_wire.specs.Layout.{formed};
+ghost use Rattle.capnp_wire.specs.Layout.{output};
 ghost use Rattle.capnp_wire.specs.Copy.{IsCopied};
 ghost use Rattle.capnp_wire.specs.Values.{HasWords, LacksWords, HasRoomAt, IsTreeOf, StopsInside, HoldsPointers, fields_at};
 
 use crate::layout::body_word::pointer_word;
 use crate::layout::copy::Copied;
 use crate::layout::copy_rows::copy_pointers;
-use crate::layout::formed::formed_as;
+use crate::layout::data_words::put_data_words;
 use crate::layout::object::{Body, Object, words_fit};
-use crate::layout::own_words::put_own_words;
+use crate::layout::output_size::output_body;
 use crate::layout::place::Place;
 use crate::layout::pointer::StructSize;
-use crate::layout::value::fitting;
+use crate::layout::value::checked_word_count;
 use crate::layout::walk::Walk;
 use capnp_frame::Result;
 use capnp_frame::message::ReaderSegments;
 
-/// The words of a struct with all below it, after its pointer, as it stands or in canonical form.
+/// The words of a struct with all below it, after its pointer, as it is or in canonical form.
 pub(crate) fn measure<S: ReaderSegments>(
     segments: &S,
     segment: &[u8],
@@ -47,9 +47,9 @@ pub(crate) fn measure<S: ReaderSegments>(
         traversed: 0,
     };
     let mut walk = Walk::new(limit);
-    walk.count(formed_as(&object, canonical).words());
+    walk.count(output_body(&object, canonical).words());
     walk.walk_pointers(segments, segment, object.pointers(), nesting, canonical)?;
-    fitting(walk.words(), canonical)
+    checked_word_count(walk.words(), canonical)
 }
 
 /// Writes the words of a struct with all below it into a block, from the word `next` on. The
@@ -76,7 +76,7 @@ pub(crate) fn write<S: ReaderSegments>(
     ensures written { (limit : Option ℕ) (trees : Trees) →
         IsTreeOf (fields_at (message_of (S.segments segments.now))
         (words_of segment.now) start size nesting limit) trees →
-        IsCopied (formed canonical trees) (next - following) next
+        IsCopied (output canonical trees) (next - following) next
         (words_of block.old) (words_of block.new) result }
     ensures len { length block.new ≡ length block.old }
 {
@@ -86,8 +86,8 @@ pub(crate) fn write<S: ReaderSegments>(
         body: Body::Struct(size),
         traversed: 0,
     };
-    let copied = formed_as(&object, canonical);
-    put_own_words(&object, copied, block, next);
+    let copied = output_body(&object, canonical);
+    put_data_words(&object, copied, block, next);
     let free = copy_pointers(segments, &object, copied, nesting, canonical, block, next);
     Copied {
         pointer: pointer_word(copied, (next - following) as u64),

@@ -8,7 +8,7 @@ ghost use Rattle.capnp_wire.specs.Object.{elements, message_of};
 ghost use Rattle.capnp_wire.specs.Traversed.{Counts};
 ghost use Rattle.capnp_wire.specs.Block.{put};
 ghost use Rattle.capnp_wire.specs.Copy.{IsCopied};
-ghost use Rattle.capnp_wire.specs.Values.{Measured, UnmeasuredTree, too_large, ManyBytes, IsFreeFrom};
+ghost use Rattle.capnp_wire.specs.Values.{Measured, RejectsTreeSize, too_large, ManyBytes, IsFreeFrom};
 
 use crate::layout::block::put_elements;
 use crate::layout::copy::Copied;
@@ -20,7 +20,7 @@ use crate::pointer_word::list_word;
 use capnp_frame::message::ReaderSegments;
 use capnp_frame::{Error, ErrorKind, Result};
 
-/// The words of the tree at a place, after its pointer, as it stands or in canonical form.
+/// The words of the tree at a place, after its pointer, as it is or in canonical form.
 #[inline(always)]
 pub(crate) fn measure<S: ReaderSegments>(
     segments: &S,
@@ -31,16 +31,16 @@ pub(crate) fn measure<S: ReaderSegments>(
 ) -> Result<u32>
     ensures returned { let m = message_of (S.segments segments.now) in MatchResult result
         (λ words. Measured m place nesting limit canonical words)
-        (λ error. UnmeasuredTree m place nesting limit canonical error.kind) }
+        (λ error. RejectsTreeSize m place nesting limit canonical error.kind) }
 {
     let mut walk = Walk::new(limit);
     walk.walk(segments, place, nesting, canonical)?;
-    fitting(walk.words(), canonical)
+    checked_word_count(walk.words(), canonical)
 }
 
 /// Words that a block may have. Fails for 2^29 and more with `AllocationTooLarge`, in canonical
 /// form with `CanonicalTooLarge`.
-pub(crate) fn fitting(words: Option<u64>, canonical: bool) -> Result<u32>
+pub(crate) fn checked_word_count(words: Option<u64>, canonical: bool) -> Result<u32>
     ensures { (counted : ℕ) → Counts words counted → MatchResult result
         (λ number. (number ≡ counted) × (number < 2 ^ 29))
         (λ error. (2 ^ 29 ≤ counted) × (error.kind ≡ too_large canonical counted)) }
@@ -52,11 +52,11 @@ pub(crate) fn fitting(words: Option<u64>, canonical: bool) -> Result<u32>
     if canonical {
         return Err(Error::from_kind(ErrorKind::CanonicalTooLarge));
     }
-    Err(too_many(words))
+    Err(too_many_words(words))
 }
 
 // The error for a block of too many words, which it tells as far as 32 bits hold them.
-fn too_many(words: u64) -> Error
+fn too_many_words(words: u64) -> Error
     ensures { result.kind ≡ ErrorKind.AllocationTooLarge (min words (2 ^ 32 - 1)) }
 {
     let told = if words < u32::MAX as u64 {
@@ -78,7 +78,7 @@ pub(crate) fn measure_bytes(bytes: &[u8]) -> Result<u32>
     if bytes.len() < 1 << 29 {
         return Ok(words as u32);
     }
-    Err(too_many(words))
+    Err(too_many_words(words))
 }
 
 /// Writes a list of bytes into a block that is zero from the word `next` on.
@@ -125,7 +125,7 @@ pub(crate) fn measure_text(bytes: &[u8]) -> Result<u32>
     if bytes.len() < (1 << 29) - 1 {
         return Ok(words as u32);
     }
-    Err(too_many(words))
+    Err(too_many_words(words))
 }
 
 /// Writes a text into a block that is zero from the word `next` on.
@@ -156,7 +156,7 @@ pub(crate) fn measure_numbers(size: ElementSize, count: u32) -> Result<u32>
     if count < 1 << 29 {
         return Ok(words as u32);
     }
-    Err(too_many(words))
+    Err(too_many_words(words))
 }
 
 /// Writes a list of numbers into a block, from the word `next` on, with zero bits after the last

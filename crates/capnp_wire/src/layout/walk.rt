@@ -6,15 +6,17 @@ ghost use Rattle.capnp_wire.specs.Object.{message_of, places};
 ghost use Rattle.capnp_wire.specs.Landing.{room_of, words_in};
 ghost use Rattle.capnp_wire.specs.Traversed.{counted, Within, Exceeds, CountsMore, Walked, WalkedAll, WalkedTo, less};
 ghost use Rattle.capnp_wire.specs.Faults.{StopsWalk};
-ghost use Rattle.capnp_wire.specs.Copy.{formed_body};
+ghost use Rattle.capnp_wire.specs.Copy.{output_body_of};
 ghost use Rattle.capnp_wire.specs.Rows.{places_in};
 
-use crate::layout::formed::formed_as;
-use crate::layout::near::{bare_pointer, has_short_way, near_list, near_pointers, near_struct};
+use crate::layout::fast_path::{
+    has_fast_path, local_list, local_pointers, local_struct, null_or_empty_struct,
+};
 use crate::layout::object::{Object, words_fit};
+use crate::layout::output_size::output_body;
 use crate::layout::place::{Place, segment, word};
 use crate::layout::pointer_run::PointerRun;
-use crate::layout::rows::PointerRows;
+use crate::layout::pointer_slots::PointerSlots;
 use capnp_frame::message::ReaderSegments;
 use capnp_frame::{Error, ErrorKind, Result};
 
@@ -40,7 +42,7 @@ impl Walk {
         }
     }
 
-    /// The words of all objects that it has entered, without landing pads, as they stand or in
+    /// The words of all objects that it has entered, without landing pads, as they are or in
     /// canonical form; `None` where they don't fit.
     pub(crate) fn words(&self) -> Option<u64>
         ensures { result ≡ counted self.now }
@@ -60,20 +62,20 @@ impl Walk {
         ensures within { OnOk result (Within self.old.left object.now.traversed) }
         ensures left { OnOk result (self.new.left ≡ less self.old.left object.now.traversed) }
         ensures words { OnOk result (CountsMore (counted self.old) (counted self.new)
-            (words_in (formed_body canonical
+            (words_in (output_body_of canonical
             (words_of object.now.segment.now) object.now.start.word object.now.body))) }
         ensures refused { IfErr result (λ error. Exceeds self.old.left object.now.traversed
             × (error.kind ≡ ErrorKind.ReadLimitExceeded)) }
     {
-        self.pay(object.traversed)?;
-        let more = formed_as(object, canonical).words();
+        self.count_traversed(object.traversed)?;
+        let more = output_body(object, canonical).words();
         self.count(more);
         Ok(())
     }
 
     /// Counts some words against the traversal limit.
     #[inline(always)]
-    pub(crate) fn pay(&mut self, words: u64) -> Result<()>
+    pub(crate) fn count_traversed(&mut self, words: u64) -> Result<()>
         ensures within { OnOk result (Within self.old.left words) }
         ensures left { OnOk result (self.new.left ≡ less self.old.left words) }
         ensures words { counted self.new ≡ counted self.old }
@@ -117,17 +119,17 @@ impl Walk {
             IfErr result (λ error. StopsWalk m (place ∷ []) nesting self.old.left error.kind) }
     {
         let segment = segment(segments, place.segment)?;
-        if let Some(_) = bare_pointer(segment, place.word, nesting) {
+        if let Some(_) = null_or_empty_struct(segment, place.word, nesting) {
             return Ok(());
         }
         let Some(pointer) = word(segment, place.word) else {
             return self.walk_object(segments, segment, place, nesting, canonical);
         };
-        if !has_short_way(pointer) {
+        if !has_fast_path(pointer) {
             return self.walk_object(segments, segment, place, nesting, canonical);
         }
-        if let Some(list) = near_pointers(segment, place, nesting) {
-            self.pass_pointers(&list)?;
+        if let Some(list) = local_pointers(segment, place, nesting) {
+            self.visit_pointers(&list)?;
             let below = nesting - 1;
             return self.walk_run(
                 segments,
@@ -162,7 +164,7 @@ impl Walk {
         ensures refused { let m = message_of (S.segments segments.now) in
             IfErr result (λ error. StopsWalk m (place ∷ []) nesting self.old.left error.kind) }
     {
-        let Some(object) = self.meet(segments, segment, place, nesting, canonical)? else {
+        let Some(object) = self.visit(segments, segment, place, nesting, canonical)? else {
             return Ok(());
         };
         self.walk_pointers(
@@ -182,7 +184,7 @@ impl Walk {
         &mut self,
         segments: &S,
         segment: &[u8],
-        mut pointers: PointerRows,
+        mut pointers: PointerSlots,
         nesting: u32,
         canonical: bool,
     ) -> Result<()>
@@ -233,7 +235,7 @@ impl Walk {
         &mut self,
         segments: &S,
         segment: &'a [u8],
-        pointers: &mut PointerRows,
+        pointers: &mut PointerSlots,
         nesting: u32,
         canonical: bool,
     ) -> Result<Option<PointerRun<'a>>>
@@ -244,8 +246,8 @@ impl Walk {
             IfOk result (λ met. MatchOption met
             (WalkedAll m canonical (places_in pointers.old) nesting
             self.old.left self.new.left (counted self.old) (counted self.new))
-            (λ held. WalkedTo m canonical (places_in pointers.old) (places_in pointers.new)
-            held nesting self.old.left self.new.left (counted self.old) (counted self.new)
+            (λ children. WalkedTo m canonical (places_in pointers.old) (places_in pointers.new)
+            children nesting self.old.left self.new.left (counted self.old) (counted self.new)
             × (pointers.new.next.segment ≡ pointers.old.next.segment))) }
         ensures refused { let m = message_of (S.segments segments.now) in
             IfErr result (λ error.
@@ -254,16 +256,16 @@ impl Walk {
         'pointers: while !pointers.is_empty() {
             let place = pointers.take();
             // Speed: what most pointers lead to needs no call (`tools/time-building`).
-            if let Some(_) = bare_pointer(segment, place.word, nesting) {
+            if let Some(_) = null_or_empty_struct(segment, place.word, nesting) {
                 continue 'pointers;
             }
-            if let Some(found) = near_struct(segment, place, nesting) {
-                let alone = self.pass_struct(&found, canonical)?;
+            if let Some(found) = local_struct(segment, place, nesting) {
+                let alone = self.visit_struct(&found, canonical)?;
                 if !alone {
                     return Ok(Some(found.pointers()));
                 }
-            } else if let Some(list) = near_list(segment, place, nesting) {
-                self.pass_list(&list)?;
+            } else if let Some(list) = local_list(segment, place, nesting) {
+                self.visit_list(&list)?;
             } else {
                 self.walk_object(segments, segment, place, nesting, canonical)?;
             }
@@ -294,7 +296,7 @@ impl Walk {
             IfErr result (λ error. StopsWalk m (places first.segment first.word count) nesting
             self.old.left error.kind) }
     {
-        let pointers = PointerRows::run(first, count);
+        let pointers = PointerSlots::run(first, count);
         self.walk_pointers(segments, segment, pointers, nesting, canonical)
     }
 }

@@ -22,7 +22,7 @@ impl<'a, S: ReaderSegments, T: FromPointerReader<'a, S>> Reader<'a, S, T> {
 
     /// The number of elements.
     pub fn len(&self) -> u32
-        ensures { result ≡ length (pointer_list_of S.segments self.now.pointers).held }
+        ensures { result ≡ length (pointer_list_of S.segments self.now.pointers).children }
     {
         self.pointers.len()
     }
@@ -32,7 +32,7 @@ impl<'a, S: ReaderSegments, T: FromPointerReader<'a, S>> Reader<'a, S, T> {
     /// Fails as `any_pointer::Reader::get_as` does of the element's pointer.
     #[inline(always)]
     pub fn get(&self, index: u32) -> Result<T>
-        requires { index < length (pointer_list_of S.segments self.now.pointers).held }
+        requires { index < length (pointer_list_of S.segments self.now.pointers).children }
         ensures { let pointer = pointer_at (pointer_list_of S.segments self.now.pointers) index in
             IsViewOf pointer (T.shows pointer) (T.accepts pointer) (T.refuses pointer)
             (T.declines pointer) result }
@@ -44,7 +44,7 @@ impl<'a, S: ReaderSegments, T: FromPointerReader<'a, S>> Reader<'a, S, T> {
     ///
     /// The element fails as `get` does.
     pub fn try_get(&self, index: u32) -> Option<Result<T>>
-        ensures { FindsElement (length (pointer_list_of S.segments self.now.pointers).held) index
+        ensures { FindsElement (length (pointer_list_of S.segments self.now.pointers).children) index
             (let pointer = pointer_at (pointer_list_of S.segments self.now.pointers) index in
             IsViewOf pointer (T.shows pointer) (T.accepts pointer)
             (T.refuses pointer) (T.declines pointer)) result }

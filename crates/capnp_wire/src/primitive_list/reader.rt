@@ -4,10 +4,10 @@ ghost use Rattle.capnp_wire.specs.Element.{code_of, width, words_for};
 ghost use Rattle.capnp_wire.specs.Landing.{room_of};
 
 use crate::any_pointer;
-use crate::entered::rebuilt;
 use crate::layout::number_list::NumberList;
 use crate::layout::object::{Object, words_fit};
 use crate::layout::place::{Place, word};
+use crate::object_content::by_value;
 use crate::primitive_element::PrimitiveElement;
 use crate::traits::{FromPointerReader, IndexMove, ListIter};
 use capnp_frame::Result;
@@ -94,9 +94,9 @@ impl<'a, T: PrimitiveElement> Reader<'a, T> {
             (λ view. Reads pointer (λ form. IsNumbers T.code form (numbers_of T.code view)))
             (λ error. Refuses pointer (DeclinesNumbers T.code) error.kind) }
     {
-        match reader.enter_near_numbers(T::size()) {
+        match reader.enter_local_numbers(T::size()) {
             Some(object) => Reader::in_object(&object),
-            None => rebuilt(Reader::enter(&reader.again())),
+            None => by_value(Reader::enter(&reader.copied())),
         }
     }
 

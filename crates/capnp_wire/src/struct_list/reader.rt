@@ -6,10 +6,10 @@ ghost use Rattle.capnp_wire.specs.Values.{HoldsPointers};
 
 use crate::any_pointer;
 use crate::any_struct::StructReader;
-use crate::entered::wrong_kind;
 use crate::layout::object::{Object, words_fit};
 use crate::layout::place::Place;
 use crate::layout::pointer::{Elements, StructSize};
+use crate::object_content::wrong_kind;
 use crate::read_limiter::ReadLimiter;
 use crate::traits::{FromPointerReader, IndexMove, ListIter};
 use capnp_frame::Result;

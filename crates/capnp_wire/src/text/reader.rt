@@ -6,9 +6,9 @@ ghost use Rattle.capnp_wire.specs.Views.{IsViewOf, Accepts, Reads, Refuses, Decl
 ghost use Rattle.capnp_wire.specs.Readers.{pointer_of, form_of};
 
 use crate::any_pointer;
-use crate::entered::rebuilt;
 use crate::layout::element::ElementSize;
 use crate::layout::object::Object;
+use crate::object_content::by_value;
 use crate::traits::FromPointerReader;
 use capnp_frame::message::ReaderSegments;
 use capnp_frame::{Error, ErrorKind, Result};
@@ -92,9 +92,9 @@ fn read_text<'a, S: ReaderSegments>(reader: &any_pointer::Reader<'a, S>) -> Resu
         (λ view. Reads pointer (λ form. IsText form view.bytes.now))
         (λ error. Refuses pointer DeclinesText error.kind) }
 {
-    match reader.enter_near_numbers(ElementSize::Byte) {
+    match reader.enter_local_numbers(ElementSize::Byte) {
         Some(object) => text_in(&object),
-        None => rebuilt(enter_text(&reader.again())),
+        None => by_value(enter_text(&reader.copied())),
     }
 }
 

@@ -25,7 +25,7 @@ impl<'a, S: ReaderSegments, T: FromPointerReader<'a, S>> ListList<'a, S, T> {
 
     /// The number of elements.
     pub fn len(&self) -> u32
-        ensures { result ≡ length (upgraded_pointers_of S.segments self.now.pointers).held }
+        ensures { result ≡ length (upgraded_pointers_of S.segments self.now.pointers).children }
     {
         self.pointers.len()
     }
@@ -34,7 +34,7 @@ impl<'a, S: ReaderSegments, T: FromPointerReader<'a, S>> ListList<'a, S, T> {
     ///
     /// Fails as `any_pointer::Reader::get_as` does of the element's pointer.
     pub fn get(&self, index: u32) -> Result<T>
-        requires { index < length (upgraded_pointers_of S.segments self.now.pointers).held }
+        requires { index < length (upgraded_pointers_of S.segments self.now.pointers).children }
         ensures { let pointer = pointer_at (upgraded_pointers_of S.segments self.now.pointers) index in
             IsViewOf pointer (T.shows pointer) (T.accepts pointer) (T.refuses pointer)
             (T.declines pointer) result }
@@ -47,7 +47,7 @@ impl<'a, S: ReaderSegments, T: FromPointerReader<'a, S>> ListList<'a, S, T> {
     /// The element fails as `get` does.
     pub fn try_get(&self, index: u32) -> Option<Result<T>>
         ensures { FindsElement
-            (length (upgraded_pointers_of S.segments self.now.pointers).held) index
+            (length (upgraded_pointers_of S.segments self.now.pointers).children) index
             (let pointer = pointer_at (upgraded_pointers_of S.segments self.now.pointers) index in
             IsViewOf pointer (T.shows pointer) (T.accepts pointer)
             (T.refuses pointer) (T.declines pointer)) result }

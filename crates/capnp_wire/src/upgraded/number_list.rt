@@ -4,11 +4,11 @@ ghost use Rattle.capnp_wire.specs.Element.{code_of, width};
 ghost use Rattle.capnp_wire.specs.Landing.{room_of, words_in};
 ghost use Rattle.capnp_wire.specs.UpgradedViews.{IsFirstField};
 
-use crate::entered::wrong_kind;
 use crate::layout::element::ElementSize;
 use crate::layout::object::{Object, words_fit};
 use crate::layout::place::word;
 use crate::layout::pointer::StructSize;
+use crate::object_content::wrong_kind;
 use crate::primitive_element::PrimitiveElement;
 use crate::traits::{FromPointerReader, IndexMove, ListIter};
 use crate::{any_pointer, primitive_list};

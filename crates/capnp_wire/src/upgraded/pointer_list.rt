@@ -2,9 +2,9 @@
 ghost use Rattle.std.specs.Prelude.{◌≡◌, ◌+◌, ◌*◌, ◌^◌, ◌<◌, length, MatchResult};
 
 use crate::any_pointer;
-use crate::entered::wrong_kind;
 use crate::layout::object::{Object, words_fit};
 use crate::layout::place::Place;
+use crate::object_content::wrong_kind;
 use crate::read_limiter::ReadLimiter;
 use crate::traits::{FromPointerReader, IndexMove, ListIter};
 use capnp_frame::Result;
@@ -34,7 +34,7 @@ impl<'a, S: ReaderSegments> PointerList<'a, S> {
 
     /// The number of elements.
     pub fn len(&self) -> u32
-        ensures { result ≡ length (upgraded_pointers_of S.segments self.now).held }
+        ensures { result ≡ length (upgraded_pointers_of S.segments self.now).children }
     {
         self.count
     }
@@ -42,7 +42,7 @@ impl<'a, S: ReaderSegments> PointerList<'a, S> {
     /// The pointer of this index. What it leads to is counted against the traversal limit when it
     /// is followed.
     pub fn get(&self, index: u32) -> any_pointer::Reader<'a, S>
-        requires { index < length (upgraded_pointers_of S.segments self.now).held }
+        requires { index < length (upgraded_pointers_of S.segments self.now).children }
         ensures { pointer_of S.segments result
             ≡ pointer_at (upgraded_pointers_of S.segments self.now) index }
     {
@@ -63,7 +63,7 @@ impl<'a, S: ReaderSegments> PointerList<'a, S> {
 
     /// The element of this index, or `None` where there are no more elements than it.
     pub fn try_get(&self, index: u32) -> Option<any_pointer::Reader<'a, S>>
-        ensures { FindsElement (length (upgraded_pointers_of S.segments self.now).held) index
+        ensures { FindsElement (length (upgraded_pointers_of S.segments self.now).children) index
             (λ item. pointer_of S.segments item
             ≡ pointer_at (upgraded_pointers_of S.segments self.now) index) result }
     {
@@ -153,7 +153,7 @@ impl<'a, S: ReaderSegments> IndexMove for PointerList<'a, S> {
 
     ghost seen = { pointer_of S.segments };
 
-    ghost size = { λ list. length (upgraded_pointers_of S.segments list).held };
+    ghost size = { λ list. length (upgraded_pointers_of S.segments list).children };
 
     ghost element = { λ list index. pointer_at (upgraded_pointers_of S.segments list) index };
 

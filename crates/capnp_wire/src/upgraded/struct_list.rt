@@ -2,15 +2,15 @@
 ghost use Rattle.std.specs.Prelude.{◌≡◌, ◌+◌, ◌*◌, ◌/◌, ◌^◌, ◌<◌, ◌≤◌, length, MatchResult};
 ghost use Rattle.capnp_wire.specs.Element.{code_of, width, words_for};
 ghost use Rattle.capnp_wire.specs.declared.layout.object.Body.{Body};
-ghost use Rattle.capnp_wire.specs.UpgradedViews.{bare_elements as elements_of};
+ghost use Rattle.capnp_wire.specs.UpgradedViews.{elements_without_data as elements_of};
 
 use crate::any_struct::StructReader;
 use crate::any_struct::part::WordPart;
-use crate::entered::{words_at, wrong_kind};
 use crate::layout::element::ElementSize;
 use crate::layout::object::{Body, Object, words_fit};
 use crate::layout::place::Place;
 use crate::layout::pointer::{Elements, StructSize};
+use crate::object_content::{words_at, wrong_kind};
 use crate::read_limiter::ReadLimiter;
 use crate::traits::{FromPointerReader, IndexMove, ListIter};
 use crate::{any_pointer, struct_list};
@@ -151,7 +151,7 @@ impl<'a, S: ReaderSegments> StructList<'a, S> {
         match object.body {
             Body::Structs(elements, _) => Ok(StructList::in_place(reader, object, 1, elements)),
             Body::Pointers(count) => {
-                Ok(StructList::in_place(reader, object, 0, bare_elements(1, count)))
+                Ok(StructList::in_place(reader, object, 0, elements_without_data(1, count)))
             }
             Body::Numbers(size, count) => StructList::of_numbers(reader, object, size, count),
             Body::Struct(_) => Err(wrong_kind()),
@@ -176,7 +176,7 @@ impl<'a, S: ReaderSegments> StructList<'a, S> {
             return Err(wrong_kind());
         }
         if bits == 0 {
-            let elements = bare_elements(0, count);
+            let elements = elements_without_data(0, count);
             return Ok(StructList::in_place(reader, object, 0, elements));
         }
         Ok(StructList {
@@ -240,7 +240,7 @@ impl<'a, S: ReaderSegments> IndexMove for StructList<'a, S> {
 }
 
 // Structs of no data words, each with as many pointers.
-fn bare_elements(pointers: u16, count: u32) -> Elements
+fn elements_without_data(pointers: u16, count: u32) -> Elements
     ensures { result ≡ elements_of pointers count }
 {
     Elements {

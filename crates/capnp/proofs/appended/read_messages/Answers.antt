@@ -16,17 +16,17 @@ returns-in_err-reader g c =
     let limit = c.args.options.traversal_limit_in_words in
     let messages = map (λ reader. reader.segments) c.loop-index.readers.items in
     let reads = c.in_err-reader.ensures.reads in
-    let told = c.loop-index.invariant in
-    let fewer : length messages < c.args.count = omega (arith, length-map c.loop-index.readers.items (λ reader. reader.segments), told.counted, c.loop-index-test.true) in
+    let declared = c.loop-index.invariant in
+    let fewer : length messages < c.args.count = omega (arith, length-map c.loop-index.readers.items (λ reader. reader.segments), declared.counted, c.loop-index-test.true) in
     rw (p.1, p.2) (record {
       counted = tt;
       found = tt;
       options_are = tt;
       accepted = accepted_later Zero c.args.format limit (IsFault c.in_err-reader.field-0.0.kind) messages c.args.count _ _
-          fewer told.texts c.in_err-reader.ensures.texts.accepted;
-      stops = inr (record { between = c.loop-index.source; messages = messages; fewer = fewer; texts = told.texts; next = reads });
-      failed = λ device. Fails-join _ _ _ told.advances.counted (or_fails_failed g.R.Read _ _ _ _ (Err c.in_err-reader.field-0.0) reads device);
-      advances = Advances-join _ _ _ (g.met.R.Read.keeps.transitive _ _ _) told.advances (or_fails_advances g.R.Read _ _ _ _ _ c.read_message.ensures.reads);
+          fewer declared.texts c.in_err-reader.ensures.texts.accepted;
+      stops = inr (record { between = c.loop-index.source; messages = messages; fewer = fewer; texts = declared.texts; next = reads });
+      failed = λ device. Fails-join _ _ _ declared.advances.counted (or_fails_failed g.R.Read _ _ _ _ (Err c.in_err-reader.field-0.0) reads device);
+      advances = Advances-join _ _ _ (g.met.R.Read.keeps.transitive _ _ _) declared.advances (or_fails_advances g.R.Read _ _ _ _ _ c.read_message.ensures.reads);
     })
 
 pub returns-in_err-push : goal.returns-in_err-push

@@ -16,13 +16,13 @@ returns-in_err-write_messages g c =
 pub returns-in_err-readers : goal.returns-in_err-readers
 returns-in_err-readers g c =
     let p = err_from_is_err_and c.from_residual-in_err-readers.result c.from_residual-in_err-readers.ensures.1 in
-    let told = c.in_err-readers.ensures in
+    let declared = c.in_err-readers.ensures in
     let texts = read_texts Zero c.args.format c.args.options.traversal_limit_in_words
     (map g.S.ReaderSegments.segments c.args.messages.now) c.new-text.result.items _ c.deref-source.result.now
     c.new-text.ensures.items c.deref-source.ensures.value c.requires.writable c.in_ok-write_messages.ensures.few
     c.requires.size (c.in_ok-write_messages.ensures.text (λ chunk text same. same)) in
-    let memory = memory_only c.in_err-readers.field-0.0.kind (told.accepted (map g.S.ReaderSegments.segments c.args.messages.now) [] texts
-    (length-map c.args.messages.now g.S.ReaderSegments.segments)) told.failed in
+    let memory = memory_only c.in_err-readers.field-0.0.kind (declared.accepted (map g.S.ReaderSegments.segments c.args.messages.now) [] texts
+    (length-map c.args.messages.now g.S.ReaderSegments.segments)) declared.failed in
     rw (p.1, p.2) (record { written = tt; read = tt; back = tt; options_are = tt; ends = tt; few = tt; refused = inr memory })
 
 pub returns-in_err-end : goal.returns-in_err-end

@@ -15,33 +15,33 @@ pub returns-in_err-write_message : goal.returns-in_err-write_message
 returns-in_err-write_message g c =
     let W = g.W.Write in
     let p = err_from_is_err_and c.from_residual.result c.from_residual.ensures.1 in
-    let told = c.in_err-write_message.ensures in
+    let declared = c.in_err-write_message.ensures in
     let segments = g.S.ReaderSegments.segments in
     rw (p.1, p.2) (record {
       text = λ plain. tt;
       written = tt;
       stops = stops_at segments (AppendsMessage c.args.format W.appends) (StopsMessage c.args.format W.appends W.leaves W.refuses) c.args.messages.now
           c.loop-message.message-index c.message-item.result _ _ _ _ c.loop-message-test.true c.message-item.is c.loop-message.invariant.written
-          (stops_message W.written c.args.format W.appends W.leaves W.refuses (segments c.message-item.result) _ _ _ told.refused told.left told.untouched);
+          (stops_message W.written c.args.format W.appends W.leaves W.refuses (segments c.message-item.result) _ _ _ declared.refused declared.left declared.untouched);
       few = tt;
       refused = refused_at segments (DeclinesAs c.args.format W.refuses) c.args.messages.now c.loop-message.message-index c.message-item.result _
-          c.loop-message-test.true c.message-item.is told.refused;
-      failed = λ device. let fails = told.failed device in let counted = c.loop-message.invariant.grows.counted in omega (arith, fails, counted);
-      grows = Grows-join _ _ _ (g.met.W.Write.keeps.transitive _ _ _) c.loop-message.invariant.grows told.grows;
+          c.loop-message-test.true c.message-item.is declared.refused;
+      failed = λ device. let fails = declared.failed device in let counted = c.loop-message.invariant.grows.counted in omega (arith, fails, counted);
+      grows = Grows-join _ _ _ (g.met.W.Write.keeps.transitive _ _ _) c.loop-message.invariant.grows declared.grows;
     })
 
 pub loop-message-preserved : goal.loop-message-preserved
 loop-message-preserved g c =
-    let told = c.in_ok-write_message.ensures in
+    let declared = c.in_ok-write_message.ensures in
     let segments = g.S.ReaderSegments.segments in record {
       text = λ plain. appended_next segments (IsTextOf c.args.format) c.args.messages.now
           c.loop-message.message-index c.message-item.result _ _ _ c.loop-message-test.true c.message-item.is
-          (c.loop-message.invariant.text plain) (told.text plain);
+          (c.loop-message.invariant.text plain) (declared.text plain);
       written = appended_next segments (AppendsMessage c.args.format g.W.Write.appends) c.args.messages.now
           c.loop-message.message-index c.message-item.result _ _ _ c.loop-message-test.true c.message-item.is
-          c.loop-message.invariant.written told.written;
+          c.loop-message.invariant.written declared.written;
       few = few_next segments c.args.messages.now c.loop-message.message-index c.message-item.result c.loop-message-test.true c.message-item.is
-          c.loop-message.invariant.few told.count.few;
+          c.loop-message.invariant.few declared.count.few;
       grows = Grows-join _ _ _ (g.met.W.Write.keeps.transitive _ _ _) c.loop-message.invariant.grows c.write_message.ensures.grows;
     }
 

@@ -1,5 +1,5 @@
 -- What is read of a log is its records.
-use Rattle.capnp.proofs.LogLemmas.{log_is_read, cut_is_told, cut_told}
+use Rattle.capnp.proofs.LogLemmas.{log_is_read, cut_is_declared, cut_declared}
 use Rattle.capnp.proofs.record_log.read_log.Goals as goal
 
 pub returns-clause-read : goal.returns-clause-read
@@ -11,7 +11,7 @@ returns-clause-read c =
     record {
       within = read.within;
       back = log_is_read limit _ refusal c.args.log.now end read.within read.ends read.exact;
-      cut = cut_is_told limit _ refusal c.args.log.now end read.within read.texts read.ends;
+      cut = cut_is_declared limit _ refusal c.args.log.now end read.within read.texts read.ends;
       ends = read.ends;
-      told = cut_told limit _ refusal c.args.log.now end read.within read.texts read.ends;
+      declared = cut_declared limit _ refusal c.args.log.now end read.within read.texts read.ends;
     }

@@ -1,4 +1,4 @@
--- The tree that was set stands where the message is read.
+-- The tree that was set is where the message is read.
 use Rattle.std.proofs.Common.{inl}
 use Rattle.capnp_frame.proofs.AskLemmas.{passed_on}
 use Rattle.capnp.proofs.RootLemmas.{has_segment, tree_again, unread, holds_at_ok}

@@ -10,8 +10,8 @@ pub returns-in_err-write_message : goal.returns-in_err-write_message
 returns-in_err-write_message g c =
     let p = err_from_is_err_and c.from_residual.result c.from_residual.ensures.1 in
     let output = c.get_segments_for_output-output in
-    let told = c.in_err-write_message.ensures in
-    let refused = format_memory c.args.format output.result _ (output.ensures.writable c.requires) told.refused told.failed in
+    let declared = c.in_err-write_message.ensures in
+    let refused = format_memory c.args.format output.result _ (output.ensures.writable c.requires) declared.refused declared.failed in
     rw (p.1, p.2) (record {
       back = tt;
       size = tt;

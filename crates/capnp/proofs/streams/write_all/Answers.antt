@@ -23,12 +23,12 @@ returns-in-Err-clause-advances g c = Advances-join _ _ _ (g.met.R.Read.keeps.tra
 pub returns-in-Err-write_message-clause-written : goal.returns-in-Err-write_message-clause-written
 returns-in-Err-write_message-clause-written g c =
     let declines = g.M.MessageWriter.declines c.args.writer.now g.W.Write.appends g.W.Write.leaves g.W.Write.refuses in
-    let told = c.in-Err-write_message.ensures in
+    let declared = c.in-Err-write_message.ensures in
     stopped_at_message c.args.padding c.args.format c.args.options.traversal_limit_in_words (g.M.MessageWriter.writes c.args.writer.now g.W.Write.appends) declines
     (record { message = c.loop-message.message; error = c.in-Err-write_message.error }) c.in-Ok-Some.segments _ _ _ _ _ _
     (rw c.in-Ok-Some.field-0-is at c.in-Ok-Some.ensures.within) (rw c.in-Ok-Some.field-0-is at c.in-Ok-Some.ensures.whole)
-    c.loop-message.invariant.written (rw c.in-Ok-Some.field-0-is at c.in-Ok-Some.ensures.found) told.refused told.left
-    (left_as_written g.W.Write.written declines c.loop-message.message c.in-Ok-Some.segments c.in-Err-write_message.error.kind _ _ told.untouched)
+    c.loop-message.invariant.written (rw c.in-Ok-Some.field-0-is at c.in-Ok-Some.ensures.found) declared.refused declared.left
+    (left_as_written g.W.Write.written declines c.loop-message.message c.in-Ok-Some.segments c.in-Err-write_message.error.kind _ _ declared.untouched)
 
 pub returns-in-Err-write_message-clause-kinds : goal.returns-in-Err-write_message-clause-kinds
 returns-in-Err-write_message-clause-kinds g c = inr (message_faulted c.args.options.traversal_limit_in_words

@@ -1,4 +1,4 @@
--- A text that begins with such a packing is not refused, and any other is, by its line.
+-- A text that begins with such a packing is not rejected, and any other is, by its line.
 use Rattle.std.proofs.Common.{ap, ◌∙◌}
 use Rattle.capnp_frame.specs.Numbers.{kind_number}
 use Rattle.capnp_pack.specs.RefusingLaws.{unpacking}

@@ -1,4 +1,4 @@
--- What is unpacked is the framed text of the message that stands there.
+-- What is unpacked is the framed encoding of the message that is there.
 use Rattle.std.proofs.Common.{◌≡◌, length, rules, arith, ap, ◌∙◌, Some}
 use Rattle.capnp_frame.specs.Numbers.{kind_number}
 use Rattle.capnp_frame.proofs.AskLemmas.{never_fails}
@@ -21,7 +21,7 @@ returns-in-Ok-Some-clause-none c none room =
 pub returns-in-Ok-Some-clause-refused : goal.returns-in-Ok-Some-clause-refused
 returns-in-Ok-Some-clause-refused c kind left refused =
     let reads = rw c.in-Ok-Some.field-0-is at c.in-Ok-Some.ensures.reads in
-    let long : length c.try_read_packed_text_into.new.buffer ≡ length c.args.framed.now = search rules in
+    let long : length c.try_read_packed_framed_into.new.buffer ≡ length c.args.framed.now = search rules in
     absurd (reads.exact kind left (in_room _ left kind _ _ long refused))
 
 pub returns-in-Ok-None-clause-accepted : goal.returns-in-Ok-None-clause-accepted
@@ -32,7 +32,7 @@ returns-in-Ok-None-clause-accepted c segments rest stands within room =
 pub returns-in-Ok-None-clause-refused : goal.returns-in-Ok-None-clause-refused
 returns-in-Ok-None-clause-refused c kind left refused =
     let reads = rw c.in-Ok-None.field-0-is at c.in-Ok-None.ensures.reads in
-    let long : length c.try_read_packed_text_into.new.buffer ≡ length c.args.framed.now = search rules in
+    let long : length c.try_read_packed_framed_into.new.buffer ≡ length c.args.framed.now = search rules in
     absurd (reads.exact kind left (in_room _ left kind _ _ long refused))
 
 pub returns-in-Err-clause-accepted : goal.returns-in-Err-clause-accepted
@@ -48,5 +48,5 @@ returns-in-Err-clause-none c none room =
 pub returns-in-Err-clause-refused : goal.returns-in-Err-clause-refused
 returns-in-Err-clause-refused c kind left refused =
     let reads = c.in-Err.ensures.reads in
-    let long : length c.try_read_packed_text_into.new.buffer ≡ length c.args.framed.now = search rules in
+    let long : length c.try_read_packed_framed_into.new.buffer ≡ length c.args.framed.now = search rules in
     c.number-in-Err.ensures ∙ ap kind_number (own_kind c.in-Err.error.kind kind (reads.exact kind left (in_room _ left kind _ _ long refused)) reads.failed)

@@ -10,8 +10,8 @@ returns-in_err-pack_into g c =
     let p = err_from_is_err_and c.from_residual.result c.from_residual.ensures.1 in
     let W = g.W.Write in
     let table = c.args.table.now in
-    let told = c.in_err-pack_into.ensures in
-    let one = packs_one {X = Unit {0}} W _ _ (take 8 table) (Err c.in_err-pack_into.field-0.0) tt told.refused told.failed told.granted told.grows in
+    let declared = c.in_err-pack_into.ensures in
+    let one = packs_one {X = Unit {0}} W _ _ (take 8 table) (Err c.in_err-pack_into.field-0.0) tt declared.refused declared.failed declared.granted declared.grows in
     rw (p.1, p.2) (packs_stopped {X = Unit {0}} W _ _ (take 8 table ∷ []) (drop 8 table ∷ g.S.ReaderSegments.segments c.args.segments.now) _ one)
 
 pub returns-in_err-pack_into-2 : goal.returns-in_err-pack_into-2
@@ -22,8 +22,8 @@ returns-in_err-pack_into-2 g c =
     let whole : take (length table - 8) (drop 8 table) ≡ drop 8 table = take_all (length table - 8) (drop 8 table) (omega (arith, length-drop 8 table)) in
     let first = c.in_ok-pack_into.ensures in
     let one = packs_one {X = Unit {0}} W _ _ (take 8 table) (Ok tt) first.packed tt tt first.granted first.grows in
-    let told = c.in_err-pack_into-2.ensures in
-    let two = packs_one {X = Unit {0}} W _ _ (drop 8 table) (Err c.in_err-pack_into-2.field-0.0) tt (rw whole at told.refused) told.failed (rw whole at told.granted) told.grows in
+    let declared = c.in_err-pack_into-2.ensures in
+    let two = packs_one {X = Unit {0}} W _ _ (drop 8 table) (Err c.in_err-pack_into-2.field-0.0) tt (rw whole at declared.refused) declared.failed (rw whole at declared.granted) declared.grows in
     rw (p.1, p.2) (packs_stopped {X = Unit {0}} W _ _ (take 8 table ∷ drop 8 table ∷ []) (g.S.ReaderSegments.segments c.args.segments.now) _
     (packs_after W g.met.W.Write.keeps _ _ _ (take 8 table ∷ []) (drop 8 table ∷ []) tt _ one two))
 
@@ -35,7 +35,7 @@ returns g c =
     let whole : take (length table - 8) (drop 8 table) ≡ drop 8 table = take_all (length table - 8) (drop 8 table) (omega (arith, length-drop 8 table)) in
     let first = c.in_ok-pack_into.ensures in
     let one = packs_one {X = Unit {0}} W _ _ (take 8 table) (Ok tt) first.packed tt tt first.granted first.grows in
-    let told = c.in_ok-pack_into-2.ensures in
-    let two = packs_one {X = Unit {0}} W _ _ (drop 8 table) (Ok tt) (rw whole at told.packed) tt tt (rw whole at told.granted) told.grows in
+    let declared = c.in_ok-pack_into-2.ensures in
+    let two = packs_one {X = Unit {0}} W _ _ (drop 8 table) (Ok tt) (rw whole at declared.packed) tt tt (rw whole at declared.granted) declared.grows in
     packs_after W g.met.W.Write.keeps _ _ _ (take 8 table ∷ []) (drop 8 table ∷ segments) tt c.pack_each.result one
     (packs_after W g.met.W.Write.keeps _ _ _ (drop 8 table ∷ []) segments tt c.pack_each.result two c.pack_each.ensures)

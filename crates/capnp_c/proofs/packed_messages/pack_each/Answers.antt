@@ -12,8 +12,8 @@ returns-in_err-pack_into g c =
     let segments = g.S.ReaderSegments.segments c.args.segments.now in
     let index = c.loop-segment.index in
     let error = c.in_err-pack_into.field-0.0 in
-    let told = c.in_err-pack_into.ensures in
-    let one = packs_one {X = Unit {0}} W _ _ c.in-Some.segment.now (Err error) tt told.refused told.failed told.granted told.grows in
+    let declared = c.in_err-pack_into.ensures in
+    let one = packs_one {X = Unit {0}} W _ _ c.in-Some.segment.now (Err error) tt declared.refused declared.failed declared.granted declared.grows in
     rw (p.1, p.2) (packs_stopped_at {X = Unit {0}} W _ _ segments (index + 1) error
     (packs_next W g.met.W.Write.keeps _ _ _ segments index c.in-Some.segment.now tt (Err error) c.in-Some.ensures.here c.loop-segment.invariant.packs one))
 
@@ -21,9 +21,9 @@ pub loop-segment-preserved : goal.loop-segment-preserved
 loop-segment-preserved g c =
     let W = g.W.Write in
     let segments = g.S.ReaderSegments.segments c.args.segments.now in
-    let told = c.in_ok-pack_into.ensures in
+    let declared = c.in_ok-pack_into.ensures in
     let within = c.in-Some.ensures.within in
-    let one = packs_one {X = Unit {0}} W _ _ c.in-Some.segment.now (Ok tt) told.packed tt tt told.granted told.grows in
+    let one = packs_one {X = Unit {0}} W _ _ c.in-Some.segment.now (Ok tt) declared.packed tt tt declared.granted declared.grows in
     record {
       within = omega arith;
       packs = packs_next W g.met.W.Write.keeps _ _ _ segments c.loop-segment.index c.in-Some.segment.now tt (Ok tt) c.in-Some.ensures.here c.loop-segment.invariant.packs one;

@@ -1,4 +1,4 @@
--- One message stands at the front of the bytes, and one rest after it.
+-- One message is at the front of the bytes, and one rest after it.
 use Rattle.std.proofs.Common.{◌≡◌, ◌<◌, [], length, arith, ap, rules}
 use Rattle.capnp_c.proofs.MessageLemmas.{one_rest}
 use Rattle.capnp_c.proofs.packed_messages.whole_message.Goals as goal

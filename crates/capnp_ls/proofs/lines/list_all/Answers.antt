@@ -10,10 +10,10 @@ use Rattle.capnp_ls.proofs.lines.list_all.Goals as goal
 
 pub returns-in-Ok-None-clause-written : goal.returns-in-Ok-None-clause-written
 returns-in-Ok-None-clause-written g c =
-    let told = (rw c.in-Ok-None.field-0-is at c.in-Ok-None.ensures.none) refl in
+    let declared = (rw c.in-Ok-None.field-0-is at c.in-Ok-None.ensures.none) refl in
     let command = Listing Framed c.args.padding in
     all_written c.args.padding Framed default_limit (Prints command g.W.Write.appends) (DeclinesPrinted command g.W.Write.appends g.W.Write.leaves g.W.Write.refuses)
-    c.loop-message.message _ _ _ _ _ _ c.loop-message.invariant.written told.1 c.list_next.ensures.advances.tail (ap g.W.Write.written told.0)
+    c.loop-message.message _ _ _ _ _ _ c.loop-message.invariant.written declared.1 c.list_next.ensures.advances.tail (ap g.W.Write.written declared.0)
 
 pub returns-in-Ok-None-clause-advances : goal.returns-in-Ok-None-clause-advances
 returns-in-Ok-None-clause-advances g c = Advances-join _ _ _ (g.met.R.Read.keeps.transitive _ _ _) c.loop-message.invariant.advances c.list_next.ensures.advances

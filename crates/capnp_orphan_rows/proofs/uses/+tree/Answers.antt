@@ -28,13 +28,13 @@ returns t c =
     let left = c.in_ok-left.ensures.orphan in
     let right = c.in_ok-right.ensures.orphan in
     let left_stays = c.in_ok-right.ensures.keeps c.in_ok-left.left.word left.0 left.1 left.3 in
-    let held : Trees = tree left.0 left.1 (tree right.0 right.1 none) in
-    let held_is : tree left.0 left.1 (tree right.0 right.1 none) ≡ binary d n (binary d n none) =
+    let children : Trees = tree left.0 left.1 (tree right.0 right.1 none) in
+    let children_is : tree left.0 left.1 (tree right.0 right.1 none) ≡ binary d n (binary d n none) =
     ap (λ (rest : Trees). tree left.0 left.1 rest) right.2 ∙ in_front d n left.0 left.1 (binary d n none) left.2 in
-    let whole : IsBinary c.args.depth n (tree (struct (node_words n)) held none) =
-    ap (λ (inner : Trees). tree (struct (node_words n)) inner none) held_is ∙ ap (λ (e : ℕ). binary e n none) deeper in
+    let whole : IsBinary c.args.depth n (tree (struct (node_words n)) children none) =
+    ap (λ (inner : Trees). tree (struct (node_words n)) inner none) children_is ∙ ap (λ (e : ℕ). binary e n none) deeper in
     let two = keeps_on c.args.objects.now c.tree.new.objects c.tree-2.new.objects c.in_ok-left.ensures.keeps c.in_ok-right.ensures.keeps in
     record {
       keeps = keeps_on c.args.objects.now c.tree-2.new.objects c.node-2.new.objects two c.node-2.ensures.keeps;
-      orphan = struct_value (body_of c.tree-2.new.objects) (body_of c.node-2.new.objects) (node_words n) (c.in_ok-left.left.word ∷ c.in_ok-right.right.word ∷ []) held (IsBinary c.args.depth n) _ c.node-2.result (left_stays, (right.3, refl)) whole c.node-2.ensures.orphan;
+      orphan = struct_value (body_of c.tree-2.new.objects) (body_of c.node-2.new.objects) (node_words n) (c.in_ok-left.left.word ∷ c.in_ok-right.right.word ∷ []) children (IsBinary c.args.depth n) _ c.node-2.result (left_stays, (right.3, refl)) whole c.node-2.ensures.orphan;
     }

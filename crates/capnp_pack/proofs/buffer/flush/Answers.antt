@@ -5,5 +5,5 @@ use Rattle.capnp_pack.proofs.buffer.flush.Goals as goal
 
 pub returns-clause-hands : goal.returns-clause-hands
 returns-clause-hands g c =
-    let told = c.write_all.ensures in
-    hands_chunk g.W.Write _ _ _ _ c.write_all.result (search rules) told.added told.left told.refused told.failed told.grows
+    let declared = c.write_all.ensures in
+    hands_chunk g.W.Write _ _ _ _ c.write_all.result (search rules) declared.added declared.left declared.refused declared.failed declared.grows

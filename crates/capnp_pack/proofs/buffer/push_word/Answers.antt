@@ -1,4 +1,4 @@
--- The bytes that aren't zero stand after the tag, or a zero.
+-- The bytes that aren't zero are after the tag, or a zero.
 use Rattle.std.proofs.Common.{rules, arith, ◌≡◌, [], ◌∷◌, ◌++◌, ◌∙◌, ap, take, length, append_assoc}
 use lib.Count.{ones, ones-le}
 use Rattle.capnp_pack.specs.Steps.{nonzero}

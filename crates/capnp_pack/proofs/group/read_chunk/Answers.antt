@@ -4,16 +4,16 @@ use Rattle.capnp_pack.specs.PackedSource.{Unpacks, MeetsFault}
 use Rattle.capnp_frame.proofs.SourceLemmas.{Advances-join, ReturnsPart-fill, not_empty_before, ends}
 use Rattle.capnp_frame.proofs.AskLemmas.{passed_on, Asked-err}
 use Rattle.capnp_pack.proofs.OverrunLemmas.{over_after}
-use Rattle.capnp_pack.proofs.TakenLemmas.{more_taken}
+use Rattle.capnp_pack.proofs.ProgressLemmas.{more_taken}
 use Rattle.capnp_pack.proofs.ChunkLemmas.{group_failed, group_missing, first_missing, chunk_taken, none_taken, end_before}
 use Rattle.capnp_pack.proofs.group.read_chunk.Goals as goal
 
 pub returns-in_err-count-clause-refused : goal.returns-in_err-count-clause-refused
 returns-in_err-count-clause-refused g c =
     let so_far = c.loop-filled.invariant in
-    let told = c.in_err-count.ensures.takes in
+    let declared = c.in_err-count.ensures.takes in
     passed_on _ _ c.from_residual.ensures.1 (group_failed c.loop-filled.filled _ c.loop-filled.buffer c.read_groups.new.buffer _ _ _
-    so_far.1 (search rules) so_far.0 c.requires so_far.3 so_far.4 so_far.5 told.at_end told.refused)
+    so_far.1 (search rules) so_far.0 c.requires so_far.3 so_far.4 so_far.5 declared.at_end declared.refused)
 
 pub returns-in_err-count-clause-asked : goal.returns-in_err-count-clause-asked
 returns-in_err-count-clause-asked g c = Asked-err (g.met.R.Read.keeps.transitive _ _ _) c.from_residual.ensures.1 c.loop-filled.invariant.6 c.in_err-count.ensures.takes.asked

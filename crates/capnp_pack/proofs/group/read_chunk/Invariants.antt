@@ -3,7 +3,7 @@ use Rattle.std.proofs.Common.{length, ◌-◌, ◌≡◌, ◌<◌, ◌≤◌, �
 use Rattle.std.specs.Prelude.{IfSome}
 use Rattle.capnp_frame.specs.Source.{IfKnown, Advances, ReturnsPart}
 use Rattle.capnp_pack.specs.PackedSource.{Unpacks, MeetsFault}
-use Rattle.capnp_pack.specs.Steps.{HasTaken}
+use Rattle.capnp_pack.specs.Steps.{HasProgress}
 use Rattle.capnp_pack.proofs.group.read_chunk.Given as goal
 
 abbrev pub invariant-loop-filled : goal.invariant-loop-filled
@@ -15,7 +15,7 @@ invariant-loop-filled g l = let R = g.R.Read in
     × (l.filled ≡ 0 → R.unread l.source ≡ R.unread l.initial.source)
     × IfKnown (R.unread l.initial.source) (R.unread l.source) (ReturnsPart Unpacks MeetsFault (length l.buffer) (take l.filled l.buffer))
     × Advances R.unread R.failures R.same l.initial.source l.source
-    × IfKnown (R.unread l.initial.source) (R.unread l.source) (HasTaken l.filled)
+    × IfKnown (R.unread l.initial.source) (R.unread l.source) (HasProgress l.filled)
 
 abbrev pub decreases-loop-filled : goal.decreases-loop-filled
 decreases-loop-filled g l = length l.initial.buffer - l.filled

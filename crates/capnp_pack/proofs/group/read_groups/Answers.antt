@@ -1,6 +1,6 @@
 -- The groups that are shown are a part of each result that they fit into.
 use Rattle.std.proofs.Common.{rules, arith, ◌<◌}
-use Rattle.capnp_pack.proofs.TakenLemmas.{shown_taken}
+use Rattle.capnp_pack.proofs.ProgressLemmas.{shown_taken}
 use Rattle.capnp_pack.proofs.UnpackedLemmas.{shown_takes, shown_some}
 use Rattle.capnp_pack.proofs.group.read_groups.Goals as goal
 

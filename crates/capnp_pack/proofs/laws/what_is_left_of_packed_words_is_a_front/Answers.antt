@@ -1,4 +1,4 @@
--- The parts that are left are a front of the only packed text.
+-- The parts that are left are a front of the only packed encoding.
 use Rattle.std.proofs.Common.{inl, inr, sym, ap, ◌++◌, ◌∙◌}
 use Rattle.std.specs.List.{concat}
 use Rattle.capnp_frame.proofs.SinkLemmas.{left_is_front}

@@ -1,4 +1,4 @@
--- The groups so far are the front of the packed text, whose end is kept.
+-- The groups so far are the front of the packed encoding, whose end is kept.
 use Rattle.std.proofs.Common.{length, ◌≡◌, ◌+◌, ◌*◌, ◌≤◌, List, [], ℕ, take}
 use Rattle.capnp_frame.specs.Sink.{Grows}
 use Rattle.capnp_pack.specs.PackedWords.{PacksWords, HandsTo, GrantsTo}

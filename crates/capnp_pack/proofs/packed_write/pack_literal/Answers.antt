@@ -1,4 +1,4 @@
--- The word and its tag stand in the buffer, before the words after it.
+-- The word and its tag are in the buffer, before the words after it.
 use Rattle.std.proofs.Common.{rules, length, take, ◌≡◌, Ok, refl, sym}
 use Rattle.capnp_pack.proofs.CallLemmas.{hands_passed}
 use Rattle.capnp_pack.proofs.Chunks.{each_word}
@@ -13,9 +13,9 @@ returns-clause-hands g c =
     let is : length c.args.word.now ≡ 8 = search rules in
     let full = c.requires.full in
     let front = literal_front c.args.word.now 255 _ _ is (sym full) refl c.push_word-end.ensures.word in
-    let told = c.in_ok-further.ensures in
+    let declared = c.in_ok-further.ensures in
     let (group, made, handed) = made_literal (λ packed. packed.words) (λ packed. take packed.used c.pack_run.new.bytes) g.W.Write.appends _ _ _ _ _ _ _ _ (Ok c.in_ok-further.further)
-    is (each_word c.args.others.now c.told-others) full front (Hands-same g.W.Write.appends _ _) told.run told.hands.handed in
+    is (each_word c.args.others.now c.told-others) full front (Hands-same g.W.Write.appends _ _) declared.run declared.hands.handed in
     record {
       handed = (c.in_ok-further.further.words, refl, group, made, handed);
       left = tt;

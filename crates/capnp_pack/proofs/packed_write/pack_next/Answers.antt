@@ -14,8 +14,8 @@ returns-then-packed-words-clause-granted g c text more packs granted =
 
 pub returns-in_err-flush-clause-hands : goal.returns-in_err-flush-clause-hands
 returns-in_err-flush-clause-hands g c =
-    let told = c.pack_buffered-packed.ensures.packed in
-    hands_passed g.W.Write _ _ _ _ _ _ _ _ c.from_residual.ensures.1 (left_buffer _ _ c.args.words.now _ _ _ _ _ c.told-words told) c.in_err-flush.ensures.hands
+    let declared = c.pack_buffered-packed.ensures.packed in
+    hands_passed g.W.Write _ _ _ _ _ _ _ _ c.from_residual.ensures.1 (left_buffer _ _ c.args.words.now _ _ _ _ _ c.told-words declared) c.in_err-flush.ensures.hands
 
 pub returns-in_err-flush-clause-granted : goal.returns-in_err-flush-clause-granted
 returns-in_err-flush-clause-granted g c text more packs granted =

@@ -28,12 +28,12 @@ returns-in_err-flush-clause-hands g c =
 
 pub returns-in_err-write_all-clause-hands : goal.returns-in_err-write_all-clause-hands
 returns-in_err-write_all-clause-hands g c =
-    let told = c.in_err-write_all.ensures in
+    let declared = c.in_err-write_all.ensures in
     let flat : c.as_flattened.result.now ≡ flat_map (λ x. x) (take c.literal_run-words.result c.args.others.now) = search rules in
     let left = left_words g.W.Write.appends g.W.Write.leaves c.literal_run-words.result _ _ _ c.args.others.now _ _ _
-    c.literal_run-words.ensures c.push-used.ensures.added flat c.in_ok-flush.ensures.hands.handed told.left in
-    hands_err g.W.Write g.met.W.Write.keeps _ _ _ _ _ _ _ _ c.from_residual-in_err-write_all.ensures.1 left told.refused told.failed
-    c.flush.ensures.hands.grows told.grows
+    c.literal_run-words.ensures c.push-used.ensures.added flat c.in_ok-flush.ensures.hands.handed declared.left in
+    hands_err g.W.Write g.met.W.Write.keeps _ _ _ _ _ _ _ _ c.from_residual-in_err-write_all.ensures.1 left declared.refused declared.failed
+    c.flush.ensures.hands.grows declared.grows
 
 pub returns-in_err-flush-clause-granted : goal.returns-in_err-flush-clause-granted
 returns-in_err-flush-clause-granted g c count more run granted =

@@ -1,4 +1,4 @@
--- One more group stands before the words that are left.
+-- One more group is before the words that are left.
 use Rattle.std.proofs.Common.{rules, arith, ◌≡◌, ◌<◌, ◌≤◌, ◌+◌, ◌-◌, ap, length, length-drop, get_or, [], take, drop}
 use lib.Count.{ones, ones-le}
 use Rattle.capnp_pack.proofs.BufferedLemmas.{buffered_more, tagged_group}
@@ -13,11 +13,11 @@ loop-end-preserved c =
     let others = take (length words - (count + 1)) (drop (count + 1) words) in
     let low : tag < 255 = omega arith in
     let is : length (get_or words count []) ≡ 8 = search rules in
-    let told = c.push_word-filled.ensures in
+    let declared = c.push_word-filled.ensures in
     let size = c.group_bytes-end.ensures in
     let made = tagged_group (get_or words count []) others tag c.loop-end.end c.push_word-filled.result c.group_bytes-end.result _ _ is c.tag-tag.ensures low
     (λ none. let some : 0 < c.first_mark.result = omega (arith, none) in c.first_mark.ensures some)
-    told.word told.zero told.used size.zero (λ some. size.tagged some low) in (
+    declared.word declared.zero declared.used size.zero (λ some. size.tagged some low) in (
       omega arith,
       omega (arith, size.few),
       omega (arith, size.few),

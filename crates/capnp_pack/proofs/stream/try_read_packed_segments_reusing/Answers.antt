@@ -6,7 +6,7 @@ use Rattle.capnp_pack.proofs.stream.try_read_packed_segments_reusing.Goals as go
 
 pub returns : goal.returns
 returns g c =
-    let told = c.try_read_segments_reusing.ensures in
+    let declared = c.try_read_segments_reusing.ensures in
     let following : c.source-1.given.0 ≡ c.try_read_segments_reusing.new.source.source.now = search rules in
-    let reads = packed_reads Zero (λ p. p.source.now) g.R.Read _ _ _ c.args.options.traversal_limit_in_words c.try_read_segments_reusing.result told.advances.same_source.1 told in
+    let reads = packed_reads Zero (λ p. p.source.now) g.R.Read _ _ _ c.args.options.traversal_limit_in_words c.try_read_segments_reusing.result declared.advances.same_source.1 declared in
     rw following (rw c.new-packed.ensures.source at reads)

@@ -1,29 +1,29 @@
 -- Groups after groups.
 use Rattle.std.proofs.Common.{rules, ◌+◌, ◌∙◌}
-use Rattle.capnp_pack.proofs.LoneLemmas.{unpacked_on, unpacked_kept}
+use Rattle.capnp_pack.proofs.SingleWordLemmas.{unpacked_on, unpacked_kept}
 use Rattle.capnp_pack.proofs.unpack.unpack_groups.Goals as goal
 
 pub loop-buffer-preserved : goal.loop-buffer-preserved
 loop-buffer-preserved c =
-    let lone = unpacked_on c.loop-buffer.used c.loop-buffer.filled c.unpack_lone_groups-lone.result.used c.unpack_lone_groups-lone.result.filled
-    c.args.shown.now c.loop-buffer.buffer c.unpack_lone_groups-lone.new.buffer (search rules) c.loop-buffer.invariant.1 c.unpack_lone_groups-lone.ensures in
-    let next = unpacked_on (c.loop-buffer.used + c.unpack_lone_groups-lone.result.used) (c.loop-buffer.filled + c.unpack_lone_groups-lone.result.filled)
-    c.in-Some.group.used c.in-Some.group.filled c.args.shown.now _ c.unpack_run.new.buffer (search rules) lone.1 c.in-Some.ensures.group in
-    (next.0 ∙ lone.0 ∙ c.loop-buffer.invariant.0, next.1)
+    let single = unpacked_on c.loop-buffer.used c.loop-buffer.filled c.unpack_single_words-single.result.used c.unpack_single_words-single.result.filled
+    c.args.shown.now c.loop-buffer.buffer c.unpack_single_words-single.new.buffer (search rules) c.loop-buffer.invariant.1 c.unpack_single_words-single.ensures in
+    let next = unpacked_on (c.loop-buffer.used + c.unpack_single_words-single.result.used) (c.loop-buffer.filled + c.unpack_single_words-single.result.filled)
+    c.in-Some.group.used c.in-Some.group.filled c.args.shown.now _ c.unpack_run.new.buffer (search rules) single.1 c.in-Some.ensures.group in
+    (next.0 ∙ single.0 ∙ c.loop-buffer.invariant.0, next.1)
 
 pub returns-then-buffer-filled-lt8 : goal.returns-then-buffer-filled-lt8
 returns-then-buffer-filled-lt8 c =
-    let lone = unpacked_on c.loop-buffer.used c.loop-buffer.filled c.unpack_lone_groups-lone.result.used c.unpack_lone_groups-lone.result.filled
-    c.args.shown.now c.loop-buffer.buffer c.unpack_lone_groups-lone.new.buffer (search rules) c.loop-buffer.invariant.1 c.unpack_lone_groups-lone.ensures in
-    lone.1
+    let single = unpacked_on c.loop-buffer.used c.loop-buffer.filled c.unpack_single_words-single.result.used c.unpack_single_words-single.result.filled
+    c.args.shown.now c.loop-buffer.buffer c.unpack_single_words-single.new.buffer (search rules) c.loop-buffer.invariant.1 c.unpack_single_words-single.ensures in
+    single.1
 
 pub returns-in_default : goal.returns-in_default
 returns-in_default c =
-    let lone = unpacked_on c.loop-buffer.used c.loop-buffer.filled c.unpack_lone_groups-lone.result.used c.unpack_lone_groups-lone.result.filled
-    c.args.shown.now c.loop-buffer.buffer c.unpack_lone_groups-lone.new.buffer (search rules) c.loop-buffer.invariant.1 c.unpack_lone_groups-lone.ensures in
-    let used = c.loop-buffer.used + c.unpack_lone_groups-lone.result.used in
-    let filled = c.loop-buffer.filled + c.unpack_lone_groups-lone.result.filled in
-    let kept = unpacked_kept used filled c.args.shown.now _ c.unpack_run.new.buffer (search rules) lone.1 in
+    let single = unpacked_on c.loop-buffer.used c.loop-buffer.filled c.unpack_single_words-single.result.used c.unpack_single_words-single.result.filled
+    c.args.shown.now c.loop-buffer.buffer c.unpack_single_words-single.new.buffer (search rules) c.loop-buffer.invariant.1 c.unpack_single_words-single.ensures in
+    let used = c.loop-buffer.used + c.unpack_single_words-single.result.used in
+    let filled = c.loop-buffer.filled + c.unpack_single_words-single.result.filled in
+    let kept = unpacked_kept used filled c.args.shown.now _ c.unpack_run.new.buffer (search rules) single.1 in
     let last = unpacked_on used filled c.unpack_short_groups-last.result.used c.unpack_short_groups-last.result.filled
     c.args.shown.now _ c.unpack_short_groups-last.new.buffer (search rules) kept c.unpack_short_groups-last.ensures in
     last.1

@@ -1,4 +1,4 @@
--- The line stands between its front and its end.
+-- The line is between its front and its end.
 use Rattle.std.proofs.Common.{string_bytes, codes}
 use Rattle.std.proofs.lemmas.Result.{on_ok_weaker}
 use Rattle.capnp_show.proofs.TextLemmas.{marked_between, pushed}

@@ -15,24 +15,24 @@ returns-in_err-first-clause-refused g c = passed_on _ _ c.from_residual.ensures.
     bad_landing_pad there is_far (no_landing_pad (subst (λ (x : ReadPlace). NoWord (message_of (g.S.ReaderSegments.segments c.args.segments.now)) x c.in_err-first.field-0.0)
     c.far_place-place.ensures c.in_err-first.ensures)))
 
-pub returns-in_err-expect_near-clause-refused : goal.returns-in_err-expect_near-clause-refused
-returns-in_err-expect_near-clause-refused g c = passed_on _ _ c.from_residual-in_err-expect_near.ensures.1 (λ place there is_far nesting some.
+pub returns-in_err-expect_local-clause-refused : goal.returns-in_err-expect_local-clause-refused
+returns-in_err-expect_local-clause-refused g c = passed_on _ _ c.from_residual-in_err-expect_local.ensures.1 (λ place there is_far nesting some.
     let m = message_of (g.S.ReaderSegments.segments c.args.segments.now) in
     let first = first_word m c.far_place-place.result c.args.pointer c.in_ok-first.first c.far_place-place.ensures c.in_ok-first.ensures.0 in
-    bad_landing_pad there is_far (narrow_refused m c.args.pointer c.in_ok-first.first _ c.if-pointer-eq0.true first c.in_err-expect_near.ensures))
+    bad_landing_pad there is_far (narrow_refused m c.args.pointer c.in_ok-first.first _ c.if-pointer-eq0.true first c.in_err-expect_local.ensures))
 
 pub returns-then-pointer-eq0-clause-found : goal.returns-then-pointer-eq0-clause-found
-returns-then-pointer-eq0-clause-found g c = then_found c.near_object.result c.near_object.ensures.found (λ object found place there is_far.
+returns-then-pointer-eq0-clause-found g c = then_found c.local_object.result c.local_object.ensures.found (λ object found place there is_far.
     let far : IsFarTo (g.S.ReaderSegments.segments c.args.segments.now) place c.args.pointer 0 c.far_place-place.result c.in_ok-first.first =
     record { there = there; is_far = record { far = is_far; wide = c.if-pointer-eq0.true }; landing_place_is = c.far_place-place.ensures; first_there = c.in_ok-first.ensures.0 } in
-    let stood = found.0 c.in_ok-first.ensures.1 c.in_ok-expect_near.ensures in
-    narrow_object _ place c.args.pointer c.far_place-place.result c.in_ok-first.first object far c.in_ok-expect_near.ensures stood.0 stood.1 found.1 found.2)
+    let stood = found.0 c.in_ok-first.ensures.1 c.in_ok-expect_local.ensures in
+    narrow_object _ place c.args.pointer c.far_place-place.result c.in_ok-first.first object far c.in_ok-expect_local.ensures stood.0 stood.1 found.1 found.2)
 
 pub returns-then-pointer-eq0-clause-refused : goal.returns-then-pointer-eq0-clause-refused
-returns-then-pointer-eq0-clause-refused g c = then_refused c.near_object.result c.near_object.ensures.refused (λ kind refused place there is_far.
+returns-then-pointer-eq0-clause-refused g c = then_refused c.local_object.result c.local_object.ensures.refused (λ kind refused place there is_far.
     let far : IsFarTo (g.S.ReaderSegments.segments c.args.segments.now) place c.args.pointer 0 c.far_place-place.result c.in_ok-first.first =
     record { there = there; is_far = record { far = is_far; wide = c.if-pointer-eq0.true }; landing_place_is = c.far_place-place.ensures; first_there = c.in_ok-first.ensures.0 } in
-    narrow_fault _ place c.args.pointer c.far_place-place.result c.in_ok-first.first kind far c.in_ok-expect_near.ensures (refused c.in_ok-first.ensures.1 c.in_ok-expect_near.ensures))
+    narrow_fault _ place c.args.pointer c.far_place-place.result c.in_ok-first.first kind far c.in_ok-expect_local.ensures (refused c.in_ok-first.ensures.1 c.in_ok-expect_local.ensures))
 
 pub returns-clause-found : goal.returns-clause-found
 returns-clause-found g c = then_found c.wide_object.result c.wide_object.ensures.found (λ object found place there is_far.

@@ -32,22 +32,22 @@ returns-in_default-clause-refused g c = λ of pointer far nesting some.
     (no_content far.is_far.wide (first_of far) (tag_at _ c.args.place pointer c.saturating_add.result _ far.landing_place_is c.saturating_add.ensures c.in_ok-tag.ensures.0)
     (record { far = omega arith; wide = omega arith }) none))
 
-pub returns-in_err-expect_near-clause-refused : goal.returns-in_err-expect_near-clause-refused
-returns-in_err-expect_near-clause-refused g c = passed_on _ _ c.from_residual-in_err-expect_near.ensures.1 (λ of pointer far.
+pub returns-in_err-expect_local-clause-refused : goal.returns-in_err-expect_local-clause-refused
+returns-in_err-expect_local-clause-refused g c = passed_on _ _ c.from_residual-in_err-expect_local.ensures.1 (λ of pointer far.
     let wide = wide_is _ of pointer c.args.place c.args.first c.saturating_add.result c.in_ok-tag.tag c.far_place-start.result c.in-Some.field-0.now
     far c.saturating_add.ensures c.in_ok-tag.ensures.0 (omega arith) c.far_place-start.ensures c.in-Some.ensures in
-    wide_declined _ of pointer c.args.place c.args.first c.in_ok-tag.tag c.far_place-start.result c.in-Some.field-0.now _ wide c.in_err-expect_near.ensures)
+    wide_declined _ of pointer c.args.place c.args.first c.in_ok-tag.tag c.far_place-start.result c.in-Some.field-0.now _ wide c.in_err-expect_local.ensures)
 
 pub returns-clause-found : goal.returns-clause-found
 returns-clause-found g c = then_found c.shaped_object.result c.shaped_object.ensures.found (λ object found of pointer far.
     let wide = wide_is _ of pointer c.args.place c.args.first c.saturating_add.result c.in_ok-tag.tag c.far_place-start.result c.in-Some.field-0.now
     far c.saturating_add.ensures c.in_ok-tag.ensures.0 (omega arith) c.far_place-start.ensures c.in-Some.ensures in
-    wide_found _ of pointer c.args.place c.args.first c.in_ok-tag.tag c.far_place-start.result c.in-Some.field-0.now object wide c.in_ok-expect_near.ensures
-    (found.0 c.in_ok-expect_near.ensures) found.1 found.2)
+    wide_found _ of pointer c.args.place c.args.first c.in_ok-tag.tag c.far_place-start.result c.in-Some.field-0.now object wide c.in_ok-expect_local.ensures
+    (found.0 c.in_ok-expect_local.ensures) found.1 found.2)
 
 pub returns-clause-refused : goal.returns-clause-refused
 returns-clause-refused g c = then_refused c.shaped_object.result c.shaped_object.ensures.refused (λ kind refused of pointer far.
     let wide = wide_is _ of pointer c.args.place c.args.first c.saturating_add.result c.in_ok-tag.tag c.far_place-start.result c.in-Some.field-0.now
     far c.saturating_add.ensures c.in_ok-tag.ensures.0 (omega arith) c.far_place-start.ensures c.in-Some.ensures in
-    wide_fault _ of pointer c.args.place c.args.first c.in_ok-tag.tag c.far_place-start.result c.in-Some.field-0.now kind wide c.in_ok-expect_near.ensures
-    (refused c.in_ok-expect_near.ensures c.in-Some.field-0.now (sym c.in-Some.ensures)))
+    wide_fault _ of pointer c.args.place c.args.first c.in_ok-tag.tag c.far_place-start.result c.in-Some.field-0.now kind wide c.in_ok-expect_local.ensures
+    (refused c.in_ok-expect_local.ensures c.in-Some.field-0.now (sym c.in-Some.ensures)))

@@ -1,4 +1,4 @@
--- What comes before the rest stands in the page.
+-- What comes before the rest is in the page.
 use Rattle.std.proofs.Common.{◌≡◌, List, ℕ, ◌++◌, length, string_bytes}
 use Rattle.std.specs.Str.{chars}
 use denote.Shadow.{shadow}

@@ -14,8 +14,8 @@ returns-in_err-write_message_segments g c =
     let p = err_from_is_err_and c.from_residual.result c.from_residual.ensures.1 in
     let error = c.in_err-write_message_segments.field-0.0 in
     let message = g.S.ReaderSegments.segments c.args.message.now in
-    let told = c.in_err-write_message_segments.ensures in
-    let refused = framed_memory message error.kind told.refused told.failed in
+    let declared = c.in_err-write_message_segments.ensures in
+    let refused = framed_memory message error.kind declared.refused declared.failed in
     rw (p.1, p.2) (record {
       back = tt;
       size = tt;

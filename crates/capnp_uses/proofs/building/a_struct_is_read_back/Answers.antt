@@ -1,4 +1,4 @@
--- The fields that are read stand at the root.
+-- The fields that are read are at the root.
 use Rattle.std.proofs.Common.{rules, refl, [], ◌∷◌}
 use Rattle.capnp_wire.specs.Tree.{struct}
 use Rattle.capnp_wire.specs.Views.{TakesStruct}

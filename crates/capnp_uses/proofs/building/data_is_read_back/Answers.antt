@@ -1,4 +1,4 @@
--- The data that is read stands at the root.
+-- The data that is read is at the root.
 use Rattle.std.proofs.Common.{rules, refl}
 use Rattle.capnp_wire.specs.Tree.{numbers}
 use Rattle.capnp_wire.specs.Views.{IsData, TakesNumbers}

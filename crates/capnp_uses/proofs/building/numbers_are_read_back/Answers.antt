@@ -1,4 +1,4 @@
--- The numbers that are read stand at the root.
+-- The numbers that are read are at the root.
 use Rattle.std.proofs.Common.{◌≡◌, ◌∙◌, ◌∷◌, [], take, arith, refl}
 use Rattle.std.proofs.lemmas.List.{take_all}
 use Rattle.capnp_wire.specs.Tree.{numbers}

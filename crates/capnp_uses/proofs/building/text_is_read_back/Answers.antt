@@ -1,4 +1,4 @@
--- The text that is read is the one that stands at the root.
+-- The text that is read is the one that is at the root.
 use Rattle.std.proofs.Common.{rules, ◌++◌, ◌∷◌, [], refl}
 use Rattle.capnp_wire.specs.Tree.{numbers}
 use Rattle.capnp_wire.specs.Views.{IsText, TakesText}

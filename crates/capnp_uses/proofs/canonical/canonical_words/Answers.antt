@@ -1,4 +1,4 @@
--- The message that is canonicalized is the one that stands there.
+-- The message that is canonicalized is the one that is there.
 use Rattle.std.proofs.Common.{inl, inr, refl, subst, IfErr, ◌≡◌}
 use Rattle.std.proofs.lemmas.Result.{err_from_is_err_and}
 use Rattle.capnp_frame.specs.declared.error.ErrorKind.TheVariants.{OutOfMemory}

@@ -2,8 +2,8 @@
 use Rattle.std.proofs.Common.{◌≡◌, ◌⊎◌, subst}
 use Rattle.std.proofs.lemmas.Result.{err_from_is_err_and}
 use Rattle.capnp_frame.specs.declared.error.ErrorKind.TheVariants.{OutOfMemory}
-use Rattle.capnp_frame.specs.Writing.{IsWritable, HasFew, RefusesMany}
-use Rattle.capnp.specs.Written.{IsPackedTextOf}
+use Rattle.capnp_frame.specs.Writing.{IsWritable, IsWithinSegmentLimit, RefusesMany}
+use Rattle.capnp.specs.Written.{IsPackedEncodingOf}
 use Rattle.capnp.proofs.ChunkLemmas.{packed_memory}
 use Rattle.capnp_uses.proofs.PackedStructLemmas.{added_text}
 use Rattle.capnp_uses.proofs.packed_struct.packed_text.Goals as goal
@@ -15,8 +15,8 @@ returns g c =
       refused = tt;
       packed = (
         subst IsWritable output.ensures.segments (output.ensures.writable c.requires),
-        subst HasFew output.ensures.segments c.in_ok-write_message_segments.ensures.count.few,
-        subst (λ m. IsPackedTextOf m c.write_message_segments.new.sink.items) output.ensures.segments
+        subst IsWithinSegmentLimit output.ensures.segments c.in_ok-write_message_segments.ensures.count.few,
+        subst (λ m. IsPackedEncodingOf m c.write_message_segments.new.sink.items) output.ensures.segments
             (added_text output.result c.new-text.result.items c.write_message_segments.new.sink.items c.new-text.ensures.items
             (c.in_ok-write_message_segments.ensures.text (λ chunk text same. same))),
       );
@@ -27,6 +27,6 @@ returns-in_err-write_message_segments-clause-refused g c =
     let p = err_from_is_err_and c.from_residual.result c.from_residual.ensures.1 in
     let output = c.get_segments_for_output-output in
     let error = c.in_err-write_message_segments.field-0.0 in
-    let told = c.in_err-write_message_segments.ensures in
-    let refused = packed_memory output.result error.kind (output.ensures.writable c.requires) told.refused told.failed in
+    let declared = c.in_err-write_message_segments.ensures in
+    let refused = packed_memory output.result error.kind (output.ensures.writable c.requires) declared.refused declared.failed in
     rw (p.1, p.2) (subst (λ m. RefusesMany m error.kind ⊎ (error.kind ≡ OutOfMemory)) output.ensures.segments refused)

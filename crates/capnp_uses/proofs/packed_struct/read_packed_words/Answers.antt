@@ -1,4 +1,4 @@
--- The message that is read is the one that was written, and the fields stand at its root.
+-- The message that is read is the one that was written, and the fields are at its root.
 use Rattle.std.proofs.Common.{◌≡◌, ◌⊎◌, rules, refl, sym, subst, [], ◌∷◌, inl, inr}
 use Rattle.std.proofs.lemmas.Result.{err_from_is_err_and}
 use Rattle.capnp_frame.specs.declared.error.ErrorKind.TheVariants.{DeviceFailed}
@@ -45,8 +45,8 @@ returns-in_err-fields-clause-refused c =
     let error = c.in_err-fields.field-0.0 in
     let p = err_from_is_err_and c.from_residual-in_err-fields.result c.from_residual-in_err-fields.ensures.1 in
     let same = root_is_default reader.segments reader.segments reader.options refl c.in_ok-message.ensures.options in
-    let told = subst (λ (root_pointer : Pointer). NoWord root_pointer.message root error.kind ⊎ Refuses root_pointer DeclinesStruct error.kind) same c.in_err-fields.ensures.returned in
-    rw (p.1, p.2) (inr (inr (inr (reader.segments, _, c.in_ok-message.ensures.texts.found, told))))
+    let declared = subst (λ (root_pointer : Pointer). NoWord root_pointer.message root error.kind ⊎ Refuses root_pointer DeclinesStruct error.kind) same c.in_err-fields.ensures.returned in
+    rw (p.1, p.2) (inr (inr (inr (reader.segments, _, c.in_ok-message.ensures.texts.found, declared))))
 
 pub returns-clause-words : goal.returns-clause-words
 returns-clause-words c message first second writable packed stands =

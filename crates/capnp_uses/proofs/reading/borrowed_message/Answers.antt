@@ -1,4 +1,4 @@
--- The message that is found is the one that stands there.
+-- The message that is found is the one that is there.
 use Rattle.capnp.specs.declared.streams.Format.TheVariants.{Framed}
 use Rattle.capnp_frame.specs.Limits.{default_limit}
 use Rattle.capnp_uses.proofs.ReadingLemmas.{exactly_provided}

@@ -1,4 +1,4 @@
--- The text that is read is the one that stands at the root.
+-- The text that is read is the one that is at the root.
 use Rattle.std.proofs.Common.{refl}
 use Rattle.capnp_message.specs.Seen.{root_of}
 use Rattle.capnp_uses.proofs.RootLemmas.{root_text_is, text_meets_limit, refused_root}

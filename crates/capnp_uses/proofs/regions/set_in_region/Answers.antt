@@ -4,40 +4,40 @@ use Rattle.std.proofs.lemmas.Bool.{cases_lt}
 use Rattle.std.proofs.lemmas.Result.{err_from_is_err_and}
 use Rattle.capnp_message.specs.Region.{GrantsRegion, RefusesRegion, IsOutAlone}
 use Rattle.capnp_message.specs.declared.single_segment.SingleSegmentAllocator.{SingleSegmentAllocator}
-use Rattle.capnp_uses.proofs.RegionLemmas.{home_alone, first_refused, further_refused}
+use Rattle.capnp_uses.proofs.RegionLemmas.{available_alone, first_refused, further_refused}
 use Rattle.capnp_uses.proofs.regions.set_in_region.Goals as goal
 
 pub returns-in_err-set_root-clause-fits : goal.returns-in_err-set_root-clause-fits
 returns-in_err-set_root-clause-fits g c = λ words has less.
     let granted = subst (λ (a : SingleSegmentAllocator). GrantsRegion a.region a.size 1 (c.new.result.size / 8)) (sym c.new-message.ensures.allocator)
-    (c.new.ensures.home, omega (arith, less, c.new.ensures.size), refl) in
+    (c.new.ensures.available, omega (arith, less, c.new.ensures.size), refl) in
     let ok = c.in_err-set_root.ensures.fits words has (inr (c.new-message.ensures.spaces, (c.new.result.size / 8, granted, omega (arith, less, c.new.ensures.size)))) in
     absurd (cc)
 
-pub returns-in_err-set_root-clause-home : goal.returns-in_err-set_root-clause-home
-returns-in_err-set_root-clause-home g c =
+pub returns-in_err-set_root-clause-available : goal.returns-in_err-set_root-clause-available
+returns-in_err-set_root-clause-available g c =
     let p = err_from_is_err_and c.from_residual.result c.from_residual.ensures.1 in
     let alone = subst (λ (a : SingleSegmentAllocator). IsOutAlone a.region a.size []) (sym c.new-message.ensures.allocator)
-    (home_alone c.new.result.region c.new.result.size c.new.ensures.home) in
-    rw (p.1, p.2) (c.in_err-set_root.ensures.home c.new-message.ensures.spaces alone)
+    (available_alone c.new.result.region c.new.result.size c.new.ensures.available) in
+    rw (p.1, p.2) (c.in_err-set_root.ensures.available c.new-message.ensures.spaces alone)
 
 pub returns-in_err-set_root-clause-refused : goal.returns-in_err-set_root-clause-refused
 returns-in_err-set_root-clause-refused g c =
     let p = err_from_is_err_and c.from_residual.result c.from_residual.ensures.1 in
-    let told = c.in_err-set_root.ensures in
+    let declared = c.in_err-set_root.ensures in
     let own = c.new-message.ensures.allocator in
     let kind = c.in_err-set_root.field-0.0.kind in
-    rw (p.1, p.2) (elim told.kind [
+    rw (p.1, p.2) (elim declared.kind [
       | inl lacks ↦ inl lacks
-      | inr (inl first) ↦ inr (inl (first_refused c.new.result.region c.new.result.size (length c.args.region.now) kind c.new.ensures.home c.new.ensures.size
+      | inr (inl first) ↦ inr (inl (first_refused c.new.result.region c.new.result.size (length c.args.region.now) kind c.new.ensures.available c.new.ensures.size
           (subst (λ (a : SingleSegmentAllocator). RefusesRegion a.region a.size 1 kind) own first.1.1.0)))
       | inr (inr no_room) ↦ (
           let words = no_room.words in
           let full : length c.args.region.now / 8 ≤ words = elim (cases_lt words (length c.args.region.now / 8)) [
             | inl less ↦ (
                 let granted = subst (λ (a : SingleSegmentAllocator). GrantsRegion a.region a.size 1 (c.new.result.size / 8)) (sym own)
-                (c.new.ensures.home, omega (arith, less, c.new.ensures.size), refl) in
-                let ok = told.fits words no_room.words_are (inr (c.new-message.ensures.spaces, (c.new.result.size / 8, granted, omega (arith, less, c.new.ensures.size)))) in
+                (c.new.ensures.available, omega (arith, less, c.new.ensures.size), refl) in
+                let ok = declared.fits words no_room.words_are (inr (c.new-message.ensures.spaces, (c.new.result.size / 8, granted, omega (arith, less, c.new.ensures.size)))) in
                 absurd (cc))
             | inr past ↦ past
           ] in
@@ -61,7 +61,7 @@ returns-clause-stands g c =
       placed.words_are,
       λ less.
           let granted = subst (λ (a : SingleSegmentAllocator). GrantsRegion a.region a.size 1 (c.new.result.size / 8)) (sym c.new-message.ensures.allocator)
-          (c.new.ensures.home, omega (arith, less, c.new.ensures.size), refl) in
+          (c.new.ensures.available, omega (arith, less, c.new.ensures.size), refl) in
           let size = placed.granted c.new-message.ensures.spaces (c.new.result.size / 8) granted in
-          (placed.first c.new-message.ensures.spaces).near (omega (arith, size, less, c.new.ensures.size, placed.words_are.few)),
+          (placed.first c.new-message.ensures.spaces).local (omega (arith, size, less, c.new.ensures.size, placed.words_are.few)),
     )

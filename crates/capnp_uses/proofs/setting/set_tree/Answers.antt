@@ -8,7 +8,7 @@ pub returns : goal.returns
 returns g c =
     let pointer = pointer_of g.S.ReaderSegments.segments c.args.source in
     record {
-      set = λ form held is. on_ok c.set_root.result _ _ (set_as pointer c.set_root.new.self.spaces form held is) c.set_root.ensures.set;
+      set = λ form children is. on_ok c.set_root.result _ _ (set_as pointer c.set_root.new.self.spaces form children is) c.set_root.ensures.set;
       stands = c.set_root.ensures.set;
       refused = c.set_root.ensures.kind;
     }

@@ -10,7 +10,7 @@ use Rattle.capnp_values.proofs.PointerListLemmas.{list_measured, list_too_long, 
 use Rattle.capnp_values.proofs.pointer_list.measure_list.Goals as goal
 
 pub returns-then-count : goal.returns-then-count
-returns-then-count g c = list_too_long (g.S.ValueSource.has_tree c.args.items.now) (g.S.ValueSource.refuses c.args.items.now) (g.S.ValueSource.items c.args.items.now) c.args.canonical c.too_many.result (omega arith) (c.too_many.ensures ∙ ap (λ (k : ℕ). AllocationTooLarge (min k (2 ^ 32 - 1))) c.len-count.ensures)
+returns-then-count g c = list_too_long (g.S.ValueSource.has_tree c.args.items.now) (g.S.ValueSource.refuses c.args.items.now) (g.S.ValueSource.items c.args.items.now) c.args.canonical c.allocation_too_large.result (omega arith) (c.allocation_too_large.ensures ∙ ap (λ (k : ℕ). AllocationTooLarge (min k (2 ^ 32 - 1))) c.len-count.ensures)
 
 pub returns-in_err-words : goal.returns-in_err-words
 returns-in_err-words g c =
@@ -20,13 +20,13 @@ returns-in_err-words g c =
     subst (λ (x : Result TreeWords Error). Measures (λ t. IsPointerList h (g.S.ValueSource.items c.args.items.now) t) (λ k. RefusesPointerList h r (g.S.ValueSource.items c.args.items.now) k) c.args.canonical x) (sym was)
     (list_refused h r (g.S.ValueSource.items c.args.items.now) c.args.canonical c.measure_items.result c.in_err-words.field-0.0 (omega arith) c.in_err-words.was c.measure_items.ensures)
 
-pub overflow_add-standing : goal.overflow_add-standing
-overflow_add-standing g c =
+pub overflow_add-as_is : goal.overflow_add-as_is
+overflow_add-as_is g c =
     let few = items_few (g.S.ValueSource.has_tree c.args.items.now) (g.S.ValueSource.refuses c.args.items.now) (g.S.ValueSource.items c.args.items.now) c.args.canonical c.measure_items.result c.in_ok-words.words c.in_ok-words.was c.measure_items.ensures in
     record { fits = omega (arith, few.0, c.if-count.false) }
 
-pub overflow_add-formed : goal.overflow_add-formed
-overflow_add-formed g c =
+pub overflow_add-output : goal.overflow_add-output
+overflow_add-output g c =
     let few = items_few (g.S.ValueSource.has_tree c.args.items.now) (g.S.ValueSource.refuses c.args.items.now) (g.S.ValueSource.items c.args.items.now) c.args.canonical c.measure_items.result c.in_ok-words.words c.in_ok-words.was c.measure_items.ensures in
     record { fits = omega (arith, few.1, c.if-count.false) }
 
@@ -36,5 +36,5 @@ returns g c =
     let r = g.S.ValueSource.refuses c.args.items.now in
     let values = g.S.ValueSource.items c.args.items.now in
     let own = c.in_ok-words.words in
-    subst (λ (k : ℕ). Measures (λ t. IsPointerList h values t) (λ e. RefusesPointerList h r values e) c.args.canonical (Ok (record { standing = k + own.standing; formed = k + own.formed }))) (sym c.len-count.ensures)
+    subst (λ (k : ℕ). Measures (λ t. IsPointerList h values t) (λ e. RefusesPointerList h r values e) c.args.canonical (Ok (record { as_is = k + own.as_is; output = k + own.output }))) (sym c.len-count.ensures)
     (list_measured h r values c.args.canonical c.measure_items.result own (omega (arith, c.if-count.false, c.len-count.ensures)) c.in_ok-words.was c.measure_items.ensures)

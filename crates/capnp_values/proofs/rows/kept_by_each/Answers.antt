@@ -1,4 +1,4 @@
--- As they stand all is kept, and in canonical form what one of them needs.
+-- As they are all is kept, and in canonical form what one of them needs.
 use Rattle.std.proofs.Common.{◌∙◌, Bool, List, ℕ, length, map, ap, sym, arith}
 use Rattle.capnp_wire.specs.Trim.{cut_zeros}
 use Rattle.capnp_values.specs.StructLists.{element_data, element_pointers}
@@ -15,13 +15,13 @@ loop-index-preserved g c =
     c.loop-index.invariant
 
 pub returns-clause-words : goal.returns-clause-words
-returns-clause-words g c held is =
+returns-clause-words g c children is =
     let w = (g.S.StructSource.words c.args.items.now) in
-    let n = needing_ends w (g.S.StructSource.has_trees c.args.items.now) g.S.Value.Fields.size (g.S.StructSource.items c.args.items.now) c.loop-index.index c.loop-index.kept.data_words c.loop-index.kept.pointers (omega arith) c.loop-index.invariant held is in
+    let n = needing_ends w (g.S.StructSource.has_trees c.args.items.now) g.S.Value.Fields.size (g.S.StructSource.items c.args.items.now) c.loop-index.index c.loop-index.kept.data_words c.loop-index.kept.pointers (omega arith) c.loop-index.invariant children is in
     n.0 ∙ ap (λ (k : Bool). element_data k g.S.Value.Element.data_words (map w (g.S.StructSource.items c.args.items.now))) (sym c.if-not-canonical.false)
 
 pub returns-clause-pointers : goal.returns-clause-pointers
-returns-clause-pointers g c held is =
+returns-clause-pointers g c children is =
     let w = (g.S.StructSource.words c.args.items.now) in
-    let n = needing_ends w (g.S.StructSource.has_trees c.args.items.now) g.S.Value.Fields.size (g.S.StructSource.items c.args.items.now) c.loop-index.index c.loop-index.kept.data_words c.loop-index.kept.pointers (omega arith) c.loop-index.invariant held is in
-    n.1 ∙ ap (λ (k : Bool). element_pointers k g.S.Value.Fields.size (map w (g.S.StructSource.items c.args.items.now)) held) (sym c.if-not-canonical.false)
+    let n = needing_ends w (g.S.StructSource.has_trees c.args.items.now) g.S.Value.Fields.size (g.S.StructSource.items c.args.items.now) c.loop-index.index c.loop-index.kept.data_words c.loop-index.kept.pointers (omega arith) c.loop-index.invariant children is in
+    n.1 ∙ ap (λ (k : Bool). element_pointers k g.S.Value.Fields.size (map w (g.S.StructSource.items c.args.items.now)) children) (sym c.if-not-canonical.false)

@@ -8,7 +8,7 @@ use Rattle.capnp_values.specs.Structs.{kept_words}
 use Rattle.capnp_values.specs.StructLists.{reach_of, ReachesRows}
 use Rattle.capnp_values.specs.declared.rows.Reach.{Reach}
 use Rattle.capnp_values.proofs.RowMeasureLemmas.{RowsMeasured, extent_few, measuring_begins, measuring_goes_on, measuring_stops, measuring_ends}
-use Rattle.capnp_values.proofs.SourceLemmas.{extent_told}
+use Rattle.capnp_values.proofs.SourceLemmas.{extent_declared}
 use Rattle.capnp_values.proofs.rows.measure_rows.Goals as goal
 
 pub loop-index-init : goal.loop-index-init
@@ -25,25 +25,25 @@ loop-index-init g c =
 
 pub with_row-reach-requires-clause-words : goal.with_row-reach-requires-clause-words
 with_row-reach-requires-clause-words g c =
-    let a = extent_told c.get-item.ensures.3 c.args.canonical c.in_ok-extent.extent c.in_ok-extent.ensures.returned in
+    let a = extent_declared c.get-item.ensures.3 c.args.canonical c.in_ok-extent.extent c.in_ok-extent.ensures.returned in
     let p = g.S.Value.Fields.size in
     let few = extent_few c.args.canonical p a.0 c.in_ok-extent.extent ((g.met.S.StructSource.settled c.args.items.now) c.get-item.ensures.0 a.0 a.1) a.2 in
     let area : p * c.loop-index.index ≤ p * length (g.S.StructSource.items c.args.items.now) = mul-le-mul_left p (omega (arith, c.loop-index-test.true, c.len-count.ensures)) in
     omega (arith, c.loop-index.invariant.words_few, few.0, area, c.requires.few, c.requires.pointers)
 
-pub with_row-reach-requires-clause-standing : goal.with_row-reach-requires-clause-standing
-with_row-reach-requires-clause-standing g c =
-    let a = extent_told c.get-item.ensures.3 c.args.canonical c.in_ok-extent.extent c.in_ok-extent.ensures.returned in
+pub with_row-reach-requires-clause-as_is : goal.with_row-reach-requires-clause-as_is
+with_row-reach-requires-clause-as_is g c =
+    let a = extent_declared c.get-item.ensures.3 c.args.canonical c.in_ok-extent.extent c.in_ok-extent.ensures.returned in
     let p = g.S.Value.Fields.size in
     let few = extent_few c.args.canonical p a.0 c.in_ok-extent.extent ((g.met.S.StructSource.settled c.args.items.now) c.get-item.ensures.0 a.0 a.1) a.2 in
     let area : p * c.loop-index.index ≤ p * length (g.S.StructSource.items c.args.items.now) = mul-le-mul_left p (omega (arith, c.loop-index-test.true, c.len-count.ensures)) in
-    omega (arith, c.loop-index.invariant.standing_few, few.1, area, c.requires.few, c.requires.pointers)
+    omega (arith, c.loop-index.invariant.as_is_few, few.1, area, c.requires.few, c.requires.pointers)
 
 pub loop-index-preserved : goal.loop-index-preserved
 loop-index-preserved g c =
     let k = c.args.canonical in
     measuring_goes_on (g.S.StructSource.words c.args.items.now) (g.S.StructSource.has_trees c.args.items.now) (g.S.StructSource.refuses c.args.items.now) k g.S.Value.Element.data_words g.S.Value.Fields.size (g.met.S.StructSource.settled c.args.items.now) (g.S.StructSource.items c.args.items.now) c.loop-index.index _ c.loop-index.reach
-    c.with_row-reach.result c.get-item.ensures.0 c.measure.result c.in_ok-extent.extent c.kept_data-data_words.result (omega (arith, c.loop-index-test.true, c.len-count.ensures)) c.get-item.ensures.1 c.in_ok-extent.was (extent_told c.get-item.ensures.3 c.args.canonical c.in_ok-extent.extent c.in_ok-extent.ensures.returned)
+    c.with_row-reach.result c.get-item.ensures.0 c.measure.result c.in_ok-extent.extent c.kept_data-data_words.result (omega (arith, c.loop-index-test.true, c.len-count.ensures)) c.get-item.ensures.1 c.in_ok-extent.was (extent_declared c.get-item.ensures.3 c.args.canonical c.in_ok-extent.extent c.in_ok-extent.ensures.returned)
     (λ t is. c.measure.ensures.found t (c.get-item.ensures.3.trees_are t is)) (λ kind refused. c.measure.ensures.exact kind (c.get-item.ensures.3.reasons_are kind refused)) (ap (λ (l : List ℕ). length l) (sym c.get-item.ensures.2) ∙ c.words.ensures.long) (subst (λ (l : List ℕ). All (λ k. k < 2 ^ 64) l) c.get-item.ensures.2 c.words.ensures.fit)
     (c.kept_data-data_words.ensures.value ∙ ap (λ (l : List ℕ). length (kept_words k l)) (c.words.ensures.value ∙ c.get-item.ensures.2)) c.with_row-reach.ensures c.loop-index.invariant
 
@@ -52,7 +52,7 @@ returns-in_err-extent g c =
     let was : c.from_residual.result ≡ Err c.in_err-extent.field-0.0 = search rules in
     subst (λ (x : Result Reach Error). ReachesRows (g.S.StructSource.words c.args.items.now) (g.S.StructSource.has_trees c.args.items.now) (g.S.StructSource.refuses c.args.items.now) c.args.canonical g.S.Value.Element.data_words g.S.Value.Fields.size (g.S.StructSource.items c.args.items.now) x) (sym was)
     (measuring_stops (g.S.StructSource.words c.args.items.now) (g.S.StructSource.has_trees c.args.items.now) (g.S.StructSource.refuses c.args.items.now) c.args.canonical g.S.Value.Element.data_words g.S.Value.Fields.size (g.S.StructSource.items c.args.items.now) c.loop-index.index _ c.loop-index.reach c.get-item.ensures.0 c.measure.result c.in_err-extent.field-0.0
-    (omega (arith, c.loop-index-test.true, c.len-count.ensures)) c.get-item.ensures.1 c.in_err-extent.was (c.get-item.ensures.3.reasons_told c.in_err-extent.field-0.0.kind c.in_err-extent.ensures.returned) (λ t is. c.measure.ensures.found t (c.get-item.ensures.3.trees_are t is)) (λ kind refused. c.measure.ensures.exact kind (c.get-item.ensures.3.reasons_are kind refused)) c.loop-index.invariant)
+    (omega (arith, c.loop-index-test.true, c.len-count.ensures)) c.get-item.ensures.1 c.in_err-extent.was (c.get-item.ensures.3.reasons_declared c.in_err-extent.field-0.0.kind c.in_err-extent.ensures.returned) (λ t is. c.measure.ensures.found t (c.get-item.ensures.3.trees_are t is)) (λ kind refused. c.measure.ensures.exact kind (c.get-item.ensures.3.reasons_are kind refused)) c.loop-index.invariant)
 
 pub returns : goal.returns
 returns g c =

@@ -5,7 +5,7 @@ use Rattle.capnp_wire.specs.Block.{put}
 use Rattle.capnp_values.specs.Fields.{IsRowWritten}
 use Rattle.capnp_wire.proofs.words.WordLemmas.{length-words_of}
 use Rattle.capnp_values.proofs.StructRowLemmas.{RowsWritten, writing_begins, row_room, writing_goes_on, writing_ends}
-use Rattle.capnp_values.proofs.SourceLemmas.{row_made, row_told}
+use Rattle.capnp_values.proofs.SourceLemmas.{row_made, row_declared}
 use Rattle.capnp_values.proofs.rows.write_rows.Goals as goal
 
 pub overflow_add-width : goal.overflow_add-width
@@ -50,10 +50,10 @@ loop-index-preserved g c =
     writing_goes_on (g.S.StructSource.words c.args.items.now) (g.S.StructSource.has_trees c.args.items.now) c.args.canonical d m g.S.Value.Element.data_words g.S.Value.Fields.size (g.met.S.StructSource.settled c.args.items.now) (g.S.StructSource.items c.args.items.now) c.args.first _ c.loop-index.index c.loop-index.at c.loop-index.next c.write_element-next.result (length (words_of c.args.block.now)) c.get-item.ensures.0
     c.args.block.now c.loop-index.block c.write_element-next.new.block c.requires.room (omega (arith, ap (λ (l : List ℕ). length l) c.get-item.ensures.2, c.write_element-next.ensures.wide, c.requires.room.data_fits)) (omega (arith, c.loop-index-test.true, c.len-count.ensures)) c.get-item.ensures.1 c.write_element-next.ensures.len
     (omega (arith, c.write_element-next.ensures.len, length-words_of c.write_element-next.new.block, length-words_of c.loop-index.block)) c.write_element-next.ensures.free (subst (λ (l : List ℕ). IsRowWritten (g.S.StructSource.has_trees c.args.items.now c.get-item.ensures.0) c.args.canonical (c.loop-index.at + d) m c.loop-index.next (put c.loop-index.at (take d l) (words_of c.loop-index.block)) (words_of c.write_element-next.new.block) c.write_element-next.result) c.get-item.ensures.2
-    (row_told c.get-item.ensures.3 c.args.canonical (c.loop-index.at + d) m c.loop-index.next _ _ c.write_element-next.result c.write_element-next.ensures.written)) c.loop-index.invariant
+    (row_declared c.get-item.ensures.3 c.args.canonical (c.loop-index.at + d) m c.loop-index.next _ _ c.write_element-next.result c.write_element-next.ensures.written)) c.loop-index.invariant
 
 pub returns-clause-written : goal.returns-clause-written
-returns-clause-written g c = record { words_are = λ held is. (writing_ends (g.S.StructSource.words c.args.items.now) (g.S.StructSource.has_trees c.args.items.now) c.args.canonical c.args.kept.data_words c.args.kept.pointers g.S.Value.Fields.size (g.S.StructSource.items c.args.items.now) c.args.first _ c.loop-index.index c.loop-index.at c.loop-index.next c.args.block.now c.loop-index.block (omega arith) c.loop-index.invariant held is).words_are; next_is = λ held is. (writing_ends (g.S.StructSource.words c.args.items.now) (g.S.StructSource.has_trees c.args.items.now) c.args.canonical c.args.kept.data_words c.args.kept.pointers g.S.Value.Fields.size (g.S.StructSource.items c.args.items.now) c.args.first _ c.loop-index.index c.loop-index.at c.loop-index.next c.args.block.now c.loop-index.block (omega arith) c.loop-index.invariant held is).next_is }
+returns-clause-written g c = record { words_are = λ children is. (writing_ends (g.S.StructSource.words c.args.items.now) (g.S.StructSource.has_trees c.args.items.now) c.args.canonical c.args.kept.data_words c.args.kept.pointers g.S.Value.Fields.size (g.S.StructSource.items c.args.items.now) c.args.first _ c.loop-index.index c.loop-index.at c.loop-index.next c.args.block.now c.loop-index.block (omega arith) c.loop-index.invariant children is).words_are; next_is = λ children is. (writing_ends (g.S.StructSource.words c.args.items.now) (g.S.StructSource.has_trees c.args.items.now) c.args.canonical c.args.kept.data_words c.args.kept.pointers g.S.Value.Fields.size (g.S.StructSource.items c.args.items.now) c.args.first _ c.loop-index.index c.loop-index.at c.loop-index.next c.args.block.now c.loop-index.block (omega arith) c.loop-index.invariant children is).next_is }
 
 pub returns-clause-len : goal.returns-clause-len
 returns-clause-len g c = c.loop-index.invariant.long

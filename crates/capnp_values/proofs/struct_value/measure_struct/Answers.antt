@@ -25,24 +25,24 @@ returns-in_err-extent g c =
     (struct_refused c.args.canonical c.args.words.now g.F.Fields.size hs rs c.measure.result c.in_err-extent.field-0.0 c.in_err-extent.was c.in_err-extent.ensures.returned c.measure.ensures.found c.measure.ensures.exact
     small.0 (omega (arith, small.1, c.count.ensures)))
 
-pub overflow_add-standing-2 : goal.overflow_add-standing-2
-overflow_add-standing-2 g c =
+pub overflow_add-as_is-2 : goal.overflow_add-as_is-2
+overflow_add-as_is-2 g c =
     let yes : IsTrue c.fits.result = search rules in
     let small = c.fits.ensures.0 yes in
     let a = c.in_ok-extent.ensures.returned in
     let b = bounded c.args.canonical g.F.Fields.size a.0 c.in_ok-extent.extent (omega (arith, small.1, c.count.ensures)) (g.met.F.Fields.settled c.args.fields.now a.0 a.1) a.2 in
-    record { fits = omega (arith, b.standing_few, small.0, c.count-2.ensures) }
+    record { fits = omega (arith, b.as_is_few, small.0, c.count-2.ensures) }
 
-pub overflow_add-formed : goal.overflow_add-formed
-overflow_add-formed g c =
+pub overflow_add-output : goal.overflow_add-output
+overflow_add-output g c =
     let yes : IsTrue c.fits.result = search rules in
     let small = c.fits.ensures.0 yes in
     let a = c.in_ok-extent.ensures.returned in
     let b = bounded c.args.canonical g.F.Fields.size a.0 c.in_ok-extent.extent (omega (arith, small.1, c.count.ensures)) (g.met.F.Fields.settled c.args.fields.now a.0 a.1) a.2 in
     record { fits = omega (arith, b.pointers_few, small.0, c.kept_data-data.ensures.bound) }
 
-pub overflow_add-formed-2 : goal.overflow_add-formed-2
-overflow_add-formed-2 g c =
+pub overflow_add-output-2 : goal.overflow_add-output-2
+overflow_add-output-2 g c =
     let yes : IsTrue c.fits.result = search rules in
     let small = c.fits.ensures.0 yes in
     let a = c.in_ok-extent.ensures.returned in

@@ -3,7 +3,7 @@ use Rattle.std.proofs.Common.{ℕ, List, length, map, sym, arith}
 use Rattle.std.proofs.lemmas.List.{length-map}
 use Rattle.capnp_wire.specs.Pointer.{words_of}
 use Rattle.capnp_wire.proofs.layouts.SizeLemmas.{length-body}
-use Rattle.capnp_wire.proofs.layouts.OpenLemmas.{room_formed}
+use Rattle.capnp_wire.proofs.layouts.OpenLemmas.{room_output}
 use Rattle.capnp_values.proofs.StructListCopyLemmas.{list_place, list_even, structs_rooms, structs_many, list_copied}
 use Rattle.capnp_values.proofs.tagged.write_list.Goals as goal
 
@@ -23,13 +23,13 @@ returns-clause-written g c trees is =
     let rows : List (List ℕ) = map (g.S.StructSource.words c.args.items.now) (g.S.StructSource.items c.args.items.now) in
     let even = list_even (g.S.StructSource.words c.args.items.now) (g.S.StructSource.has_trees c.args.items.now) g.S.Value.Element.data_words g.S.Value.Fields.size (g.S.StructSource.items c.args.items.now) v.trees v.tree_is v.rooms in
     let r = c.write_tagged.ensures.rows in
-    list_copied c.args.canonical g.S.Value.Element.data_words g.S.Value.Fields.size rows is.held trees _ c.args.next (length (g.S.StructSource.items c.args.items.now)) c.kept_by_each-kept.result.data_words c.kept_by_each-kept.result.pointers
-    c.write_tagged.result.next c.write_tagged.result.pointer (words_of c.args.block.now) (words_of c.write_tagged.new.block) is.whole even (structs_many (g.S.StructSource.words c.args.items.now) (g.S.StructSource.has_trees c.args.items.now) g.S.Value.Fields.size (g.met.S.StructSource.settled c.args.items.now) (g.S.StructSource.items c.args.items.now) is.held is.held_is) (sym (length-map (g.S.StructSource.items c.args.items.now) (g.S.StructSource.words c.args.items.now)))
-    (c.kept_by_each-kept.ensures.words is.held is.held_is) (c.kept_by_each-kept.ensures.pointers is.held is.held_is) (structs_rooms (g.S.StructSource.words c.args.items.now) (g.S.StructSource.has_trees c.args.items.now) g.S.Value.Element.data_words g.S.Value.Fields.size (g.met.S.StructSource.settled c.args.items.now) (g.S.StructSource.items c.args.items.now) trees is even) c.write_tagged.ensures.pointer
-    (omega (arith, r.next_is l.rows.held l.rows.held_is, l.rows.fits)) (r.words_are is.held is.held_is) (r.next_is is.held is.held_is)
+    list_copied c.args.canonical g.S.Value.Element.data_words g.S.Value.Fields.size rows is.children trees _ c.args.next (length (g.S.StructSource.items c.args.items.now)) c.kept_by_each-kept.result.data_words c.kept_by_each-kept.result.pointers
+    c.write_tagged.result.next c.write_tagged.result.pointer (words_of c.args.block.now) (words_of c.write_tagged.new.block) is.whole even (structs_many (g.S.StructSource.words c.args.items.now) (g.S.StructSource.has_trees c.args.items.now) g.S.Value.Fields.size (g.met.S.StructSource.settled c.args.items.now) (g.S.StructSource.items c.args.items.now) is.children is.children_is) (sym (length-map (g.S.StructSource.items c.args.items.now) (g.S.StructSource.words c.args.items.now)))
+    (c.kept_by_each-kept.ensures.words is.children is.children_is) (c.kept_by_each-kept.ensures.pointers is.children is.children_is) (structs_rooms (g.S.StructSource.words c.args.items.now) (g.S.StructSource.has_trees c.args.items.now) g.S.Value.Element.data_words g.S.Value.Fields.size (g.met.S.StructSource.settled c.args.items.now) (g.S.StructSource.items c.args.items.now) trees is even) c.write_tagged.ensures.pointer
+    (omega (arith, r.next_is l.rows.children l.rows.children_is, l.rows.fits)) (r.words_are is.children is.children_is) (r.next_is is.children is.children_is)
 
 pub returns-clause-long : goal.returns-clause-long
 returns-clause-long g c trees is =
     let v = c.requires.value in
     let even = list_even (g.S.StructSource.words c.args.items.now) (g.S.StructSource.has_trees c.args.items.now) g.S.Value.Element.data_words g.S.Value.Fields.size (g.S.StructSource.items c.args.items.now) v.trees v.tree_is v.rooms in
-    length-body _ (room_formed c.args.canonical trees (structs_rooms (g.S.StructSource.words c.args.items.now) (g.S.StructSource.has_trees c.args.items.now) g.S.Value.Element.data_words g.S.Value.Fields.size (g.met.S.StructSource.settled c.args.items.now) (g.S.StructSource.items c.args.items.now) trees is even))
+    length-body _ (room_output c.args.canonical trees (structs_rooms (g.S.StructSource.words c.args.items.now) (g.S.StructSource.has_trees c.args.items.now) g.S.Value.Element.data_words g.S.Value.Fields.size (g.met.S.StructSource.settled c.args.items.now) (g.S.StructSource.items c.args.items.now) trees is even))

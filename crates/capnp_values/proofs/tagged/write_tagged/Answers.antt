@@ -11,19 +11,19 @@ use Rattle.capnp_values.proofs.tagged.write_tagged.Goals as goal
 pub overflow_add-words : goal.overflow_add-words
 overflow_add-words g c =
     let l = c.requires.place in
-    record { fits = omega (arith, l.size.words_within, l.size.pointers_within, l.told_is.few_words, l.told_is.few_pointers) }
+    record { fits = omega (arith, l.size.words_within, l.size.pointers_within, l.declared_is.few_words, l.declared_is.few_pointers) }
 
 pub overflow_mul-words : goal.overflow_mul-words
 overflow_mul-words g c = record { fits = omega (arith, c.requires.place.size.elements, ap (λ (k : ℕ). k * (c.args.kept.data_words + c.args.kept.pointers)) c.len-count.ensures) }
 
 pub overflow_cast-kept : goal.overflow_cast-kept
-overflow_cast-kept g c = record { fits = omega (arith, c.requires.place.size.words_within, c.requires.place.told_is.few_words) }
+overflow_cast-kept g c = record { fits = omega (arith, c.requires.place.size.words_within, c.requires.place.declared_is.few_words) }
 
 pub overflow_cast-kept-2 : goal.overflow_cast-kept-2
-overflow_cast-kept-2 g c = record { fits = omega (arith, c.requires.place.size.pointers_within, c.requires.place.told_is.few_pointers) }
+overflow_cast-kept-2 g c = record { fits = omega (arith, c.requires.place.size.pointers_within, c.requires.place.declared_is.few_pointers) }
 
 pub struct_word-tag-requires : goal.struct_word-tag-requires
-struct_word-tag-requires g c = omega (arith, c.requires.place.told_is.few, c.len-count.ensures)
+struct_word-tag-requires g c = omega (arith, c.requires.place.declared_is.few, c.len-count.ensures)
 
 pub put_word-requires : goal.put_word-requires
 put_word-requires g c = omega (arith, c.requires.place.begin_within)

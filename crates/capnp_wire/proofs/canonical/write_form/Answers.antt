@@ -8,15 +8,15 @@ use Rattle.capnp_wire.proofs.views.SetterLemmas.{whole_form}
 use Rattle.capnp_wire.proofs.canonical.write_form.Goals as goal
 
 -- the block after the pointer
-held_long : (n : ℕ) (bytes : List ℕ) → length bytes ≡ 8 * (n + 1) → length (take (length bytes - 8) (drop 8 bytes)) ≡ length bytes - 8
-held_long n bytes long = omega (arith, length-take (length bytes - 8) (drop 8 bytes), length-drop 8 bytes)
+children_long : (n : ℕ) (bytes : List ℕ) → length bytes ≡ 8 * (n + 1) → length (take (length bytes - 8) (drop 8 bytes)) ≡ length bytes - 8
+children_long n bytes long = omega (arith, length-take (length bytes - 8) (drop 8 bytes), length-drop 8 bytes)
 
 pub write-copied-requires-clause-value : goal.write-copied-requires-clause-value
 write-copied-requires-clause-value g c =
     let w = c.requires.words in
     let bytes = c.args.bytes.now in
     has_room (LeadsToTree (pointer_of g.S.ReaderSegments.segments c.args.reader.now)) true w.0 _ w.1
-    (omega (arith, w.2, held_long w.0 bytes w.2, length-words_of (take (length bytes - 8) (drop 8 bytes))))
+    (omega (arith, w.2, children_long w.0 bytes w.2, length-words_of (take (length bytes - 8) (drop 8 bytes))))
 
 pub write-copied-requires-clause-free : goal.write-copied-requires-clause-free
 write-copied-requires-clause-free g c =
@@ -29,4 +29,4 @@ returns-clause-form g c =
     let w = c.requires.words in
     whole_form (pointer_of g.S.ReaderSegments.segments c.args.reader.now) c.write-copied.result c.copy_from_slice.new.self c.args.bytes.now _ c.write-copied.new.block
     (c.copy_from_slice.ensures.after ∙ c.to_le_bytes.ensures) (omega (arith, c.write-copied.type_inv)) c.copy_from_slice.ensures.len w
-    (omega (arith, c.write-copied.ensures.len, held_long w.0 c.args.bytes.now w.2)) (held_long w.0 c.args.bytes.now w.2) c.write-copied.ensures.written
+    (omega (arith, c.write-copied.ensures.len, children_long w.0 c.args.bytes.now w.2)) (children_long w.0 c.args.bytes.now w.2) c.write-copied.ensures.written

@@ -1,6 +1,6 @@
 -- The law, as PlacedLemmas proves it.
-use Rattle.capnp_wire.proofs.trees.PlacedLemmas.{near_tree}
+use Rattle.capnp_wire.proofs.trees.PlacedLemmas.{local_tree}
 use Rattle.capnp_wire.proofs.laws.tree_after_its_pointer.Goals as goal
 
 pub returns : goal.returns
-returns c = near_tree
+returns c = local_tree

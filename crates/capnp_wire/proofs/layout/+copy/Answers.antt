@@ -2,17 +2,17 @@
 use Rattle.std.proofs.Common.{arith}
 use Rattle.capnp_wire.proofs.layouts.CopyLemmas.{copying_first, copying_next, copying_ends}
 use Rattle.capnp_wire.proofs.layouts.CopiedLemmas.{copyable}
-use Rattle.capnp_wire.proofs.pointers.EmptyStructLemmas.{bare_copied}
+use Rattle.capnp_wire.proofs.pointers.EmptyStructLemmas.{null_or_empty_copied}
 use Rattle.capnp_wire.proofs.layout.+copy.Goals as goal
 
 pub copy::copy_target-returns-in-Some-clause-copied : goal.copy::copy_target-returns-in-Some-clause-copied
-copy::copy_target-returns-in-Some-clause-copied g t c = bare_copied c.args.canonical c.requires.content c.in-Some.ensures.0 c.in-Some.ensures.1
+copy::copy_target-returns-in-Some-clause-copied g t c = null_or_empty_copied c.args.canonical c.requires.content c.in-Some.ensures.0 c.in-Some.ensures.1
 
 pub copy::copy_target-begin_struct-requires-clause-there : goal.copy::copy_target-begin_struct-requires-clause-there
-copy::copy_target-begin_struct-requires-clause-there g t c = copyable c.requires.there (c.in-Some-near_struct.ensures _ c.requires.content).0
+copy::copy_target-begin_struct-requires-clause-there g t c = copyable c.requires.there (c.in-Some-local_struct.ensures _ c.requires.content).0
 
 pub copy::copy_target-copy_list-requires-clause-there : goal.copy::copy_target-copy_list-requires-clause-there
-copy::copy_target-copy_list-requires-clause-there g t c = (c.args.canonical, copyable c.requires.there (c.in-Some-near_list.ensures _ c.requires.content).0)
+copy::copy_target-copy_list-requires-clause-there g t c = (c.args.canonical, copyable c.requires.there (c.in-Some-local_list.ensures _ c.requires.content).0)
 
 pub copy_rows::copy_pointers-copy_rows-requires : goal.copy_rows::copy_pointers-copy_rows-requires
 copy_rows::copy_pointers-copy_rows-requires g t c κs within =
@@ -35,27 +35,27 @@ copy_rows::copy_run-copy_rows-requires g t c κs within =
     (omega arith, (within.0, (within.1, (c.run-rows.ensures.can _ _ _ _ _ _ c.requires.there c.requires.content c.requires.before, c.requires.small))))
 
 pub copy::copy_target-returns-in-Whole-clause-copied : goal.copy::copy_target-returns-in-Whole-clause-copied
-copy::copy_target-returns-in-Whole-clause-copied g t c = c.in-Whole.ensures.begun _ _ _ c.requires.there (c.in-Some-near_struct.ensures _ c.requires.content).0
+copy::copy_target-returns-in-Whole-clause-copied g t c = c.in-Whole.ensures.begun _ _ _ c.requires.there (c.in-Some-local_struct.ensures _ c.requires.content).0
 
 pub copy::copy_target-copy_run-free-requires : goal.copy::copy_target-copy_run-free-requires
 copy::copy_target-copy_run-free-requires g t c κs within =
-    let near = c.in-Some-near_struct.ensures _ c.requires.content in
-    let b = c.in-Begun.ensures.begun _ _ _ c.requires.there near.0 in
-    (omega (arith, near.1), (within.0, (within.1, (b.bound, (b.begins.there, (λ _. b.content, (b.before, omega (arith, c.begin_struct.ensures.len, c.requires.small))))))))
+    let local = c.in-Some-local_struct.ensures _ c.requires.content in
+    let b = c.in-Pending.ensures.begun _ _ _ c.requires.there local.0 in
+    (omega (arith, local.1), (within.0, (within.1, (b.bound, (b.begins.there, (λ _. b.content, (b.before, omega (arith, c.begin_struct.ensures.len, c.requires.small))))))))
 
-pub copy::copy_target-returns-in-Some-near_struct-clause-copied : goal.copy::copy_target-returns-in-Some-near_struct-clause-copied
-copy::copy_target-returns-in-Some-near_struct-clause-copied g t c =
-    (c.in-Begun.ensures.begun _ _ _ c.requires.there (c.in-Some-near_struct.ensures _ c.requires.content).0).begins.ends _ _ c.copy_run-free.ensures.copied
+pub copy::copy_target-returns-in-Some-local_struct-clause-copied : goal.copy::copy_target-returns-in-Some-local_struct-clause-copied
+copy::copy_target-returns-in-Some-local_struct-clause-copied g t c =
+    (c.in-Pending.ensures.begun _ _ _ c.requires.there (c.in-Some-local_struct.ensures _ c.requires.content).0).begins.ends _ _ c.copy_run-free.ensures.copied
 
-pub copy::copy_target-returns-in-Some-near_list-clause-copied : goal.copy::copy_target-returns-in-Some-near_list-clause-copied
-copy::copy_target-returns-in-Some-near_list-clause-copied g t c = c.copy_list.ensures.copied _ _ _ _ c.requires.there (c.in-Some-near_list.ensures _ c.requires.content).0
+pub copy::copy_target-returns-in-Some-local_list-clause-copied : goal.copy::copy_target-returns-in-Some-local_list-clause-copied
+copy::copy_target-returns-in-Some-local_list-clause-copied g t c = c.copy_list.ensures.copied _ _ _ _ c.requires.there (c.in-Some-local_list.ensures _ c.requires.content).0
 
 pub copy::copy_target-copy_run-free-requires-2 : goal.copy::copy_target-copy_run-free-requires-2
 copy::copy_target-copy_run-free-requires-2 g t c κs within =
-    let near = c.in-Some-near_pointers.ensures _ c.requires.content in
-    let b = c.begin_list-left.ensures _ _ _ c.args.canonical _ c.requires.there near.0 in
-    (omega (arith, near.1), (within.0, (within.1, (b.bound, (b.begins.there, (λ _. b.content, (b.before, c.requires.small)))))))
+    let local = c.in-Some-local_pointers.ensures _ c.requires.content in
+    let b = c.begin_list-left.ensures _ _ _ c.args.canonical _ c.requires.there local.0 in
+    (omega (arith, local.1), (within.0, (within.1, (b.bound, (b.begins.there, (λ _. b.content, (b.before, c.requires.small)))))))
 
 pub copy::copy_target-returns-clause-copied : goal.copy::copy_target-returns-clause-copied
 copy::copy_target-returns-clause-copied g t c =
-    (c.begin_list-left.ensures _ _ _ c.args.canonical _ c.requires.there (c.in-Some-near_pointers.ensures _ c.requires.content).0).begins.ends _ _ c.copy_run-free-2.ensures.copied
+    (c.begin_list-left.ensures _ _ _ c.args.canonical _ c.requires.there (c.in-Some-local_pointers.ensures _ c.requires.content).0).begins.ends _ _ c.copy_run-free-2.ensures.copied

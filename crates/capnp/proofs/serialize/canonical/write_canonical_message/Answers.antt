@@ -3,9 +3,9 @@ use Rattle.std.proofs.Common.{◌≡◌, ◌∙◌, ℕ, List, ◌∷◌, [], Er
 use Rattle.std.proofs.lemmas.Result.{err_from_is_err_and}
 use Rattle.capnp_frame.specs.Writing.{IsWritable}
 use Rattle.capnp_message.specs.Seen.{root_of}
-use Rattle.capnp.specs.Written.{IsFrameText}
+use Rattle.capnp.specs.Written.{IsFrameEncoding}
 use Rattle.capnp.specs.Canonical.{IsForm}
-use Rattle.capnp.proofs.WriterLemmas.{frame_text_added, Adds-weaker}
+use Rattle.capnp.proofs.WriterLemmas.{frame_bytes_added, Adds-weaker}
 use Rattle.capnp.proofs.FormLemmas.{one_writable, form_lacking, form_written, form_untouched}
 use Rattle.capnp.proofs.serialize.canonical.write_canonical_message.Given as given
 use Rattle.capnp.proofs.serialize.canonical.write_canonical_message.Goals as goal
@@ -13,11 +13,11 @@ use Rattle.capnp.proofs.serialize.canonical.write_canonical_message.Goals as goa
 pub returns-in_err-form : goal.returns-in_err-form
 returns-in_err-form g c =
     let p = err_from_is_err_and c.from_residual.result c.from_residual.ensures.1 in
-    let told = c.in_err-form.ensures in
+    let declared = c.in_err-form.ensures in
     rw (p.1, p.2) (record {
       text = λ plain. tt;
-      lacks = λ kind lacks. (told.exact kind lacks, refl);
-      writes = form_lacking g.W.Write g.met.W.Write.keeps _ _ _ (Err c.in_err-form.field-0.0) refl told.returned;
+      lacks = λ kind lacks. (declared.exact kind lacks, refl);
+      writes = form_lacking g.W.Write g.met.W.Write.keeps _ _ _ (Err c.in_err-form.field-0.0) refl declared.returned;
       untouched = inr (inr refl);
     })
 
@@ -43,7 +43,7 @@ returns g c =
           (λ text p. (
             c.in_ok-form.form.items,
             form g c,
-            subst (λ (s : List (List ℕ)). IsFrameText s text) (segment g c) (frame_text_added g.W.Write.appends plain _ text p),
+            subst (λ (s : List (List ℕ)). IsFrameEncoding s text) (segment g c) (frame_bytes_added g.W.Write.appends plain _ text p),
           ))
           wrote.parts.written;
       lacks = λ kind lacks. absurd (c.in_ok-form.ensures.exact kind lacks);

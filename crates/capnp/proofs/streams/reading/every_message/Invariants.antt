@@ -1,13 +1,13 @@
 -- The messages so far are texts at the front, and what is left is after `end`.
 use Rattle.std.specs.Prelude.{◌≡◌, ◌-◌, length, map}
 use Rattle.std.specs.List.{AllByRecursion}
-use Rattle.capnp_frame.specs.Texts.{AreTexts}
+use Rattle.capnp_frame.specs.Texts.{AreEncodings}
 use Rattle.capnp.specs.Streams.{grammar_of}
 use Rattle.capnp.proofs.streams.reading.every_message.Given as goal
 
 abbrev pub invariant-loop-count : goal.invariant-loop-count
 invariant-loop-count l = record {
-  texts : AreTexts (grammar_of l.padding l.format) l.options.traversal_limit_in_words (map (λ reader. reader.segments) l.messages.items) l.stream l.rest;
+  texts : AreEncodings (grammar_of l.padding l.format) l.options.traversal_limit_in_words (map (λ reader. reader.segments) l.messages.items) l.stream l.rest;
   options : AllByRecursion (λ reader. reader.options ≡ l.options) l.messages.items;
   at : l.end ≡ length l.stream - length l.rest;
 }

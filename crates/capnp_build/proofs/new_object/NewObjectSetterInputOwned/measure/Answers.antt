@@ -16,7 +16,7 @@ one_new body = record {
 
 pub returns : goal.returns
 returns c =
-    let has = new_object_words c.args.self.now c.args.canonical c.words.result c.formed.ensures.whole (c.words.ensures.words ∙ ap words_of_body c.formed.ensures.body) c.words.ensures.bound in
+    let has = new_object_words c.args.self.now c.args.canonical c.words.result c.output.ensures.whole (c.words.ensures.words ∙ ap words_of_body c.output.ensures.body) c.words.ensures.bound in
     let one = one_new c.args.self.now in record {
       returned = has;
       found = measured_found _ _ one c.args.canonical (Ok c.words.result) has;

@@ -7,8 +7,8 @@ use Rattle.capnp_build.proofs.new_object.NewObjectSetterInputOwned.write.Goals a
 pub returns-clause-written : goal.returns-clause-written
 returns-clause-written c =
     new_object_written c.args.self.now c.args.canonical (c.args.next - c.args.following) c.args.next c.tag.result _ c.args._block.now c.requires.value c.requires.free
-    (c.tag.ensures.word ∙ ap (body_tag (c.args.next - c.args.following)) c.formed-body.ensures.body)
-    (omega (arith, c.words.ensures.words, ap words_of_body c.formed-body.ensures.body))
+    (c.tag.ensures.word ∙ ap (body_tag (c.args.next - c.args.following)) c.output-body.ensures.body)
+    (omega (arith, c.words.ensures.words, ap words_of_body c.output-body.ensures.body))
 
 pub returns-clause-long : goal.returns-clause-long
 returns-clause-long c = new_object_long c.args.self.now c.args.canonical c.args.next _ c.requires.value

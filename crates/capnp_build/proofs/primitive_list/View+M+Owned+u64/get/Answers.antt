@@ -5,10 +5,10 @@ use Rattle.capnp_build.proofs.ReadLemmas.{number_read}
 use Rattle.capnp_build.proofs.primitive_list.«View+M+Owned+u64».get.Goals as goal
 
 pub returns-clause-root : goal.returns-clause-root
-returns-clause-root g c = λ form held traversed there words is.
-    let many : c.len.result ≡ length words = c.len.ensures.count form held traversed there words is in
+returns-clause-root g c = λ form children traversed there words is.
+    let many : c.len.result ≡ length words = c.len.ensures.count form children traversed there words is in
     let within : c.args.index < length words = omega (arith, many, c.if-index-len.false) in
-    c.word_at.ensures ∙ number_read form c.root_bytes.result.now words c.args.index (c.root_bytes.ensures.form form held traversed there) is within
+    c.word_at.ensures ∙ number_read form c.root_bytes.result.now words c.args.index (c.root_bytes.ensures.form form children traversed there) is within
 
 pub returns-clause-none : goal.returns-clause-none
 returns-clause-none g c = λ empty.

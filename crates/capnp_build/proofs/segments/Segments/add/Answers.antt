@@ -2,8 +2,8 @@
 use Rattle.std.proofs.Common.{rules, ◌+◌, ◌^◌, ◌<◌, List, ◌∷◌, [], ◌++◌, length, MatchOption, ap, subst, sym, ◌∙◌}
 use Rattle.std.specs.Prelude.{⊤}
 use Rattle.capnp_build.specs.Bytes.{Space}
-use Rattle.capnp_build.specs.Held.{Held, pairs}
-use Rattle.capnp_build.proofs.HeldLemmas.{other_added, other_keeps, same_pair}
+use Rattle.capnp_build.specs.BuilderState.{BuilderState, pairs}
+use Rattle.capnp_build.proofs.BuilderStateLemmas.{other_added, other_keeps, same_pair}
 use Rattle.capnp_build.proofs.OutputLemmas.{added_words, no_words}
 use Rattle.capnp_build.proofs.segments.Segments.add.Goals as goal
 
@@ -30,4 +30,4 @@ returns-clause-others g c = λ others is.
     other_keeps (g.A.Allocator.out c.self.inside.allocator) (g.A.Allocator.out c.allocate_segment-2.new.self) first c.self.inside.others.items c.push_reserved.new.self.items
     _ c.new-2.result others some c.in_ok-segment-2.ensures.adds (same_pair _ _ _ _ (sym c.new-2.ensures.size) (sym c.new-2.ensures.provided))
     (c.push_reserved.ensures.items ∙ ap (λ (l : List Space). l ++ c.new-2.result ∷ []) c.reserve.ensures.items)
-    (subst (λ (h : Held g.row.A.Denot). g.A.Allocator.out h.allocator (pairs h.spaces others)) (sym c.self.view_is) is)
+    (subst (λ (h : BuilderState g.row.A.Denot). g.A.Allocator.out h.allocator (pairs h.spaces others)) (sym c.self.view_is) is)

@@ -1,11 +1,11 @@
 -- What the invariant says of each segment.
 use Rattle.std.proofs.Common.{subst}
-use Rattle.capnp_build.specs.Held.{Held, spaces_of}
+use Rattle.capnp_build.specs.BuilderState.{BuilderState, spaces_of}
 use Rattle.capnp_build.specs.Output.{CanBeWritten}
 use Rattle.capnp_build.proofs.OutputLemmas.{used_is_writable, few_spaces}
 use Rattle.capnp_build.proofs.segments.Segments.are_writable.Goals as goal
 
 pub returns : goal.returns
 returns g c =
-    subst (λ (h : Held g.row.A.Denot). CanBeWritten h.spaces) c.self.view_is
+    subst (λ (h : BuilderState g.row.A.Denot). CanBeWritten h.spaces) c.self.view_is
     (used_is_writable (spaces_of c.self.inside.first c.self.inside.others.items) c.self.invariant.3 (few_spaces c.self.inside.first c.self.inside.others.items c.self.invariant.2))

@@ -1,7 +1,7 @@
 -- Each turn adds the next length.
 use Rattle.std.proofs.Common.{refl, ◌+◌, ◌∙◌, sym, ap, arith}
 use Rattle.std.specs.Prelude.{sum}
-use Rattle.capnp_frame.specs.Front.{told_lengths}
+use Rattle.capnp_frame.specs.Front.{declared_lengths}
 use Rattle.capnp_frame.specs.SegmentTable.{table_size}
 use Rattle.capnp_frame.proofs.PartLemmas.{lies_between, reads_on}
 use Rattle.capnp_frame.proofs.serialize.no_alloc_buffer_segments.later_start.Goals as goal
@@ -10,7 +10,7 @@ pub overflow_cast-start : goal.overflow_cast-start
 overflow_cast-start c =
     let held = c.requires.held in
     let bytes = c.args.bytes.now in
-    let lies = lies_between bytes held.0 7 (table_size held.0) (sum (told_lengths 7 bytes)) (sum (told_lengths 8 bytes)) held.1 (omega (arith, held.2, c.requires.later)) refl refl refl in
+    let lies = lies_between bytes held.0 7 (table_size held.0) (sum (declared_lengths 7 bytes)) (sum (declared_lengths 8 bytes)) held.1 (omega (arith, held.2, c.requires.later)) refl refl refl in
     omega (arith, lies.within, c.requires.end, c.if-bytes.true)
 
 pub overflow_add-start : goal.overflow_add-start

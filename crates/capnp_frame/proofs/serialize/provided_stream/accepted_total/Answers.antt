@@ -6,17 +6,17 @@ use Rattle.capnp_frame.proofs.MetRefusals.{limit_refuses, padding_refuses}
 use Rattle.capnp_frame.proofs.TableReading.{tells_complete}
 use Rattle.capnp_frame.proofs.serialize.provided_stream.accepted_total.Goals as goal
 
-pub returns-in_err-keep_limit-clause-refused : goal.returns-in_err-keep_limit-clause-refused
-returns-in_err-keep_limit-clause-refused c =
+pub returns-in_err-check_limit-clause-refused : goal.returns-in_err-check_limit-clause-refused
+returns-in_err-check_limit-clause-refused c =
     let size : length c.args.table.now ≡ table_size c.args.count = search rules in
     let tells = tells_complete c.args.table.now c.args.count (search rules) size c.lengths_total-total.ensures.lengths in
     passed_on _ _ c.from_residual.ensures.1
-    (limit_refuses c.args.rule c.args.limit _ c.args.table.now _ _ tells size c.lengths_total-total.ensures.total c.in_err-keep_limit.ensures.refused)
+    (limit_refuses c.args.rule c.args.limit _ c.args.table.now _ _ tells size c.lengths_total-total.ensures.total c.in_err-check_limit.ensures.refused)
 
-pub returns-in_err-keep_padding-clause-refused : goal.returns-in_err-keep_padding-clause-refused
-returns-in_err-keep_padding-clause-refused c =
+pub returns-in_err-check_padding-clause-refused : goal.returns-in_err-check_padding-clause-refused
+returns-in_err-check_padding-clause-refused c =
     let size : length c.args.table.now ≡ table_size c.args.count = search rules in
     let tells = tells_complete c.args.table.now c.args.count (search rules) size c.lengths_total-total.ensures.lengths in
-    let broken = c.in_err-keep_padding.ensures.refused in
-    passed_on _ _ c.from_residual-in_err-keep_padding.ensures.1
+    let broken = c.in_err-check_padding.ensures.refused in
+    passed_on _ _ c.from_residual-in_err-check_padding.ensures.1
     (padding_refuses c.args.rule c.args.limit _ c.args.table.now _ tells size (search rules) broken.1 broken.2)

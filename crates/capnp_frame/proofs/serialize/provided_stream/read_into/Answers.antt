@@ -1,4 +1,4 @@
--- The segments stand after the table in the buffer.
+-- The segments are after the table in the buffer.
 use Rattle.std.proofs.Common.{◌≡◌, ◌+◌, ◌-◌, ◌*◌, Some, length, inr, arith, rules}
 use Rattle.capnp_frame.proofs.StepLemmas.{asks_found_into, asks_failed_into, asks_passed_into}
 use Rattle.capnp_frame.proofs.RequestLemmas.{table_not_empty}

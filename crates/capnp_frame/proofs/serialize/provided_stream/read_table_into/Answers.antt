@@ -1,4 +1,4 @@
--- The table that is read stands at the front of the buffer.
+-- The table that is read is at the front of the buffer.
 use Rattle.std.proofs.Common.{Some, length, arith, rules}
 use Rattle.capnp_frame.proofs.AskLemmas.{passed_on, Asked-err}
 use Rattle.capnp_frame.proofs.StepLemmas.{asks_found_into}
@@ -25,13 +25,13 @@ returns-in_err-total-clause-asks g c =
 pub returns-clause-table : goal.returns-clause-table
 returns-clause-table g c =
     let first = rw c.in-Some.is at c.in_ok-first.ensures.found in
-    let told = c.in_ok-total.ensures in
-    let put = table_put c.args.buffer.now c.read_total.new.table c.in_ok-count.count c.table_len-size.result told.tells (search rules) in
+    let declared = c.in_ok-total.ensures in
+    let put = table_put c.args.buffer.now c.read_total.new.table c.in_ok-count.count c.table_len-size.result declared.tells (search rules) in
     record {
-      found = rw (← put.lengths_are) (table_stands c.args.rule g.R.Read.gives c.in-Some.first _ _ _ _ first told.found);
+      found = rw (← put.lengths_are) (table_stands c.args.rule g.R.Read.gives c.in-Some.first _ _ _ _ first declared.found);
       tells = put.tells;
-      total_is = rw (← put.lengths_are) told.total;
-      within = rw (← put.lengths_are) told.within;
+      total_is = rw (← put.lengths_are) declared.total;
+      within = rw (← put.lengths_are) declared.within;
     }
 
 pub returns-clause-asks : goal.returns-clause-asks

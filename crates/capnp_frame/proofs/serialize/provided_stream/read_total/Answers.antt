@@ -21,9 +21,9 @@ returns-in_err-complete_table-clause-kinds g c =
 pub returns-clause-found : goal.returns-clause-found
 returns-clause-found g c =
     let done = c.in_ok-complete_table.ensures in
-    let told = c.accepted_total.ensures in
+    let declared = c.accepted_total.ensures in
     on_ok_weaker c.accepted_total.result (λ kept. rest_stands c.args.rule g.R.Read.gives c.args.first.now c.complete_table.new.table c.args.count _ _ done.front
-    (search rules) told.tells kept done.others) told.padding
+    (search rules) declared.tells kept done.others) declared.padding
 
 pub returns-clause-refused : goal.returns-clause-refused
 returns-clause-refused g c =

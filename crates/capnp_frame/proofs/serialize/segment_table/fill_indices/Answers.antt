@@ -4,12 +4,12 @@ use Rattle.std.proofs.Math.ListN.{set}
 use Rattle.std.proofs.lemmas.List.{take_more_set, map-append}
 use Rattle.capnp_frame.specs.SegmentLengths.{range_len}
 use Rattle.capnp_frame.proofs.Ranges.{AreRanges-pushed}
-use Rattle.capnp_frame.proofs.ToldTables.{tells_more}
+use Rattle.capnp_frame.proofs.DeclaredTables.{tells_more}
 use Rattle.capnp_frame.proofs.serialize.segment_table.fill_indices.Goals as goal
 
 pub loop-index-init : goal.loop-index-init
 loop-index-init c = record {
-  told = refl;
+  declared = refl;
   ranges = record { running = refl; total_is = refl };
   bound = omega arith;
   lengths = record { each = tt; spelled = refl };
@@ -26,7 +26,7 @@ loop-index-preserved c =
     take_more_set c.loop-index.indices c.loop-index.index (start, start + n) (omega arith) in
     let width : range_len (start, start + n) ≡ n = omega arith in
     record {
-      told = ap (map range_len) pushed ∙ map-append range_len filled ((start, start + n) ∷ []) ∙ ap (λ k. map range_len filled ++ k ∷ []) width ∙ ap (λ l. l ++ n ∷ []) before.told ∙ sym more.next;
+      declared = ap (map range_len) pushed ∙ map-append range_len filled ((start, start + n) ∷ []) ∙ ap (λ k. map range_len filled ++ k ∷ []) width ∙ ap (λ l. l ++ n ∷ []) before.declared ∙ sym more.next;
       ranges = AreRanges-pushed filled _ start n (start + n) before.ranges refl pushed;
       bound = omega arith;
       lengths = more.lengths;

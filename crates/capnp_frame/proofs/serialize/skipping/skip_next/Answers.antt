@@ -4,5 +4,5 @@ use Rattle.capnp_frame.proofs.serialize.skipping.skip_next.Goals as goal
 
 pub returns : goal.returns
 returns g c =
-    let told = c.skip_segments.ensures in
-    skips_stream c.args.rule g.R.Read g.met.R.Read.lawful _ _ _ c.skip_segments.result told.found told.within told.asks
+    let declared = c.skip_segments.ensures in
+    skips_stream c.args.rule g.R.Read g.met.R.Read.lawful _ _ _ c.skip_segments.result declared.found declared.within declared.asks

@@ -1,4 +1,4 @@
--- Some message of these lengths stands there.
+-- Some message of these lengths is there.
 use Rattle.std.proofs.Common.{rules, ◌*◌, None}
 use Rattle.capnp_frame.proofs.StepLemmas.{asks_found, asks_failed, asks_passed}
 use Rattle.capnp_frame.proofs.RequestLemmas.{table_not_empty}

@@ -1,4 +1,4 @@
--- The first word stands in front of the words that are read.
+-- The first word is in front of the words that are read.
 use Rattle.std.proofs.Common.{◌≡◌, ◌-◌, ◌++◌, rules, take, drop, length, ap, ◌∙◌}
 use Rattle.std.proofs.lemmas.List.{take_at}
 use Rattle.std.proofs.lemmas.Result.{on_ok_weaker}

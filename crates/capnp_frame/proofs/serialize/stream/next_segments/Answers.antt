@@ -4,5 +4,5 @@ use Rattle.capnp_frame.proofs.serialize.stream.next_segments.Goals as goal
 
 pub returns : goal.returns
 returns g c =
-    let told = c.read_segments.ensures in
-    reads_stream c.args.rule g.R.Read g.met.R.Read.lawful _ _ _ c.read_segments.result told.found told.within told.whole told.asks
+    let declared = c.read_segments.ensures in
+    reads_stream c.args.rule g.R.Read g.met.R.Read.lawful _ _ _ c.read_segments.result declared.found declared.within declared.whole declared.asks

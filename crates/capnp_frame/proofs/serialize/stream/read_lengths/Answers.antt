@@ -24,19 +24,19 @@ returns-then-size-eq8 g c =
     let front : take 8 word ≡ word = take_all 8 word (omega arith) in
     let size : length word ≡ table_size (length c.fill_lengths.new.indices) = search rules in
     let given = no_more g.met.R.Read.lawful word long (g.R.Read.unread source) in
-    let told = c.fill_lengths.ensures in
+    let declared = c.fill_lengths.ensures in
     let read = c.fill_lengths.result in
     record {
-      table = on_ok_weaker read (λ kept. rw told.told (rest_stands c.args.rule g.R.Read.gives word word _ _ _ front size told.tells kept given)) told.padding;
-      ranges = told.ranges;
-      bound = told.bound;
-      each = on_ok_weaker read (λ kept. rw told.told told.tells.lengths.each) told.padding;
-      within = told.within;
+      table = on_ok_weaker read (λ kept. rw declared.declared (rest_stands c.args.rule g.R.Read.gives word word _ _ _ front size declared.tells kept given)) declared.padding;
+      ranges = declared.ranges;
+      bound = declared.bound;
+      each = on_ok_weaker read (λ kept. rw declared.declared declared.tells.lengths.each) declared.padding;
+      within = declared.within;
       refused = IfErr-weaker read _ _ (λ error met. inr (complete_stops c.args.rule g.R.Read.gives g.R.Read.refuses c.args.limit error.kind word word _ _ _
-          front size given met)) told.refused;
-      kinds = IfErr-weaker read _ _ (λ error met. (complete_kind c.args.rule g.R.Read.refuses c.args.limit error.kind word met).0) told.refused;
+          front size given met)) declared.refused;
+      kinds = IfErr-weaker read _ _ (λ error met. (complete_kind c.args.rule g.R.Read.refuses c.args.limit error.kind word met).0) declared.refused;
       asked = record {
-        failed = IfErr-weaker read _ _ (λ error met device. absurd ((complete_kind c.args.rule g.R.Read.refuses c.args.limit error.kind word met).1 device)) told.refused;
+        failed = IfErr-weaker read _ _ (λ error met device. absurd ((complete_kind c.args.rule g.R.Read.refuses c.args.limit error.kind word met).1 device)) declared.refused;
         advances = record {
           tail = IfKnown-refl IsTail _ (λ raw. ([], refl));
           counted = omega arith;

@@ -13,7 +13,7 @@ returns-in_err-complete_table g c =
     let size : length c.complete_table.new.table ≡ table_size (length c.args.indices.now) = search rules in
     let some = c.requires.accepted.some in
     let others : length c.complete_table.new.table - 8 ≡ 8 * (length c.args.indices.now / 2) = omega arith in
-    let told = c.in_err-complete_table.ensures in
+    let declared = c.in_err-complete_table.ensures in
     record {
       table = search rules;
       ranges = search rules;
@@ -21,8 +21,8 @@ returns-in_err-complete_table g c =
       each = search rules;
       within = search rules;
       refused = passed_on _ _ is (others_stop c.args.rule g.R.Read.gives g.R.Read.refuses _ c.args.limit _ c.args.first.now
-          (length c.args.indices.now) _ _ told.asked.advances.tail (rw others at told.refused));
-      kinds = passed_on _ _ is (source_kind c.args.rule g.R.Read.refuses _ _ _ told.refused);
+          (length c.args.indices.now) _ _ declared.asked.advances.tail (rw others at declared.refused));
+      kinds = passed_on _ _ is (source_kind c.args.rule g.R.Read.refuses _ _ _ declared.refused);
       asked = search rules;
     }
 
@@ -31,20 +31,20 @@ returns g c =
     let word = c.args.first.now in
     let table = c.complete_table.new.table in
     let done = c.in_ok-complete_table.ensures in
-    let told = c.fill_lengths.ensures in
+    let declared = c.fill_lengths.ensures in
     let read = c.fill_lengths.result in
     let size : length table ≡ table_size (length c.fill_lengths.new.indices) = search rules in
     record {
-      table = on_ok_weaker read (λ kept. rw told.told (rest_stands c.args.rule g.R.Read.gives word table _ _ _ done.front size told.tells kept done.others)) told.padding;
-      ranges = told.ranges;
-      bound = told.bound;
-      each = on_ok_weaker read (λ kept. rw told.told told.tells.lengths.each) told.padding;
-      within = told.within;
+      table = on_ok_weaker read (λ kept. rw declared.declared (rest_stands c.args.rule g.R.Read.gives word table _ _ _ done.front size declared.tells kept done.others)) declared.padding;
+      ranges = declared.ranges;
+      bound = declared.bound;
+      each = on_ok_weaker read (λ kept. rw declared.declared declared.tells.lengths.each) declared.padding;
+      within = declared.within;
       refused = IfErr-weaker read _ _ (λ error met. inr (complete_stops c.args.rule g.R.Read.gives g.R.Read.refuses c.args.limit error.kind word table _ _ _
-          done.front size done.others met)) told.refused;
-      kinds = IfErr-weaker read _ _ (λ error met. (complete_kind c.args.rule g.R.Read.refuses c.args.limit error.kind table met).0) told.refused;
+          done.front size done.others met)) declared.refused;
+      kinds = IfErr-weaker read _ _ (λ error met. (complete_kind c.args.rule g.R.Read.refuses c.args.limit error.kind table met).0) declared.refused;
       asked = record {
-        failed = IfErr-weaker read _ _ (λ error met device. absurd ((complete_kind c.args.rule g.R.Read.refuses c.args.limit error.kind table met).1 device)) told.refused;
+        failed = IfErr-weaker read _ _ (λ error met device. absurd ((complete_kind c.args.rule g.R.Read.refuses c.args.limit error.kind table met).1 device)) declared.refused;
         advances = c.complete_table.ensures.asked.advances;
       };
     }

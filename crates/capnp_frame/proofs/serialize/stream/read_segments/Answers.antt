@@ -1,4 +1,4 @@
--- The message that is read is the only one that stands there.
+-- The message that is read is the only one that is there.
 use Rattle.std.proofs.Common.{rules, ◌≡◌, ◌*◌, arith, ap, length, None}
 use Rattle.std.proofs.lemmas.Grind.{common_steps}
 use Rattle.std.specs.Prelude.{sum}

@@ -1,4 +1,4 @@
--- The table that is read is the only one that stands there.
+-- The table that is read is the only one that is there.
 use Rattle.std.proofs.Common.{rules, ◌≡◌, length, None}
 use Rattle.capnp_frame.proofs.AskLemmas.{passed_on, Asked-err}
 use Rattle.capnp_frame.proofs.StepLemmas.{asks_found}

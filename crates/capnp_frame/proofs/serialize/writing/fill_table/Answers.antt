@@ -17,7 +17,7 @@ put_field-requires-in-Some g c =
     let segments = g.S.ReaderSegments.segments c.args.segments.now in
     let here = c.in-Some.ensures.here in
     let within = c.in-Some.ensures.within in
-    let told = length-lengths_take segments c.loop-segment.index c.loop-segment.invariant.within in
+    let declared = length-lengths_take segments c.loop-segment.index c.loop-segment.invariant.within in
     let long = length-filled (length segments) (lengths (take c.loop-segment.index segments)) c.loop-segment.table c.loop-segment.invariant.filled (omega arith) c.requires.writable.some in
     omega arith
 
@@ -35,7 +35,7 @@ loop-segment-preserved g c =
     let index = c.loop-segment.index in
     let here = c.in-Some.ensures.here in
     let within = c.in-Some.ensures.within in
-    let told = length-lengths_take segments index c.loop-segment.invariant.within in
+    let declared = length-lengths_take segments index c.loop-segment.invariant.within in
     record {
       within = omega arith;
       filled = rw (lengths-next segments index c.in-Some.segment.now here)

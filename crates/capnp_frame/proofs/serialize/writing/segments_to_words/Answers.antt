@@ -5,38 +5,38 @@ use Rattle.capnp_frame.proofs.SizeLemmas.{written_frame, lacks_memory_alone, few
 use Rattle.capnp_frame.proofs.SinkLemmas.{count_kept}
 use Rattle.capnp_frame.proofs.serialize.writing.segments_to_words.Goals as goal
 
-pub returns-in_err-keep_count : goal.returns-in_err-keep_count
-returns-in_err-keep_count g c =
+pub returns-in_err-check_count : goal.returns-in_err-check_count
+returns-in_err-check_count g c =
     let p = err_from_is_err_and c.from_residual.result c.from_residual.ensures.1 in
-    let told = c.in_err-keep_count.ensures in
-    rw (p.1, p.2) (record { text = tt; count = record { few = tt; many = told.count.many }; kinds = inl told.refused })
+    let declared = c.in_err-check_count.ensures in
+    rw (p.1, p.2) (record { text = tt; count = record { few = tt; many = declared.count.many }; kinds = inl declared.refused })
 
 pub returns-in_err-words : goal.returns-in_err-words
 returns-in_err-words g c =
     let over = c.in_err-words.ensures.overflow.0 c.in_err-words.ensures.kinds in
-    let fits = few_fit _ c.requires c.in_ok-keep_count.ensures.count.few in
+    let fits = few_fit _ c.requires c.in_ok-check_count.ensures.count.few in
     absurd (omega arith)
 
 pub overflow_mul-words : goal.overflow_mul-words
 overflow_mul-words g c =
     let words = c.in_ok-words.ensures.size in
-    let fits = few_fit _ c.requires c.in_ok-keep_count.ensures.count.few in
+    let fits = few_fit _ c.requires c.in_ok-check_count.ensures.count.few in
     omega arith
 
 pub returns-in_err-text : goal.returns-in_err-text
 returns-in_err-text g c =
     let p = err_from_is_err_and c.from_residual-in_err-text.result c.from_residual-in_err-text.ensures.1 in
-    rw p.1 (record { text = tt; count = count_kept _ _ c.in_ok-keep_count.ensures.count.few; kinds = inr p.2 })
+    rw p.1 (record { text = tt; count = count_kept _ _ c.in_ok-check_count.ensures.count.few; kinds = inr p.2 })
 
 pub returns-in_err-write_segments : goal.returns-in_err-write_segments
 returns-in_err-write_segments g c =
     let segments = g.S.ReaderSegments.segments c.args.segments.now in
     let p = err_from_is_err_and c.from_residual-in_err-write_segments.result c.from_residual-in_err-write_segments.ensures.1 in
-    let told = c.in_err-write_segments.ensures.parts in
-    rw (p.1, p.2) (record { text = tt; count = count_kept _ _ c.in_ok-keep_count.ensures.count.few; kinds = lacks_memory_alone segments _ told.failed told.refused })
+    let declared = c.in_err-write_segments.ensures.parts in
+    rw (p.1, p.2) (record { text = tt; count = count_kept _ _ c.in_ok-check_count.ensures.count.few; kinds = lacks_memory_alone segments _ declared.failed declared.refused })
 
 pub returns : goal.returns
 returns g c =
     let text = written_frame (g.S.ReaderSegments.segments c.args.segments.now) c.in_ok-text.text.items c.write_segments.new.sink.items
     c.in_ok-text.ensures.items c.in_ok-write_segments.ensures.parts.written in
-    record { text = text; count = count_kept _ _ c.in_ok-keep_count.ensures.count.few; kinds = tt }
+    record { text = text; count = count_kept _ _ c.in_ok-check_count.ensures.count.few; kinds = tt }

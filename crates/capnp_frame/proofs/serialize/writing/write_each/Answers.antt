@@ -11,10 +11,10 @@ pub returns-in_err-write_all : goal.returns-in_err-write_all
 returns-in_err-write_all g c =
     let p = err_from_is_err_and c.from_residual.result c.from_residual.ensures.1 in
     let segments = g.S.ReaderSegments.segments c.args.segments.now in
-    let told = c.in_err-write_all.ensures in
+    let declared = c.in_err-write_all.ensures in
     let here = c.in-Some.ensures.here in
     rw (p.1, p.2) (stopped_at g.W.Write g.met.W.Write.keeps _ _ _ segments c.loop-segment.index c.in-Some.segment.now _ here
-    c.loop-segment.invariant.written c.loop-segment.invariant.grows told.left told.refused told.failed told.grows)
+    c.loop-segment.invariant.written c.loop-segment.invariant.grows declared.left declared.refused declared.failed declared.grows)
 
 pub loop-segment-preserved : goal.loop-segment-preserved
 loop-segment-preserved g c =

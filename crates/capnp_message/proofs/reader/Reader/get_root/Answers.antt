@@ -1,4 +1,4 @@
--- One failure alone stands at the root's word.
+-- One failure alone is at the root's word.
 use Rattle.capnp_message.proofs.RootLemmas.{root_nowhere, root_read}
 use Rattle.capnp_message.proofs.reader.Reader.get_root.Goals as goal
 

@@ -1,7 +1,7 @@
 -- What comes back as caller-provided is the region, which is made zero; all else goes to the heap.
 use Rattle.std.proofs.Common.{◌≡◌, ℕ, ◌*◌, ◌≤◌, List, ◌++◌, length, drop, refl, subst, ◌∙◌}
 use Rattle.capnp_build.specs.Bytes.{ZeroFrom}
-use Rattle.capnp_message.proofs.RegionLemmas.{all_zero, held, filled_length, comes_home_as, stays_out}
+use Rattle.capnp_message.proofs.RegionLemmas.{all_zero, children, filled_length, comes_home_as, stays_out}
 use Rattle.capnp_message.proofs.scratch_space.ScratchSpaceHeapAllocatorAllocator.deallocate_segment.Goals as goal
 
 pub invariant_of-self : goal.invariant_of-self
@@ -15,9 +15,9 @@ invariant_of-self c =
     let kept : length (c.fill.new.self ++ drop n region.now) ≡ c.args.self.now.size = filled_length n c.fill.new.self region.now c.fill.ensures.len used ∙ same.0 in
     let zero = all_zero n _ c.fill.new.self region.now (c.fill.ensures.after (λ y h. h)) clean in
     record {
-      whole = λ x is. subst (λ (l : List ℕ). length l ≡ c.args.self.now.size) (held _ x is) kept;
+      whole = λ x is. subst (λ (l : List ℕ). length l ≡ c.args.self.now.size) (children _ x is) kept;
       few = c.args.self.now.few;
-      zero = λ x is. subst (ZeroFrom 0) (held _ x is) zero;
+      zero = λ x is. subst (ZeroFrom 0) (children _ x is) zero;
       maximum = c.args.self.now.maximum;
     }
 
@@ -34,7 +34,7 @@ returns-in-Lent c =
       returned =
           rw c.in-Lent.is (
             record {
-              home = refl;
+              available = refl;
               whole = filled_length n c.fill.new.self region.now c.fill.ensures.len used ∙ same.0;
               zero = all_zero n _ c.fill.new.self region.now (c.fill.ensures.after (λ y h. h)) clean;
             },

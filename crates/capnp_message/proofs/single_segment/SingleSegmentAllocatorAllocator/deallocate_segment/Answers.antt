@@ -2,7 +2,7 @@
 use Rattle.std.proofs.Common.{◌≡◌, ℕ, ◌*◌, List, ◌++◌, length, drop, refl, ap, subst, ◌∙◌}
 use Rattle.capnp_build.specs.Out.{Out}
 use Rattle.capnp_build.specs.Bytes.{ZeroFrom}
-use Rattle.capnp_message.proofs.RegionLemmas.{comes_back, all_zero, held, filled_length}
+use Rattle.capnp_message.proofs.RegionLemmas.{comes_back, all_zero, children, filled_length}
 use Rattle.capnp_message.proofs.single_segment.SingleSegmentAllocatorAllocator.deallocate_segment.Goals as goal
 
 pub invariant_of-self : goal.invariant_of-self
@@ -14,9 +14,9 @@ invariant_of-self c =
     filled_length n c.fill.new.self c.args.segment.now c.fill.ensures.len c.requires.used ∙ ap (λ (o : Out). o.length) same.0 in
     let zero = all_zero n _ c.fill.new.self c.args.segment.now (c.fill.ensures.after (λ y h. h)) c.requires.zero in
     record {
-      whole = λ x is. subst (λ (l : List ℕ). length l ≡ c.args.self.now.size) (held _ x is) kept;
+      whole = λ x is. subst (λ (l : List ℕ). length l ≡ c.args.self.now.size) (children _ x is) kept;
       few = c.args.self.now.few;
-      zero = λ x is. subst (ZeroFrom 0) (held _ x is) zero;
+      zero = λ x is. subst (ZeroFrom 0) (children _ x is) zero;
     }
 
 pub returns : goal.returns
@@ -27,7 +27,7 @@ returns c =
     record {
       takes_off = λ list left out removed. (comes_back c.args.self.now.region _ _ list left out removed).1;
       returned = record {
-        home = refl;
+        available = refl;
         whole = filled_length n c.fill.new.self c.args.segment.now c.fill.ensures.len c.requires.used ∙ ap (λ (o : Out). o.length) same.0;
         zero = all_zero n _ c.fill.new.self c.args.segment.now (c.fill.ensures.after (λ y h. h)) c.requires.zero;
       };

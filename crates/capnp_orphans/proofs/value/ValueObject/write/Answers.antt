@@ -3,7 +3,7 @@ use Rattle.std.proofs.Common.{◌/◌, length, refl, arith}
 use Rattle.capnp_wire.specs.Tree.{count}
 use Rattle.capnp_wire.proofs.words.WordLemmas.{length-words_of}
 use Rattle.capnp_wire.proofs.layouts.FreeLemmas.{free_block, has_room}
-use Rattle.capnp_orphans.proofs.WrittenLemmas.{value_written, value_held}
+use Rattle.capnp_orphans.proofs.WrittenLemmas.{value_written, value_children}
 use Rattle.capnp_orphans.proofs.value.ValueObject.write.Goals as goal
 
 pub write-copied-requires-clause-value : goal.write-copied-requires-clause-value
@@ -18,11 +18,11 @@ pub moved-requires-clause-pointer : goal.moved-requires-clause-pointer
 moved-requires-clause-pointer g c =
     let v = value_written (g.V.SetterInput.has_tree c.args.self.now.value.now) (length c.args.block.now / 8) c.args.block.now c.write-copied.new.block c.write-copied.result c.requires.takes
     (λ trees is. g.met.V.SetterInput.one c.args.self.now.value.now trees is) (omega (arith, length-words_of c.args.block.now)) c.write-copied.ensures.written c.write-copied.ensures.long in
-    (v.form, count v.held, v.rooms.0, v.pointer_is)
+    (v.form, count v.children, v.rooms.0, v.pointer_is)
 
 pub returns : goal.returns
 returns g c body start_is =
     let v = value_written (g.V.SetterInput.has_tree c.args.self.now.value.now) (length c.args.block.now / 8) c.args.block.now c.write-copied.new.block c.write-copied.result c.requires.takes
     (λ trees is. g.met.V.SetterInput.one c.args.self.now.value.now trees is) (omega (arith, length-words_of c.args.block.now)) c.write-copied.ensures.written c.write-copied.ensures.long in
-    value_held (g.V.SetterInput.has_tree c.args.self.now.value.now) body c.write-copied.new.block c.args.start (length c.args.block.now / 8) c.moved.result c.write-copied.result.pointer v start_is
+    value_children (g.V.SetterInput.has_tree c.args.self.now.value.now) body c.write-copied.new.block c.args.start (length c.args.block.now / 8) c.moved.result c.write-copied.result.pointer v start_is
     (omega (arith, c.requires.few)) c.moved.ensures

@@ -1,4 +1,4 @@
--- Whole words are refused only as the sink refuses.
+-- Whole words are rejected only as the sink rejects.
 use Rattle.std.proofs.Common.{◌≡◌}
 use Rattle.capnp_frame.specs.declared.error.ErrorKind.TheVariants.{DeviceFailed}
 use Rattle.capnp_pack.proofs.PackerLemmas.{Packs-whole}

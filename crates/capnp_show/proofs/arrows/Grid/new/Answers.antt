@@ -1,4 +1,4 @@
--- Each segment stands below those before it.
+-- Each segment is below those before it.
 use Rattle.std.proofs.Common.{◌≡◌, suc, arith, ap, sym, subst, ◌∙◌, take, ◌+◌, ◌++◌, ◌∷◌, [], List, ℕ, length, Vec, Global}
 use Rattle.std.proofs.lemmas.List.{take_all}
 use Rattle.std.proofs.Math.Seq.{take-suc}

@@ -5,11 +5,11 @@ use Rattle.capnp_values.proofs.ReachLemmas.{not_left_out, some_after, null_last}
 use Rattle.capnp_values.proofs.fields.field.is_left_out.Goals as goal
 
 pub returns-then-not-canonical : goal.returns-then-not-canonical
-returns-then-not-canonical g c form held part = not_left_out c.args.canonical c.args.after form c.if-not-canonical.true
+returns-then-not-canonical g c form children part = not_left_out c.args.canonical c.args.after form c.if-not-canonical.true
 
 pub returns-then-after-gt0 : goal.returns-then-after-gt0
-returns-then-after-gt0 g c form held part = some_after c.args.canonical c.args.after form (omega arith)
+returns-then-after-gt0 g c form children part = some_after c.args.canonical c.args.after form (omega arith)
 
 pub returns : goal.returns
-returns g c form held part =
-    null_last c.args.canonical c.args.after form c.is_null.result c.if-not-canonical.false (omega arith) (c.is_null.ensures (tree form held none) part.tree_is)
+returns g c form children part =
+    null_last c.args.canonical c.args.after form c.is_null.result c.if-not-canonical.false (omega arith) (c.is_null.ensures (tree form children none) part.tree_is)

@@ -4,7 +4,7 @@ use Rattle.std.proofs.lemmas.List.{length-map}
 use Rattle.capnp_wire.specs.Element.{width, words_for}
 use Rattle.capnp_wire.specs.Layout.{list_pointer}
 use Rattle.capnp_wire.proofs.words.WordLemmas.{length-words_of}
-use Rattle.capnp_wire.proofs.layouts.FreeLemmas.{numbers_copied, as_formed, body_long}
+use Rattle.capnp_wire.proofs.layouts.FreeLemmas.{numbers_copied, as_output, body_long}
 use Rattle.capnp_values.specs.NumberLists.{IsNumberList}
 use Rattle.capnp_values.proofs.NumberListLemmas.{list_fits, list_room, numbers_put, part_long}
 use Rattle.capnp_values.proofs.number_list.NumberListSetterInputOwned.write.Goals as goal
@@ -44,7 +44,7 @@ returns-clause-written g c trees is =
     let size : 8 * (c.args.next + c.words_of_list.result) - 8 * c.args.next ≡ 8 * words_for (length c.args.self.now.items.now) (width g.N.PrimitiveElement.code) = omega (arith, c.words_of_list.ensures.words) in
     let long : length c.put_numbers.new.block ≡ 8 * words_for (length c.args.self.now.items.now) (width g.N.PrimitiveElement.code) =
     omega (arith, c.put_numbers.auto.block, c.words_of_list.ensures.words, part_long c.args.next c.words_of_list.result c.args.block.now (omega (arith, r.1, c.words_of_list.ensures.words))) in
-    as_formed c.args._canonical code bits trees _ c.args.next _ _ _ is.1
+    as_output c.args._canonical code bits trees _ c.args.next _ _ _ is.1
     (numbers_copied code bits _ c.args.next _ _ _
     (numbers_put code (length c.args.self.now.items.now) c.args.next _ bits c.args.block.now c.put_numbers.new.block same c.put_numbers.ensures long size (omega (arith, r.1)))
     (c.list_word.ensures ∙ ap (λ (k : ℕ). list_pointer (c.args.next - c.args.following) c.code.result k) same ∙ ap (λ (k : ℕ). list_pointer (c.args.next - c.args.following) k (length bits)) (c.code.ensures.code ∙ c.size.ensures))

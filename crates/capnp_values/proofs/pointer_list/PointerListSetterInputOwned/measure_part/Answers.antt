@@ -3,17 +3,17 @@ use Rattle.capnp_values.specs.Lists.{IsPointerList, RefusesPointerList}
 use Rattle.capnp_values.proofs.MeasuredLemmas.{measured_less, part_returned, part_found, part_exact}
 use Rattle.capnp_values.proofs.pointer_list.PointerListSetterInputOwned.measure_part.Goals as goal
 
-pub fitting_part-requires : goal.fitting_part-requires
-fitting_part-requires g c = measured_less (λ t. IsPointerList g.V.SetterInput.has_tree c.args.self.now.items.now t) c.args.canonical c.in_ok-words.words c.in_ok-words.ensures.returned
+pub checked_part_words-requires : goal.checked_part_words-requires
+checked_part_words-requires g c = measured_less (λ t. IsPointerList g.V.SetterInput.has_tree c.args.self.now.items.now t) c.args.canonical c.in_ok-words.words c.in_ok-words.ensures.returned
 
 pub returns-clause-returned : goal.returns-clause-returned
 returns-clause-returned g c =
-    part_returned (λ t. IsPointerList g.V.SetterInput.has_tree c.args.self.now.items.now t) (λ k. RefusesPointerList g.V.SetterInput.has_tree g.V.SetterInput.refuses c.args.self.now.items.now k) c.args.canonical c.in_ok-words.words c.fitting_part.result c.in_ok-words.ensures.returned c.fitting_part.ensures
+    part_returned (λ t. IsPointerList g.V.SetterInput.has_tree c.args.self.now.items.now t) (λ k. RefusesPointerList g.V.SetterInput.has_tree g.V.SetterInput.refuses c.args.self.now.items.now k) c.args.canonical c.in_ok-words.words c.checked_part_words.result c.in_ok-words.ensures.returned c.checked_part_words.ensures
 
 pub returns-clause-found : goal.returns-clause-found
 returns-clause-found g c =
-    part_found (λ t. IsPointerList g.V.SetterInput.has_tree c.args.self.now.items.now t) (λ k. RefusesPointerList g.V.SetterInput.has_tree g.V.SetterInput.refuses c.args.self.now.items.now k) c.args.canonical c.in_ok-words.words c.measure_list.result c.fitting_part.result c.in_ok-words.was c.measure_list.ensures c.fitting_part.ensures
+    part_found (λ t. IsPointerList g.V.SetterInput.has_tree c.args.self.now.items.now t) (λ k. RefusesPointerList g.V.SetterInput.has_tree g.V.SetterInput.refuses c.args.self.now.items.now k) c.args.canonical c.in_ok-words.words c.measure_list.result c.checked_part_words.result c.in_ok-words.was c.measure_list.ensures c.checked_part_words.ensures
 
 pub returns-clause-exact : goal.returns-clause-exact
 returns-clause-exact g c =
-    part_exact (λ t. IsPointerList g.V.SetterInput.has_tree c.args.self.now.items.now t) (λ k. RefusesPointerList g.V.SetterInput.has_tree g.V.SetterInput.refuses c.args.self.now.items.now k) c.args.canonical c.in_ok-words.words c.measure_list.result c.fitting_part.result c.in_ok-words.was c.measure_list.ensures c.fitting_part.ensures
+    part_exact (λ t. IsPointerList g.V.SetterInput.has_tree c.args.self.now.items.now t) (λ k. RefusesPointerList g.V.SetterInput.has_tree g.V.SetterInput.refuses c.args.self.now.items.now k) c.args.canonical c.in_ok-words.words c.measure_list.result c.checked_part_words.result c.in_ok-words.was c.measure_list.ensures c.checked_part_words.ensures

@@ -3,7 +3,7 @@ use Rattle.std.proofs.Common.{◌+◌, ◌-◌, length, sym, arith}
 use Rattle.capnp_wire.specs.Pointer.{words_of}
 use Rattle.capnp_wire.proofs.layouts.FreeLemmas.{free_later}
 use Rattle.capnp_wire.proofs.layouts.SizeLemmas.{length-body}
-use Rattle.capnp_wire.proofs.layouts.OpenLemmas.{room_formed}
+use Rattle.capnp_wire.proofs.layouts.OpenLemmas.{room_output}
 use Rattle.capnp_values.proofs.ItemLemmas.{items_settled}
 use Rattle.capnp_values.proofs.PointerListLemmas.{values_total, values_rooms, values_begin, list_copied}
 use Rattle.capnp_values.proofs.pointer_list.PointerListSetterInputOwned.write.Goals as goal
@@ -19,12 +19,12 @@ returns-clause-written g c trees is =
     let h = g.V.SetterInput.has_tree in
     let items = c.args.self.now.items.now in
     let w = c.requires.value in
-    let end = c.write_items.ensures.written.next_is w.tree_is.held w.tree_is.held_is in
-    list_copied c.args.canonical is.held trees (c.args.next - c.args.following) c.args.next (length items) c.write_items.result c.list_word.result (words_of c.args.block.now) (words_of c.write_items.new.block)
-    is.whole (sym (items_settled h items is.held is.held_is).many) (values_rooms h items trees is) c.list_word.ensures
+    let end = c.write_items.ensures.written.next_is w.tree_is.children w.tree_is.children_is in
+    list_copied c.args.canonical is.children trees (c.args.next - c.args.following) c.args.next (length items) c.write_items.result c.list_word.result (words_of c.args.block.now) (words_of c.write_items.new.block)
+    is.whole (sym (items_settled h items is.children is.children_is).many) (values_rooms h items trees is) c.list_word.ensures
     (omega (arith, end, w.fits, values_total h items c.args.canonical w.trees w.tree_is))
-    (c.write_items.ensures.written.words_are is.held is.held_is) (c.write_items.ensures.written.next_is is.held is.held_is)
+    (c.write_items.ensures.written.words_are is.children is.children_is) (c.write_items.ensures.written.next_is is.children is.children_is)
 
 pub returns-clause-long : goal.returns-clause-long
 returns-clause-long g c trees is =
-    length-body _ (room_formed c.args.canonical trees (values_rooms g.V.SetterInput.has_tree c.args.self.now.items.now trees is))
+    length-body _ (room_output c.args.canonical trees (values_rooms g.V.SetterInput.has_tree c.args.self.now.items.now trees is))

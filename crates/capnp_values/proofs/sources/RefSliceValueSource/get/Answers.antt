@@ -1,4 +1,4 @@
--- The value that stands there.
+-- The value that is there.
 use Rattle.capnp_values.proofs.SourceLemmas.{itself, stands_at}
 use Rattle.capnp_values.proofs.sources.RefSliceValueSource.get.Goals as goal
 

@@ -11,15 +11,15 @@ use Rattle.capnp_values.proofs.struct_list.StructListSetterInputOwned.measure.Go
 
 pub returns-clause-returned : goal.returns-clause-returned
 returns-clause-returned g c =
-    whole_returned (λ t. IsStructList g.E.Element.words g.E.Fields.has_trees g.E.Element.data_words g.E.Fields.size c.args.self.now.items.now t) (λ k. RefusesStructList g.E.Fields.has_trees g.E.Fields.refuses g.E.Element.data_words g.E.Fields.size c.args.self.now.items.now k) c.args.canonical c.in_ok-words.words c.fitting.result c.in_ok-words.ensures.returned c.fitting.ensures
+    whole_returned (λ t. IsStructList g.E.Element.words g.E.Fields.has_trees g.E.Element.data_words g.E.Fields.size c.args.self.now.items.now t) (λ k. RefusesStructList g.E.Fields.has_trees g.E.Fields.refuses g.E.Element.data_words g.E.Fields.size c.args.self.now.items.now k) c.args.canonical c.in_ok-words.words c.checked_word_count.result c.in_ok-words.ensures.returned c.checked_word_count.ensures
 
 pub returns-clause-found : goal.returns-clause-found
 returns-clause-found g c =
-    whole_found (λ t. IsStructList g.E.Element.words g.E.Fields.has_trees g.E.Element.data_words g.E.Fields.size c.args.self.now.items.now t) (λ k. RefusesStructList g.E.Fields.has_trees g.E.Fields.refuses g.E.Element.data_words g.E.Fields.size c.args.self.now.items.now k) c.args.canonical c.in_ok-words.words c.measure_list.result c.fitting.result c.in_ok-words.was c.measure_list.ensures c.fitting.ensures
+    whole_found (λ t. IsStructList g.E.Element.words g.E.Fields.has_trees g.E.Element.data_words g.E.Fields.size c.args.self.now.items.now t) (λ k. RefusesStructList g.E.Fields.has_trees g.E.Fields.refuses g.E.Element.data_words g.E.Fields.size c.args.self.now.items.now k) c.args.canonical c.in_ok-words.words c.measure_list.result c.checked_word_count.result c.in_ok-words.was c.measure_list.ensures c.checked_word_count.ensures
 
 pub returns-clause-exact : goal.returns-clause-exact
 returns-clause-exact g c =
-    whole_exact (λ t. IsStructList g.E.Element.words g.E.Fields.has_trees g.E.Element.data_words g.E.Fields.size c.args.self.now.items.now t) (λ k. RefusesStructList g.E.Fields.has_trees g.E.Fields.refuses g.E.Element.data_words g.E.Fields.size c.args.self.now.items.now k) c.args.canonical c.in_ok-words.words c.measure_list.result c.fitting.result c.in_ok-words.was c.measure_list.ensures c.fitting.ensures
+    whole_exact (λ t. IsStructList g.E.Element.words g.E.Fields.has_trees g.E.Element.data_words g.E.Fields.size c.args.self.now.items.now t) (λ k. RefusesStructList g.E.Fields.has_trees g.E.Fields.refuses g.E.Element.data_words g.E.Fields.size c.args.self.now.items.now k) c.args.canonical c.in_ok-words.words c.measure_list.result c.checked_word_count.result c.in_ok-words.was c.measure_list.ensures c.checked_word_count.ensures
 
 pub returns-in_err-words-clause-returned : goal.returns-in_err-words-clause-returned
 returns-in_err-words-clause-returned g c =

@@ -3,15 +3,15 @@ use Rattle.std.proofs.Common.{◌+◌, ◌-◌, length-take, arith}
 use Rattle.capnp_wire.specs.Pointer.{words_of}
 use Rattle.capnp_wire.proofs.layouts.FreeLemmas.{free_later}
 use Rattle.capnp_wire.proofs.layouts.SizeLemmas.{length-body}
-use Rattle.capnp_wire.proofs.layouts.OpenLemmas.{room_formed}
+use Rattle.capnp_wire.proofs.layouts.OpenLemmas.{room_output}
 use Rattle.capnp_values.proofs.StructLemmas.{struct_small, struct_rooms, struct_place, struct_copied}
 use Rattle.capnp_values.proofs.struct_value.StructValueSetterInputOwned.write.Goals as goal
 
 pub kept-pointers-requires : goal.kept-pointers-requires
 kept-pointers-requires g c = c.requires.value.tree_is.few_pointers
 
-pub overflow_add-held-2 : goal.overflow_add-held-2
-overflow_add-held-2 g c =
+pub overflow_add-children-2 : goal.overflow_add-children-2
+overflow_add-children-2 g c =
     let p = struct_place c.args.canonical c.args.self.now.words g.F.Fields.size (g.F.Fields.has_trees c.args.self.now.fields) c.args.next c.kept_data-data.result c.kept-pointers.result _ c.requires.value
     c.kept_data-data.ensures.value c.kept-pointers.ensures.kept in
     record { fits = omega (arith, p.first_fits, c.requires.free.few) }
@@ -42,11 +42,11 @@ returns-clause-written g c trees is =
     let words = c.args.self.now.words in
     let p = struct_place c.args.canonical c.args.self.now.words g.F.Fields.size (g.F.Fields.has_trees c.args.self.now.fields) c.args.next c.kept_data-data.result c.kept-pointers.result _ c.requires.value
     c.kept_data-data.ensures.value c.kept-pointers.ensures.kept in
-    let end = c.write_sections-free.ensures.written.next_is w.tree_is.held w.tree_is.held_is in
-    struct_copied c.args.canonical words is.held trees (c.args.next - c.args.following) c.args.next c.kept_data-data.result c.kept-pointers.result c.write_sections-free.result c.struct_word.result
-    (words_of c.args.block.now) (words_of c.write_sections-free.new.block) is.whole c.kept_data-data.ensures.value (c.kept-pointers.ensures.kept is.held is.held_is)
+    let end = c.write_sections-free.ensures.written.next_is w.tree_is.children w.tree_is.children_is in
+    struct_copied c.args.canonical words is.children trees (c.args.next - c.args.following) c.args.next c.kept_data-data.result c.kept-pointers.result c.write_sections-free.result c.struct_word.result
+    (words_of c.args.block.now) (words_of c.write_sections-free.new.block) is.whole c.kept_data-data.ensures.value (c.kept-pointers.ensures.kept is.children is.children_is)
     (struct_rooms words size hs trees (g.met.F.Fields.settled c.args.self.now.fields) is (struct_small words size hs w.trees w.tree_is w.rooms)) c.struct_word.ensures
-    (omega (arith, end, p.first_fits)) (c.write_sections-free.ensures.written.words_are is.held is.held_is) (c.write_sections-free.ensures.written.next_is is.held is.held_is)
+    (omega (arith, end, p.first_fits)) (c.write_sections-free.ensures.written.words_are is.children is.children_is) (c.write_sections-free.ensures.written.next_is is.children is.children_is)
 
 pub returns-clause-long : goal.returns-clause-long
 returns-clause-long g c trees is =
@@ -54,4 +54,4 @@ returns-clause-long g c trees is =
     let size = g.F.Fields.size in
     let hs = g.F.Fields.has_trees c.args.self.now.fields in
     let words = c.args.self.now.words in
-    length-body _ (room_formed c.args.canonical trees (struct_rooms words size hs trees (g.met.F.Fields.settled c.args.self.now.fields) is (struct_small words size hs w.trees w.tree_is w.rooms)))
+    length-body _ (room_output c.args.canonical trees (struct_rooms words size hs trees (g.met.F.Fields.settled c.args.self.now.fields) is (struct_small words size hs w.trees w.tree_is w.rooms)))

@@ -10,4 +10,4 @@ returns-in-Some g c =
     entered_view pointer c.in-Some.object (λ bytes form. IsData form bytes.now) (DeclinesNumbers 2) c.bytes_in.result c.in-Some.ensures c.bytes_in.ensures
 
 pub returns-in-None : goal.returns-in-None
-returns-in-None g c = rw c.rebuilt.ensures (rw c.again.ensures at c.enter_bytes.ensures)
+returns-in-None g c = rw c.by_value.ensures (rw c.copied.ensures at c.enter_bytes.ensures)

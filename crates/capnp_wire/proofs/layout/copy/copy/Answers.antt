@@ -1,4 +1,4 @@
--- The pointer stands in a segment, since a tree stands at its place.
+-- The pointer is in a segment, since a tree is at its place.
 use Rattle.std.proofs.Common.{sym}
 use Rattle.capnp_wire.specs.Faults.{no_word, no_segment}
 use Rattle.capnp_wire.proofs.words.MessageLemmas.{segment_stands, no_segment_stands}

@@ -1,10 +1,10 @@
 -- A pointer is near, far, or no struct or list pointer.
 use Rattle.std.proofs.Common.{◌<◌, Some, sym, ◌∙◌, ap, subst, arith, lit≤}
 use Rattle.std.proofs.lemmas.Result.{err_from_is_err_and}
-use Rattle.capnp_wire.specs.Object.{message_of, near}
+use Rattle.capnp_wire.specs.Object.{message_of, local}
 use Rattle.capnp_wire.specs.Faults.{Fault, no_word, past_segment, bad_landing_pad, capability}
-use Rattle.capnp_wire.proofs.pointers.NearLemmas.{word_there}
-use Rattle.capnp_wire.proofs.pointers.LandingPadLemmas.{near_landing}
+use Rattle.capnp_wire.proofs.pointers.LocalLemmas.{word_there}
+use Rattle.capnp_wire.proofs.pointers.LandingPadLemmas.{local_landing}
 use Rattle.capnp_wire.proofs.layout.landing.land.Goals as goal
 
 pub returns-in_err-pointer-clause-refused : goal.returns-in_err-pointer-clause-refused
@@ -24,14 +24,14 @@ returns-in_err-land_far-in-Far-clause-refused g c =
     let word = word_there _ c.args.place _ c.in_ok-pointer.pointer c.requires.content c.in_ok-pointer.ensures.0 in
     rw (p.1, p.2) (λ nesting. bad_landing_pad word c.in-Far.ensures.far_kind (c.in_err-land_far-in-Far.ensures.refused c.in_ok-pointer.pointer c.in-Far.ensures))
 
-pub returns-in-Near-clause-found : goal.returns-in-Near-clause-found
-returns-in-Near-clause-found g c =
+pub returns-in-Local-clause-found : goal.returns-in-Local-clause-found
+returns-in-Local-clause-found g c =
     let segments = g.S.ReaderSegments.segments c.args.segments.now in
     let word = word_there _ c.args.place _ c.in_ok-pointer.pointer c.requires.content c.in_ok-pointer.ensures.0 in
     let positive : 0 < c.in_ok-pointer.pointer = omega arith in
-    let landed = c.land_near.ensures in
-    near_landing (message_of segments) c.args.place c.args.place c.in_ok-pointer.pointer 0 c.in-Near.near _ _
-    (near word positive c.in-Near.ensures.near_kind) (lit≤ tt) c.requires.content c.in-Near.ensures
+    let landed = c.land_local.ensures in
+    local_landing (message_of segments) c.args.place c.args.place c.in_ok-pointer.pointer 0 c.in-Local.local _ _
+    (local word positive c.in-Local.ensures.local_kind) (lit≤ tt) c.requires.content c.in-Local.ensures
     (record { segment = landed.segment; number = landed.number; shape = landed.shape; landing_pads_are = landed.landing_pads; start = landed.start })
 
 pub returns-in_ok-land_far-in-Far-clause-found : goal.returns-in_ok-land_far-in-Far-clause-found

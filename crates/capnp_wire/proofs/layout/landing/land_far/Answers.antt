@@ -11,7 +11,7 @@ use Rattle.capnp_wire.proofs.layout.landing.land_far.Given as given
 use Rattle.capnp_wire.proofs.layout.landing.land_far.Goals as goal
 use Rattle.capnp_wire.proofs.layout.landing.land_far.Goals.{In_ok-first, In_ok-tag}
 
--- the landing pad's first word stands in the message
+-- the landing pad's first word is in the message
 first_there : (g : given.Over) (c : In_ok-first g) (word : ℕ) → IsFarPointer word c.args.far → word_at (message_of (g.S.ReaderSegments.segments c.args.segments.now))
     (landing_pad word) ≡ Some c.in_ok-first.first
 first_there g c word far_is = landing_pad_word _ word c.args.far _ c.in_ok-first.first far_is c.in_ok-landing_pad.ensures c.in_ok-first.ensures.0
@@ -24,17 +24,17 @@ pub returns-in_err-first-clause-refused : goal.returns-in_err-first-clause-refus
 returns-in_err-first-clause-refused g c =
     passed_on _ _ c.from_residual-in_err-first.ensures.1 (λ word far_is. no_landing_pad_word _ word c.args.far _ _ far_is c.in_ok-landing_pad.ensures c.in_err-first.ensures.0 c.in_err-first.ensures.1)
 
-pub returns-in_err-near-clause-refused : goal.returns-in_err-near-clause-refused
-returns-in_err-near-clause-refused g c =
-    passed_on _ _ c.from_residual-in_err-near.ensures.1 (λ word far_is.
+pub returns-in_err-local-clause-refused : goal.returns-in_err-local-clause-refused
+returns-in_err-local-clause-refused g c =
+    passed_on _ _ c.from_residual-in_err-local.ensures.1 (λ word far_is.
     narrow_refused _ word c.in_ok-first.first _ (is_narrow word c.args.far far_is (not_is_true c.args.far.is_wide c.if-not-far.true))
-    (first_there g (goal.at.returns-in_err-near-clause-refused g c).In_ok-first word far_is) c.in_err-near.ensures.refused)
+    (first_there g (goal.at.returns-in_err-local-clause-refused g c).In_ok-first word far_is) c.in_err-local.ensures.refused)
 
 pub returns-then-not-far-clause-found : goal.returns-then-not-far-clause-found
 returns-then-not-far-clause-found g c = λ place word there far_is.
-    let landed = c.land_near.ensures in
-    narrow_landing _ place word c.args.far _ c.in_ok-first.first c.in_ok-near.near c.land_near.result there far_is (not_is_true c.args.far.is_wide c.if-not-far.true)
-    c.in_ok-landing_pad.ensures c.in_ok-first.ensures.0 c.in_ok-near.ensures.found
+    let landed = c.land_local.ensures in
+    narrow_landing _ place word c.args.far _ c.in_ok-first.first c.in_ok-local.local c.land_local.result there far_is (not_is_true c.args.far.is_wide c.if-not-far.true)
+    c.in_ok-landing_pad.ensures c.in_ok-first.ensures.0 c.in_ok-local.ensures.found
     (record { segment = landed.segment; number = landed.number; shape = landed.shape; landing_pads_are = landed.landing_pads; start = landed.start })
 
 pub returns-in_err-tag-clause-refused : goal.returns-in_err-tag-clause-refused

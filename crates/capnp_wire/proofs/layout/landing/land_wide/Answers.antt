@@ -39,18 +39,18 @@ returns-in_err-segment-clause-refused g c =
     passed_on _ _ c.from_residual-in_err-segment.ensures.1 (λ word landing_pad.
     subst (BadLandingPad m word) (sym (c.in_err-segment.ensures.1 ∙ ap InvalidSegmentId number)) (no_content landing_pad.wide.wide landing_pad.first_there landing_pad.tag_there content.is_far none))
 
-pub returns-in_err-near-clause-refused : goal.returns-in_err-near-clause-refused
-returns-in_err-near-clause-refused g c =
+pub returns-in_err-local-clause-refused : goal.returns-in_err-local-clause-refused
+returns-in_err-local-clause-refused g c =
     let segments = g.S.ReaderSegments.segments c.args.segments.now in
-    let content = content_there g (goal.at.returns-in_err-near-clause-refused g c).In_ok-content in
+    let content = content_there g (goal.at.returns-in_err-local-clause-refused g c).In_ok-content in
     let there = rw (ap (λ (x : Place). x.segment) content.place) at (segment_stands segments c.in_ok-content.content.segment _ c.in_ok-segment.ensures) in
-    passed_on _ _ c.from_residual-in_err-near.ensures.1 (λ word landing_pad.
-    wide_refused _ word c.args.first c.args.tag _ _ landing_pad.wide.wide landing_pad.first_there landing_pad.tag_there content.is_far there c.in_err-near.ensures.refused)
+    passed_on _ _ c.from_residual-in_err-local.ensures.1 (λ word landing_pad.
+    wide_refused _ word c.args.first c.args.tag _ _ landing_pad.wide.wide landing_pad.first_there landing_pad.tag_there content.is_far there c.in_err-local.ensures.refused)
 
 pub returns-clause-found : goal.returns-clause-found
 returns-clause-found g c = λ place word there landing_pad.
     let segments = g.S.ReaderSegments.segments c.args.segments.now in
     let content = content_there g (goal.at.returns-clause-found g c).In_ok-content in
-    wide_landing _ place c.in_ok-content.content word c.args.first c.args.tag c.in_ok-near.near _ _ there
+    wide_landing _ place c.in_ok-content.content word c.args.first c.args.tag c.in_ok-local.local _ _ there
     landing_pad.wide landing_pad.first_there content.is_far landing_pad.tag_there
-    content.place (segment_stands segments c.in_ok-content.content.segment _ c.in_ok-segment.ensures) c.in_ok-near.ensures.found refl refl refl refl refl
+    content.place (segment_stands segments c.in_ok-content.content.segment _ c.in_ok-segment.ensures) c.in_ok-local.ensures.found refl refl refl refl refl

@@ -3,7 +3,7 @@ use Rattle.std.proofs.Common.{◌-◌, ◌+◌, ℕ, sym, refl, ap, subst}
 use Rattle.capnp_wire.specs.Pointer.{words_of}
 use Rattle.capnp_wire.specs.Tree.{pointers, Trees}
 use Rattle.capnp_wire.specs.Object.{message_of, places}
-use Rattle.capnp_wire.specs.Layout.{run, formed}
+use Rattle.capnp_wire.specs.Layout.{run, output}
 use Rattle.capnp_wire.specs.Copy.{IsCopied}
 use Rattle.capnp_wire.proofs.words.MessageLemmas.{segment_stands, no_segment_stands}
 use Rattle.capnp_wire.proofs.layouts.CopyLemmas.{copies_none}
@@ -30,7 +30,7 @@ returns-in-Some-clause-written g c limit trees is =
     let w = c.requires.value.1 in
     let o = pointers_opened m first c.args.count c.args.nesting c.requires.value.0 c.args.canonical c.args.next _ w in
     let same = same_list pointers m (places first.segment first.word c.args.count) c.args.nesting c.requires.value.0 limit w.trees trees w.tree_is is in
-    subst (λ (t : Trees). IsCopied (formed c.args.canonical t) (c.args.next - c.args.following) c.args.next (words_of c.args.block.now) (words_of c.copy_run.new.block)
+    subst (λ (t : Trees). IsCopied (output c.args.canonical t) (c.args.next - c.args.following) c.args.next (words_of c.args.block.now) (words_of c.copy_run.new.block)
     (record { pointer = c.list_word-pointer.result; next = c.copy_run.result })) same (pointers_written o refl c.copy_run.ensures.copied c.list_word-pointer.ensures)
 
 pub returns-in-None-clause-written : goal.returns-in-None-clause-written
@@ -45,5 +45,5 @@ returns-in-None-clause-written g c limit trees is =
     let same = same_list pointers m (places first.segment first.word n) c.args.nesting c.requires.value.0 limit w.trees trees w.tree_is is in
     let nothing = copies_none {m = m} {at = places first.segment first.word n} {c = c.args.canonical} {slots = run c.args.next n} {next = end} {free = end} {block = words_of c.args.block.now}
     (ap (places first.segment first.word) none) refl in
-    subst (λ (t : Trees). IsCopied (formed c.args.canonical t) (c.args.next - c.args.following) c.args.next (words_of c.args.block.now) (words_of c.args.block.now)
+    subst (λ (t : Trees). IsCopied (output c.args.canonical t) (c.args.next - c.args.following) c.args.next (words_of c.args.block.now) (words_of c.args.block.now)
     (record { pointer = c.list_word-pointer.result; next = end })) same (pointers_written o refl nothing c.list_word-pointer.ensures)

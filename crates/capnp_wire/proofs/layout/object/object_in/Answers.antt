@@ -1,4 +1,4 @@
--- The object that a landing leads to, and each refusal on the way.
+-- The object that a landing leads to, and each error on the way.
 use Rattle.std.proofs.Common.{◌<◌, sym, subst, arith}
 use Rattle.std.proofs.lemmas.Result.{err_from_is_err_and}
 use Rattle.capnp_wire.specs.Object.{message_of, IsStart}

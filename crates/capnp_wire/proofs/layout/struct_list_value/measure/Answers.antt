@@ -8,8 +8,8 @@ use Rattle.capnp_wire.specs.Traversed.{counted as counted_by}
 use Rattle.capnp_wire.specs.declared.layout.place.Place.{Place}
 use Rattle.capnp_wire.specs.declared.layout.pointer.StructSize.{StructSize}
 use Rattle.capnp_wire.proofs.words.WordLemmas.{length-words_of}
-use Rattle.capnp_wire.proofs.pointers.PointerRowLemmas.{kept_all}
-use Rattle.capnp_wire.proofs.views.ListValueLemmas.{own_structs, list_measured, rows_held}
+use Rattle.capnp_wire.proofs.pointers.PointerSlotLemmas.{kept_all}
+use Rattle.capnp_wire.proofs.views.ListValueLemmas.{own_structs, list_measured, rows_children}
 use Rattle.capnp_wire.proofs.layout.struct_list_value.measure.Goals as goal
 
 pub walk_pointers-requires : goal.walk_pointers-requires
@@ -20,7 +20,7 @@ walk_pointers-requires g c =
     let all : size.pointers ≤ size.pointers = omega arith in
     let places_are = rw c.row_size-size.ensures at c.new-pointers.ensures.places in
     record {
-      content = λ some. rw c.new-pointers.ensures.segment (rows_held m (words_of c.args.segment.now) first size size.pointers c.args.elements.count c.requires.content all
+      content = λ some. rw c.new-pointers.ensures.segment (rows_children m (words_of c.args.segment.now) first size size.pointers c.args.elements.count c.requires.content all
           (subst (λ (l : List Place). l ≢ []) places_are some));
     }
 
@@ -52,4 +52,4 @@ returns g c =
     let room : first.word + elements.count * (size.data_words + size.pointers) ≤ length (words_of c.args.segment.now) = omega (arith, c.requires.room, length-words_of c.args.segment.now) in
     list_measured (structs_along words first elements) m at c.args.nesting c.args.limit _ c.args.canonical (counted_by c.count.new.self) _ _
     (own_structs m words first elements c.args.canonical c.requires.content room c.words_fit.ensures.words (omega arith) (omega arith) c.requires.few c.requires.few_words) found
-    (0 + own + found.words) (omega (arith, own_is)) c.fitting.result (c.fitting.ensures (0 + own + found.words) counted)
+    (0 + own + found.words) (omega (arith, own_is)) c.checked_word_count.result (c.checked_word_count.ensures (0 + own + found.words) counted)

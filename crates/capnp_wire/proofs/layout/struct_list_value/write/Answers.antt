@@ -3,13 +3,13 @@ use Rattle.std.proofs.Common.{◌≡◌, ◌-◌, ◌+◌, ◌*◌, ◌≤◌, [
 use Rattle.capnp_wire.specs.Pointer.{words_of}
 use Rattle.capnp_wire.specs.Tree.{Trees}
 use Rattle.capnp_wire.specs.Object.{message_of, row_places}
-use Rattle.capnp_wire.specs.Layout.{formed, list_pointer}
+use Rattle.capnp_wire.specs.Layout.{output, list_pointer}
 use Rattle.capnp_wire.specs.Block.{put}
 use Rattle.capnp_wire.specs.Rows.{kept_places}
 use Rattle.capnp_wire.specs.Copy.{CanCopy, IsCopied}
 use Rattle.capnp_wire.specs.ListValues.{structs_along}
 use Rattle.capnp_wire.proofs.words.WordLemmas.{length-words_of}
-use Rattle.capnp_wire.proofs.views.ListValueLemmas.{rows_opened, rows_written, rows_held, same_list}
+use Rattle.capnp_wire.proofs.views.ListValueLemmas.{rows_opened, rows_written, rows_children, same_list}
 use Rattle.capnp_wire.proofs.layout.struct_list_value.write.Goals as goal
 
 pub struct_word-tag-requires : goal.struct_word-tag-requires
@@ -56,7 +56,7 @@ copy_rows-requires-clause-there g c =
     c.elements-rows.ensures.can m (words_of c.args.segment.now) c.args.nesting c.args.canonical _ _
     (subst (λ (k : ℕ). CanCopy m at c.args.nesting c.args.canonical k (length (words_of c.put_rows.new.block))) (sym end_is)
     (subst (λ (k : ℕ). CanCopy m at c.args.nesting c.args.canonical end k) (sym long) o.kept))
-    (rows_held m (words_of c.args.segment.now) first size to.pointers n c.requires.content kept.pointers) (omega (arith, c.words.ensures.words))
+    (rows_children m (words_of c.args.segment.now) first size to.pointers n c.requires.content kept.pointers) (omega (arith, c.words.ensures.words))
 
 pub returns-clause-written : goal.returns-clause-written
 returns-clause-written g c limit trees is =
@@ -75,7 +75,7 @@ returns-clause-written g c limit trees is =
     let gap : ℕ = c.args.next - c.args.following in
     let tagged = c.put_word.ensures.words ∙ ap (λ (tag : ℕ). put c.args.next (tag ∷ []) (words_of c.args.block.now)) c.struct_word-tag.ensures in
     let mid = rw c.words-step.ensures at c.put_rows.ensures.words in
-    subst (λ (t : Trees). IsCopied (formed c.args.canonical t) gap c.args.next (words_of c.args.block.now) (words_of c.copy_rows.new.block)
+    subst (λ (t : Trees). IsCopied (output c.args.canonical t) gap c.args.next (words_of c.args.block.now) (words_of c.copy_rows.new.block)
     (record { pointer = c.list_word.result; next = c.copy_rows.result })) same
     (rows_written o refl tagged mid (omega (arith, c.words.ensures.words)) (c.elements-rows.ensures.copied m c.args.canonical _ _ _ _ c.copy_rows.ensures.copied)
     (c.list_word.ensures ∙ ap (λ (k : ℕ). list_pointer gap 7 k) c.words-2.ensures.words))

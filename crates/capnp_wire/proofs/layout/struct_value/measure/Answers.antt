@@ -3,7 +3,7 @@ use Rattle.std.proofs.Common.{◌≡◌, ◌+◌, ◌≤◌, ◌∙◌, ap, refl
 use Rattle.capnp_wire.specs.Pointer.{words_of}
 use Rattle.capnp_wire.specs.Object.{message_of}
 use Rattle.capnp_wire.specs.Landing.{words_in}
-use Rattle.capnp_wire.specs.Copy.{formed_body}
+use Rattle.capnp_wire.specs.Copy.{output_body_of}
 use Rattle.capnp_wire.specs.declared.layout.object.Body.TheVariants.{Struct}
 use Rattle.capnp_wire.proofs.words.WordLemmas.{length-words_of}
 use Rattle.capnp_wire.proofs.objects.StructLemmas.{struct_measured}
@@ -18,8 +18,8 @@ returns g c =
     let found = rw (c.pointers.ensures.places, c.count.ensures.left, c.new-walk.ensures.left) at c.in_ok-walk_pointers.ensures.found in
     let first = rw c.new-walk.ensures.words at c.count.ensures.words in
     let counted = rw (← c.words-2.ensures) at found.counted (0 + c.words.result) (first 0 refl) in
-    let own : c.words.result ≡ words_in (formed_body c.args.canonical (words_of c.args.segment.now) c.args.start.word (Struct c.args.size)) = c.words.ensures ∙ ap words_in c.formed_as.ensures.body in
+    let own : c.words.result ≡ words_in (output_body_of c.args.canonical (words_of c.args.segment.now) c.args.start.word (Struct c.args.size)) = c.words.ensures ∙ ap words_in c.output_body.ensures.body in
     let room : c.args.start.word + (c.args.size.data_words + c.args.size.pointers) ≤ length (words_of c.args.segment.now) = omega (arith, c.requires.room, length-words_of c.args.segment.now) in
     struct_measured m words c.args.start c.args.size c.args.nesting c.args.limit c.walk_pointers.new.self.left c.args.canonical (counted_by c.count.new.self) (counted_by c.walk_pointers.new.self)
-    c.requires.content room (omega arith) (omega arith) c.words_fit.ensures.words found (0 + c.words.result + found.words) (omega (arith, own)) c.fitting.result
-    (c.fitting.ensures (0 + c.words.result + found.words) counted)
+    c.requires.content room (omega arith) (omega arith) c.words_fit.ensures.words found (0 + c.words.result + found.words) (omega (arith, own)) c.checked_word_count.result
+    (c.checked_word_count.ensures (0 + c.words.result + found.words) counted)

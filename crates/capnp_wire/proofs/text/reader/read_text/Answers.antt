@@ -10,4 +10,4 @@ returns-in-Some g c =
     entered_view pointer c.in-Some.object (λ view form. IsText form view.bytes.now) DeclinesText c.text_in.result c.in-Some.ensures c.text_in.ensures
 
 pub returns-in-None : goal.returns-in-None
-returns-in-None g c = rw c.rebuilt.ensures (rw c.again.ensures at c.enter_text.ensures)
+returns-in-None g c = rw c.by_value.ensures (rw c.copied.ensures at c.enter_text.ensures)

@@ -1,27 +1,27 @@
--- A part is measured as it stands, and where the canonical form is made, in that, too.
+-- A part is measured as it is, and where the canonical form is made, in that, too.
 use Rattle.std.proofs.Common.{Ok, ap}
 use Rattle.capnp_wire.specs.declared.traits.PartWords.{PartWords}
-use Rattle.capnp_wire.proofs.views.PartWordLemmas.{standing_words, standing_found, both_returned, both_found}
+use Rattle.capnp_wire.proofs.views.PartWordLemmas.{as_is_words, as_is_found, both_returned, both_found}
 use Rattle.capnp_wire.proofs.traits.SetterInput.measure_part.Goals as goal
 
-pub returns-in_err-standing-clause-found : goal.returns-in_err-standing-clause-found
-returns-in_err-standing-clause-found g c words part =
-    let found = c.measure.ensures.found words.standing (standing_words (g.Self.SetterInput.has_tree c.args.self.now) c.args.canonical words part) in
-    let was = c.in_err-standing.was in
+pub returns-in_err-as_is-clause-found : goal.returns-in_err-as_is-clause-found
+returns-in_err-as_is-clause-found g c words part =
+    let found = c.measure.ensures.found words.as_is (as_is_words (g.Self.SetterInput.has_tree c.args.self.now) c.args.canonical words part) in
+    let was = c.in_err-as_is.was in
     absurd (cc)
 
 pub returns-then-not-canonical-clause-found : goal.returns-then-not-canonical-clause-found
 returns-then-not-canonical-clause-found g c words part =
     ap (λ (w : PartWords). Ok w)
-    (standing_found (g.Self.SetterInput.has_tree c.args.self.now) c.args.canonical c.measure.result c.in_ok-standing.standing words c.in_ok-standing.was c.measure.ensures.found c.if-not-canonical.true part)
+    (as_is_found (g.Self.SetterInput.has_tree c.args.self.now) c.args.canonical c.measure.result c.in_ok-as_is.as_is words c.in_ok-as_is.was c.measure.ensures.found c.if-not-canonical.true part)
 
 pub returns-clause-returned : goal.returns-clause-returned
 returns-clause-returned g c =
-    both_returned (g.Self.SetterInput.has_tree c.args.self.now) c.args.canonical c.in_ok-standing.standing c.unwrap_or-formed.result c.measure-2.result c.if-not-canonical.false
-    c.in_ok-standing.ensures.returned c.measure-2.ensures.found c.unwrap_or-formed.ensures
+    both_returned (g.Self.SetterInput.has_tree c.args.self.now) c.args.canonical c.in_ok-as_is.as_is c.unwrap_or-output.result c.measure-2.result c.if-not-canonical.false
+    c.in_ok-as_is.ensures.returned c.measure-2.ensures.found c.unwrap_or-output.ensures
 
 pub returns-clause-found : goal.returns-clause-found
 returns-clause-found g c words part =
     ap (λ (w : PartWords). Ok w)
-    (both_found (g.Self.SetterInput.has_tree c.args.self.now) c.args.canonical c.measure.result c.measure-2.result c.in_ok-standing.standing c.unwrap_or-formed.result words c.in_ok-standing.was
-    c.measure.ensures.found c.if-not-canonical.false c.measure-2.ensures.found c.unwrap_or-formed.ensures part)
+    (both_found (g.Self.SetterInput.has_tree c.args.self.now) c.args.canonical c.measure.result c.measure-2.result c.in_ok-as_is.as_is c.unwrap_or-output.result words c.in_ok-as_is.was
+    c.measure.ensures.found c.if-not-canonical.false c.measure-2.ensures.found c.unwrap_or-output.ensures part)

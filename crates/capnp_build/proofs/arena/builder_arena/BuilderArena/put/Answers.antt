@@ -1,7 +1,7 @@
 -- A block after a landing pad is placed in the first segment with room.
 use Rattle.std.proofs.Common.{rules, ◌≡◌, List, ap, arith}
 use Rattle.capnp_build.specs.Bytes.{Space}
-use Rattle.capnp_build.specs.Held.{space_at, free_words_of}
+use Rattle.capnp_build.specs.BuilderState.{space_at, free_words_of}
 use Rattle.capnp_build.specs.Built.{Built}
 use Rattle.capnp_build.proofs.KeptLemmas.{found_bytes, found_sizes}
 use Rattle.capnp_build.proofs.PlaceLemmas.{placed_far}

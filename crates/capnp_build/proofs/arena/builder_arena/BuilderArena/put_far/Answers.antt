@@ -1,15 +1,15 @@
--- A tree stands after its landing pad, and the root leads to it.
+-- A tree is after its landing pad, and the root leads to it.
 use Rattle.std.proofs.Common.{ℕ, ◌≡◌, ◌+◌, ◌*◌, ◌<◌, ◌≤◌, length, replicate, ap, sym, subst, ◌∙◌, arith}
 use Rattle.std.proofs.lemmas.List.{length-replicate}
-use Rattle.capnp_build.specs.Held.{space_at, KeepsOthers}
-use Rattle.capnp_build.specs.Built.{size_in_words, Built, held_of, KeepsBytes}
+use Rattle.capnp_build.specs.BuilderState.{space_at, KeepsOthers}
+use Rattle.capnp_build.specs.Built.{size_in_words, Built, state_of, KeepsBytes}
 use Rattle.capnp_build.specs.declared.arena.location.RootLocation.{RootLocation}
 use Rattle.capnp_build.proofs.PointLemmas.{longer_by, keeps_of}
 use Rattle.capnp_build.proofs.ReadyLemmas.{value_set}
 use Rattle.capnp_build.proofs.arena.builder_arena.BuilderArena.put_far.Goals as goal
 
 pub invariant_of-self : goal.invariant_of-self
-invariant_of-self g c = let v = c.fill-location.ensures.body in (v.form, v.held, c.point_far.ensures.stands v.form v.held v.body_is)
+invariant_of-self g c = let v = c.fill-location.ensures.body in (v.form, v.children, c.point_far.ensures.stands v.form v.children v.body_is)
 
 pub returns : goal.returns
 returns g c =
@@ -27,7 +27,7 @@ returns g c =
     omega (arith, inside, start, p.start_is, landing_pad.used) in
     record {
       set = value_set (g.V.SetterInput.has_tree c.args.value.now) c.args.canonical c.fill-location.new.self.spaces c.point_far.new.self.spaces c.fill-location.result v
-          (c.point_far.ensures.stands v.form v.held v.body_is);
+          (c.point_far.ensures.stands v.form v.children v.body_is);
       count = kept.count ∙ more.count ∙ landing_pad.count ∙ ap (λ (v : Built g.row.A.Denot). length v.spaces) c.self.view_is;
       location = record {
         place = p.place;
@@ -42,7 +42,7 @@ returns g c =
           c.point_far.ensures.bytes i from n root (λ following same. before i from n same fits) (omega (arith, fits, low, wide)) ∙ more.bytes i from n root (omega (arith, fits, low)) ∙ landing_pad.bytes i from n root fits);
       sizes = λ i. kept.sizes i ∙ more.sizes i ∙ landing_pad.sizes i ∙ ap (λ (v : Built g.row.A.Denot). (space_at v.spaces i).size) c.self.view_is;
       same = kept.allocator ∙ more.allocator ∙ landing_pad.allocator ∙ ap (λ (v : Built g.row.A.Denot). v.allocator) c.self.view_is;
-      others = subst (λ (v : Built g.row.A.Denot). KeepsOthers g.A.Allocator.out (held_of v) c.point_far.new.self) c.self.view_is
+      others = subst (λ (v : Built g.row.A.Denot). KeepsOthers g.A.Allocator.out (state_of v) c.point_far.new.self) c.self.view_is
           (keeps_of g.A.Allocator.out c.self.inside.segments c.point_far.new.self (kept.allocator ∙ more.allocator ∙ landing_pad.allocator)
           (λ others. kept.pairs others ∙ more.pairs others ∙ landing_pad.pairs others));
     }

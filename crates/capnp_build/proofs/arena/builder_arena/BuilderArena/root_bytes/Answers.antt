@@ -4,7 +4,7 @@ use Rattle.std.specs.Option.{option_copied}
 use Rattle.capnp_wire.specs.Tree.{Form, null}
 use Rattle.capnp_wire.specs.Reached.{Root}
 use Rattle.capnp_build.specs.Bytes.{Space}
-use Rattle.capnp_build.specs.Held.{space_at}
+use Rattle.capnp_build.specs.BuilderState.{space_at}
 use Rattle.capnp_build.specs.Built.{Built, message, HasNullRoot, IsBuilt}
 use Rattle.capnp_build.specs.RootKind.{HoldsForm}
 use Rattle.capnp_build.specs.RootViews.{HoldsTree}
@@ -15,10 +15,10 @@ use Rattle.capnp_build.proofs.RootBytesLemmas.{no_bytes, its_bytes, holds_there}
 use Rattle.capnp_build.proofs.arena.builder_arena.BuilderArena.root_bytes.Goals as goal
 
 pub returns-in_default-clause-form : goal.returns-in_default-clause-form
-returns-in_default-clause-form g c = λ form held traversed there.
+returns-in_default-clause-form g c = λ form children traversed there.
     let spaces : List Space = c.self.inside.segments.spaces in
     let r : HasNullRoot spaces = subst (λ (o : Option RootLocation). IsBuilt spaces o) c.in_default.is c.self.invariant in
-    let no : form ≡ null = null_only spaces form held traversed r (subst (λ (v : Built g.row.A.Denot). Root (message v.spaces) form held traversed) (sym c.self.view_is) there) in
+    let no : form ≡ null = null_only spaces form children traversed r (subst (λ (v : Built g.row.A.Denot). Root (message v.spaces) form children traversed) (sym c.self.view_is) there) in
     subst (λ (f : Form). HoldsForm [] f) (sym no) tt
 
 pub returns-in_default-clause-tree : goal.returns-in_default-clause-tree
@@ -28,16 +28,16 @@ returns-in_default-clause-tree g c =
     (no_bytes spaces (subst (λ (o : Option RootLocation). IsBuilt spaces o) c.in_default.is c.self.invariant))
 
 pub returns-clause-form : goal.returns-clause-form
-returns-clause-form g c = λ form held traversed there.
+returns-clause-form g c = λ form children traversed there.
     let spaces : List Space = c.self.inside.segments.spaces in
     let location : RootLocation = c.in-Some.location in
     let p : IsBuilt spaces (Some location) = subst (λ (o : Option RootLocation). IsBuilt spaces o) c.in-Some.is c.self.invariant in
     let same : c.in-Some-get.used.now ≡ (space_at spaces location.segment).used =
     got_used spaces location.segment (option_copied c.get.result) c.in-Some-get.used.now p.2.body_is.within c.get.ensures (ap option_copied c.in-Some-get.is) in
     let low : (j : ℕ) → slice_index_or (space_at spaces location.segment).used j 0 < 256 = subst (λ (l : List ℕ). (j : ℕ) → slice_index_or l j 0 < 256) same c.each_is_a_byte.ensures in
-    let bytes = c.stretch.ensures ∙ ap (λ (l : List ℕ). take (8 * location.words) (drop (8 * location.start) l)) same in
+    let bytes = c.subslice.ensures ∙ ap (λ (l : List ℕ). take (8 * location.words) (drop (8 * location.start) l)) same in
     subst (λ (l : List ℕ). HoldsForm l form) (sym bytes)
-    (holds_there spaces location p low form held traversed (subst (λ (v : Built g.row.A.Denot). Root (message v.spaces) form held traversed) (sym c.self.view_is) there))
+    (holds_there spaces location p low form children traversed (subst (λ (v : Built g.row.A.Denot). Root (message v.spaces) form children traversed) (sym c.self.view_is) there))
 
 pub returns-clause-tree : goal.returns-clause-tree
 returns-clause-tree g c =
@@ -46,6 +46,6 @@ returns-clause-tree g c =
     let p : IsBuilt spaces (Some location) = subst (λ (o : Option RootLocation). IsBuilt spaces o) c.in-Some.is c.self.invariant in
     let same : c.in-Some-get.used.now ≡ (space_at spaces location.segment).used =
     got_used spaces location.segment (option_copied c.get.result) c.in-Some-get.used.now p.2.body_is.within c.get.ensures (ap option_copied c.in-Some-get.is) in
-    let bytes = c.stretch.ensures ∙ ap (λ (l : List ℕ). take (8 * location.words) (drop (8 * location.start) l)) same in
-    subst (λ (v : Built g.row.A.Denot). HoldsTree v.spaces c.stretch.result.now) c.self.view_is
+    let bytes = c.subslice.ensures ∙ ap (λ (l : List ℕ). take (8 * location.words) (drop (8 * location.start) l)) same in
+    subst (λ (v : Built g.row.A.Denot). HoldsTree v.spaces c.subslice.result.now) c.self.view_is
     (subst (λ (l : List ℕ). HoldsTree spaces l) (sym bytes) (its_bytes spaces location p))

@@ -14,21 +14,21 @@ use Rattle.capnp_build.proofs.ReadLemmas.{shown_there}
 use Rattle.capnp_build.proofs.arena.builder_arena.BuilderArena.root_kind.Goals as goal
 
 shown_of : (spaces : List Space) (location : RootLocation) (s : RootKind) → IsBuilt spaces (Some location) → ((form : Form) (n : ℕ) → HasRoom form n → location.tag ≡ pointer form n 0 → ShowsRoot s form)
-    → (form : Form) (held : Trees) (traversed : ℕ) → Root (message spaces) form held traversed → ShowsRoot s form
-shown_of spaces location s p read form held traversed there =
-    let r = laid_as spaces location p.0 form p.1 held traversed p.2 there in read form (count held) r.body_is.rooms.0 r.body_is.tag
+    → (form : Form) (children : Trees) (traversed : ℕ) → Root (message spaces) form children traversed → ShowsRoot s form
+shown_of spaces location s p read form children traversed there =
+    let r = laid_as spaces location p.0 form p.1 children traversed p.2 there in read form (count children) r.body_is.rooms.0 r.body_is.tag
 
 pub returns-in-None-clause-form : goal.returns-in-None-clause-form
-returns-in-None-clause-form g c = λ form held traversed there.
+returns-in-None-clause-form g c = λ form children traversed there.
     let spaces : List Space = c.self.inside.segments.spaces in
     let r : HasNullRoot spaces = subst (λ (o : Option RootLocation). IsBuilt spaces o) c.in-None.is c.self.invariant in
-    null_only spaces form held traversed r (subst (λ (v : Built g.row.A.Denot). Root (message v.spaces) form held traversed) (sym c.self.view_is) there)
+    null_only spaces form children traversed r (subst (λ (v : Built g.row.A.Denot). Root (message v.spaces) form children traversed) (sym c.self.view_is) there)
 
 pub returns-in-Some-clause-form : goal.returns-in-Some-clause-form
-returns-in-Some-clause-form g c = λ form held traversed there.
+returns-in-Some-clause-form g c = λ form children traversed there.
     let spaces : List Space = c.self.inside.segments.spaces in
     let p : IsBuilt spaces (Some c.in-Some.location) = subst (λ (o : Option RootLocation). IsBuilt spaces o) c.in-Some.is c.self.invariant in
-    shown_of spaces c.in-Some.location c.read_tag.result p c.read_tag.ensures form held traversed (subst (λ (v : Built g.row.A.Denot). Root (message v.spaces) form held traversed) (sym c.self.view_is) there)
+    shown_of spaces c.in-Some.location c.read_tag.result p c.read_tag.ensures form children traversed (subst (λ (v : Built g.row.A.Denot). Root (message v.spaces) form children traversed) (sym c.self.view_is) there)
 
 pub returns-in-Some-clause-stands : goal.returns-in-Some-clause-stands
 returns-in-Some-clause-stands g c =

@@ -1,4 +1,4 @@
--- Where there is a segment, a tree stands at the root.
+-- Where there is a segment, a tree is at the root.
 use Rattle.std.proofs.Common.{ℕ, ◌<◌, List, [], ◌∷◌, length, Option, Some, None, subst}
 use Rattle.capnp_build.specs.Bytes.{Space}
 use Rattle.capnp_build.specs.Built.{message, Built, IsBuilt}
@@ -10,7 +10,7 @@ use Rattle.capnp_build.proofs.NullLemmas.{null_root}
 use Rattle.capnp_build.proofs.arena.builder_arena.BuilderArena.root_stands.Goals as goal
 
 abbrev HasRoot : List Space → Type 0
-HasRoot spaces = 0 < length spaces → (form : Form) × (held : Trees) × (traversed : ℕ) × At (message spaces) (root ∷ []) (tree form held none) traversed
+HasRoot spaces = 0 < length spaces → (form : Form) × (children : Trees) × (traversed : ℕ) × At (message spaces) (root ∷ []) (tree form children none) traversed
 
 has_root : (spaces : List Space) (o : Option RootLocation) → IsBuilt spaces o → HasRoot spaces
 has_root spaces None r there = let t = null_root spaces there r in (null, none, t.0, t.1)

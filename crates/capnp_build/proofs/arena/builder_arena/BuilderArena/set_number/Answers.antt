@@ -2,7 +2,7 @@
 use Rattle.std.proofs.Common.{◌+◌, ◌*◌, List, length, Option, Some, slice_set, ap, sym, subst, arith}
 use Rattle.capnp_wire.specs.Tree.{numbers, none}
 use Rattle.capnp_build.specs.Bytes.{Space}
-use Rattle.capnp_build.specs.Held.{Held}
+use Rattle.capnp_build.specs.BuilderState.{BuilderState}
 use Rattle.capnp_build.specs.Built.{Built, HasNullRoot, IsBuilt}
 use Rattle.capnp_build.specs.Written.{IsWritten, HasNumber, IsNumberSet}
 use Rattle.capnp_build.specs.declared.arena.location.RootLocation.{RootLocation}
@@ -25,7 +25,7 @@ invariant_of-self g c =
     let p : IsBuilt spaces (Some c.in-Some.location) = subst (λ (o : Option RootLocation). IsBuilt spaces o) c.in-Some.is c.self.invariant in
     let r = number_known spaces c.in-Some.location c.args.index f p in
     let laid = number_laid spaces c.write_at.new.self.spaces c.in-Some.location f.values c.args.index c.args.number c.to_le_bytes.result r f.within c.ranges.number.fits
-    c.to_le_bytes.ensures (ap length c.to_le_bytes.ensures) (ap (λ (h : Held g.row.A.Denot). h.spaces) c.write_at.ensures) in
+    c.to_le_bytes.ensures (ap length c.to_le_bytes.ensures) (ap (λ (h : BuilderState g.row.A.Denot). h.spaces) c.write_at.ensures) in
     let after : IsBuilt c.write_at.new.self.spaces (Some c.in-Some.location) = (numbers 5 (slice_set f.values c.args.index c.args.number), none, laid) in
     subst (λ (o : Option RootLocation). IsBuilt c.write_at.new.self.spaces o) (sym c.in-Some.is) after
 
@@ -37,7 +37,7 @@ returns-in-Some g c =
     let location : RootLocation = c.in-Some.location in
     let new : Built g.row.A.Denot = record { spaces = c.write_at.new.self.spaces; location = c.self.inside.location; allocator = c.write_at.new.self.allocator } in
     let a = number_set spaces c.write_at.new.self.spaces c.in-Some.location c.args.index c.args.number c.to_le_bytes.result f p c.ranges.number.fits
-    c.to_le_bytes.ensures (ap length c.to_le_bytes.ensures) (ap (λ (h : Held g.row.A.Denot). h.spaces) c.write_at.ensures) in
+    c.to_le_bytes.ensures (ap length c.to_le_bytes.ensures) (ap (λ (h : BuilderState g.row.A.Denot). h.spaces) c.write_at.ensures) in
     record {
       set = subst (λ (v : Built g.row.A.Denot). IsNumberSet v.spaces c.write_at.new.self.spaces c.args.index c.args.number) c.self.view_is a;
       written = subst (λ (v : Built g.row.A.Denot). IsWritten v new) c.self.view_is

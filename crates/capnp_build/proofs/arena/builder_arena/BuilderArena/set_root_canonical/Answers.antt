@@ -1,45 +1,45 @@
 -- The root is cleared first, and then the canonical form is placed.
 use Rattle.std.proofs.Common.{rules, length, ap, arith, refl}
 use Rattle.std.proofs.lemmas.Result.{err_from_is_err_and}
-use Rattle.capnp_build.specs.Held.{space_at, free_words_of}
+use Rattle.capnp_build.specs.BuilderState.{space_at, free_words_of}
 use Rattle.capnp_build.specs.Built.{Built}
 use Rattle.capnp_build.proofs.OutcomeLemmas.{cleared_root, still_granted}
 use Rattle.capnp_build.proofs.CanonicalLemmas.{canonical_unmeasured, canonical_full, none_refused}
 use Rattle.capnp_build.proofs.FirstLemmas.{first_put}
 use Rattle.capnp_build.proofs.KeptLemmas.{zero_stays, outside_stays}
-use Rattle.capnp_build.proofs.PlaceLemmas.{placed_near}
+use Rattle.capnp_build.proofs.PlaceLemmas.{placed_local}
 use Rattle.capnp_build.proofs.arena.builder_arena.BuilderArena.set_root_canonical.Goals as goal
 
 pub returns : goal.returns
 returns g c =
     let clear = c.in_ok-clear_root.ensures in
-    let near = c.put_near.ensures.block in
+    let local = c.put_local.ensures.block in
     let alone = ap (λ (v : Built g.row.A.Denot). length v.spaces) c.self.view_is in
-    let placed = placed_near c.clear_root.new.self.spaces c.put_near.new.self c.in_ok-words.words (search rules) near.location near.count (omega (arith, near.size)) in
+    let placed = placed_local c.clear_root.new.self.spaces c.put_local.new.self c.in_ok-words.words (search rules) local.location local.count (omega (arith, local.size)) in
     record {
-      set = near.set;
+      set = local.set;
       placed = record {
         cleared = c.clear_root.new.self;
         words = c.in_ok-words.words;
         is_cleared = cleared_root g.A.Allocator _ _ clear;
         words_are = c.in_ok-words.ensures.returned;
         placed = placed;
-        first = λ none. first_put c.clear_root.new.self c.put_near.new.self c.in_ok-words.words (clear.new_object none) placed (near.sizes 0);
-        granted = still_granted g.A.Allocator _ c.clear_root.new.self c.put_near.new.self.spaces clear (near.sizes 0);
-        zero = zero_stays _ c.clear_root.new.self.spaces c.put_near.new.self.spaces clear.following clear.zero near.bytes;
-        outside = outside_stays _ _ c.clear_root.new.self.spaces c.put_near.new.self.spaces clear.outside near.bytes;
+        first = λ none. first_put c.clear_root.new.self c.put_local.new.self c.in_ok-words.words (clear.new_object none) placed (local.sizes 0);
+        granted = still_granted g.A.Allocator _ c.clear_root.new.self c.put_local.new.self.spaces clear (local.sizes 0);
+        zero = zero_stays _ c.clear_root.new.self.spaces c.put_local.new.self.spaces clear.following clear.zero local.bytes;
+        outside = outside_stays _ _ c.clear_root.new.self.spaces c.put_local.new.self.spaces clear.outside local.bytes;
       };
-      one = omega (arith, near.count, alone, c.if-len-gt1.false, c.len.ensures, clear.there);
-      whole = λ none. c.put_near.ensures.whole (clear.new_object none).0 (clear.new_object none).1;
+      one = omega (arith, local.count, alone, c.if-len-gt1.false, c.len.ensures, clear.there);
+      whole = λ none. c.put_local.ensures.whole (clear.new_object none).0 (clear.new_object none).1;
       nulled = tt;
       kind = tt;
       exact = λ kind refused. absurd (none_refused g.A.Allocator _ _ _ c.clear_root.new.self c.in_ok-words.words kind clear (omega (arith, alone, c.if-len-gt1.false, c.len.ensures)) (search rules)
           (λ k lacks. c.in_ok-words.ensures.exact k lacks) (λ other has. let same = c.in_ok-words.ensures.found other has in cc) refused);
       lacks = λ none kind lacks. absurd (c.in_ok-words.ensures.exact kind lacks);
       fits = λ few words has room. refl;
-      home = λ none out. tt;
+      available = λ none out. tt;
       same = search rules;
-      others = λ others is. near.others others (clear.others others is);
+      others = λ others is. local.others others (clear.others others is);
     }
 
 pub returns-in_err-words : goal.returns-in_err-words

@@ -1,7 +1,7 @@
 -- A data word of the struct at the root is another one, and all else stays.
 use Rattle.std.proofs.Common.{◌≡◌, ◌+◌, ◌*◌, List, length, Option, Some, slice_set, ap, sym, subst, arith}
 use Rattle.capnp_build.specs.Bytes.{Space}
-use Rattle.capnp_build.specs.Held.{Held}
+use Rattle.capnp_build.specs.BuilderState.{BuilderState}
 use Rattle.capnp_build.specs.Built.{Built, HasNullRoot, IsBuilt}
 use Rattle.capnp_build.specs.Written.{IsWritten, HasField, IsFieldSet}
 use Rattle.capnp_wire.specs.Tree.{null, struct}
@@ -24,9 +24,9 @@ invariant_of-self g c =
     let f : HasField spaces c.args.index = subst (λ (v : Built g.row.A.Denot). HasField v.spaces c.args.index) (sym c.self.view_is) c.requires in
     let p : IsBuilt spaces (Some c.in-Some.location) = subst (λ (o : Option RootLocation). IsBuilt spaces o) c.in-Some.is c.self.invariant in
     let r = field_known spaces c.in-Some.location c.args.index f p in
-    let laid = field_laid spaces c.write_at.new.self.spaces c.in-Some.location f.words f.held c.args.index c.args.word c.to_le_bytes.result r f.within c.ranges.word.fits c.to_le_bytes.ensures
-    (ap length c.to_le_bytes.ensures) (ap (λ (h : Held g.row.A.Denot). h.spaces) c.write_at.ensures) in
-    let after : IsBuilt c.write_at.new.self.spaces (Some c.in-Some.location) = (struct (slice_set f.words c.args.index c.args.word), f.held, laid) in
+    let laid = field_laid spaces c.write_at.new.self.spaces c.in-Some.location f.words f.children c.args.index c.args.word c.to_le_bytes.result r f.within c.ranges.word.fits c.to_le_bytes.ensures
+    (ap length c.to_le_bytes.ensures) (ap (λ (h : BuilderState g.row.A.Denot). h.spaces) c.write_at.ensures) in
+    let after : IsBuilt c.write_at.new.self.spaces (Some c.in-Some.location) = (struct (slice_set f.words c.args.index c.args.word), f.children, laid) in
     subst (λ (o : Option RootLocation). IsBuilt c.write_at.new.self.spaces o) (sym c.in-Some.is) after
 
 pub returns-in-Some : goal.returns-in-Some
@@ -36,7 +36,7 @@ returns-in-Some g c =
     let p : IsBuilt spaces (Some c.in-Some.location) = subst (λ (o : Option RootLocation). IsBuilt spaces o) c.in-Some.is c.self.invariant in
     let location : RootLocation = c.in-Some.location in
     let new : Built g.row.A.Denot = record { spaces = c.write_at.new.self.spaces; location = c.self.inside.location; allocator = c.write_at.new.self.allocator } in
-    let e = ap (λ (h : Held g.row.A.Denot). h.spaces) c.write_at.ensures in
+    let e = ap (λ (h : BuilderState g.row.A.Denot). h.spaces) c.write_at.ensures in
     let a = field_set spaces c.write_at.new.self.spaces c.in-Some.location c.args.index c.args.word c.to_le_bytes.result f p c.ranges.word.fits c.to_le_bytes.ensures (ap length c.to_le_bytes.ensures) e in
     record {
       set = subst (λ (v : Built g.row.A.Denot). IsFieldSet v.spaces c.write_at.new.self.spaces c.args.index c.args.word) c.self.view_is a;
@@ -51,5 +51,5 @@ returns-in_default g c =
     let spaces : List Space = c.self.inside.segments.spaces in
     let f : HasField spaces c.args.index = subst (λ (v : Built g.row.A.Denot). HasField v.spaces c.args.index) (sym c.self.view_is) c.requires in
     let r : HasNullRoot spaces = subst (λ (o : Option RootLocation). IsBuilt spaces o) c.in_default.is c.self.invariant in
-    let no : struct f.words ≡ null = null_only spaces (struct f.words) f.held f.traversed r f.stands in
+    let no : struct f.words ≡ null = null_only spaces (struct f.words) f.children f.traversed r f.stands in
     absurd (no_struct f.words no)

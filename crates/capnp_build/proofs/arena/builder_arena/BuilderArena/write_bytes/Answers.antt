@@ -3,7 +3,7 @@ use Rattle.std.proofs.Common.{ℕ, ◌+◌, ◌*◌, List, length, Option, Some,
 use Rattle.std.specs.Option.{option_copied}
 use Rattle.capnp_wire.specs.Tree.{numbers, none}
 use Rattle.capnp_build.specs.Bytes.{Space}
-use Rattle.capnp_build.specs.Held.{Held}
+use Rattle.capnp_build.specs.BuilderState.{BuilderState}
 use Rattle.capnp_build.specs.Built.{Built, HasNullRoot, IsBuilt}
 use Rattle.capnp_build.specs.Written.{IsWritten, HasBytes, IsBytesSet}
 use Rattle.capnp_build.specs.declared.arena.location.RootLocation.{RootLocation}
@@ -41,7 +41,7 @@ invariant_of-self g c =
     let p : IsBuilt spaces (Some location) = subst (λ (o : Option RootLocation). IsBuilt spaces o) c.in-Some.is c.self.invariant in
     let low = got_low spaces location.segment (option_copied c.get.result) c.in-Some-get.used.now p.2.body_is.within c.get.ensures (ap option_copied c.in-Some-get.is) c.each_is_a_byte.ensures in
     subst (λ (o : Option RootLocation). IsBuilt c.write_at.new.self.spaces o) (sym c.in-Some.is)
-    (bytes_rewritten spaces c.write_at.new.self.spaces location c.args.index w f p low c.each_is_a_byte-2.ensures (ap (λ (h : Held g.row.A.Denot). h.spaces) c.write_at.ensures))
+    (bytes_rewritten spaces c.write_at.new.self.spaces location c.args.index w f p low c.each_is_a_byte-2.ensures (ap (λ (h : BuilderState g.row.A.Denot). h.spaces) c.write_at.ensures))
 
 pub returns : goal.returns
 returns g c =
@@ -54,7 +54,7 @@ returns g c =
     let new : Built g.row.A.Denot = record { spaces = c.write_at.new.self.spaces; location = c.self.inside.location; allocator = c.write_at.new.self.allocator } in
     record {
       set = subst (λ (v : Built g.row.A.Denot). IsBytesSet v.spaces c.write_at.new.self.spaces c.args.index w) c.self.view_is
-          (bytes_set spaces c.write_at.new.self.spaces location c.args.index w f p low c.each_is_a_byte-2.ensures (ap (λ (h : Held g.row.A.Denot). h.spaces) c.write_at.ensures));
+          (bytes_set spaces c.write_at.new.self.spaces location c.args.index w f p low c.each_is_a_byte-2.ensures (ap (λ (h : BuilderState g.row.A.Denot). h.spaces) c.write_at.ensures));
       written = subst (λ (v : Built g.row.A.Denot). IsWritten v new) c.self.view_is
           (written_at c.self.inside.segments c.write_at.new.self c.self.inside.location location (8 * location.start + c.args.index) c.args.bytes.now c.in-Some.is c.write_at.ensures (omega arith)
           (bytes_inside spaces location c.args.index (length w) f p) (bytes_room spaces location c.args.index (length w) f p));

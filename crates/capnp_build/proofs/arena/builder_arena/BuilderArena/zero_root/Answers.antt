@@ -3,12 +3,12 @@ use Rattle.std.proofs.Common.{◌≡◌, List, [], ap, sym, subst, ◌∙◌}
 use Rattle.std.proofs.lemmas.Result.{err_from_is_err_and}
 use Rattle.capnp_build.specs.Bytes.{Space}
 use Rattle.capnp_build.specs.Out.{HasLarge}
-use Rattle.capnp_build.specs.Held.{pairs}
+use Rattle.capnp_build.specs.BuilderState.{pairs}
 use Rattle.capnp_build.specs.Built.{Built}
 use Rattle.capnp_build.proofs.arena.builder_arena.BuilderArena.zero_root.Goals as goal
 
-pub returns-in_err-add-clause-home : goal.returns-in_err-add-clause-home
-returns-in_err-add-clause-home g c = λ empty out.
+pub returns-in_err-add-clause-available : goal.returns-in_err-add-clause-available
+returns-in_err-add-clause-available g c = λ empty out.
     let p = err_from_is_err_and c.from_residual.result c.from_residual.ensures.1 in
     let none : c.self.inside.segments.spaces ≡ [] = ap (λ (v : Built g.row.A.Denot). v.spaces) c.self.view_is ∙ empty in
     let is = subst (λ (v : Built g.row.A.Denot). g.A.Allocator.out v.allocator (pairs v.spaces [])) (sym c.self.view_is)

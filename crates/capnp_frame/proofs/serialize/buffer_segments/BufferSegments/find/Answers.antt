@@ -1,6 +1,6 @@
 -- The message at the front is the one that is found.
 use Rattle.std.proofs.Common.{length, ap}
-use Rattle.capnp_frame.proofs.HeldLemmas.{parts_are, keeps_told}
+use Rattle.capnp_frame.proofs.HeldLemmas.{parts_are, keeps_declared}
 use Rattle.capnp_frame.proofs.FlatReaderLemmas.{reads_none, reads_held}
 use Rattle.capnp_frame.proofs.serialize.buffer_segments.BufferSegments.find.Goals as goal
 
@@ -14,9 +14,9 @@ returns-clause-reads g c =
     let bytes = g.T.AsBytes.bytes c.args.buffer in
     let ns = c.in_ok-lengths.lengths in
     let holds = rw c.as_bytes.ensures at c.in_ok-lengths.ensures.holds in
-    let told = rw c.as_bytes.ensures at c.in_ok-lengths.ensures.lengths in
+    let declared = rw c.as_bytes.ensures at c.in_ok-lengths.ensures.lengths in
     let kept = rw c.as_bytes.ensures at c.in_ok-lengths.ensures.padding in
     reads_held _ _ _ _ _ (length ns) holds
     (parts_are bytes c.to_segment_indices.result.items ns c.in_ok-lengths.table_len c.from_parts.result.segments
-    c.to_segment_indices.ensures told c.in_ok-lengths.ensures.table (ap (λ held. held.segments) c.from_parts.ensures))
-    (keeps_told bytes ns c.args.limit told c.in_ok-lengths.ensures.within) kept tt
+    c.to_segment_indices.ensures declared c.in_ok-lengths.ensures.table (ap (λ message. message.segments) c.from_parts.ensures))
+    (keeps_declared bytes ns c.args.limit declared c.in_ok-lengths.ensures.within) kept tt

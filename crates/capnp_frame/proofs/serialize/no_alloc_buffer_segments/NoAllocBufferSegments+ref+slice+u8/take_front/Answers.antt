@@ -9,7 +9,7 @@ returns-in_err-info c = reads_none _ _ _ _ _ _ c.from_residual.ensures.1 refl c.
 
 pub returns : goal.returns
 returns c =
-    let told = c.in_ok-info.ensures in
+    let declared = c.in_ok-info.ensures in
     let info = c.in_ok-info.info in
-    reads_held _ _ _ _ _ info.segments_count told.holds (ap (λ held. held.segments) c.of_held.ensures) told.within told.padding
-    (moved c.args.slice.now.now info.segments_count info.segment_table_length_bytes info.total_segments_length_bytes told.table told.total)
+    reads_held _ _ _ _ _ info.segments_count declared.holds (ap (λ message. message.segments) c.of_message.ensures) declared.within declared.padding
+    (moved c.args.slice.now.now info.segments_count info.segment_table_length_bytes info.total_segments_length_bytes declared.table declared.total)

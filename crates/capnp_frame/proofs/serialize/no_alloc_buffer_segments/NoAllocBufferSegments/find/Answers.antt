@@ -13,4 +13,4 @@ returns-clause-reads g c =
     let holds = rw c.as_bytes.ensures at c.in_ok-info.ensures.holds in
     let kept = rw c.as_bytes.ensures at c.in_ok-info.ensures.padding in
     let keeps = rw c.as_bytes.ensures at c.in_ok-info.ensures.within in
-    reads_held _ _ _ _ _ c.in_ok-info.info.segments_count holds (ap (λ held. held.segments) c.of_held.ensures) keeps kept tt
+    reads_held _ _ _ _ _ c.in_ok-info.info.segments_count holds (ap (λ message. message.segments) c.of_message.ensures) keeps kept tt

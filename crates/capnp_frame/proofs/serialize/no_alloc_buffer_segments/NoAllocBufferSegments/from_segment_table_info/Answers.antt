@@ -4,10 +4,10 @@ use Rattle.capnp_frame.specs.declared.serialize.segment_table.Padding.TheVariant
 use Rattle.capnp_frame.proofs.HeldLemmas.{described_held, begins_held}
 use Rattle.capnp_frame.proofs.serialize.no_alloc_buffer_segments.NoAllocBufferSegments.from_segment_table_info.Goals as goal
 
-pub of_held-requires : goal.of_held-requires
-of_held-requires g c = described_held (g.T.AsBytes.bytes c.args.buffer) c.args.info c.requires
+pub of_message-requires : goal.of_message-requires
+of_message-requires g c = described_held (g.T.AsBytes.bytes c.args.buffer) c.args.info c.requires
 
 pub returns-clause-found : goal.returns-clause-found
 returns-clause-found g c =
     let bytes = g.T.AsBytes.bytes c.args.buffer in
-    begins_held Any bytes c.args.info.segments_count c.of_held.result.segments (described_held bytes c.args.info c.requires) tt (ap (λ held. held.segments) c.of_held.ensures)
+    begins_held Any bytes c.args.info.segments_count c.of_message.result.segments (described_held bytes c.args.info c.requires) tt (ap (λ message. message.segments) c.of_message.ensures)

@@ -2,8 +2,8 @@
 use Rattle.std.proofs.Common.{◌≡◌, ◌+◌, ◌*◌, ◌∙◌, length, arith, sym, ap}
 use Rattle.std.specs.Prelude.{slice_get}
 use Rattle.std.proofs.lemmas.Option.{slice_get_past}
-use Rattle.capnp_frame.specs.Front.{told_segments, HoldsMessage}
-use Rattle.capnp_frame.proofs.FrontMessages.{length-told_segments}
+use Rattle.capnp_frame.specs.Front.{declared_segments, HoldsMessage}
+use Rattle.capnp_frame.proofs.FrontMessages.{length-declared_segments}
 use Rattle.capnp_frame.proofs.PartLemmas.{Lies, lies_between}
 use Rattle.capnp_frame.proofs.serialize.no_alloc_buffer_segments.NoAllocBufferSegmentsReaderSegments.get_segment.Given as given
 use Rattle.capnp_frame.proofs.serialize.no_alloc_buffer_segments.NoAllocBufferSegmentsReaderSegments.get_segment.Goals as goal
@@ -11,7 +11,7 @@ use Rattle.capnp_frame.proofs.serialize.no_alloc_buffer_segments.NoAllocBufferSe
 pub returns-then-index-self : goal.returns-then-index-self
 returns-then-index-self g c =
     let bytes = g.T.AsBytes.bytes c.self.inside.buffer in
-    let long : length c.args.self.now.segments ≡ c.self.inside.segments_count = ap (λ h. length h.segments) (sym c.self.view_is) ∙ length-told_segments c.self.inside.segments_count bytes in
+    let long : length c.args.self.now.segments ≡ c.self.inside.segments_count = ap (λ h. length h.segments) (sym c.self.view_is) ∙ length-declared_segments c.self.inside.segments_count bytes in
     sym (slice_get_past c.args.self.now.segments c.args.id (omega arith))
 
 lies : (g : given.Over) (c : goal.After-table_len-front g)
@@ -52,6 +52,6 @@ returns g c =
     let found = lies_between bytes c.self.inside.segments_count c.args.id c.table_len-front.result
     c.place-start.result.0 c.place-start.result.1 holds c.if-index-self.false c.table_len-front.ensures
     c.place-start.ensures.start c.place-start.ensures.end in
-    let view : told_segments c.self.inside.segments_count bytes ≡ c.args.self.now.segments = ap
-    (told_segments c.self.inside.segments_count) c.as_bytes-bytes.ensures ∙ ap (λ h. h.segments) c.self.view_is in
+    let view : declared_segments c.self.inside.segments_count bytes ≡ c.args.self.now.segments = ap
+    (declared_segments c.self.inside.segments_count) c.as_bytes-bytes.ensures ∙ ap (λ h. h.segments) c.self.view_is in
     sym found.part ∙ ap (λ l. slice_get l c.args.id) view

@@ -2,7 +2,7 @@
 use Rattle.std.proofs.Common.{rules, ◌≡◌, ◌∙◌, refl, sym, ap, Ok, Err, inr, arith}
 use Rattle.capnp_wire.specs.Tree.{Trees, tree}
 use Rattle.capnp_wire.specs.declared.traits.PartWords.{PartWords}
-use Rattle.capnp_wire.proofs.views.PartWordLemmas.{standing_words}
+use Rattle.capnp_wire.proofs.views.PartWordLemmas.{as_is_words}
 use Rattle.capnp_values.specs.Fields.{RefusesRow, extent_of}
 use Rattle.capnp_values.specs.declared.fields.Extent.{Extent}
 use Rattle.capnp_values.proofs.PartLemmas.{part_sizes, has_part, part_of}
@@ -13,7 +13,7 @@ use Rattle.capnp_values.proofs.fields.field.FieldFields.measure.Goals as goal
 
 pub returns-in_err-own-clause-found : goal.returns-in_err-own-clause-found
 returns-in_err-own-clause-found g c trees is =
-    let found = c.measure_part.ensures.found (part_sizes c.args.canonical is.form is.held) (has_part (g.V.SetterInput.has_tree c.args.self.now.value) c.args.canonical is.form is.held is.part) in
+    let found = c.measure_part.ensures.found (part_sizes c.args.canonical is.form is.children) (has_part (g.V.SetterInput.has_tree c.args.self.now.value) c.args.canonical is.form is.children is.part) in
     let was : c.measure_part.result ≡ Err c.in_err-own.field-0.0 = c.in_err-own.was in
     absurd (cc)
 
@@ -24,8 +24,8 @@ returns-in_err-own-clause-exact g c kind refused =
 
 pub returns-in_err-rest-clause-returned : goal.returns-in_err-rest-clause-returned
 returns-in_err-rest-clause-returned g c =
-    let own = standing_words (g.V.SetterInput.has_tree c.args.self.now.value) c.args.canonical c.in_ok-own.own c.in_ok-own.ensures.returned in
-    let refused : RefusesRow (g.V.SetterInput.has_tree c.args.self.now.value) (g.V.SetterInput.refuses c.args.self.now.value) (g.F.Fields.refuses c.args.self.now.rest) c.in_err-rest.field-0.0.kind = inr (c.in_ok-own.own.standing, own, c.in_err-rest.ensures.returned) in
+    let own = as_is_words (g.V.SetterInput.has_tree c.args.self.now.value) c.args.canonical c.in_ok-own.own c.in_ok-own.ensures.returned in
+    let refused : RefusesRow (g.V.SetterInput.has_tree c.args.self.now.value) (g.V.SetterInput.refuses c.args.self.now.value) (g.F.Fields.refuses c.args.self.now.rest) c.in_err-rest.field-0.0.kind = inr (c.in_ok-own.own.as_is, own, c.in_err-rest.ensures.returned) in
     search rules
 
 pub returns-in_err-rest-clause-exact : goal.returns-in_err-rest-clause-exact
@@ -43,14 +43,14 @@ pub returns-clause-returned : goal.returns-clause-returned
 returns-clause-returned g c =
     let a = c.in_ok-rest.ensures.returned in
     let p = part_of (g.V.SetterInput.has_tree c.args.self.now.value) c.args.canonical c.in_ok-own.own (g.met.V.SetterInput.one c.args.self.now.value) c.in_ok-own.ensures.returned in
-    (tree p.form p.held a.0, record { form = p.form; held = p.held; rest = a.0; whole = refl; part = p.part; others = a.1 }, c.front.ensures p.form p.held a.0 p.part p.standing_is p.formed_is a.2)
+    (tree p.form p.children a.0, record { form = p.form; children = p.children; rest = a.0; whole = refl; part = p.part; others = a.1 }, c.front.ensures p.form p.children a.0 p.part p.as_is_same p.output_is a.2)
 
 pub returns-clause-found : goal.returns-clause-found
 returns-clause-found g c trees is =
     let k = c.args.canonical in
-    let own = same_parts c.measure_part.result c.in_ok-own.own (part_sizes k is.form is.held) c.in_ok-own.was (c.measure_part.ensures.found (part_sizes k is.form is.held) (has_part (g.V.SetterInput.has_tree c.args.self.now.value) k is.form is.held is.part)) in
+    let own = same_parts c.measure_part.result c.in_ok-own.own (part_sizes k is.form is.children) c.in_ok-own.was (c.measure_part.ensures.found (part_sizes k is.form is.children) (has_part (g.V.SetterInput.has_tree c.args.self.now.value) k is.form is.children is.part)) in
     let rest = same_extents c.measure.result c.in_ok-rest.rest (extent_of k is.rest) c.in_ok-rest.was (c.measure.ensures.found is.rest is.others) in
-    ap (λ (x : Extent). Ok x) (c.front.ensures is.form is.held is.rest is.part (ap (λ (w : PartWords). w.standing) own) (ap (λ (w : PartWords). w.formed) own) rest ∙ sym (ap (λ (t : Trees). extent_of k t) is.whole))
+    ap (λ (x : Extent). Ok x) (c.front.ensures is.form is.children is.rest is.part (ap (λ (w : PartWords). w.as_is) own) (ap (λ (w : PartWords). w.output) own) rest ∙ sym (ap (λ (t : Trees). extent_of k t) is.whole))
 
 pub returns-clause-exact : goal.returns-clause-exact
 returns-clause-exact g c kind refused =

@@ -2,4 +2,4 @@
 use Rattle.capnp_wire.proofs.any_struct.reader.StructReader.read.Goals as goal
 
 pub returns-in-None : goal.returns-in-None
-returns-in-None g c = rw c.rebuilt.ensures (rw c.again.ensures at c.enter.ensures)
+returns-in-None g c = rw c.by_value.ensures (rw c.copied.ensures at c.enter.ensures)

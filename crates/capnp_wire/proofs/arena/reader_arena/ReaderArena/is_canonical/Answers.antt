@@ -2,7 +2,7 @@
 use Rattle.std.proofs.Common.{ℕ, sym, ◌∙◌, subst}
 use Rattle.capnp_wire.specs.Object.{message_of}
 use Rattle.capnp_wire.specs.Pointer.{words_of}
-use Rattle.capnp_wire.specs.Tested.{Unsaid, no_first_segment}
+use Rattle.capnp_wire.specs.Tested.{RejectsCanonicity, no_first_segment}
 use Rattle.capnp_wire.specs.Readers.{nesting_of}
 use Rattle.capnp_wire.proofs.forms.CanonicalLemmas.{no_segment_there, one_segment_there, more_is_not, said_of_more, unsaid_of_none, unsaid_stops, said_at}
 use Rattle.capnp_wire.proofs.forms.CanonicalLemmas.{said_exactly, said_where_found, said_stops, second_shown, no_second, none_has_no_root}
@@ -14,11 +14,11 @@ returns-in_default g c =
     let nesting = nesting_of c.args.self.now.nesting_limit in
     let limit = c.args.self.now.limiter.limit in
     let none = no_segment_there _ (sym c.in_default.ensures) in
-    let unsaid : Unsaid m nesting limit c.from_kind.result.kind = subst (Unsaid m nesting limit) (sym c.from_kind.ensures) (no_first_segment none) in
+    let unsaid : RejectsCanonicity m nesting limit c.from_kind.result.kind = subst (RejectsCanonicity m nesting limit) (sym c.from_kind.ensures) (no_first_segment none) in
     record {
       returned = unsaid;
       exact = λ kind other. c.from_kind.ensures ∙ unsaid_of_none _ _ _ kind none other;
-      found = λ form held traversed stand shallow fits. absurd (none_has_no_root _ form held traversed none stand);
+      found = λ form children traversed stand shallow fits. absurd (none_has_no_root _ form children traversed none stand);
       stops = unsaid_stops m nesting limit _ unsaid;
     }
 
@@ -52,7 +52,7 @@ returns g c =
     record {
       returned = said;
       exact = λ kind unsaid. said_exactly m words c.nesting.result limit c.is_canonical.result kind one c.is_canonical.ensures.exact
-          (subst (λ (l : ℕ). Unsaid m l limit kind) (sym c.nesting.ensures) unsaid);
+          (subst (λ (l : ℕ). RejectsCanonicity m l limit kind) (sym c.nesting.ensures) unsaid);
       found = said_where_found m nesting limit c.is_canonical.result said;
       stops = said_stops m nesting limit c.is_canonical.result said;
     }

@@ -8,38 +8,38 @@ use Rattle.capnp_frame.proofs.AskLemmas.{passed_on}
 use Rattle.capnp_wire.proofs.walks.GoingLemmas.{null_passes, going_begins, going_next, going_ends, going_done, met_passes, pointers_pass, pointers_end, pointers_refused}
 use Rattle.capnp_wire.proofs.layout.canonical.CanonicalWalk.+testing.Goals as goal
 
-pub test-returns-in_err-meet-clause-refused : goal.test-returns-in_err-meet-clause-refused
-test-returns-in_err-meet-clause-refused g t c = passed_on _ _ c.from_residual.ensures.1 c.in_err-meet.ensures.refused
+pub test-returns-in_err-visit-clause-refused : goal.test-returns-in_err-visit-clause-refused
+test-returns-in_err-visit-clause-refused g t c = passed_on _ _ c.from_residual.ensures.1 c.in_err-visit.ensures.refused
 
 pub test-returns-in-Null-clause-passed : goal.test-returns-in-Null-clause-passed
 test-returns-in-Null-clause-passed g t c same =
-    null_passes (rw c.in-Null.is at c.in_ok-meet.ensures.found) (omega (arith, c.requires.within, length-words_of c.args.segment.now))
+    null_passes (rw c.in-Null.is at c.in_ok-visit.ensures.found) (omega (arith, c.requires.within, length-words_of c.args.segment.now))
 
 pub test-test_pointers-requires : goal.test-test_pointers-requires
 test-test_pointers-requires g t c κs lives =
-    let met = rw c.in-Pointers.is at c.in_ok-meet.ensures.found in
+    let met = rw c.in-Pointers.is at c.in_ok-visit.ensures.found in
     (omega (arith, met.meets.deep, c.decreases), (lives, (c.requires.one, (met.first, (met.before, omega (arith, met.room, length-words_of c.args.segment.now))))))
 
 pub test-returns-then-is_empty-clause-passed : goal.test-returns-then-is_empty-clause-passed
 test-returns-then-is_empty-clause-passed g t c same =
-    let met = rw c.in-Pointers.is at c.in_ok-meet.ensures.found in
-    met_passes {left_after = c.meet.new.self.walk.left} {after = c.meet.new.self.next} (all_words_below c.args.segment.now (λ i. omega (arith, c.type_inv.segment i))) c.requires.before
+    let met = rw c.in-Pointers.is at c.in_ok-visit.ensures.found in
+    met_passes {left_after = c.visit.new.self.walk.left} {after = c.visit.new.self.next} (all_words_below c.args.segment.now (λ i. omega (arith, c.type_inv.segment i))) c.requires.before
     (omega (arith, c.requires.within, length-words_of c.args.segment.now)) met
     (going_done (c.is_empty.ensures.0 c.if-is_empty.true)
-    (going_begins (words_of c.args.segment.now) (places_in c.in-Pointers.pointers) (c.args.nesting - 1) c.meet.new.self.walk.left c.meet.new.self.next met.room))
+    (going_begins (words_of c.args.segment.now) (places_in c.in-Pointers.pointers) (c.args.nesting - 1) c.visit.new.self.walk.left c.visit.new.self.next met.room))
 
 pub test-returns-else-is_empty-clause-passed : goal.test-returns-else-is_empty-clause-passed
 test-returns-else-is_empty-clause-passed g t c =
     pointers_pass c.test_pointers.new.self.walk.left c.test_pointers.new.self.next c.test_pointers.result (all_words_below c.args.segment.now (λ i. omega (arith, c.type_inv.segment i)))
-    c.requires.before (omega (arith, c.requires.within, length-words_of c.args.segment.now)) (rw c.in-Pointers.is at c.in_ok-meet.ensures.found) c.test_pointers.ensures.passed
+    c.requires.before (omega (arith, c.requires.within, length-words_of c.args.segment.now)) (rw c.in-Pointers.is at c.in_ok-visit.ensures.found) c.test_pointers.ensures.passed
 
 pub test-returns-else-is_empty-clause-ended : goal.test-returns-else-is_empty-clause-ended
 test-returns-else-is_empty-clause-ended g t c =
-    pointers_end c.test_pointers.result (rw c.in-Pointers.is at c.in_ok-meet.ensures.found) c.test_pointers.ensures.ended
+    pointers_end c.test_pointers.result (rw c.in-Pointers.is at c.in_ok-visit.ensures.found) c.test_pointers.ensures.ended
 
 pub test-returns-else-is_empty-clause-refused : goal.test-returns-else-is_empty-clause-refused
 test-returns-else-is_empty-clause-refused g t c =
-    pointers_refused c.test_pointers.result (rw c.in-Pointers.is at c.in_ok-meet.ensures.found) c.test_pointers.ensures.refused
+    pointers_refused c.test_pointers.result (rw c.in-Pointers.is at c.in_ok-visit.ensures.found) c.test_pointers.ensures.refused
 
 pub test_pointers-pointers-init : goal.test_pointers-pointers-init
 test_pointers-pointers-init g t c =

@@ -2,7 +2,7 @@
 use Rattle.std.proofs.Common.{◌∙◌, refl, arith}
 use Rattle.capnp_wire.specs.Rows.{places_in}
 use Rattle.capnp_wire.specs.Traversed.{counted}
-use Rattle.capnp_wire.proofs.pointers.EmptyStructLemmas.{bare_walked}
+use Rattle.capnp_wire.proofs.pointers.EmptyStructLemmas.{null_or_empty_walked}
 use Rattle.capnp_frame.proofs.AskLemmas.{passed_on}
 use Rattle.capnp_wire.proofs.walks.ParentLemmas.{parent_met, parent_stops, struct_holds, going_below}
 use Rattle.capnp_wire.proofs.walks.ProgressLemmas.{going_begins, going_there, going_on, going_done, progress_done, progress_stops, progress_stopped, entered, walk_goes_on, walk_stops}
@@ -46,41 +46,41 @@ pub next_parent-pointers-preserved-in-Some : goal.next_parent-pointers-preserved
 next_parent-pointers-preserved-in-Some g t c =
     let takes = c.take-place.ensures in
     let content = going_there c.pointers.invariant takes.taken takes.segment in
-    going_on c.pointers.invariant takes.taken takes.same_segment (bare_walked c.args.canonical content c.in-Some.ensures.0 c.in-Some.ensures.1)
+    going_on c.pointers.invariant takes.taken takes.same_segment (null_or_empty_walked c.args.canonical content c.in-Some.ensures.0 c.in-Some.ensures.1)
 
 pub next_parent-returns-in_err-alone-clause-refused : goal.next_parent-returns-in_err-alone-clause-refused
 next_parent-returns-in_err-alone-clause-refused g t c =
     let takes = c.take-place.ensures in
-    let near = c.in-Some-near_struct.ensures _ (going_there c.pointers.invariant takes.taken takes.segment) in
-    passed_on _ _ c.from_residual.ensures.1 (progress_stops takes.taken.places_are c.pointers.invariant.progress (c.in_err-alone.ensures.refused _ _ _ near.0 near.1))
+    let local = c.in-Some-local_struct.ensures _ (going_there c.pointers.invariant takes.taken takes.segment) in
+    passed_on _ _ c.from_residual.ensures.1 (progress_stops takes.taken.places_are c.pointers.invariant.progress (c.in_err-alone.ensures.refused _ _ _ local.0 local.1))
 
 pub next_parent-returns-then-not-alone-clause-found : goal.next_parent-returns-then-not-alone-clause-found
 next_parent-returns-then-not-alone-clause-found g t c =
     let p = c.pointers-then-not-alone.ensures in
     let takes = c.take-place.ensures in
-    let near = c.in-Some-near_struct.ensures _ (going_there c.pointers.invariant takes.taken takes.segment) in (
+    let local = c.in-Some-local_struct.ensures _ (going_there c.pointers.invariant takes.taken takes.segment) in (
       parent_met takes.taken.places_are c.pointers.invariant.progress
-          (struct_holds c.in-Some-near_struct.found c.pointers-then-not-alone.result (c.in_ok-alone.ensures.found _ _ _ near.0 near.1).0 p.content p.word p.segment p.count),
+          (struct_holds c.in-Some-local_struct.found c.pointers-then-not-alone.result (c.in_ok-alone.ensures.found _ _ _ local.0 local.1).0 p.content p.word p.segment p.count),
       takes.same_segment ∙ c.pointers.invariant.same_segment,
     )
 
 pub next_parent-pointers-preserved-else-not-alone : goal.next_parent-pointers-preserved-else-not-alone
 next_parent-pointers-preserved-else-not-alone g t c =
     let takes = c.take-place.ensures in
-    let near = c.in-Some-near_struct.ensures _ (going_there c.pointers.invariant takes.taken takes.segment) in
-    going_on c.pointers.invariant takes.taken takes.same_segment ((c.in_ok-alone.ensures.found _ _ _ near.0 near.1).1 c.if-not-alone.false)
+    let local = c.in-Some-local_struct.ensures _ (going_there c.pointers.invariant takes.taken takes.segment) in
+    going_on c.pointers.invariant takes.taken takes.same_segment ((c.in_ok-alone.ensures.found _ _ _ local.0 local.1).1 c.if-not-alone.false)
 
-pub next_parent-returns-in_err-pass_list-clause-refused : goal.next_parent-returns-in_err-pass_list-clause-refused
-next_parent-returns-in_err-pass_list-clause-refused g t c =
+pub next_parent-returns-in_err-visit_list-clause-refused : goal.next_parent-returns-in_err-visit_list-clause-refused
+next_parent-returns-in_err-visit_list-clause-refused g t c =
     let takes = c.take-place.ensures in
-    let near = c.in-Some-near_list.ensures _ (going_there c.pointers.invariant takes.taken takes.segment) in
-    passed_on _ _ c.from_residual-in_err-pass_list.ensures.1 (progress_stops takes.taken.places_are c.pointers.invariant.progress (c.in_err-pass_list.ensures.refused _ _ _ near.0 near.1))
+    let local = c.in-Some-local_list.ensures _ (going_there c.pointers.invariant takes.taken takes.segment) in
+    passed_on _ _ c.from_residual-in_err-visit_list.ensures.1 (progress_stops takes.taken.places_are c.pointers.invariant.progress (c.in_err-visit_list.ensures.refused _ _ _ local.0 local.1))
 
 pub next_parent-pointers-preserved-in-Continue-branch-2 : goal.next_parent-pointers-preserved-in-Continue-branch-2
 next_parent-pointers-preserved-in-Continue-branch-2 g t c =
     let takes = c.take-place.ensures in
-    let near = c.in-Some-near_list.ensures _ (going_there c.pointers.invariant takes.taken takes.segment) in
-    going_on c.pointers.invariant takes.taken takes.same_segment (c.in_ok-pass_list.ensures.found _ _ _ _ near.0 near.1)
+    let local = c.in-Some-local_list.ensures _ (going_there c.pointers.invariant takes.taken takes.segment) in
+    going_on c.pointers.invariant takes.taken takes.same_segment (c.in_ok-visit_list.ensures.found _ _ _ _ local.0 local.1)
 
 pub next_parent-walk_object-requires : goal.next_parent-walk_object-requires
 next_parent-walk_object-requires g t c κs within = (omega arith, (within, going_there c.pointers.invariant c.take-place.ensures.taken c.take-place.ensures.segment))

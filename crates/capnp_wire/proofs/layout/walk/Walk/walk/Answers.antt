@@ -4,7 +4,7 @@ use Rattle.capnp_wire.specs.Faults.{at_pointer, no_word, no_segment}
 use Rattle.capnp_wire.specs.Traversed.{counted}
 use Rattle.capnp_frame.proofs.AskLemmas.{passed_on}
 use Rattle.capnp_wire.proofs.words.MessageLemmas.{segment_stands, no_segment_stands}
-use Rattle.capnp_wire.proofs.pointers.EmptyStructLemmas.{bare_walked}
+use Rattle.capnp_wire.proofs.pointers.EmptyStructLemmas.{null_or_empty_walked}
 use Rattle.capnp_wire.proofs.walks.ProgressLemmas.{entered, walk_goes_on, walk_stops}
 use Rattle.capnp_wire.proofs.layout.walk.Walk.walk.Goals as goal
 
@@ -14,32 +14,32 @@ returns-in_err-segment-clause-refused g c =
 
 pub returns-in-Some-clause-found : goal.returns-in-Some-clause-found
 returns-in-Some-clause-found g c =
-    bare_walked c.args.canonical (segment_stands _ c.args.place.segment _ c.in_ok-segment.ensures) c.in-Some.ensures.0 c.in-Some.ensures.1
+    null_or_empty_walked c.args.canonical (segment_stands _ c.args.place.segment _ c.in_ok-segment.ensures) c.in-Some.ensures.0 c.in-Some.ensures.1
 
-pub returns-in_err-pass_pointers-clause-refused : goal.returns-in_err-pass_pointers-clause-refused
-returns-in_err-pass_pointers-clause-refused g c =
-    let near = c.in-Some-near_pointers.ensures _ (segment_stands _ c.args.place.segment _ c.in_ok-segment.ensures) in
-    passed_on _ _ c.from_residual-in_err-pass_pointers.ensures.1 (c.in_err-pass_pointers.ensures.refused _ _ _ near.0 near.1)
+pub returns-in_err-visit_pointers-clause-refused : goal.returns-in_err-visit_pointers-clause-refused
+returns-in_err-visit_pointers-clause-refused g c =
+    let local = c.in-Some-local_pointers.ensures _ (segment_stands _ c.args.place.segment _ c.in_ok-segment.ensures) in
+    passed_on _ _ c.from_residual-in_err-visit_pointers.ensures.1 (c.in_err-visit_pointers.ensures.refused _ _ _ local.0 local.1)
 
 pub overflow_sub-below : goal.overflow_sub-below
 overflow_sub-below g c =
-    let near = c.in-Some-near_pointers.ensures _ (segment_stands _ c.args.place.segment _ c.in_ok-segment.ensures) in omega (arith, near.1)
+    let local = c.in-Some-local_pointers.ensures _ (segment_stands _ c.args.place.segment _ c.in_ok-segment.ensures) in omega (arith, local.1)
 
 pub walk_run-requires : goal.walk_run-requires
 walk_run-requires g c =
-    let near = c.in-Some-near_pointers.ensures _ (segment_stands _ c.args.place.segment _ c.in_ok-segment.ensures) in
-    record { bound = c.in-Some-near_pointers.list.bound; content = near.0.content }
+    let local = c.in-Some-local_pointers.ensures _ (segment_stands _ c.args.place.segment _ c.in_ok-segment.ensures) in
+    record { bound = c.in-Some-local_pointers.list.bound; content = local.0.content }
 
-pub returns-in-Some-near_pointers-clause-found : goal.returns-in-Some-near_pointers-clause-found
-returns-in-Some-near_pointers-clause-found g c =
-    let near = c.in-Some-near_pointers.ensures _ (segment_stands _ c.args.place.segment _ c.in_ok-segment.ensures) in
-    let enters = c.in_ok-pass_pointers.ensures.found _ c.args.canonical _ _ near.0 near.1 in
+pub returns-in-Some-local_pointers-clause-found : goal.returns-in-Some-local_pointers-clause-found
+returns-in-Some-local_pointers-clause-found g c =
+    let local = c.in-Some-local_pointers.ensures _ (segment_stands _ c.args.place.segment _ c.in_ok-segment.ensures) in
+    let enters = c.in_ok-visit_pointers.ensures.found _ c.args.canonical _ _ local.0 local.1 in
     walk_goes_on c.walk_run.new.self.left (counted c.walk_run.new.self) _ c.walk_run.result (entered enters) refl c.walk_run.ensures.found
 
-pub returns-in-Some-near_pointers-clause-refused : goal.returns-in-Some-near_pointers-clause-refused
-returns-in-Some-near_pointers-clause-refused g c =
-    let near = c.in-Some-near_pointers.ensures _ (segment_stands _ c.args.place.segment _ c.in_ok-segment.ensures) in
-    let enters = c.in_ok-pass_pointers.ensures.found _ c.args.canonical _ _ near.0 near.1 in
+pub returns-in-Some-local_pointers-clause-refused : goal.returns-in-Some-local_pointers-clause-refused
+returns-in-Some-local_pointers-clause-refused g c =
+    let local = c.in-Some-local_pointers.ensures _ (segment_stands _ c.args.place.segment _ c.in_ok-segment.ensures) in
+    let enters = c.in_ok-visit_pointers.ensures.found _ c.args.canonical _ _ local.0 local.1 in
     walk_stops _ c.walk_run.result (entered enters) refl c.walk_run.ensures.refused
 
 pub walk_object-requires : goal.walk_object-requires

@@ -12,4 +12,4 @@ returns-in-Some g c =
     entered_view pointer c.in-Some.object (λ view form. IsNumbers code form (numbers_of code view)) (DeclinesNumbers code) c.in_object.result c.in-Some.ensures c.in_object.ensures
 
 pub returns-in-None : goal.returns-in-None
-returns-in-None g c = rw c.rebuilt.ensures (rw c.again.ensures at c.enter.ensures)
+returns-in-None g c = rw c.by_value.ensures (rw c.copied.ensures at c.enter.ensures)

@@ -1,4 +1,4 @@
--- An element of a list of structs stands after those before it, and within the list.
+-- An element of a list of structs is after those before it, and within the list.
 use Rattle.std.proofs.Common.{◌+◌, ◌*◌, ℕ, List, [], slice_index_or, refl, ap, ◌∙◌, arith}
 use Rattle.capnp_wire.specs.Pointer.{words_of}
 use Rattle.capnp_wire.specs.Object.{message_of, places, rows_from}
@@ -35,10 +35,10 @@ returns g c =
     let size = self.elements.size in
     let words = words_of self.segment.now in
     let start = self.first.word + c.args.index * c.words.result in
-    let fields : List ℕ → List Place → Struct = λ row held. record {
+    let fields : List ℕ → List Place → Struct = λ row children. record {
       message = message_of (g.S.ReaderSegments.segments self.segments.now);
       words = row;
-      held = held;
+      children = children;
       nesting = self.nesting;
       limit = limit_of self.limiter;
     } in

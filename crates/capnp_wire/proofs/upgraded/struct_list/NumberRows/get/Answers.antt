@@ -1,4 +1,4 @@
--- A number is the one data word of its struct, by its part of the word in which it stands.
+-- A number is the one data word of its struct, by its part of the word in which it is.
 use Rattle.std.proofs.lemmas.List.{length-map}
 use Rattle.std.proofs.Common.{◌≡◌, ◌^◌, ◌<◌, ℕ, List, [], ◌∷◌, Some, length, slice_index_or, refl, ap, ◌∙◌, arith}
 use Rattle.capnp_wire.specs.Pointer.{number_of, words_of, words_from}
@@ -44,7 +44,7 @@ returns g c =
     let fields : List ℕ → Struct = λ row. record {
       message = message_of (g.S.ReaderSegments.segments self.segments.now);
       words = row;
-      held = [];
+      children = [];
       nesting = self.nesting;
       limit = limit_of self.limiter;
     } in

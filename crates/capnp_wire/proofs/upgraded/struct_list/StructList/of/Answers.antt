@@ -13,7 +13,7 @@ returns-in-Structs g c =
 pub returns-in-Pointers : goal.returns-in-Pointers
 returns-in-Pointers g c =
     let p = pointer_of g.S.ReaderSegments.segments c.args.reader.now in
-    pointers_upgraded p c.args.object.now c.in-Pointers.count _ _ c.requires c.in-Pointers.is c.bare_elements.ensures c.in_place-in-Pointers.ensures
+    pointers_upgraded p c.args.object.now c.in-Pointers.count _ _ c.requires c.in-Pointers.is c.elements_without_data.ensures c.in_place-in-Pointers.ensures
 
 pub returns-in-Struct : goal.returns-in-Struct
 returns-in-Struct g c =
@@ -31,9 +31,9 @@ in_place-requires-clause-few_words g c =
 pub in_place-requires-in-Pointers-clause-few : goal.in_place-requires-in-Pointers-clause-few
 in_place-requires-in-Pointers-clause-few g c =
     let p = pointer_of g.S.ReaderSegments.segments c.args.reader.now in
-    rw c.bare_elements.ensures (omega (arith, few_pointers p c.args.object.now c.in-Pointers.count c.requires c.in-Pointers.is))
+    rw c.elements_without_data.ensures (omega (arith, few_pointers p c.args.object.now c.in-Pointers.count c.requires c.in-Pointers.is))
 
 pub in_place-requires-in-Pointers-clause-few_words : goal.in_place-requires-in-Pointers-clause-few_words
 in_place-requires-in-Pointers-clause-few_words g c =
     let p = pointer_of g.S.ReaderSegments.segments c.args.reader.now in
-    rw c.bare_elements.ensures (omega (arith, few_pointers p c.args.object.now c.in-Pointers.count c.requires c.in-Pointers.is))
+    rw c.elements_without_data.ensures (omega (arith, few_pointers p c.args.object.now c.in-Pointers.count c.requires c.in-Pointers.is))

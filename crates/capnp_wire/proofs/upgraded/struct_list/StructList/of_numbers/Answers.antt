@@ -22,7 +22,7 @@ pub returns-then-bits-eq0 : goal.returns-then-bits-eq0
 returns-then-bits-eq0 g c =
     let p = pointer_of g.S.ReaderSegments.segments c.args.reader.now in
     let size = no_bit c.args.size (sym c.bits-bits.ensures.bits ∙ c.if-bits-eq0.true) in
-    nothings_upgraded p c.args.object.now c.args.count _ _ c.requires.entered (c.requires.numbers ∙ ap (λ (s : ElementSize). Numbers s c.args.count) size) c.bare_elements-elements.ensures c.in_place.ensures
+    nothings_upgraded p c.args.object.now c.args.count _ _ c.requires.entered (c.requires.numbers ∙ ap (λ (s : ElementSize). Numbers s c.args.count) size) c.elements_without_data-elements.ensures c.in_place.ensures
 
 pub returns : goal.returns
 returns g c =
@@ -32,7 +32,7 @@ returns g c =
       message = p.message;
       rows = map (number_row (code_of c.args.size)) (elements (words_of c.words_at.result.now) 0 (code_of c.args.size) c.args.count);
       pointer_words = 0;
-      held = [];
+      children = [];
       nesting = nesting;
       limit = p.limit;
     } in
@@ -41,4 +41,4 @@ returns g c =
 pub in_place-requires-clause-few : goal.in_place-requires-clause-few
 in_place-requires-clause-few g c =
     let p = pointer_of g.S.ReaderSegments.segments c.args.reader.now in
-    rw c.bare_elements-elements.ensures (omega (arith, few_numbers p c.args.object.now c.args.size c.args.count c.requires.entered c.requires.numbers))
+    rw c.elements_without_data-elements.ensures (omega (arith, few_numbers p c.args.object.now c.args.size c.args.count c.requires.entered c.requires.numbers))

@@ -1,6 +1,0 @@
--- A packer's groups are groups, and the table with zero padding is a table.
-use Rattle.capnp_pack.proofs.PackedFrameLemmas.{packed_text_is}
-use Rattle.capnp_pack.proofs.laws.packed_text_is_a_packed_frame.Goals as goal
-
-pub returns : goal.returns
-returns c = packed_text_is

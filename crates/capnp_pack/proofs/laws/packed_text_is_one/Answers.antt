@@ -1,6 +1,0 @@
--- The words say each next group of a packer.
-use Rattle.capnp_pack.proofs.PackerLemmas.{Packs-once}
-use Rattle.capnp_pack.proofs.laws.packed_text_is_one.Goals as goal
-
-pub returns : goal.returns
-returns c = Packs-once

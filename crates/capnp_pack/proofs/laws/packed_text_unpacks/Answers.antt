@@ -1,9 +1,0 @@
--- A packed text is a chunk, and a request has one result.
-use Rattle.capnp_pack.proofs.PackerLemmas.{Packs-unpacks, Packs-unpacks-alone}
-use Rattle.capnp_pack.proofs.laws.packed_text_unpacks.Goals as goal
-
-pub returns-clause-alone : goal.returns-clause-alone
-returns-clause-alone c = Packs-unpacks-alone
-
-pub returns-clause-given : goal.returns-clause-given
-returns-clause-given c = Packs-unpacks

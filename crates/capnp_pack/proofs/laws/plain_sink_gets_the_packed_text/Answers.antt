@@ -1,6 +1,0 @@
--- The parts that a plain sink gets are the packed text, joined.
-use Rattle.capnp_pack.proofs.PackedTextLemmas.{packed_over_plain}
-use Rattle.capnp_pack.proofs.laws.plain_sink_gets_the_packed_text.Goals as goal
-
-pub returns : goal.returns
-returns c = packed_over_plain

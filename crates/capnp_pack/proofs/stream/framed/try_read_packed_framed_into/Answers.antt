@@ -1,0 +1,12 @@
+-- The three requests take the three chunks.
+use Rattle.std.proofs.Common.{rules, ◌≡◌, length}
+use Rattle.capnp_frame.specs.declared.serialize.segment_table.Padding.TheVariants.{Zero}
+use Rattle.capnp_pack.proofs.PackedStreamLemmas.{packed_reads_into}
+use Rattle.capnp_pack.proofs.stream.framed.try_read_packed_framed_into.Goals as goal
+
+pub returns-clause-reads : goal.returns-clause-reads
+returns-clause-reads g c =
+    let declared = c.try_read_framed_into.ensures.reads in
+    let after : c.source-1.given.0 ≡ c.try_read_framed_into.new.source.source.now = search rules in
+    let reads = packed_reads_into Zero (λ p. p.source.now) g.R.Read _ _ _ c.args.options.traversal_limit_in_words (length c.args.buffer.now) _ declared.advances.same_source.1 declared in
+    rw after (rw c.new-packed.ensures.source at reads)

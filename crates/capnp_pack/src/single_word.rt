@@ -1,0 +1,66 @@
+//! Unpacking groups of one word, one after another.
+//!
+//! Where the longest text of one such group is shown, and a word of the buffer is left, no other
+//! test of room is needed, and one look-up by the tag says where the next group begins.
+//! Speed: words of every kind may alternate, as in small records (`capnp_ls unpack`).
+ghost use Rattle.std.specs.Prelude.{◌≡◌, ◌<◌, ◌≤◌, length, IfSome};
+ghost use Rattle.capnp_pack.specs.Steps.{Unpacked};
+
+use crate::lanes::unpack_word;
+use crate::sizes::group_bytes;
+use crate::unpack::Progress;
+
+// The longest text of a group of one word: a tag, a word and a count.
+pub(crate) const REACH: usize = 10;
+
+// Fills the front of a buffer with the groups of one word at the front of what is shown.
+//
+// It ends at a run, and where a group or its word might not fit. None of its groups takes a branch
+// of its own.
+#[inline(always)]
+pub(crate) fn unpack_single_words(shown: &[u8], buffer: &mut [u8]) -> Progress
+    ensures { Unpacked shown.now buffer.new result.used result.filled }
+{
+    let mut used = 0;
+    let mut filled = 0;
+    if shown.len() < REACH || buffer.len() < 8 {
+        return Progress { used, filled };
+    }
+    let last = shown.len() - REACH;
+    let room = buffer.len() - 8;
+    while used <= last && filled <= room {
+        let Some(group) = unpack_single_word(&shown[used..], &mut buffer[filled..]) else {
+            break;
+        };
+        used += group;
+        filled += 8;
+    }
+    Progress { used, filled }
+}
+
+// Fills the first word with the first group, where that has one word, and returns how many bytes
+// the group has.
+#[inline(always)]
+fn unpack_single_word(shown: &[u8], buffer: &mut [u8]) -> Option<usize>
+    requires long { 10 ≤ length shown.now }
+    requires room { 8 ≤ length buffer.old }
+    ensures { IfSome result (λ used. Unpacked shown.now buffer.new used 8) }
+{
+    let tag = shown[0];
+    let used = group_bytes(tag);
+    if single_word_mark(tag, shown[used - 1]) == 0 {
+        return None;
+    }
+    unpack_word(tag, &shown[1..], &mut buffer[..8]);
+    Some(used)
+}
+
+// 0 where the group counts further words: its tag is 0 or 255, and its last byte isn't zero.
+// Speed: a sum, so that none of these groups takes a branch of its own.
+#[inline(always)]
+fn single_word_mark(tag: u8, last: u8) -> usize
+    ensures zero { tag ≡ 0 → 0 < result → last ≡ 0 }
+    ensures full { tag ≡ 255 → 0 < result → last ≡ 0 }
+{
+    tag.wrapping_add(1) as usize / 2 + usize::from(last == 0)
+}

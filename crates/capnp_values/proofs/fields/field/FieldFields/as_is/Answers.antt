@@ -1,0 +1,50 @@
+-- The words of a row are those of its first value and of what is after it.
+use Rattle.std.proofs.Common.{rules, ◌≡◌, ap, Ok, Err, ℕ, false}
+use Rattle.capnp_wire.specs.Tree.{tree, none, total_words}
+use Rattle.capnp_wire.proofs.views.PartWordLemmas.{as_is_words}
+use Rattle.capnp_values.proofs.PartLemmas.{part_sizes, has_part}
+use Rattle.capnp_values.proofs.ResultLemmas.{ok_not_err, err_kind, refused_first, refused_rest}
+use Rattle.capnp_values.proofs.AsIsLemmas.{as_part, as_parts, part_found, part_refused, front_total, front_found}
+use Rattle.capnp_values.proofs.fields.field.FieldFields.as_is.Goals as goal
+
+pub returns-in_err-own-clause-found : goal.returns-in_err-own-clause-found
+returns-in_err-own-clause-found g c trees is =
+    let h = g.V.SetterInput.has_tree c.args.self.now.value in
+    let found = c.measure.ensures.found (total_words (tree is.form is.children none)) (as_is_words h false (part_sizes false is.form is.children) (has_part h false is.form is.children is.part)) in
+    let was : c.measure.result ≡ Err c.in_err-own.field-0.0 = c.in_err-own.was in
+    absurd (cc)
+
+pub returns-in_err-own-clause-exact : goal.returns-in_err-own-clause-exact
+returns-in_err-own-clause-exact g c kind refused =
+    let h = g.V.SetterInput.has_tree c.args.self.now.value in
+    let same : c.in_err-own.field-0.0.kind ≡ kind =
+    refused_first h (g.V.SetterInput.refuses c.args.self.now.value) (g.F.Fields.refuses c.args.self.now.rest) false (as_parts c.measure.result) c.in_err-own.field-0.0 kind
+    (ap as_parts c.in_err-own.was) (part_found h c.measure.result c.measure.ensures.found) (λ k lacks. part_refused c.measure.result k (c.measure.ensures.exact k lacks)) refused in
+    search rules
+
+pub returns-in_err-rest-clause-exact : goal.returns-in_err-rest-clause-exact
+returns-in_err-rest-clause-exact g c kind refused =
+    let was_rest : c.as_is.result ≡ Err c.in_err-rest.field-0.0 = c.in_err-rest.was in
+    let others : g.F.Fields.refuses c.args.self.now.rest kind =
+    refused_rest (g.V.SetterInput.has_tree c.args.self.now.value) (g.V.SetterInput.refuses c.args.self.now.value) (g.F.Fields.refuses c.args.self.now.rest) (as_parts c.measure.result)
+    (as_part c.in_ok-own.own) kind (ap as_parts c.in_ok-own.was) (λ k lacks. part_refused c.measure.result k (c.measure.ensures.exact k lacks)) refused in
+    let same : c.in_err-rest.field-0.0.kind ≡ kind = err_kind c.as_is.result c.in_err-rest.field-0.0 kind was_rest (c.as_is.ensures.exact kind others) in
+    search rules
+
+pub returns-clause-returned : goal.returns-clause-returned
+returns-clause-returned g c =
+    front_total (g.V.SetterInput.has_tree c.args.self.now.value) (g.F.Fields.has_trees c.args.self.now.rest) c.in_ok-own.own c.in_ok-rest.rest (g.met.V.SetterInput.one c.args.self.now.value)
+    c.in_ok-own.ensures.returned c.in_ok-rest.ensures.returned
+
+pub returns-clause-found : goal.returns-clause-found
+returns-clause-found g c trees is =
+    ap (λ (n : ℕ). Ok n)
+    (front_found (g.V.SetterInput.has_tree c.args.self.now.value) (g.F.Fields.has_trees c.args.self.now.rest) c.measure.result c.as_is.result c.in_ok-own.own c.in_ok-rest.rest c.in_ok-own.was
+    c.in_ok-rest.was c.measure.ensures.found c.as_is.ensures.found trees is)
+
+pub returns-clause-exact : goal.returns-clause-exact
+returns-clause-exact g c kind refused =
+    let others : g.F.Fields.refuses c.args.self.now.rest kind =
+    refused_rest (g.V.SetterInput.has_tree c.args.self.now.value) (g.V.SetterInput.refuses c.args.self.now.value) (g.F.Fields.refuses c.args.self.now.rest) (as_parts c.measure.result)
+    (as_part c.in_ok-own.own) kind (ap as_parts c.in_ok-own.was) (λ k lacks. part_refused c.measure.result k (c.measure.ensures.exact k lacks)) refused in
+    ok_not_err c.as_is.result c.in_ok-rest.rest (λ error. error.kind ≡ kind) c.in_ok-rest.was (c.as_is.ensures.exact kind others)

@@ -1,0 +1,73 @@
+//! Lists of pointers whose values are made when they are asked for.
+ghost use Rattle.std.specs.Prelude.{◌≡◌};
+
+use crate::items::write_items;
+use crate::measured::{checked_part_words, checked_word_count};
+use crate::pointer_list::measure_list;
+use crate::sources::ValueSource;
+use capnp_frame::Result;
+use capnp_wire::list_list::Owned;
+use capnp_wire::pointer_word::list_word;
+use capnp_wire::traits::{Copied, PartWords, SetterInput};
+use std::marker::PhantomData;
+
+/// A list whose elements are pointers, each set to a value that is made when it is asked for
+/// (encoding document, "Lists"), so that no two of the values need be in memory at a time.
+#[derive(Drop)]
+pub struct LazyPointerList<T, S> {
+    /// What makes the values.
+    pub source: S,
+
+    /// The type of the elements in a schema.
+    pub schema: PhantomData<T>,
+}
+
+impl<T, S> LazyPointerList<T, S> {
+    /// A list of pointers that are set to the values of a source.
+    pub fn new(source: S) -> LazyPointerList<T, S>
+        ensures { result.source ≡ source }
+    {
+        LazyPointerList {
+            source,
+            schema: PhantomData,
+        }
+    }
+}
+
+// The trees that the source tells of its values, in order. It fails as a list of these values in
+// memory does.
+impl<T, S: ValueSource<T>> SetterInput<Owned<T>> for LazyPointerList<T, S> {
+    ghost use Rattle.capnp_wire.specs.Tree.{count};
+    ghost use Rattle.capnp_values.specs.Lists.{IsPointerList, RefusesPointerList};
+    ghost use Rattle.std.proofs.Common.{ap};
+
+    ghost has_tree = { λ value trees.
+        IsPointerList (S.has_tree value.source) (S.items value.source) trees };
+
+    ghost refuses = { λ value kind. RefusesPointerList (S.has_tree value.source)
+        (S.refuses value.source) (S.items value.source) kind };
+
+    ghost one = { λ value trees is. ap count is.whole };
+
+    fn measure(&self, canonical: bool) -> Result<u32> {
+        let words = measure_list::<T, S>(&self.source, canonical)?;
+        checked_word_count(words.output, canonical)
+    }
+
+    fn measure_part(&self, canonical: bool) -> Result<PartWords> {
+        let words = measure_list::<T, S>(&self.source, canonical)?;
+        checked_part_words(words)
+    }
+
+    fn is_null(&self) -> bool {
+        false
+    }
+
+    fn write(&self, canonical: bool, block: &mut [u8], following: usize, next: usize) -> Copied {
+        let count = self.source.len();
+        Copied {
+            pointer: list_word((next - following) as u64, 6, count as u64),
+            next: write_items::<T, S>(&self.source, canonical, block, next),
+        }
+    }
+}

@@ -1,0 +1,62 @@
+//! Lists of structs whose elements are made when they are asked for.
+ghost use Rattle.std.specs.Prelude.{◌≡◌};
+
+use crate::element::Element;
+use crate::fields::Fields;
+use crate::measured::{checked_part_words, checked_word_count};
+use crate::sources::StructSource;
+use crate::tagged::{measure_list, write_list};
+use capnp_frame::Result;
+use capnp_wire::struct_list::Owned;
+use capnp_wire::traits::{Copied, PartWords, SetterInput};
+
+/// A list whose elements are structs of one size, each made when it is asked for (encoding
+/// document, "Lists"), so that no two of them need be in memory at a time.
+#[derive(Drop)]
+pub struct LazyStructList<S> {
+    /// What makes the structs.
+    pub source: S,
+}
+
+impl<S> LazyStructList<S> {
+    /// A list of the structs of a source.
+    pub fn new(source: S) -> LazyStructList<S>
+        ensures { result.source ≡ source }
+    {
+        LazyStructList { source }
+    }
+}
+
+// The data words that the source tells of each struct, with the trees of its fields, row by row. It
+// fails as a list of these structs in memory does.
+impl<S: StructSource> SetterInput<Owned> for LazyStructList<S> {
+    ghost use Rattle.capnp_wire.specs.Tree.{count};
+    ghost use Rattle.capnp_values.specs.StructLists.{IsStructList, RefusesStructList};
+    ghost use Rattle.std.proofs.Common.{ap};
+
+    ghost has_tree = { λ value trees. IsStructList (S.words value.source)
+        (S.has_trees value.source) S.Value.data_words S.Value.size (S.items value.source) trees };
+
+    ghost refuses = { λ value kind. RefusesStructList (S.has_trees value.source)
+        (S.refuses value.source) S.Value.data_words S.Value.size (S.items value.source) kind };
+
+    ghost one = { λ value trees is. ap count is.whole };
+
+    fn measure(&self, canonical: bool) -> Result<u32> {
+        let words = measure_list(&self.source, canonical)?;
+        checked_word_count(words.output, canonical)
+    }
+
+    fn measure_part(&self, canonical: bool) -> Result<PartWords> {
+        let words = measure_list(&self.source, canonical)?;
+        checked_part_words(words)
+    }
+
+    fn is_null(&self) -> bool {
+        false
+    }
+
+    fn write(&self, canonical: bool, block: &mut [u8], following: usize, next: usize) -> Copied {
+        write_list(&self.source, canonical, block, following, next)
+    }
+}

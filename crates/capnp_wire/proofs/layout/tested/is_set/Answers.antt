@@ -1,8 +1,0 @@
--- A word that is not there counts as zero.
-use Rattle.capnp_wire.specs.Pointer.{words_of}
-use Rattle.capnp_wire.proofs.forms.TightLemmas.{or_zero}
-use Rattle.std.proofs.Common.{sym}
-use Rattle.capnp_wire.proofs.layout.tested.is_set.Goals as goal
-
-pub returns-in-None : goal.returns-in-None
-returns-in-None c = (λ never. absurd (cc), λ set. absurd (set (or_zero (words_of c.args.segment.now) c.args.index (sym c.in-None.ensures.value))))

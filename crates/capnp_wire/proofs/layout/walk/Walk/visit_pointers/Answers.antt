@@ -1,0 +1,14 @@
+-- A list of pointers is counted against the traversal limit and counted.
+use Rattle.std.proofs.Common.{◌∙◌}
+use Rattle.capnp_wire.proofs.pointers.LocalLemmas.{pointer_list_entered}
+use Rattle.capnp_frame.proofs.AskLemmas.{passed_on}
+use Rattle.capnp_wire.proofs.walks.StopLemmas.{exceeds_stops}
+use Rattle.capnp_wire.proofs.layout.walk.Walk.visit_pointers.Goals as goal
+
+pub returns-in_err-count_traversed-clause-refused : goal.returns-in_err-count_traversed-clause-refused
+returns-in_err-count_traversed-clause-refused c m place nesting is deep =
+    passed_on _ _ c.from_residual.ensures.1 (exceeds_stops m place _ nesting _ _ is.object deep c.in_err-count_traversed.ensures.refused.0 c.in_err-count_traversed.ensures.refused.1)
+
+pub returns-clause-found : goal.returns-clause-found
+returns-clause-found c m canonical place nesting is deep =
+    pointer_list_entered c.args.list.now is deep c.in_ok-count_traversed.ensures.within (c.count.ensures.left ∙ c.in_ok-count_traversed.ensures.left) (rw c.in_ok-count_traversed.ensures.words at c.count.ensures.words)

@@ -1,0 +1,26 @@
+-- A struct is counted against the traversal limit and counted; where its pointers are null, this is all that a walk meets there.
+use Rattle.std.proofs.Common.{◌+◌, ◌∙◌, refl, arith}
+use Rattle.capnp_wire.specs.Pointer.{words_of}
+use Rattle.capnp_wire.proofs.words.WordLemmas.{length-words_of}
+use Rattle.capnp_wire.proofs.pointers.LocalLemmas.{struct_enters}
+use Rattle.capnp_wire.proofs.pointers.NullRunLemmas.{nulls_walked}
+use Rattle.capnp_frame.proofs.AskLemmas.{passed_on}
+use Rattle.capnp_wire.proofs.walks.StopLemmas.{exceeds_stops}
+use Rattle.capnp_wire.proofs.walks.ProgressLemmas.{entered, walk_over}
+use Rattle.capnp_wire.proofs.layout.walk.Walk.visit_struct.Goals as goal
+
+pub returns-in_err-count_traversed-clause-refused : goal.returns-in_err-count_traversed-clause-refused
+returns-in_err-count_traversed-clause-refused c m place nesting is deep =
+    let refused = rw c.words.ensures at c.in_err-count_traversed.ensures.refused in
+    passed_on _ _ c.from_residual.ensures.1 (exceeds_stops m place _ nesting _ _ is.object deep refused.0 refused.1)
+
+pub returns-clause-found : goal.returns-clause-found
+returns-clause-found c m place nesting is deep =
+    let found = c.args.found.now in
+    let enters = struct_enters is deep c.words.ensures c.words-2.ensures c.output.ensures.body c.in_ok-count_traversed.ensures.within (c.count.ensures.left ∙ c.in_ok-count_traversed.ensures.left)
+    (rw c.in_ok-count_traversed.ensures.words at c.count.ensures.words) in (
+      enters,
+      λ alone. walk_over (entered enters) refl
+          (nulls_walked found.start.segment (words_of found.segment.now) (found.start.word + found.size.data_words) found.size.pointers is.content (omega (arith, is.room, length-words_of found.segment.now))
+          (c.holds_nulls.ensures.0 alone)),
+    )

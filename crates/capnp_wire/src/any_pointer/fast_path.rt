@@ -1,0 +1,94 @@
+//! Fast paths to what most pointers lead to.
+ghost use Rattle.std.specs.Prelude.{◌≡◌, ◌<◌, IfSome, Some};
+ghost use Rattle.capnp_wire.specs.Object.{message_of};
+ghost use Rattle.capnp_wire.specs.Landing.{IsObject};
+ghost use Rattle.capnp_wire.specs.Local.{object_of, local_struct_of};
+ghost use Rattle.capnp_wire.specs.Readers.{pointer_of, IsEntered};
+ghost use Rattle.capnp_wire.specs.declared.layout.place.Place.{Place};
+
+use crate::any_pointer::Reader;
+use crate::layout::element::ElementSize;
+use crate::layout::fast_path::{LocalStruct, local_list, local_struct};
+use crate::layout::number_list::NumberList;
+use crate::layout::object::{Body, Object};
+use crate::layout::place::word;
+use crate::read_limiter::traversed;
+use capnp_frame::message::ReaderSegments;
+
+// A view of numbers or of a struct asks here first. `None` doesn't tell what is there: `enter`
+// does.
+// Speed: from `get_as`, `get_pointer`, `get_data_field` and the `get` of lists down to the
+// pointer's word all is inlined, since a reader or a result of more than two words would be passed
+// by memory, and of what is inlined the kind is known (`tools/time-reading`).
+
+impl<'a, S: ReaderSegments> Reader<'a, S> {
+    /// The list of numbers that the pointer leads to without a landing pad, once it is counted
+    /// against the traversal limit.
+    #[inline(always)]
+    pub(crate) fn enter_local_numbers(&self, size: ElementSize) -> Option<Object<'a>>
+        ensures { let pointer = pointer_of S.segments self.now in
+            IfSome result (λ object. IsEntered pointer object) }
+    {
+        let list = self.local_numbers(size)?;
+        let words = list.traversed();
+        match traversed(self.limiter, words) {
+            Ok(()) => Some(Object {
+                segment: list.segment,
+                start: list.start,
+                body: Body::Numbers(list.size, list.count),
+                traversed: words,
+            }),
+            Err(_) => None,
+        }
+    }
+
+    /// The struct that the pointer leads to without a landing pad, once it is counted against the
+    /// traversal limit.
+    #[inline(always)]
+    pub(crate) fn enter_local_struct(&self) -> Option<Object<'a>>
+        ensures { let pointer = pointer_of S.segments self.now in
+            IfSome result (λ object. IsEntered pointer object) }
+    {
+        let found = self.local_fields()?;
+        let words = found.size.words();
+        match traversed(self.limiter, words) {
+            Ok(()) => Some(Object {
+                segment: found.segment,
+                start: found.start,
+                body: Body::Struct(found.size),
+                traversed: words,
+            }),
+            Err(_) => None,
+        }
+    }
+
+    // The list of numbers that the pointer leads to.
+    // Speed: the size is looked at first, so the compiler knows it from there on
+    // (`tools/time-reading`).
+    #[inline(always)]
+    fn local_numbers(&self, size: ElementSize) -> Option<NumberList<'a>>
+        ensures { IfSome result (λ list. (place : Place) × (self.now.place ≡ Some place)
+            × IsObject (message_of (S.segments self.now.segments.now)) place (object_of list)
+            × (0 < self.now.nesting)) }
+    {
+        let place = self.place?;
+        let segment = self.segments.get_segment(place.segment)?;
+        let pointer = word(segment, place.word)?;
+        if pointer / (1 << 32) % 8 != size.code() {
+            return None;
+        }
+        local_list(segment, place, self.nesting)
+    }
+
+    // The struct that the pointer leads to.
+    #[inline(always)]
+    fn local_fields(&self) -> Option<LocalStruct<'a>>
+        ensures { IfSome result (λ found. (place : Place) × (self.now.place ≡ Some place)
+            × IsObject (message_of (S.segments self.now.segments.now)) place (local_struct_of found)
+            × (0 < self.now.nesting)) }
+    {
+        let place = self.place?;
+        let segment = self.segments.get_segment(place.segment)?;
+        local_struct(segment, place, self.nesting)
+    }
+}

@@ -1,0 +1,181 @@
+//! Copies that are begun: the words of an object are in the block, but what its pointers lead to
+//! isn't.
+ghost use Rattle.std.specs.Prelude.{◌≡◌, ◌+◌, ◌-◌, ◌^◌, ◌<◌, ◌≤◌, ◌/◌, Bool, ℕ, List, [], ◌∷◌, length, slice_get, Some, MatchOption};
+ghost use Rattle.capnp_wire.specs.Pointer.{words_of};
+ghost use Rattle.capnp_wire.specs.Object.{message_of};
+ghost use Rattle.capnp_wire.specs.Landing.{IsObject};
+ghost use Rattle.capnp_wire.specs.Local.{object_of, local_struct_of, pointers_of};
+ghost use Rattle.capnp_wire.specs.Copy.{CanCopy, Copies, IsCopyable, BeginsObject, BeginsRun, BeginsStruct};
+ghost use Rattle.capnp_wire.specs.declared.layout.copy.Copied.{Copied};
+
+use crate::layout::block::{BlockItem, put_elements, put_words};
+use crate::layout::body_word::{pointer_word, struct_pointer_word};
+use crate::layout::copy::Copied;
+use crate::layout::data_words::put_data_words;
+use crate::layout::fast_path::LocalStruct;
+use crate::layout::number_list::NumberList;
+use crate::layout::object::{Body, Object, object_there};
+use crate::layout::output_size::output_body;
+use crate::layout::place::Place;
+use crate::layout::pointer_run::PointerRun;
+use crate::pointer_word::list_word;
+use capnp_frame::message::ReaderSegments;
+
+/// An object whose copy is begun, the body of the copy, and the pointer to it.
+#[derive(Drop)]
+pub(crate) struct PendingCopy<'a> {
+    pub object: Object<'a>,
+    pub body: Body,
+    pub pointer: u64,
+}
+
+/// The copy of a struct: whole, or begun.
+#[derive(Clone, Copy)]
+pub(crate) enum StructCopy {
+    Whole(Copied),
+    Pending(PendingPointers),
+}
+
+/// The pointer to a copy, and what is left to copy: this many pointers, one after the other, as
+/// their slots are. What they lead to goes from the word `next` on.
+#[derive(Clone, Copy)]
+pub(crate) struct PendingPointers {
+    pub pointer: u64,
+    pub first: Place,
+    pub count: u32,
+    pub slot: usize,
+    pub next: usize,
+}
+
+/// Begins the copy of the object that the pointer at a place of this segment leads to, at the word
+/// `next` of a block; `None` for null. The pointer to the copy is the word before `following`.
+#[inline(always)]
+pub(crate) fn begin<'a, S: ReaderSegments, T: BlockItem>(
+    segments: &'a S,
+    segment: &'a [u8],
+    place: Place,
+    nesting: u32,
+    canonical: bool,
+    block: &mut [T],
+    following: usize,
+    next: usize,
+) -> Option<PendingCopy<'a>>
+    requires there { CanCopy (message_of (S.segments segments.now)) (place ∷ []) nesting canonical
+        next (length (T.as_words block.old)) }
+    requires content { slice_get (message_of (S.segments segments.now)) place.segment
+        ≡ Some (words_of segment.now) }
+    requires following { following ≤ next }
+    requires small { length (T.as_words block.old) < 2 ^ 29 }
+    ensures begun { let m = message_of (S.segments segments.now) in
+        let gap = next - following in
+        let nothing : Copied = record { pointer = 0; next = next } in
+        MatchOption result
+        (Copies m place canonical gap next (T.as_words block.old) (T.as_words block.new) nothing)
+        (λ begun. BeginsObject m place nesting canonical gap next
+        (T.as_words block.old) (T.as_words block.new) begun) }
+    ensures len { length (T.as_words block.new) ≡ length (T.as_words block.old) }
+{
+    let Some(object) = object_there(segments, segment, place, nesting) else {
+        return None;
+    };
+    let body = output_body(&object, canonical);
+    put_data_words(&object, body, block, next);
+    let pointer = pointer_word(body, (next - following) as u64);
+    Some(PendingCopy {
+        object,
+        body,
+        pointer,
+    })
+}
+
+/// Begins the copy of a struct in the same way. It is whole where all pointers that it keeps are
+/// null.
+#[inline(always)]
+pub(crate) fn begin_struct<T: BlockItem>(
+    found: &LocalStruct<'_>,
+    canonical: bool,
+    block: &mut [T],
+    following: usize,
+    next: usize,
+) -> StructCopy
+    requires there { IsCopyable (local_struct_of found.now) canonical
+        next (length (T.as_words block.old)) }
+    requires following { following ≤ next }
+    requires small { length (T.as_words block.old) < 2 ^ 29 }
+    ensures begun { (m : List (List ℕ)) (place : Place) (nesting : ℕ) →
+        CanCopy m (place ∷ []) nesting canonical next (length (T.as_words block.old)) →
+        IsObject m place (local_struct_of found.now) →
+        BeginsStruct m place (words_of found.now.segment.now) nesting canonical
+        (next - following) next (T.as_words block.old) (T.as_words block.new) result }
+    ensures len { length (T.as_words block.new) ≡ length (T.as_words block.old) }
+{
+    let size = found.output(canonical);
+    let words = size.words() as usize;
+    let pointer = struct_pointer_word(size, (next - following) as u64);
+    if found.holds_nulls(size.pointers) {
+        put_words(block, next, found.segment, found.start.word, words);
+        return StructCopy::Whole(Copied {
+            pointer,
+            next: next + words,
+        });
+    }
+    let data_words = size.data_words as usize;
+    put_words(block, next, found.segment, found.start.word, data_words);
+    StructCopy::Pending(PendingPointers {
+        pointer,
+        first: found.first_pointer(),
+        count: size.pointers as u32,
+        slot: next + data_words,
+        next: next + words,
+    })
+}
+
+/// Copies a list of numbers, which holds no pointers, in the same way.
+#[inline(always)]
+pub(crate) fn copy_list<T: BlockItem>(
+    list: &NumberList<'_>,
+    block: &mut [T],
+    following: usize,
+    next: usize,
+) -> Copied
+    requires there { (canonical : Bool)
+        × IsCopyable (object_of list.now) canonical next (length (T.as_words block.old)) }
+    requires following { following ≤ next }
+    requires small { length (T.as_words block.old) < 2 ^ 29 }
+    ensures copied { (m : List (List ℕ)) (place : Place) (nesting : ℕ) (canonical : Bool) →
+        CanCopy m (place ∷ []) nesting canonical next (length (T.as_words block.old)) →
+        IsObject m place (object_of list.now) → Copies m place canonical
+        (next - following) next (T.as_words block.old) (T.as_words block.new) result }
+    ensures len { length (T.as_words block.new) ≡ length (T.as_words block.old) }
+{
+    put_elements(block, next, list);
+    Copied {
+        pointer: list_word(
+            (next - following) as u64,
+            list.size.code(),
+            list.count as u64,
+        ),
+        next: next + list.words() as usize,
+    }
+}
+
+/// Begins the copy of a list of pointers, which has no other words.
+#[inline(always)]
+pub(crate) fn begin_list(list: &PointerRun<'_>, following: usize, next: usize) -> PendingPointers
+    requires there { (canonical : Bool) × (room : ℕ) × (room < 2 ^ 29)
+        × IsCopyable (pointers_of list.now) canonical next room }
+    requires following { following ≤ next }
+    ensures { (m : List (List ℕ)) (place : Place) (nesting : ℕ) (canonical : Bool) (old : List ℕ) →
+        CanCopy m (place ∷ []) nesting canonical next (length old) →
+        IsObject m place (pointers_of list.now) →
+        BeginsRun m place (words_of list.now.segment.now) nesting canonical
+        (next - following) next old old result }
+{
+    PendingPointers {
+        pointer: list_word((next - following) as u64, 6, list.count as u64),
+        first: list.first,
+        count: list.count,
+        slot: next,
+        next: next + list.count as usize,
+    }
+}

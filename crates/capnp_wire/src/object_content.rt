@@ -1,0 +1,93 @@
+//! What views read of the objects that they enter.
+ghost use Rattle.std.specs.Prelude.{◌≡◌, ◌+◌, ◌*◌, ◌/◌, ◌≤◌, length, MatchResult};
+ghost use Rattle.capnp_frame.specs.declared.error.ErrorKind.{ErrorKind};
+ghost use Rattle.capnp_wire.specs.Pointer.{words_of};
+ghost use Rattle.capnp_wire.specs.Object.{elements};
+ghost use Rattle.capnp_wire.specs.Element.{code_of, width, words_for};
+ghost use Rattle.capnp_wire.specs.Tree.{numbers};
+ghost use Rattle.capnp_wire.specs.Landing.{room_of};
+ghost use Rattle.capnp_wire.specs.Readers.{form_of};
+ghost use Rattle.capnp_wire.specs.Views.{DeclinesNumbers};
+
+use crate::layout::element::ElementSize;
+use crate::layout::object::Object;
+use capnp_frame::{Error, ErrorKind, Result};
+
+/// The error for an object that is of another kind than was asked for: `WrongPointerKind`.
+pub(crate) fn wrong_kind() -> Error
+    ensures { result.kind ≡ ErrorKind.WrongPointerKind }
+{
+    Error::from_kind(ErrorKind::WrongPointerKind)
+}
+
+/// Returns its argument.
+/// Speed: a value that is put together anew keeps the fast path's result in registers, where the
+/// one that `enter` returns by memory would not (`tools/time-reading`).
+#[inline(always)]
+pub(crate) fn by_value<T>(entered: Result<T>) -> Result<T>
+    ensures { result ≡ entered }
+{
+    match entered {
+        Ok(view) => Ok(view),
+        Err(error) => Err(error),
+    }
+}
+
+impl<'a> Object<'a> {
+    /// The bytes of a list of bytes.
+    pub(crate) fn bytes(&self) -> Result<&'a [u8]>
+        requires { self.now.start.word + room_of self.now.body ≤ length self.now.segment.now / 8 }
+        ensures { MatchResult result (λ bytes. form_of self.now ≡ numbers 2 bytes.now)
+            (λ error. DeclinesNumbers 2 (form_of self.now) error.kind) }
+    {
+        match self.body.count_of(ElementSize::Byte) {
+            Some(count) => Ok(bytes_at(self.segment, self.start.word, count)),
+            None => Err(wrong_kind()),
+        }
+    }
+
+    /// The elements of a list of numbers of a size, by its words.
+    pub(crate) fn numbers(&self, size: ElementSize) -> Result<EnteredNumbers<'a>>
+        requires { self.now.start.word + room_of self.now.body ≤ length self.now.segment.now / 8 }
+        ensures { let code = code_of size in MatchResult result
+            (λ list. (form_of self.now
+            ≡ numbers code (elements (words_of list.bytes.now) 0 code list.count))
+            × (length list.bytes.now ≡ 8 * words_for list.count (width code)))
+            (λ error. DeclinesNumbers code (form_of self.now) error.kind) }
+    {
+        match self.body.count_of(size) {
+            Some(count) => Ok(EnteredNumbers {
+                bytes: words_at(self.segment, self.start.word, size, count),
+                count,
+            }),
+            None => Err(wrong_kind()),
+        }
+    }
+}
+
+/// The words of a list of numbers that was entered, and how many numbers they are.
+#[derive(Drop)]
+pub(crate) struct EnteredNumbers<'a> {
+    pub bytes: &'a [u8],
+    pub count: u32,
+}
+
+// This many bytes, from a word of a segment on.
+fn bytes_at(segment: &[u8], start: usize, count: u32) -> &[u8]
+    requires { start + words_for count 8 ≤ length segment.now / 8 }
+    ensures { result.now ≡ elements (words_of segment.now) start 2 count }
+{
+    let begin = 8 * start;
+    &segment[begin..begin + count as usize]
+}
+
+/// The bytes of the words of a list of numbers, which begins at a word of a segment.
+pub(crate) fn words_at(segment: &[u8], start: usize, size: ElementSize, count: u32) -> &[u8]
+    requires { start + words_for count (width (code_of size)) ≤ length segment.now / 8 }
+    ensures elements { elements (words_of result.now) 0 (code_of size) count
+        ≡ elements (words_of segment.now) start (code_of size) count }
+    ensures len { length result.now ≡ 8 * words_for count (width (code_of size)) }
+{
+    let begin = 8 * start;
+    &segment[begin..begin + 8 * size.words_of_list(count) as usize]
+}
