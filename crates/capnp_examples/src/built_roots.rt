@@ -2,8 +2,8 @@
 use crate::fixtures::{expect, roomy_message};
 use capnp::Result;
 use capnp::message::{Allocator, Builder, HeapAllocator, SingleSegmentAllocator};
-use capnp_rows::messages::has_segments;
-use capnp_rows::refusals::numbered;
+use capnp_frame_tests::messages::has_segments;
+use capnp_frame_tests::refusals::numbered;
 use capnp_uses::building::{
     a_struct_is_read_back, data_is_read_back, null_is_read_back, numbers_are_read_back,
     text_is_read_back, write_data, write_null, write_numbers, write_struct, write_text,

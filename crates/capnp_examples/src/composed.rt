@@ -5,7 +5,7 @@ use capnp::any_struct::StructReader;
 use capnp::message::{Builder, Reader, ReaderOptions};
 use capnp::serialize::OwnedSegments;
 use capnp::streams::Format;
-use capnp_rows::messages::has_segments;
+use capnp_frame_tests::messages::has_segments;
 use capnp_uses::values::{contact_is_read_back, person_is_read_back, phone};
 
 // A number, pointers to a text and to a struct of no data words, and what these lead to.

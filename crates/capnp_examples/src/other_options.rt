@@ -5,7 +5,7 @@ use crate::fixtures::{expect, limited};
 use capnp::Result;
 use capnp::message::{DEFAULT_READER_OPTIONS, ReaderOptions, SegmentArray};
 use capnp::streams::Format;
-use capnp_rows::refusals::{numbered, refusal};
+use capnp_frame_tests::refusals::{numbered, refusal};
 use capnp_uses::canonical::canonical_words;
 use capnp_uses::packed_struct::read_packed_words;
 use capnp_uses::packing::{pack_words, unpack_words, words_are_unpacked};

@@ -3,8 +3,8 @@
 use crate::fixtures::{Message, expect, message_of, roomy_message};
 use capnp::message::{Allocator, Builder, HeapAllocator, ReaderOptions};
 use capnp::{Result, text};
-use capnp_rows::messages::has_segments;
-use capnp_rows::refusals::refusal;
+use capnp_frame_tests::messages::has_segments;
+use capnp_frame_tests::refusals::refusal;
 use capnp_uses::regions::{region_comes_home, set_in_region};
 use capnp_uses::roots::{copy_root, set_text_is_read_back};
 

@@ -2,8 +2,8 @@
 use crate::fixtures::{Message, Source, expect, message_of, roomy_message};
 use capnp::Result;
 use capnp::message::{Builder, HeapAllocator, ReaderOptions};
-use capnp_rows::messages::has_segments;
-use capnp_rows::refusals::refusal;
+use capnp_frame_tests::messages::has_segments;
+use capnp_frame_tests::refusals::refusal;
 use capnp_uses::setting::{set_canonical, set_tree, set_tree_and_word};
 use std::alloc::Global;
 use std::process::Abort;

@@ -4,7 +4,7 @@ use crate::fixtures::{
 };
 use capnp::message::Builder;
 use capnp::{Result, text};
-use capnp_rows::refusals::refusal;
+use capnp_frame_tests::refusals::refusal;
 use std::alloc::Global;
 
 #[derive(Clone, Copy, Debug)]

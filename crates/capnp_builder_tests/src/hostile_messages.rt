@@ -1,0 +1,168 @@
+//! Canonical words of hostile messages, and new messages whose root is set to theirs.
+use crate::building::expect_segments;
+use crate::fixtures::expect;
+use capnp_build::allocator::Allocator;
+use capnp_frame::message::{ReaderSegments, SegmentArray};
+use capnp_frame::{ErrorKind, Result};
+use capnp_frame_tests::limits::{DEFAULT_LIMIT, NO_LIMIT};
+use capnp_frame_tests::messages::has_segments;
+use capnp_frame_tests::retried;
+use capnp_message::{Builder, HeapAllocator};
+use capnp_object_tests::messages::{Source, canonical_bytes_of, reader_of};
+use capnp_object_tests::trees::{chain, doublings, shared_lists, trimmed_chain};
+use capnp_wire::any_pointer;
+use std::process::Abort;
+
+// The kind of an error. One for want of memory is handed back.
+fn refusal<T: Drop>(returned: Result<T>) -> Result<Option<ErrorKind>> {
+    match returned {
+        Ok(_) => Ok(None),
+        Err(error) if error.kind == ErrorKind::OutOfMemory => Err(error),
+        Err(error) => Ok(Some(error.kind)),
+    }
+}
+
+/// Makes the root of one message that of another.
+pub fn set<A: Allocator>(message: &mut Builder<A>, reader: &Source<'_>) -> Result<()> {
+    let root: any_pointer::Reader<'_, SegmentArray<'_>> = reader.get_root()?;
+    message.set_root::<any_pointer::Owned, any_pointer::Reader<'_, SegmentArray<'_>>>(root)
+}
+
+/// The same in canonical form.
+pub fn set_canonical<A: Allocator>(message: &mut Builder<A>, reader: &Source<'_>) -> Result<()> {
+    let root: any_pointer::Reader<'_, SegmentArray<'_>> = reader.get_root()?;
+    message.set_root_canonical::<any_pointer::Owned, any_pointer::Reader<'_, SegmentArray<'_>>>(
+        root,
+    )
+}
+
+/// Whether the one word of the message is a null root; where there was no root to set, there is none.
+pub fn is_null<A: Allocator>(message: &Builder<A>) -> bool {
+    message.is_empty() || message.size_in_words() == 1 && has_segments(message, &[&[0; 8]])
+}
+
+// Messages that are rejected: by `canonicalize`, by `set_root`, and by `set_root_canonical`.
+fn refuse(
+    rt: &(impl Abort + AllocGlobal),
+    segments: &[&[u8]],
+    limit: Option<usize>,
+    [canonical, as_it_stands, in_canonical_form]: [ErrorKind; 3],
+) -> Result<()> {
+    let alloc = rt.alloc();
+    let reader = reader_of(segments, limit);
+    let found = refusal(reader.canonicalize(alloc))?;
+    expect(rt, segments, found, Some(canonical));
+    let mut message: Builder<HeapAllocator> = Builder::new_default(alloc);
+    let found = refusal(set(&mut message, &reader))?;
+    expect(rt, segments, found, Some(as_it_stands));
+    assert!(rt; is_null(&message));
+    let found = refusal(set_canonical(&mut message, &reader))?;
+    expect(rt, segments, found, Some(in_canonical_form));
+    assert!(rt; is_null(&message));
+    Ok(())
+}
+
+const LIMITED: ErrorKind = ErrorKind::ReadLimitExceeded;
+
+const DEEP: ErrorKind = ErrorKind::NestingLimitExceeded;
+
+const TOO_LARGE: ErrorKind = ErrorKind::CanonicalTooLarge;
+
+// Rejected roots, each by one kind in all three calls.
+#[rattlefmt::skip]
+const ROOTS: [(&[&[u8]], ErrorKind); 10] = [
+    (&[], ErrorKind::InvalidSegmentId(0)),
+    (&[b""], ErrorKind::PointerOutOfBounds),
+    (&[b"\x04\0\0\0\0\0\0\0"], ErrorKind::PointerOutOfBounds),
+    (&[b"\x03\0\0\0\0\0\0\0"], ErrorKind::CapabilityRefused),
+    (&[b"\x02\0\0\0\x07\0\0\0"], ErrorKind::InvalidSegmentId(7)),
+    // Landing pads that lead to landing pads.
+    (&[b"\x02\0\0\0\x01\0\0\0", b"\x02\0\0\0\0\0\0\0"], ErrorKind::PointerOutOfBounds),
+    (&[b"\x06\0\0\0\x01\0\0\0", b"\x06\0\0\0\0\0\0\0\x01\0\0\0\0\0\0\0"], ErrorKind::PointerOutOfBounds),
+    // A struct that holds itself.
+    (&[b"\0\0\0\0\0\0\x01\0\xfc\xff\xff\xff\0\0\x01\0"], DEEP),
+    // 536,870,911 nothings, and 16,777,216 empty structs.
+    (&[b"\x01\0\0\0\xf8\xff\xff\xff"], LIMITED),
+    (&[b"\x01\0\0\0\x07\0\0\0\0\0\0\x04\0\0\0\0"], LIMITED),
+];
+
+#[test]
+fn refused_roots(rt: HostRuntime) -> Result<()> {
+    for (segments, kind) in &ROOTS {
+        retried!(refuse(&rt, segments, DEFAULT_LIMIT, [*kind; 3]))?;
+    }
+    Ok(())
+}
+
+const NOTHINGS: &[u8] = b"\x01\0\0\0\xf8\xff\xff\xff";
+
+const EMPTY_STRUCTS: &[u8] = b"\x01\0\0\0\x07\0\0\0\0\0\0\x04\0\0\0\0";
+
+// Without a limit both lists are canonical, and are their own canonical words.
+#[test]
+fn many_elements_of_no_words(rt: HostRuntime) -> Result<()> {
+    retried!(make_list(&rt, NOTHINGS))?;
+    retried!(make_list(&rt, EMPTY_STRUCTS))
+}
+
+fn make_list(rt: &(impl Abort + AllocGlobal), bytes: &[u8]) -> Result<()> {
+    let segments = [bytes];
+    let reader = reader_of(&segments, NO_LIMIT);
+    assert!(rt; reader.is_canonical()?);
+    let words = canonical_bytes_of(rt.alloc(), &reader)?;
+    expect(rt, "canonical words", words.as_slice(), bytes);
+    let mut message: Builder<HeapAllocator> = Builder::new_default(rt.alloc());
+    set(&mut message, &reader)?;
+    expect_segments(rt, "as it stands", &message, &segments);
+    Ok(())
+}
+
+// 64 structs, each in the one before, are as deep as the nesting limit: the last of them, which is
+// empty when it is trimmed, needs none for its null pointer. One more is too deep.
+#[test]
+fn chains_of_structs(rt: HostRuntime) -> Result<()> {
+    retried!(follow_chains(&rt))
+}
+
+fn follow_chains(rt: &(impl Abort + AllocGlobal)) -> Result<()> {
+    let alloc = rt.alloc();
+    let bytes = chain(alloc, 64)?;
+    let segments = [bytes.as_slice()];
+    let reader = reader_of(&segments, DEFAULT_LIMIT);
+    let words = canonical_bytes_of(alloc, &reader)?;
+    let wanted = trimmed_chain(alloc)?;
+    expect(rt, "canonical words", words.as_slice(), wanted.as_slice());
+    assert!(rt; !reader.is_canonical()?);
+    let bytes = chain(alloc, 65)?;
+    refuse(rt, &[bytes.as_slice()], DEFAULT_LIMIT, [DEEP; 3])
+}
+
+// A tree of 2^40 - 1 structs in 81 words ends at the limit. At the default one, of 8,388,608 words, it
+// does in a fraction of a second (tools/fuzz), but takes a minute in a build with checks: there each
+// struct has 256 words.
+#[test]
+fn doublings_end_at_the_limit(rt: HostRuntime) -> Result<()> {
+    retried!(refuse_doublings(&rt))
+}
+
+fn refuse_doublings(rt: &(impl Abort + AllocGlobal)) -> Result<()> {
+    let bytes = doublings(rt.alloc(), 0)?;
+    refuse(rt, &[bytes.as_slice()], Some(1 << 16), [LIMITED; 3])?;
+    let bytes = doublings(rt.alloc(), 254)?;
+    refuse(rt, &[bytes.as_slice()], DEFAULT_LIMIT, [LIMITED; 3])
+}
+
+// 65,536 pointers to one list: 536,936,448 words as a tree, more than a builder or a canonical form
+// has.
+#[test]
+fn shared_lists_are_too_large(rt: HostRuntime) -> Result<()> {
+    retried!(refuse_shared_lists(&rt))
+}
+
+fn refuse_shared_lists(rt: &(impl Abort + AllocGlobal)) -> Result<()> {
+    let bytes = shared_lists(rt.alloc())?;
+    let segments = [bytes.as_slice()];
+    let too_large = ErrorKind::AllocationTooLarge(536936448);
+    refuse(rt, &segments, NO_LIMIT, [TOO_LARGE, too_large, TOO_LARGE])?;
+    refuse(rt, &segments, DEFAULT_LIMIT, [LIMITED; 3])
+}

@@ -1,0 +1,231 @@
+//! Composed values that are set at the root of a message, by bytes worked from the encoding document,
+//! "Structs", "Lists" and "Canonicalization".
+use crate::building::{expect_segments, far_message};
+use crate::fixtures::expect;
+use capnp_build::allocator::Allocator;
+use capnp_frame::message::ReaderSegments;
+use capnp_frame::{ErrorKind, Result};
+use capnp_frame_tests::retried;
+use capnp_message::{Builder, HeapAllocator, ScratchSpaceHeapAllocator, SingleSegmentAllocator};
+use capnp_object_tests::arenas::Walked;
+use capnp_values::{Borrowed, Field, NoFields, Null, PointerList, StructValue};
+use capnp_wire::traits::SetterInput;
+use capnp_wire::{any_struct, data, text, text_list};
+use std::process::Abort;
+
+// A number and a name: the root's pointer, the number, the pointer to four bytes, and these.
+const NAMED: &[u8] = b"\0\0\0\0\x01\0\x01\0\x07\0\0\0\0\0\0\0\x01\0\0\0\x22\0\0\0Ann\0\0\0\0\0";
+
+// A number, and pointers to such a struct, to nothing and to a text: the first leads over the two after
+// it, the last over the struct with its name.
+#[rattlefmt::skip]
+const NESTED: &[u8] = b"\0\0\0\0\x01\0\x03\0\x09\0\0\0\0\0\0\0\
+    \x08\0\0\0\x01\0\x01\0\0\0\0\0\0\0\0\0\x0d\0\0\0\x1a\0\0\0\
+    \x07\0\0\0\0\0\0\0\x01\0\0\0\x22\0\0\0Ann\0\0\0\0\0Bo\0\0\0\0\0\0";
+
+// Two data words and pointers to a struct of a zero and a null, to a text and to nothing.
+#[rattlefmt::skip]
+const LOOSE: &[u8] = b"\0\0\0\0\x02\0\x03\0\x07\0\0\0\0\0\0\0\0\0\0\0\0\0\0\0\
+    \x08\0\0\0\x01\0\x01\0\x0d\0\0\0\x22\0\0\0\0\0\0\0\0\0\0\0\
+    \0\0\0\0\0\0\0\0\0\0\0\0\0\0\0\0Ann\0\0\0\0\0";
+
+// The same in canonical form: a data word and two pointers, the first to an empty struct.
+#[rattlefmt::skip]
+const TIGHT: &[u8] = b"\0\0\0\0\x01\0\x02\0\x07\0\0\0\0\0\0\0\
+    \xfc\xff\xff\xff\0\0\0\0\x01\0\0\0\x22\0\0\0Ann\0\0\0\0\0";
+
+/// A list of three pointers, each over those after it and the texts before its own: of four bytes, of
+/// the zero byte alone, and of three.
+#[rattlefmt::skip]
+pub(crate) const NAMES: &[u8] = b"\x01\0\0\0\x1e\0\0\0\
+    \x09\0\0\0\x22\0\0\0\x09\0\0\0\x0a\0\0\0\x09\0\0\0\x1a\0\0\0\
+    Ann\0\0\0\0\0\0\0\0\0\0\0\0\0Bo\0\0\0\0\0\0";
+
+/// A struct of a number and of a list of two texts.
+#[rattlefmt::skip]
+pub(crate) const GROUP: &[u8] = b"\0\0\0\0\x01\0\x01\0\x07\0\0\0\0\0\0\0\x01\0\0\0\x16\0\0\0\
+    \x05\0\0\0\x22\0\0\0\x05\0\0\0\x1a\0\0\0Ann\0\0\0\0\0Bo\0\0\0\0\0\0";
+
+// A list of two null pointers, which canonical form keeps, and one of none.
+const NULLS: &[u8] = b"\x01\0\0\0\x16\0\0\0\0\0\0\0\0\0\0\0\0\0\0\0\0\0\0\0";
+
+pub(crate) const NO_POINTERS: &[u8] = b"\x01\0\0\0\x06\0\0\0";
+
+const EMPTY: &[u8] = b"\xfc\xff\xff\xff\0\0\0\0";
+
+const NULL: &[u8] = b"\0\0\0\0\0\0\0\0";
+
+type Named<'a> = StructValue<1, Field<text::Owned, &'a str, NoFields>>;
+
+type AfterInner<'a> = Field<data::Owned, Null, Field<text::Owned, &'a str, NoFields>>;
+
+type Nested<'a> = StructValue<1, Field<any_struct::Owned, Named<'a>, AfterInner<'a>>>;
+
+type Hollow = StructValue<1, Field<text::Owned, Null, NoFields>>;
+
+type AfterHollow<'a> = Field<text::Owned, &'a str, Field<data::Owned, Null, NoFields>>;
+
+type Loose<'a> = StructValue<2, Field<any_struct::Owned, Hollow, AfterHollow<'a>>>;
+
+type Texts<'a> = PointerList<'a, text::Owned, &'a str>;
+
+type Group<'a> = StructValue<1, Field<text_list::Owned, Texts<'a>, NoFields>>;
+
+fn named<'a>(number: u64, name: &'a str) -> Named<'a> {
+    StructValue::new([number], Field::new(name, NoFields))
+}
+
+fn nested<'a>() -> Nested<'a> {
+    let after = Field::new(Null, Field::new("Bo", NoFields));
+    StructValue::new([9], Field::new(named(7, "Ann"), after))
+}
+
+fn loose<'a>() -> Loose<'a> {
+    let hollow = StructValue::new([0], Field::new(Null, NoFields));
+    let after = Field::new("Ann", Field::new(Null, NoFields));
+    StructValue::new([7, 0], Field::new(hollow, after))
+}
+
+// Sets the root, and compares the segment where the value is.
+fn compare<T, V: SetterInput<T>, A: Allocator>(
+    rt: &impl Abort,
+    message: &mut Builder<A>,
+    value: &V,
+    segment: u32,
+    expected: &[u8],
+) -> Result<()> {
+    retried!(set::<T, V, A>(message, value))?;
+    expect(rt, segment, message.get_segment(segment), Some(expected));
+    Ok(())
+}
+
+fn set<T, V: SetterInput<T>, A: Allocator>(message: &mut Builder<A>, value: &V) -> Result<()> {
+    message.set_root::<T, Borrowed<'_, V>>(Borrowed::new(value))
+}
+
+/// The same by each allocator.
+pub(crate) fn compare_by_each<T, V: SetterInput<T>>(
+    rt: &(impl Abort + AllocGlobal),
+    value: &V,
+    expected: &[u8],
+) -> Result<()> {
+    compare_in_heaps::<T, V>(rt, value, expected)?;
+    compare_in_regions::<T, V>(rt, value, expected)
+}
+
+// A heap whose first segment has the root alone has the value in the next one, after a landing pad that
+// is as the root's pointer would be.
+fn compare_in_heaps<T, V: SetterInput<T>>(
+    rt: &(impl Abort + AllocGlobal),
+    value: &V,
+    expected: &[u8],
+) -> Result<()> {
+    let mut message = Builder::new_default(rt.alloc());
+    compare::<T, V, HeapAllocator>(rt, &mut message, value, 0, expected)?;
+    let mut message = far_message(rt.alloc());
+    let near = expected.len() == 8;
+    let segment = if near { 0 } else { 1 };
+    compare::<T, V, HeapAllocator>(rt, &mut message, value, segment, expected)
+}
+
+fn compare_in_regions<T, V: SetterInput<T>>(
+    rt: &(impl Abort + AllocGlobal),
+    value: &V,
+    expected: &[u8],
+) -> Result<()> {
+    let mut region = [7; 96];
+    let mut single = SingleSegmentAllocator::new(&mut region);
+    let mut message = Builder::new(rt.alloc(), &mut single);
+    compare::<T, V, _>(rt, &mut message, value, 0, expected)?;
+    drop(message);
+    drop(single);
+    let mut scratch = ScratchSpaceHeapAllocator::new(rt.alloc(), &mut region);
+    let mut message = Builder::new(rt.alloc(), &mut scratch);
+    compare::<T, V, _>(rt, &mut message, value, 0, expected)
+}
+
+#[test]
+fn values_stand_at_the_root(rt: HostRuntime) -> Result<()> {
+    compare_by_each::<any_struct::Owned, Named<'_>>(&rt, &named(7, "Ann"), NAMED)?;
+    compare_by_each::<any_struct::Owned, Nested<'_>>(&rt, &nested(), NESTED)?;
+    compare_by_each::<any_struct::Owned, Loose<'_>>(&rt, &loose(), LOOSE)?;
+    let empty = StructValue::new([], NoFields);
+    compare_by_each::<any_struct::Owned, StructValue<0, NoFields>>(&rt, &empty, EMPTY)?;
+    compare_by_each::<text::Owned, Null>(&rt, &Null, NULL)
+}
+
+#[test]
+fn lists_of_pointers_stand_at_the_root(rt: HostRuntime) -> Result<()> {
+    let names = ["Ann", "", "Bo"];
+    let list = PointerList::new(&names);
+    compare_by_each::<text_list::Owned, Texts<'_>>(&rt, &list, NAMES)?;
+    let two = ["Ann", "Bo"];
+    let group = StructValue::new([7], Field::new(PointerList::new(&two), NoFields));
+    compare_by_each::<any_struct::Owned, Group<'_>>(&rt, &group, GROUP)?;
+    compare_canonical::<any_struct::Owned, Group<'_>>(&rt, &group, GROUP)
+}
+
+#[test]
+fn lists_of_nulls_stand_at_the_root(rt: HostRuntime) -> Result<()> {
+    let nulls = [Null, Null];
+    let list = PointerList::new(&nulls);
+    compare_canonical::<text_list::Owned, PointerList<'_, text::Owned, Null>>(&rt, &list, NULLS)?;
+    let none = PointerList::new(&nulls[..0]);
+    compare_by_each::<text_list::Owned, PointerList<'_, text::Owned, Null>>(&rt, &none, NO_POINTERS)
+}
+
+// Makes a value the root in canonical form, and compares the one segment.
+pub(crate) fn compare_canonical<T, V: SetterInput<T>>(
+    rt: &(impl Abort + AllocGlobal),
+    value: &V,
+    expected: &[u8],
+) -> Result<()> {
+    let mut message = Builder::new_default(rt.alloc());
+    retried!(set_canonical::<T, V>(&mut message, value))?;
+    expect_segments(rt, "canonical form", &message, &[expected]);
+    Ok(())
+}
+
+fn set_canonical<T, V: SetterInput<T>>(
+    message: &mut Builder<HeapAllocator>,
+    value: &V,
+) -> Result<()> {
+    message.set_root_canonical::<T, Borrowed<'_, V>>(Borrowed::new(value))
+}
+
+#[test]
+fn canonical_forms_are_trimmed(rt: HostRuntime) -> Result<()> {
+    compare_canonical::<any_struct::Owned, Loose<'_>>(&rt, &loose(), TIGHT)?;
+    compare_canonical::<any_struct::Owned, Nested<'_>>(&rt, &nested(), NESTED)?;
+    let zeros = StructValue::new([0, 0], Field::new(Null, NoFields));
+    compare_canonical::<any_struct::Owned, StructValue<2, Field<text::Owned, Null, NoFields>>>(
+        &rt, &zeros, EMPTY,
+    )
+}
+
+/// The words that are measured, or why there are none.
+pub(crate) fn measured<T, V: SetterInput<T>>(value: &V, canonical: bool) -> Walked<u32> {
+    match value.measure(canonical) {
+        Ok(words) => Ok(words),
+        Err(error) => Err(error.kind),
+    }
+}
+
+/// What is told of a struct of more data words than a pointer can tell.
+pub(crate) fn expect_too_large<T, V: SetterInput<T>>(rt: &impl Abort, value: &V) {
+    let refused = Err(ErrorKind::AllocationTooLarge(65536));
+    expect(rt, "65,536 words", measured::<T, V>(value, true), refused);
+}
+
+// A pointer can tell 65,535 data words.
+#[test]
+fn too_many_words_are_refused(rt: HostRuntime) {
+    let most: StructValue<65535, NoFields> = StructValue::new([0; 65535], NoFields);
+    let found = [
+        measured::<any_struct::Owned, StructValue<65535, NoFields>>(&most, false),
+        measured::<any_struct::Owned, StructValue<65535, NoFields>>(&most, true),
+    ];
+    expect(&rt, "65,535 words", found, [Ok(65535), Ok(0)]);
+    let more: StructValue<65536, NoFields> = StructValue::new([0; 65536], NoFields);
+    expect_too_large::<any_struct::Owned, StructValue<65536, NoFields>>(&rt, &more);
+}

@@ -1,0 +1,7 @@
+-- What is consumed is the front of what was unread.
+use Rattle.std.proofs.Common.{rules, take, le_refl}
+use Rattle.std.proofs.lemmas.Grind.{common_steps}
+use Rattle.capnp_frame_tests.proofs.sources.TrickleBufRead.consume.Goals as goal
+
+pub returns-clause-advances : goal.returns-clause-advances
+returns-clause-advances c = record { tail = (take c.args.amount c.args.self.now.bytes.now, search (rules, common_steps)); counted = le_refl 0; same_source = tt }

@@ -1,0 +1,15 @@
+//! Worked rows over objects that are read: hostile pointers, and the calls of views; and what the tests
+//! of builders share with them. It holds tests by the rules of `capnp_frame_tests`.
+#![tactic(auto)]
+
+pub mod arenas;
+#[cfg(test)]
+mod calls;
+#[cfg(test)]
+mod fixtures;
+#[cfg(test)]
+mod hostile;
+pub mod messages;
+#[cfg(test)]
+mod roots;
+pub mod trees;

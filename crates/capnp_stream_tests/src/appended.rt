@@ -1,0 +1,226 @@
+//! Messages that are written one after the other and read back.
+use crate::assertions::{At, assert_bytes, assert_calls, assert_count, assert_holds, assert_kind};
+use crate::faults::FORMATS;
+use crate::framed_rows::{FLATTEN, THREE};
+use crate::packed_rows::PACKED_THREE;
+use crate::streams::with_limit;
+use capnp::appended::{ReadBack, read_messages, write_and_read_back, write_messages};
+use capnp::message::Reader;
+use capnp::streams::Format;
+use capnp_frame::io::Write;
+use capnp_frame::message::{DEFAULT_READER_OPTIONS, ReaderOptions, SegmentArray};
+use capnp_frame::serialize::{OwnedSegments, is_writable};
+use capnp_frame::{ErrorKind, Result};
+use capnp_frame_tests::limits::{DEFAULT_LIMIT, NO_LIMIT};
+use capnp_frame_tests::messages::has_segments;
+use capnp_frame_tests::refusals::kind_of;
+use capnp_frame_tests::retried;
+use capnp_frame_tests::sinks::FaultySink;
+use std::process::Abort;
+
+const TWO: &[&[u8]] = &[&[], &[1, 2, 3, 4, 5, 6, 7, 8]];
+
+const EMPTY: &[&[u8]] = &[&[]];
+
+// The three messages' texts after one another.
+fn text_of(format: Format) -> &'static [u8] {
+    match format {
+        Format::Framed => THREE,
+        Format::Packed => PACKED_THREE,
+    }
+}
+
+fn name_of(format: Format) -> At<'static> {
+    match format {
+        Format::Framed => At::row("three messages, framed"),
+        Format::Packed => At::row("three messages, packed"),
+    }
+}
+
+// Writes the three messages.
+fn write_three<W: Write>(
+    rt: &(impl Abort + AllocGlobal),
+    format: Format,
+    sink: &mut W,
+) -> Result<()> {
+    let messages = [
+        SegmentArray::new(FLATTEN),
+        SegmentArray::new(TWO),
+        SegmentArray::new(EMPTY),
+    ];
+    assert!(rt;
+        is_writable(&messages[0]) && is_writable(&messages[1]) && is_writable(&messages[2])
+    );
+    write_messages(rt.alloc(), format, sink, &messages)
+}
+
+// Reads as many messages of what is unread of the three texts.
+fn read(
+    rt: &impl AllocGlobal,
+    format: Format,
+    source: &mut &[u8],
+    count: usize,
+    limit: Option<usize>,
+) -> Result<Vec<Reader<OwnedSegments>>> {
+    read_messages(rt.alloc(), format, source, count, with_limit(limit))
+}
+
+const NO_LIMIT_OF_WORDS: ReaderOptions = ReaderOptions {
+    traversal_limit_in_words: None,
+    nesting_limit: 64,
+};
+
+/// Writes two messages and reads them back, under no limit of words.
+pub fn read_back(
+    rt: &(impl Abort + AllocGlobal),
+    format: Format,
+    first: &[&[u8]],
+    second: &[&[u8]],
+) -> Result<ReadBack> {
+    let messages = [SegmentArray::new(first), SegmentArray::new(second)];
+    assert!(rt; is_writable(&messages[0]) && is_writable(&messages[1]));
+    write_and_read_back(rt.alloc(), format, &messages, NO_LIMIT_OF_WORDS)
+}
+
+/// Whether these are the messages.
+pub fn are_read(readers: &[Reader<OwnedSegments>], messages: &[&[&[u8]]]) -> bool {
+    for (reader, segments) in readers.iter().zip(messages) {
+        if !has_segments(reader.get_segments(), segments) {
+            return false;
+        }
+    }
+    readers.len() == messages.len()
+}
+
+#[test]
+fn texts_after_one_another(rt: HostRuntime) -> Result<()> {
+    for format in &FORMATS {
+        retried!(write_and_read(&rt, *format))?;
+        retried!(write_two(&rt, *format))?;
+        retried!(write_none(&rt, *format))?;
+    }
+    Ok(())
+}
+
+// Two messages are read, and then one.
+fn write_and_read(rt: &(impl Abort + AllocGlobal), format: Format) -> Result<()> {
+    let at = name_of(format);
+    let mut text: Vec<u8> = Vec::new(rt.alloc());
+    write_three(rt, format, &mut text)?;
+    assert_bytes(rt, text.as_slice(), text_of(format), at);
+    let mut source = text_of(format);
+    let two = read(rt, format, &mut source, 2, DEFAULT_LIMIT)?;
+    assert_holds(rt, are_read(&two, &[FLATTEN, TWO]), at);
+    let one = read(rt, format, &mut source, 1, DEFAULT_LIMIT)?;
+    assert_holds(rt, are_read(&one, &[EMPTY]) && source.is_empty(), at);
+    Ok(())
+}
+
+fn write_two(rt: &(impl Abort + AllocGlobal), format: Format) -> Result<()> {
+    let at = name_of(format);
+    let messages = [SegmentArray::new(FLATTEN), SegmentArray::new(TWO)];
+    assert!(rt; is_writable(&messages[0]) && is_writable(&messages[1]));
+    let done = write_and_read_back(rt.alloc(), format, &messages, DEFAULT_READER_OPTIONS)?;
+    assert_holds(
+        rt,
+        !done.text.is_empty() && text_of(format).starts_with(&done.text),
+        at,
+    );
+    assert_holds(
+        rt,
+        are_read(&done.readers, &[FLATTEN, TWO]) && done.end.is_none(),
+        at,
+    );
+    Ok(())
+}
+
+// No messages have no text, and none are read.
+fn write_none(rt: &(impl Abort + AllocGlobal), format: Format) -> Result<()> {
+    let at = name_of(format);
+    let none: [SegmentArray<'_>; 0] = [];
+    let mut sink: Vec<u8> = Vec::new(rt.alloc());
+    write_messages(rt.alloc(), format, &mut sink, &none)?;
+    let mut source = text_of(format);
+    let read = read(rt, format, &mut source, 0, DEFAULT_LIMIT)?;
+    assert_holds(rt, sink.is_empty() && read.is_empty(), at);
+    assert_bytes(rt, source, text_of(format), at);
+    Ok(())
+}
+
+// A limit, how many messages are asked for, and the error with what is unread then, framed and
+// packed.
+type Refusal = (Option<usize>, usize, ErrorKind, usize, usize);
+
+#[rattlefmt::skip]
+const REFUSALS: [Refusal; 4] = [
+    (Some(2), 3, ErrorKind::MessageTooLarge(3), 56, 22),
+    (Some(0), 1, ErrorKind::MessageTooLarge(3), 56, 22),
+    (NO_LIMIT, 4, ErrorKind::PrematureEndOfFile, 0, 0),
+    (Some(3), usize::MAX, ErrorKind::PrematureEndOfFile, 0, 0),
+];
+
+#[test]
+fn messages_that_are_not_there(rt: HostRuntime) -> Result<()> {
+    for (number, row) in (0..).zip(&REFUSALS) {
+        for format in &FORMATS {
+            let at = At::new(name_of(*format).row, number);
+            retried!(read_too_many(&rt, *format, row, at))?;
+        }
+    }
+    Ok(())
+}
+
+fn read_too_many(
+    rt: &(impl Abort + AllocGlobal),
+    format: Format,
+    &(limit, count, kind, framed, packed): &Refusal,
+    at: At<'_>,
+) -> Result<()> {
+    let unread = match format {
+        Format::Framed => framed,
+        Format::Packed => packed,
+    };
+    let mut source = text_of(format);
+    let returned = kind_of(read(rt, format, &mut source, count, limit))?;
+    assert_kind(rt, returned, Some(kind), at);
+    assert_count(rt, source.len(), unread, at);
+    Ok(())
+}
+
+// A sink that fails at its nth chunk, and would take those after it, has a front of the texts.
+// Framed they have ten chunks: four of each of the first two, of which one is of no bytes, and two
+// of the last.
+#[test]
+fn no_chunk_follows_a_refused_one(rt: HostRuntime) -> Result<()> {
+    for format in &FORMATS {
+        let mut chunks = 0;
+        for fails_at in 1..=20 {
+            if retried!(write_to(&rt, *format, fails_at))? {
+                break;
+            }
+            chunks = fails_at;
+        }
+        let is_framed = *format == Format::Framed;
+        assert_holds(&rt, chunks > 2 && chunks <= 10, name_of(*format));
+        assert_holds(&rt, is_framed == (chunks == 10), name_of(*format));
+    }
+    Ok(())
+}
+
+// Whether the run meets no fault.
+fn write_to(rt: &(impl Abort + AllocGlobal), format: Format, fails_at: u64) -> Result<bool> {
+    let at = At::new(name_of(format).row, fails_at);
+    let mut sink = FaultySink::new(Vec::new(rt.alloc()), fails_at);
+    let returned = kind_of(write_three(rt, format, &mut sink))?;
+    let text = text_of(format);
+    let written = sink.written.as_slice();
+    if returned.is_none() {
+        assert_bytes(rt, written, text, at);
+        return Ok(true);
+    }
+    assert_kind(rt, returned, Some(ErrorKind::DeviceFailed), at);
+    assert_holds(rt, text.starts_with(written), at);
+    assert_holds(rt, (written.len() == text.len()) == (fails_at == 10), at);
+    assert_calls(rt, sink.calls, fails_at, at);
+    Ok(false)
+}

@@ -1,0 +1,102 @@
+//! Canonical forms as they are written.
+use crate::assertions::{At, assert_bytes, assert_count, assert_kind};
+use crate::packed;
+use crate::roots::assert_text;
+use capnp::message::{DEFAULT_READER_OPTIONS, Reader, SegmentArray};
+use capnp::serialize::write_canonical_message;
+use capnp_frame::io::Write;
+use capnp_frame::message::ReaderSegments;
+use capnp_frame::serialize::Padding;
+use capnp_frame::{ErrorKind, Result};
+use capnp_frame_tests::refusals::kind_of;
+use capnp_frame_tests::retried;
+use std::process::Abort;
+
+type Expected = std::result::Result<&'static [u8], ErrorKind>;
+
+// Segments, and their canonical form, framed; or the error.
+#[rattlefmt::skip]
+const EXPECTED: [(&[&[u8]], Expected); 8] = [
+    (&[b"\x01\0\0\0\x72\0\0\0Hello, World!\0\0\0"],
+        Ok(b"\0\0\0\0\x03\0\0\0\x01\0\0\0\x72\0\0\0Hello, World!\0\0\0")),
+    // "hello world!" after a far pointer
+    (&[b"\x02\0\0\0\x01\0\0\0", b"\x01\0\0\0\x6a\0\0\0hello world!\0\0\0\0"],
+        Ok(b"\0\0\0\0\x03\0\0\0\x01\0\0\0\x6a\0\0\0hello world!\0\0\0\0")),
+    // a struct of two words and a null pointer
+    (&[b"\0\0\0\0\x02\0\x01\0\x05\0\0\0\0\0\0\0\0\0\0\0\0\0\0\0\0\0\0\0\0\0\0\0"],
+        Ok(b"\0\0\0\0\x02\0\0\0\0\0\0\0\x01\0\0\0\x05\0\0\0\0\0\0\0")),
+    // an empty struct, one past the end, a far pointer to no segment, no word, no segment
+    (&[b"\xfc\xff\xff\xff\0\0\0\0"], Ok(b"\0\0\0\0\x01\0\0\0\xfc\xff\xff\xff\0\0\0\0")),
+    (&[b"\x04\0\0\0\0\0\0\0"], Err(ErrorKind::PointerOutOfBounds)),
+    (&[b"\x02\0\0\0\x07\0\0\0"], Err(ErrorKind::InvalidSegmentId(7))),
+    (&[b""], Err(ErrorKind::PointerOutOfBounds)),
+    (&[], Err(ErrorKind::InvalidSegmentId(0))),
+];
+
+// Writes a message's form. A growth that was rejected is handed back.
+fn write<W: Write, S: ReaderSegments>(
+    rt: &impl AllocGlobal,
+    sink: &mut W,
+    reader: &Reader<S>,
+) -> Result<Option<ErrorKind>> {
+    kind_of(write_canonical_message(rt.alloc(), sink, reader))
+}
+
+#[test]
+fn forms_are_written(rt: HostRuntime) -> Result<()> {
+    for (number, (segments, wanted)) in (0..).zip(&EXPECTED) {
+        retried!(write_form(&rt, segments, *wanted, At::new("a form", number)))?;
+    }
+    Ok(())
+}
+
+// A sink that has something keeps it, and an error adds nothing.
+fn write_form(
+    rt: &(impl Abort + AllocGlobal),
+    segments: &[&[u8]],
+    wanted: Expected,
+    at: At<'_>,
+) -> Result<()> {
+    let reader = Reader::new(SegmentArray::new(segments), DEFAULT_READER_OPTIONS);
+    let mut sink = b"before".to_vec(rt.alloc())?;
+    let returned = write(rt, &mut sink, &reader)?;
+    let (form, refusal): (&[u8], Option<ErrorKind>) = match wanted {
+        Ok(form) => (form, None),
+        Err(kind) => (&[], Some(kind)),
+    };
+    assert_kind(rt, returned, refusal, at);
+    assert_bytes(
+        rt,
+        sink.as_slice().strip_prefix(b"before").unwrap_or(&[1; 99]),
+        form,
+        at,
+    );
+    Ok(())
+}
+
+const PACKED_HELLO: &[u8] = b"\x10\x03\x11\x01\x72\xffHello, W\0\x1forld!";
+
+const HELLO: &[u8] = b"\0\0\0\0\x03\0\0\0\x01\0\0\0\x72\0\0\0Hello, World!\0\0\0";
+
+#[test]
+fn a_form_of_a_packed_message(rt: HostRuntime) -> Result<()> {
+    retried!(write_packed(&rt))
+}
+
+// What a reader of packed messages returns has a form, too; a sink that is too short rejects it.
+fn write_packed(rt: &(impl Abort + AllocGlobal)) -> Result<()> {
+    let at = At::row("a form of a packed message");
+    let mut source = PACKED_HELLO;
+    let options = DEFAULT_READER_OPTIONS;
+    let reader = packed::needed_message(rt.alloc(), Padding::Zero, &mut source, options)?;
+    assert_text(rt, &reader, b"Hello, World!")?;
+    let mut sink: Vec<u8> = Vec::new(rt.alloc());
+    assert_kind(rt, write(rt, &mut sink, &reader)?, None, at);
+    assert_bytes(rt, sink.as_slice(), HELLO, at);
+    let mut room = [0; 31];
+    let mut sink = room.as_mut_slice();
+    let short = write(rt, &mut sink, &reader)?;
+    assert_kind(rt, short, Some(ErrorKind::BufferNotLargeEnough), at);
+    assert_count(rt, sink.len(), 23, at);
+    Ok(())
+}

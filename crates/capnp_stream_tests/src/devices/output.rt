@@ -1,0 +1,204 @@
+use crate::assertions::{At, assert_bytes, assert_calls, assert_holds};
+use crate::devices::{ChoppyWriter, TAKES_ALL, Ways, taking};
+use capnp::devices::Output;
+use capnp_frame::io::Write;
+use capnp_frame::{ErrorKind, Result};
+use capnp_frame_tests::retried;
+use std::process::Abort;
+
+// How many bytes are collected before a device of these ways.
+const WHOLE: [(usize, Ways); 8] = [
+    (
+        0,
+        Ways {
+            most: 2,
+            interruptions: 3,
+            ..TAKES_ALL
+        },
+    ),
+    (
+        4,
+        Ways {
+            most: 2,
+            interruptions: 3,
+            ..TAKES_ALL
+        },
+    ),
+    (
+        64,
+        Ways {
+            most: 2,
+            interruptions: 3,
+            ..TAKES_ALL
+        },
+    ),
+    (
+        0,
+        Ways {
+            most: 2,
+            interruptions: 1000,
+            ..TAKES_ALL
+        },
+    ),
+    (
+        64,
+        Ways {
+            most: 2,
+            interruptions: 1000,
+            ..TAKES_ALL
+        },
+    ),
+    (
+        0,
+        Ways {
+            flush_interruptions: 1,
+            ..TAKES_ALL
+        },
+    ),
+    (
+        64,
+        Ways {
+            flush_interruptions: 1,
+            ..TAKES_ALL
+        },
+    ),
+    (
+        64,
+        Ways {
+            flush_interruptions: 1000,
+            ..TAKES_ALL
+        },
+    ),
+];
+
+// An interrupted call is made again.
+#[test]
+fn parts_and_interruptions_lose_nothing(rt: HostRuntime) -> Result<()> {
+    for row in &WHOLE {
+        retried!(write_whole(&rt, row.0, row.1))?;
+    }
+    Ok(())
+}
+
+fn write_whole(rt: &(impl Abort + AllocGlobal), capacity: usize, ways: Ways) -> Result<()> {
+    let at = At::new("bytes collected", capacity as u64);
+    let mut device = taking(rt.alloc(), ways)?;
+    let mut output = Output::new(rt.alloc(), capacity, &mut device)?;
+    write_chunks(&mut output)?;
+    output.flush()?;
+    let failures = output.failures();
+    drop(output);
+    assert_calls(rt, failures, 0, at);
+    assert_bytes(rt, &device.got, b"abcdefghi", at);
+    assert_holds(rt, device.flushes > ways.flush_interruptions, at);
+    Ok(())
+}
+
+const CHUNKS: [&[u8]; 4] = [b"abc", b"", b"defgh", b"i"];
+
+fn write_chunks<W: Write>(output: &mut W) -> Result<()> {
+    for chunk in &CHUNKS {
+        output.write_all(chunk)?;
+    }
+    Ok(())
+}
+
+// The call that a fault is returned from.
+#[derive(Clone, Copy, PartialEq, Eq)]
+enum Fault {
+    None,
+    Write,
+    Flush,
+}
+
+// How many bytes are collected before a device of these ways, where its fault is returned, and what
+// the device has then, where that is known.
+#[derive(Drop)]
+struct Faulty {
+    capacity: usize,
+    ways: Ways,
+    fault: Fault,
+    got: Option<&'static [u8]>,
+}
+
+const FAULTS: [Faulty; 4] = [
+    Faulty {
+        capacity: 0,
+        ways: Ways {
+            most: 4,
+            bad_write: 2,
+            ..TAKES_ALL
+        },
+        fault: Fault::Write,
+        got: Some(b"abcd"),
+    },
+    Faulty {
+        capacity: 0,
+        ways: Ways {
+            most: 0,
+            ..TAKES_ALL
+        },
+        fault: Fault::Write,
+        got: None,
+    },
+    Faulty {
+        capacity: 64,
+        ways: Ways {
+            most: 4,
+            bad_write: 2,
+            ..TAKES_ALL
+        },
+        fault: Fault::Flush,
+        got: None,
+    },
+    Faulty {
+        capacity: 64,
+        ways: Ways {
+            most: 4,
+            fails_to_flush: true,
+            ..TAKES_ALL
+        },
+        fault: Fault::Flush,
+        got: None,
+    },
+];
+
+#[test]
+fn a_fault_is_returned(rt: HostRuntime) -> Result<()> {
+    for row in &FAULTS {
+        retried!(fail_at(&rt, row))?;
+    }
+    Ok(())
+}
+
+fn fail_at(rt: &(impl Abort + AllocGlobal), row: &Faulty) -> Result<()> {
+    let at = At::new("bytes collected", row.capacity as u64);
+    let mut device = taking(rt.alloc(), row.ways)?;
+    let mut output = Output::new(rt.alloc(), row.capacity, &mut device)?;
+    let fault = fault_of(&mut output)?;
+    let failures = output.failures();
+    drop(output);
+    assert_holds(rt, fault == row.fault, at);
+    assert_calls(rt, failures, 1, at);
+    let got = device.got.as_slice();
+    assert_bytes(rt, got, row.got.unwrap_or(got), at);
+    Ok(())
+}
+
+// The call that is rejected.
+fn fault_of(output: &mut Output<&mut ChoppyWriter>) -> Result<Fault> {
+    if is_device_failed(output.write_all(b"abcdef")) {
+        return Ok(Fault::Write);
+    }
+    if is_device_failed(output.flush()) {
+        return Ok(Fault::Flush);
+    }
+    Ok(Fault::None)
+}
+
+fn is_device_failed(returned: Result<()>) -> bool {
+    match returned {
+        Ok(()) => false,
+        Err(error) => error.kind == ErrorKind::DeviceFailed,
+    }
+}

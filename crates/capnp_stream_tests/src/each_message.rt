@@ -1,0 +1,213 @@
+//! What is written of each message of a stream in the other format, by both rules of padding.
+use crate::assertions::{At, assert_bytes, assert_count, assert_kind};
+use crate::padding_rows::{PACKED_TWO, TWO};
+use crate::transcodings::transcoded;
+use capnp::message::DEFAULT_READER_OPTIONS;
+use capnp::streams::{StoppedAt, write_each_message};
+use capnp::{Way, transcode_lenient};
+use capnp_frame::serialize::Padding;
+use capnp_frame::{ErrorKind, Result};
+use capnp_frame_tests::refusals::kind_of;
+use capnp_frame_tests::retried;
+use std::alloc::Global;
+use std::process::Abort;
+
+// What stops a run, if anything does, with the index of the message, how much is unread then, and what
+// is written.
+#[derive(Clone, Copy)]
+struct Ended {
+    stop: Option<(u64, ErrorKind)>,
+    unread: usize,
+    written: &'static [u8],
+}
+
+// A way, the texts that are read after one another, and how runs over them end by both rules.
+#[derive(Drop)]
+struct Row {
+    name: &'static str,
+    way: Way,
+    texts: [&'static [u8]; 3],
+    strict: Ended,
+    lenient: Ended,
+}
+
+// A framed message of an empty segment, and its packed encoding.
+const EMPTY: &[u8] = &[0; 8];
+
+const PACKED_EMPTY: &[u8] = &[0, 0];
+
+// Segments [] and [1, 2, 3, 4, 5, 6, 7, 8], as a writer writes them: zeros are its padding.
+const FRAMED: &[u8] = &[
+    1, 0, 0, 0, 0, 0, 0, 0, 1, 0, 0, 0, 0, 0, 0, 0, 1, 2, 3, 4, 5, 6, 7, 8,
+];
+
+const PACKED: &[u8] = &[1, 1, 1, 1, 0xff, 1, 2, 3, 4, 5, 6, 7, 8, 0];
+
+// The texts of an empty segment and of these after one another.
+const FRAMED_TEXTS: &[u8] = &[
+    0, 0, 0, 0, 0, 0, 0, 0, 1, 0, 0, 0, 0, 0, 0, 0, 1, 0, 0, 0, 0, 0, 0, 0, 1, 2, 3, 4, 5, 6, 7, 8,
+];
+
+const PACKED_TEXTS: &[u8] = &[0, 0, 1, 1, 1, 1, 0xff, 1, 2, 3, 4, 5, 6, 7, 8, 0];
+
+// The packed encoding twice.
+const PACKED_TWICE: &[u8] = &[
+    1, 1, 1, 1, 0xff, 1, 2, 3, 4, 5, 6, 7, 8, 0, 1, 1, 1, 1, 0xff, 1, 2, 3, 4, 5, 6, 7, 8, 0,
+];
+
+const CUT_AFTER_TWO: Ended = Ended {
+    stop: Some((2, ErrorKind::FailedToFillTheWholeBuffer)),
+    unread: 0,
+    written: PACKED_TWICE,
+};
+
+#[rattlefmt::skip]
+const ROWS: [Row; 7] = [
+    Row {
+        name: "packed",
+        way: Way::Pack,
+        texts: [FRAMED, &[], &[]],
+        strict: Ended { stop: None, unread: 0, written: PACKED },
+        lenient: Ended { stop: None, unread: 0, written: PACKED },
+    },
+    Row {
+        name: "unpacked",
+        way: Way::Unpack,
+        texts: [PACKED, &[], &[]],
+        strict: Ended { stop: None, unread: 0, written: FRAMED },
+        lenient: Ended { stop: None, unread: 0, written: FRAMED },
+    },
+    // The texts of the messages before the place where a run stops are written.
+    Row {
+        name: "packed up to a cut word",
+        way: Way::Pack,
+        texts: [FRAMED, FRAMED, &[0, 0, 0]],
+        strict: CUT_AFTER_TWO,
+        lenient: CUT_AFTER_TWO,
+    },
+    // Both ways reject a padding that isn't zero, and nothing is written of its message. Their lenient
+    // forms write the text of zero padding.
+    Row {
+        name: "another padding, packed",
+        way: Way::Pack,
+        texts: [TWO, &[], &[]],
+        strict: Ended { stop: Some((0, ErrorKind::NonZeroPadding)), unread: 8, written: &[] },
+        lenient: Ended { stop: None, unread: 0, written: PACKED },
+    },
+    Row {
+        name: "another padding, unpacked",
+        way: Way::Unpack,
+        texts: [PACKED_TWO, &[], &[]],
+        strict: Ended { stop: Some((0, ErrorKind::NonZeroPadding)), unread: 10, written: &[] },
+        lenient: Ended { stop: None, unread: 0, written: FRAMED },
+    },
+    Row {
+        name: "another padding after a message, packed",
+        way: Way::Pack,
+        texts: [EMPTY, TWO, &[]],
+        strict: Ended { stop: Some((1, ErrorKind::NonZeroPadding)), unread: 8, written: PACKED_EMPTY },
+        lenient: Ended { stop: None, unread: 0, written: PACKED_TEXTS },
+    },
+    Row {
+        name: "another padding after a message, unpacked",
+        way: Way::Unpack,
+        texts: [PACKED_EMPTY, PACKED_TWO, &[]],
+        strict: Ended { stop: Some((1, ErrorKind::NonZeroPadding)), unread: 10, written: EMPTY },
+        lenient: Ended { stop: None, unread: 0, written: FRAMED_TEXTS },
+    },
+];
+
+#[test]
+fn both_rules(rt: HostRuntime) -> Result<()> {
+    for row in &ROWS {
+        retried!(write_each(&rt, row, Padding::Zero, &row.strict))?;
+        retried!(write_each(&rt, row, Padding::Any, &row.lenient))?;
+        retried!(transcode_row(&rt, row, Padding::Zero, &row.strict))?;
+        retried!(transcode_row(&rt, row, Padding::Any, &row.lenient))?;
+    }
+    Ok(())
+}
+
+// The texts, one after the other.
+fn joined(alloc: Global, texts: &[&[u8]]) -> Result<Vec<u8>> {
+    let mut bytes: Vec<u8> = Vec::new(alloc);
+    for text in texts {
+        bytes.extend_from_slice(*text)?;
+    }
+    Ok(bytes)
+}
+
+// A row, and 1 where any padding is accepted.
+fn at(row: &Row, padding: Padding) -> At<'static> {
+    match padding {
+        Padding::Zero => At::new(row.name, 0),
+        Padding::Any => At::new(row.name, 1),
+    }
+}
+
+// A stop for want of memory is handed back.
+fn stop_of(returned: std::result::Result<(), StoppedAt>) -> Result<Option<(u64, ErrorKind)>> {
+    match returned {
+        Ok(()) => Ok(None),
+        Err(stop) if stop.error.kind == ErrorKind::OutOfMemory => Err(stop.error),
+        Err(stop) => Ok(Some((stop.message, stop.error.kind))),
+    }
+}
+
+fn write_each(
+    rt: &(impl Abort + AllocGlobal),
+    row: &Row,
+    padding: Padding,
+    ended: &Ended,
+) -> Result<()> {
+    let input = joined(rt.alloc(), &row.texts)?;
+    let mut source = input.as_slice();
+    let mut sink: Vec<u8> = Vec::new(rt.alloc());
+    let stop = stop_of(write_each_message(
+        rt.alloc(),
+        row.way.input(),
+        padding,
+        DEFAULT_READER_OPTIONS,
+        &row.way,
+        &mut source,
+        &mut sink,
+    ))?;
+    let at = at(row, padding);
+    assert!(rt; stop == ended.stop, "{stop:?} at {}, {}", at.row, at.number);
+    assert_count(rt, source.len(), ended.unread, at);
+    assert_bytes(rt, sink.as_slice(), ended.written, at);
+    Ok(())
+}
+
+fn transcode_row(
+    rt: &(impl Abort + AllocGlobal),
+    row: &Row,
+    padding: Padding,
+    ended: &Ended,
+) -> Result<()> {
+    let input = joined(rt.alloc(), &row.texts)?;
+    let mut source = input.as_slice();
+    let mut sink: Vec<u8> = Vec::new(rt.alloc());
+    let returned = match padding {
+        Padding::Zero => transcoded(rt, row.way, &mut source, &mut sink)?,
+        Padding::Any => transcoded_leniently(rt, row.way, &mut source, &mut sink)?,
+    };
+    let at = at(row, padding);
+    let wanted = match ended.stop {
+        Some((_, kind)) => Some(kind),
+        None => None,
+    };
+    assert_kind(rt, returned, wanted, at);
+    assert_count(rt, source.len(), ended.unread, at);
+    assert_bytes(rt, sink.as_slice(), ended.written, at);
+    Ok(())
+}
+
+fn transcoded_leniently(
+    rt: &impl AllocGlobal,
+    way: Way,
+    source: &mut &[u8],
+    sink: &mut Vec<u8>,
+) -> Result<Option<ErrorKind>> {
+    kind_of(transcode_lenient(rt.alloc(), way, source, sink, DEFAULT_READER_OPTIONS))
+}

@@ -1,0 +1,66 @@
+//! Worked rows over the readers and writers of both formats, and their calls. It holds tests alone, by
+//! the rules of `capnp_frame_tests`.
+#![tactic(auto)]
+
+#[cfg(test)]
+mod appended;
+#[cfg(test)]
+mod assertions;
+#[cfg(test)]
+mod built_and_read;
+#[cfg(test)]
+mod built_messages;
+#[cfg(test)]
+mod calls_declared;
+#[cfg(test)]
+mod canonical_texts;
+#[cfg(test)]
+mod devices;
+#[cfg(test)]
+mod each_message;
+#[cfg(test)]
+mod faults;
+#[cfg(test)]
+mod flat;
+#[cfg(test)]
+mod flat_calls;
+#[cfg(test)]
+mod flat_paddings;
+#[cfg(test)]
+mod flat_rows;
+#[cfg(test)]
+mod framed;
+#[cfg(test)]
+mod framed_rows;
+#[cfg(test)]
+mod kept_memory;
+#[cfg(test)]
+mod packed;
+#[cfg(test)]
+mod packed_rows;
+#[cfg(test)]
+mod padding;
+#[cfg(test)]
+mod padding_rows;
+#[cfg(test)]
+mod prefixes;
+#[cfg(test)]
+mod provided;
+#[cfg(test)]
+mod requests;
+#[cfg(test)]
+mod roots;
+#[cfg(test)]
+mod samples;
+#[cfg(test)]
+mod segment_counts;
+#[cfg(test)]
+mod segment_ends;
+#[cfg(test)]
+mod streams;
+#[cfg(test)]
+mod transcodings;
+#[cfg(test)]
+mod writers;
+#[cfg(test)]
+mod writing;

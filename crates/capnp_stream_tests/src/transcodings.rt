@@ -1,0 +1,176 @@
+//! Messages that are taken from one format to the other, while a device fails.
+use crate::assertions::{At, assert_bytes, assert_calls, assert_count, assert_holds, assert_kind};
+use crate::samples::{FAR, FLATTEN, HELLO, Sample};
+use capnp::message::DEFAULT_READER_OPTIONS;
+use capnp::{Way, transcode};
+use capnp_frame::io::{BufRead, Write};
+use capnp_frame::{ErrorKind, Result};
+use capnp_frame_tests::refusals::kind_of;
+use capnp_frame_tests::retried;
+use capnp_frame_tests::sinks::FaultySink;
+use capnp_frame_tests::sources::{Faulty, Trickle};
+use std::alloc::Global;
+use std::process::Abort;
+
+pub const WAYS: [Way; 2] = [Way::Pack, Way::Unpack];
+
+/// The error, where there is one. A growth that was rejected is handed back.
+pub fn transcoded<R: BufRead, W: Write>(
+    rt: &impl AllocGlobal,
+    way: Way,
+    source: &mut R,
+    sink: &mut W,
+) -> Result<Option<ErrorKind>> {
+    kind_of(transcode(rt.alloc(), way, source, sink, DEFAULT_READER_OPTIONS))
+}
+
+// The texts of three messages after one another, in a format.
+fn texts_of(alloc: Global, packed: bool) -> Result<Vec<u8>> {
+    let mut texts = text_of(&FLATTEN, packed).to_vec(alloc)?;
+    texts.extend_from_slice(text_of(&HELLO, packed))?;
+    texts.extend_from_slice(text_of(&FAR, packed))?;
+    Ok(texts)
+}
+
+fn text_of(sample: &Sample, packed: bool) -> &'static [u8] {
+    if packed { sample.packed } else { sample.framed }
+}
+
+// How many bytes the first of the three texts take.
+fn length_of(packed: bool, messages: usize) -> usize {
+    let first = text_of(&FLATTEN, packed).len();
+    match messages {
+        0 => 0,
+        1 => first,
+        _ => first.saturating_add(text_of(&HELLO, packed).len()),
+    }
+}
+
+// How many of the first two messages a given number of bytes hold.
+fn messages_in(packed: bool, bytes: usize) -> usize {
+    if bytes >= length_of(packed, 2) {
+        2
+    } else if bytes >= length_of(packed, 1) {
+        1
+    } else {
+        0
+    }
+}
+
+fn name_of(way: Way) -> &'static str {
+    match way {
+        Way::Pack => "packed, call",
+        Way::Unpack => "unpacked, call",
+    }
+}
+
+// What is written already.
+const FRONT: [u8; 3] = [7, 7, 7];
+
+// A sink that fails at its nth call, until a run meets no fault.
+#[test]
+fn a_sink_that_fails(rt: HostRuntime) -> Result<()> {
+    for way in &WAYS {
+        let mut ended = false;
+        let mut within_the_third: u32 = 0;
+        for fails_at in 1..=100 {
+            let at = At::new(name_of(*way), fails_at);
+            let Some(written) = retried!(write_to(&rt, *way, at))? else {
+                ended = true;
+                break;
+            };
+            let is_third = written >= length_of(*way == Way::Pack, 2);
+            within_the_third = within_the_third.saturating_add(u32::from(is_third));
+        }
+        assert_holds(&rt, ended && within_the_third > 0, At::row(name_of(*way)));
+    }
+    Ok(())
+}
+
+// How many bytes are where the run meets the fault. The texts of the messages before the fault are
+// whole, and a front of the next: just the message that was read last is not written as a whole.
+fn write_to(rt: &(impl Abort + AllocGlobal), way: Way, at: At<'_>) -> Result<Option<usize>> {
+    let packs = way == Way::Pack;
+    let input = texts_of(rt.alloc(), !packs)?;
+    let mut source = Trickle::new(&input, 5);
+    let mut sink = FaultySink::new(FRONT.to_vec(rt.alloc())?, at.number);
+    let returned = transcoded(rt, way, &mut source, &mut sink)?;
+    let written = sink
+        .written
+        .as_slice()
+        .strip_prefix(&FRONT)
+        .unwrap_or(&[1; 999]);
+    assert_is_front(rt, written, packs, at)?;
+    if returned.is_none() {
+        assert_count(rt, written.len(), length_of_all(packs), at);
+        assert_holds(rt, sink.failures == 0 && source.bytes.is_empty(), at);
+        return Ok(None);
+    }
+    assert_kind(rt, returned, Some(ErrorKind::DeviceFailed), at);
+    assert_holds(rt, sink.failures == 1 && sink.calls == at.number, at);
+    let consumed = input.len().saturating_sub(source.bytes.len());
+    let before = messages_in(!packs, consumed.saturating_sub(1));
+    assert_holds(rt, written.len() >= length_of(packs, before), at);
+    Ok(Some(written.len()))
+}
+
+fn length_of_all(packed: bool) -> usize {
+    length_of(packed, 2).saturating_add(text_of(&FAR, packed).len())
+}
+
+// These are the first bytes of the three texts.
+fn assert_is_front(
+    rt: &(impl Abort + AllocGlobal),
+    written: &[u8],
+    packed: bool,
+    at: At<'_>,
+) -> Result<()> {
+    let whole = texts_of(rt.alloc(), packed)?;
+    assert_bytes(
+        rt,
+        written,
+        whole.get(..written.len()).unwrap_or(&whole),
+        at,
+    );
+    Ok(())
+}
+
+// A source that fails at its nth call: just the texts of whole messages are written.
+#[test]
+fn a_source_that_fails(rt: HostRuntime) -> Result<()> {
+    for way in &WAYS {
+        for most in [1, 3, 16] {
+            let mut ended = false;
+            for fails_at in 1..=200 {
+                ended = retried!(read_from(&rt, *way, most, At::new(name_of(*way), fails_at)))?;
+                if ended {
+                    break;
+                }
+            }
+            assert_holds(&rt, ended, At::new(name_of(*way), most as u64));
+        }
+    }
+    Ok(())
+}
+
+// Whether the run meets no fault.
+fn read_from(rt: &(impl Abort + AllocGlobal), way: Way, most: usize, at: At<'_>) -> Result<bool> {
+    let packs = way == Way::Pack;
+    let input = texts_of(rt.alloc(), !packs)?;
+    let mut source = Faulty::new(Trickle::new(&input, most), at.number);
+    let mut written: Vec<u8> = Vec::new(rt.alloc());
+    let returned = transcoded(rt, way, &mut source, &mut written)?;
+    assert_is_front(rt, &written, packs, at)?;
+    let ended = returned.is_none();
+    assert_calls(rt, source.failures, u64::from(!ended), at);
+    if ended {
+        assert_count(rt, written.len(), length_of_all(packs), at);
+        return Ok(true);
+    }
+    assert_kind(rt, returned, Some(ErrorKind::DeviceFailed), at);
+    let consumed = input.len().saturating_sub(source.source.bytes.len());
+    let is_whole = consumed == input.len() && written.len() == length_of_all(packs);
+    let done = length_of(packs, messages_in(!packs, consumed));
+    assert_holds(rt, is_whole || written.len() == done, at);
+    Ok(false)
+}

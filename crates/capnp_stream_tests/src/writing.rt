@@ -1,0 +1,216 @@
+//! What is written of messages, by the calls over a sink and by those into memory.
+use crate::assertions::{At, assert_holds};
+use crate::calls_declared::assert_call;
+use crate::faults::FORMATS;
+use crate::packed;
+use crate::packed_rows::NO_WORDS;
+use crate::streams::{Reader, Wanted, is_returned};
+use crate::writers::{WRITERS, Writer, write};
+use capnp::streams::Format;
+use capnp_frame::message::{DEFAULT_READER_OPTIONS, ReaderSegments, SegmentArray};
+use capnp_frame::serialize::{
+    BufferSegments, OwnedSegments, Padding, is_writable, serialized_size_in_words,
+};
+use capnp_frame::{Error, ErrorKind, Result};
+use capnp_frame_tests::limits::DEFAULT_LIMIT;
+use capnp_frame_tests::messages::{MESSAGES, Message, has_segments, is_framed};
+use capnp_frame_tests::retried;
+use std::alloc::Global;
+use std::process::Abort;
+
+// Each call writes the message's text, whatever holds its segments.
+fn write_message<S: ReaderSegments>(
+    rt: &(impl Abort + AllocGlobal),
+    writer: Writer,
+    message: &Message,
+    segments: &S,
+) -> Result<()> {
+    let name = message.name;
+    let mut text: Vec<u8> = Vec::new(rt.alloc());
+    write(rt, writer, &mut text, segments)?;
+    let is_written = match writer.format() {
+        Format::Framed => is_framed(&text, message.table, message.segments),
+        Format::Packed => text.as_slice() == message.packed,
+    };
+    assert!(rt; is_written, "{name}, {writer:?}");
+    assert_holds(rt, has_segments(segments, message.segments), At::row(name));
+    assert_holds(rt, has_size(segments, message.size_in_words), At::row(name));
+    Ok(())
+}
+
+// Whether the segments take a given number of words framed.
+fn has_size<S: ReaderSegments>(segments: &S, words: usize) -> bool {
+    if !is_writable(segments) {
+        return false;
+    }
+    match serialized_size_in_words(segments) {
+        Ok(size) => size == words,
+        Err(_) => false,
+    }
+}
+
+// What a writer is given.
+#[derive(Clone, Copy)]
+enum Form {
+    Array,
+    Reference,
+    Slices,
+    Vectors,
+    Owned,
+    Held,
+}
+
+const FORMS: [Form; 6] = [
+    Form::Array,
+    Form::Reference,
+    Form::Slices,
+    Form::Vectors,
+    Form::Owned,
+    Form::Held,
+];
+
+fn slices_of(alloc: Global, segments: &'static [&'static [u8]]) -> Result<Vec<&'static [u8]>> {
+    let mut slices: Vec<&'static [u8]> = Vec::new(alloc);
+    for segment in segments {
+        slices.push(*segment)?;
+    }
+    Ok(slices)
+}
+
+fn vectors_of(alloc: Global, segments: &[&[u8]]) -> Result<Vec<Vec<u8>>> {
+    let mut vectors: Vec<Vec<u8>> = Vec::new(alloc);
+    for segment in segments {
+        vectors.push(segment.to_vec(alloc)?)?;
+    }
+    Ok(vectors)
+}
+
+// The segments of a packed encoding, each copied.
+fn owned_of(alloc: Global, mut packed: &[u8]) -> Result<OwnedSegments> {
+    let options = DEFAULT_READER_OPTIONS;
+    match packed::next_segments(alloc, Padding::Zero, &mut packed, options)? {
+        Some(found) => Ok(found),
+        None => Err(Error::from_kind(ErrorKind::PrematureEndOfFile)),
+    }
+}
+
+// The segments of a framed encoding that is kept.
+fn state_of(
+    rt: &(impl Abort + AllocGlobal),
+    segments: &[&[u8]],
+) -> Result<BufferSegments<Vec<u8>>> {
+    let mut text: Vec<u8> = Vec::new(rt.alloc());
+    write(rt, Writer::Framed, &mut text, &SegmentArray::new(segments))?;
+    BufferSegments::new(rt.alloc(), text, DEFAULT_READER_OPTIONS)
+}
+
+fn write_form(
+    rt: &(impl Abort + AllocGlobal),
+    writer: Writer,
+    form: Form,
+    message: &Message,
+) -> Result<()> {
+    let segments = message.segments;
+    match form {
+        Form::Array => write_message(rt, writer, message, &SegmentArray::new(segments)),
+        Form::Reference => write_message(rt, writer, message, &&vectors_of(rt.alloc(), segments)?),
+        Form::Slices => write_message(rt, writer, message, &slices_of(rt.alloc(), segments)?),
+        Form::Vectors => write_message(rt, writer, message, &vectors_of(rt.alloc(), segments)?),
+        Form::Owned => write_message(rt, writer, message, &owned_of(rt.alloc(), message.packed)?),
+        Form::Held => write_message(rt, writer, message, &state_of(rt, segments)?),
+    }
+}
+
+#[test]
+fn messages_in_each_form(rt: HostRuntime) -> Result<()> {
+    for writer in &WRITERS {
+        for form in &FORMS {
+            for message in &MESSAGES {
+                retried!(write_form(&rt, *writer, *form, message))?;
+            }
+        }
+    }
+    Ok(())
+}
+
+#[test]
+fn as_many_segments_as_a_reader_accepts(rt: HostRuntime) -> Result<()> {
+    for writer in &WRITERS {
+        retried!(write_empty_segments(&rt, *writer))?;
+    }
+    Ok(())
+}
+
+// 511 empty segments: a table of 256 words, of which only the first isn't zero. Readers' rows have
+// these texts, too.
+fn write_empty_segments(rt: &(impl Abort + AllocGlobal), writer: Writer) -> Result<()> {
+    let mut text: Vec<u8> = Vec::new(rt.alloc());
+    write(rt, writer, &mut text, &SegmentArray::new(&NO_WORDS))?;
+    let is_written = match writer.format() {
+        Format::Framed => {
+            text.len() == 2048
+                && text.as_slice().starts_with(&[254, 1, 0, 0])
+                && text.as_slice().ends_with(&[0; 2044])
+        }
+        Format::Packed => text.as_slice() == [3, 254, 1, 0, 254].as_slice(),
+    };
+    assert!(rt; is_written, "{writer:?}");
+    Ok(())
+}
+
+// A table has a word of its own even where there are no segments.
+#[test]
+fn the_sizes_of_empty_segments(rt: HostRuntime) {
+    assert!(rt; has_size(&SegmentArray::new(&NO_WORDS), 256));
+    assert!(rt; serialized_size_in_words(&SegmentArray::new(&[])).is_ok_and(|size| size == 1));
+}
+
+// What is written is read back as it was, and then there is no message.
+#[test]
+fn messages_after_one_another(rt: HostRuntime) -> Result<()> {
+    for format in &FORMATS {
+        retried!(append_and_read(&rt, *format))?;
+    }
+    Ok(())
+}
+
+fn append_and_read(rt: &(impl Abort + AllocGlobal), format: Format) -> Result<()> {
+    let mut text: Vec<u8> = Vec::new(rt.alloc());
+    append_each(rt, format, &MESSAGES, &mut text)?;
+    read_each(rt, format, &MESSAGES, &text)
+}
+
+// Appends all messages to one sink.
+fn append_each(
+    rt: &(impl Abort + AllocGlobal),
+    format: Format,
+    messages: &[Message],
+    text: &mut Vec<u8>,
+) -> Result<()> {
+    let writer = match format {
+        Format::Framed => Writer::Framed,
+        Format::Packed => Writer::Packed,
+    };
+    for message in messages {
+        write(rt, writer, text, &SegmentArray::new(message.segments))?;
+    }
+    Ok(())
+}
+
+fn read_each(
+    rt: &(impl Abort + AllocGlobal),
+    format: Format,
+    messages: &[Message],
+    text: &[u8],
+) -> Result<()> {
+    let call = (format, Padding::Zero, Reader::Copying);
+    let mut source = text;
+    for message in messages {
+        let wanted = Wanted::Segments(message.segments);
+        let returned = is_returned(rt.alloc(), call, &mut source, DEFAULT_LIMIT, wanted)?;
+        assert_call(rt, returned, call, At::row(message.name));
+    }
+    let ended = is_returned(rt.alloc(), call, &mut source, DEFAULT_LIMIT, Wanted::End)?;
+    assert_call(rt, ended, call, At::row("the end"));
+    Ok(())
+}
