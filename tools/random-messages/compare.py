@@ -1,7 +1,8 @@
 """Makes random schemas and messages, has the program that stands in crates/made build them by the types that
 the schema compiler makes, and compares them with those that the C++ tool makes of the same values as text.
 
-    compare.py FOLDER MESSAGES SEED SCHEMAS    FOLDER is a copy of the repository, which this may change"""
+    compare.py FOLDER MESSAGES SEED SCHEMAS [EXAMPLE]    FOLDER is a copy of the repository, which this may change,
+                                                         EXAMPLE the program of tools/c-example"""
 import os
 import random
 import struct
@@ -14,6 +15,7 @@ from schemas import fields
 from values import Values, bytes_of, steps_text
 
 folder, count, seed, schema_count = sys.argv[1], *map(int, sys.argv[2:5])
+example = sys.argv[5] if len(sys.argv) > 5 else None
 chance = random.Random(seed)
 sources = os.path.join(folder, "crates/made/src")
 
@@ -41,6 +43,11 @@ def rt(crate, stream, *words):
     done = subprocess.run(["rt", "try", "--steps", "1", "--seconds", "3600", "--", *words], input=stream,
                           cwd=os.path.join(folder, "crates", crate), capture_output=True)
     return done.returncode and done.stderr.decode()[-4000:]
+
+
+def by_library_for_c(word, stream):
+    """What the program over the library for C prints."""
+    return subprocess.run([example, word], input=stream, capture_output=True).stdout
 
 
 class Case:
@@ -81,7 +88,17 @@ class Case:
             pairs = [(("(%s)\n" % steps_text(steps)).encode(), *next(built)) for steps in messages]
             if pairs and not self.is_same(made, *map(b"".join, zip(*pairs)), False):
                 different += max(1, sum(not self.is_same(made, *pair, True) for pair in pairs))
+            if example:
+                different += sum(not self.is_same_in_c(made, framed, form) for _, framed, form in pairs)
         return different
+
+    def is_same_in_c(self, made, framed, canonical):
+        """Whether the library for C makes this canonical form of a message, and packs it as the C++ tool does."""
+        same = (by_library_for_c("canonical", framed) == canonical
+                and by_library_for_c("pack", framed) == self.convert("binary:packed", made, framed))
+        if not same:
+            print("schema%d.capnp, %s: the library for C differs" % (self.index, made.name))
+        return same
 
     def is_same(self, made, text, framed, canonical, prints):
         """Whether messages are those that the text says, with these canonical forms; if not, it may print them."""
@@ -144,7 +161,8 @@ built = build(cases)
 left = iter(built)
 different = sum(case.compare(left) for case in cases)
 structs = [made for case in cases for made in case.schema.structs]
-print("build-with-capnp: %d messages of %d schemas with %d structs and %d fields, %d bytes: %s" % (
+print("build-with-capnp: %d messages of %d schemas with %d structs and %d fields, %d bytes%s: %s" % (
     len(built), len(cases), len(structs), sum(len(list(fields(made.members))) for made in structs),
-    sum(len(framed) for framed, _ in built), "the same" if not different else "%d differ" % different))
+    sum(len(framed) for framed, _ in built), ", by the library for C, too" if example else "",
+    "the same" if not different else "%d differ" % different))
 sys.exit(1 if different else 0)
