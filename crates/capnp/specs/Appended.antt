@@ -44,7 +44,7 @@ pub record ReadsMessages {S V X : Type 0} (source : Ghosts S) (old new : S) (for
   -- it fails where the reader of one message does, or for want of memory for the list
   pub stops : IfErr result (λ error. (error.kind ≡ OutOfMemory)
       ⊎ StopsWithin source old new Zero format options.traversal_limit_in_words count error)
-  -- the device is blamed only where it failed
+  -- `DeviceFailed` is returned only where the device failed
   pub failed : IfErr result (λ error. error.kind ≡ DeviceFailed → Fails (source.failures old) (source.failures new))
   -- the source moves on, or stays
   pub advances : Advances source.unread source.failures source.same old new

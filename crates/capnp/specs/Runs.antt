@@ -160,7 +160,7 @@ pub record WritesEach {S T : Type 0} (source : Ghosts S) (old new : S) (sink : S
       → IsResultOf result messages ending ⊎ IsFaulted Declines result messages)
   -- it fails with one of the reader's kinds, or with a fault at the message of that index
   pub kinds : IfErr result (λ stop. IsReaderKind rule (refuses_of format) stop.error.kind ⊎ IsRunFault Declines stop.message stop.error.kind)
-  -- a device is blamed only where one of the two failed
+  -- `DeviceFailed` is returned only where one of the two devices failed
   pub failed : IfErr result (λ stop. stop.error.kind ≡ DeviceFailed
       → Fails (source.failures old) (source.failures new) ⊎ Fails (sink.failures before) (sink.failures after))
   -- the source moves on, or stays

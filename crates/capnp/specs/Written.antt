@@ -78,7 +78,7 @@ pub record WritesMessage {S X : Type 0} (format : Format) (sink : Ghosts S) (old
   pub refused : IfErr result (λ error. RefusesWriter (DeclinesAs format sink.refuses) message error.kind)
   -- a failure that isn't the sink's leaves the sink as it was
   pub untouched : FailsOr result (λ kind. DeclinesSome (DeclinesAs format sink.refuses) (chunks message) kind ⊎ (new ≡ old))
-  -- the device is blamed only where it failed
+  -- `DeviceFailed` is returned only where the device failed
   pub failed : IfErr result (λ error. error.kind ≡ DeviceFailed → Fails (sink.failures old) (sink.failures new))
   -- what was written before stays at the front, also where the call fails
   pub grows : Grows sink.written sink.failures sink.same old new
@@ -127,7 +127,7 @@ pub record WritesMessages {S X : Type 0} (format : Format) (sink : Ghosts S) (ol
   pub few : OnOk result (AllByRecursion IsWithinSegmentLimit messages)
   -- it fails as the writer of one of them does
   pub refused : IfErr result (λ error. RefusesOneOf (DeclinesAs format sink.refuses) messages error.kind)
-  -- the device is blamed only where it failed
+  -- `DeviceFailed` is returned only where the device failed
   pub failed : IfErr result (λ error. error.kind ≡ DeviceFailed → Fails (sink.failures old) (sink.failures new))
   -- what was written before stays at the front, also where the call fails
   pub grows : Grows sink.written sink.failures sink.same old new
