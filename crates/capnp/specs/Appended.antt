@@ -1,4 +1,4 @@
--- What writing messages one after the other, and reading them, comes to (src/appended.rt).
+-- What writing messages one after the other, and reading them back, leads to (src/appended.rt).
 use Rattle.std.specs.Prelude.{◌≡◌, ◌⊎◌, ℕ, ◌<◌, List, [], length, map, Option, None, Result, Err, IfSome, IfOk, OnOk, IfErr}
 use Rattle.std.specs.List.{AllByRecursion}
 use Rattle.capnp_frame.specs.declared.error.Error.{Error}
@@ -16,8 +16,9 @@ use Rattle.capnp.specs.Headline.{IsFault, OrFailsAtEnd}
 use Rattle.capnp.specs.Streams.{grammar_of, rules_of}
 use Rattle.capnp.specs.Written.{IsTextOf, AppendsEach, RefusesManyOf}
 
--- Fewer messages than were asked for were read, and then the reader of this format failed with this error. `source` is what is
--- seen of the source (the members of the trait Read), which is `old` before the call and `new` after it.
+-- Fewer messages than were asked for were read, and then the reader of this format failed with this
+-- error. `source` is what is seen of the source (the members of the trait Read), which is `old`
+-- before the call and `new` after it.
 pub record StopsWithin {S : Type 0} (source : Ghosts S) (old new : S) (rule : Padding) (format : Format) (limit : Option ℕ) (count : ℕ)
     (error : Error) : Type 0 where
   -- the source once these were read
@@ -28,32 +29,33 @@ pub record StopsWithin {S : Type 0} (source : Ghosts S) (old new : S) (rule : Pa
   -- what the reader of the next message keeps where it fails
   pub next : OrFailsAtEnd (ReadsStream source between new (rules_of rule format) limit) (Err error)
 
--- What a call returns that reads `count` messages of zero padding. `segments` and `options_of` are what is seen of a reader, and
--- `readers` the list of them.
+-- What a call returns that reads `count` messages of zero padding. `segments` and `options_of` are
+-- what is seen of a reader, and `readers` the list of them.
 pub record ReadsMessages {S V X : Type 0} (source : Ghosts S) (old new : S) (format : Format) (options : ReaderOptions) (count : ℕ)
     (readers : V → List X) (segments : X → List (List ℕ)) (options_of : X → ReaderOptions) (result : Result V Error) : Type 0 where
   pub counted : IfOk result (λ read. length (readers read) ≡ count)
-  -- their texts are there, one after the other, and just these are consumed
+  -- their encodings are there, one after the other, and only these are consumed
   pub found : IfOk result (λ read. IfKnown (source.unread old) (source.unread new)
       (AreEncodings (grammar_of Zero format) options.traversal_limit_in_words (map segments (readers read))))
   -- each reader has the options that are given
   pub options_are : IfOk result (λ read. AllByRecursion (λ reader. options_of reader ≡ options) (readers read))
-  -- where as many texts are, a failure is a fault
+  -- where there are encodings of as many messages, a failure is a fault
   pub accepted : IfErr result (λ error. IfSome (source.unread old) (λ raw. (messages : List (List (List ℕ))) (rest : List ℕ)
       → AreEncodings (grammar_of Zero format) options.traversal_limit_in_words messages raw rest → length messages ≡ count → IsFault error.kind))
   -- it fails where the reader of one message does, or for want of memory for the list
   pub stops : IfErr result (λ error. (error.kind ≡ OutOfMemory)
       ⊎ StopsWithin source old new Zero format options.traversal_limit_in_words count error)
-  -- the device is blamed only where it failed
+  -- `DeviceFailed` is returned only where the device failed
   pub failed : IfErr result (λ error. error.kind ≡ DeviceFailed → Fails (source.failures old) (source.failures new))
   -- the source moves on, or stays
   pub advances : Advances source.unread source.failures source.same old new
 
--- What a call returns that writes messages and reads them back. `text`, `readers` and `end` are what is seen of what it returns.
+-- What a call returns that writes messages and reads them back. `text`, `readers` and `end` are
+-- what is seen of what it returns.
 pub record ReadsBack {V X : Type 0} (format : Format) (options : ReaderOptions) (messages : List (List (List ℕ))) (text : V → List ℕ)
     (readers : V → List X) (end : V → Option X) (segments : X → List (List ℕ)) (options_of : X → ReaderOptions) (result : Result V Error)
     : Type 0 where
-  -- the text is that of the messages, one after the other
+  -- the bytes are the encodings of the messages, one after the other
   pub written : IfOk result (λ done. AppendsEach (IsTextOf format) messages (text done))
   -- the readers found their messages there
   pub read : IfOk result (λ done. AreEncodings (grammar_of Zero format) options.traversal_limit_in_words (map segments (readers done)) (text done) [])

@@ -1,4 +1,4 @@
--- What is written of the canonical form of a message (src/serialize/canonical.rt).
+-- What is written for the canonical form of a message (src/serialize/canonical.rt).
 use Rattle.std.specs.Prelude.{◌≡◌, ◌⊎◌, ℕ, List, [], ◌∷◌, Result, OnOk}
 use Rattle.std.specs.Result.{IsErrAnd}
 use Rattle.capnp_frame.specs.declared.error.Error.{Error}
@@ -34,11 +34,12 @@ AppendsForm pointer appends text = (form : List ℕ) × IsForm pointer form × A
 abbrev pub LeavesForm : Pointer → Appending → Leaving → List ℕ → Type 0
 LeavesForm pointer appends leaves text = (text ≡ []) ⊎ ((form : List ℕ) × IsForm pointer form × LeavesSome appends leaves (chunks (form ∷ [])) text)
 
--- the sink rejects a chunk of it
+-- the sink fails for a chunk of it
 abbrev pub BreaksForm : Pointer → Declining → ErrorKind → Type 0
 BreaksForm pointer refuses kind = (form : List ℕ) × IsForm pointer form × DeclinesSome refuses (chunks (form ∷ [])) kind
 
--- why it is not written, beside the device and want of memory: there is no such form, or the sink rejects a chunk of it
+-- why it is not written, beside the device and want of memory: there is no such form, or the sink
+-- fails for a chunk of it
 abbrev pub DeclinesForm : Pointer → Declining → ErrorKind → Type 0
 DeclinesForm pointer refuses kind = LacksForm pointer kind ⊎ BreaksForm pointer refuses kind
 
@@ -47,7 +48,7 @@ DeclinesForm pointer refuses kind = LacksForm pointer kind ⊎ BreaksForm pointe
 pub record WritesForm {S X : Type 0} (sink : Ghosts S) (old new : S) (pointer : Pointer) (result : Result X Error) : Type 0 where
   -- a plain sink gets the framed encoding of the form
   pub text : IsPlainSink sink.appends → OnOk result (IfKnown (sink.written old) (sink.written new) (Adds (IsCanonicalText pointer)))
-  -- where there is no form, the call says why, and the sink is as it was
+  -- where there is no form, the call fails with the reason, and the sink is as it was
   pub lacks : (kind : ErrorKind) → LacksForm pointer kind → IsErrAnd result (λ error. error.kind ≡ kind) × (new ≡ old)
   -- every sink gets what the chunks of the form add
   pub writes : WritesTo sink old new (AppendsForm pointer sink.appends) (LeavesForm pointer sink.appends sink.leaves)

@@ -1,4 +1,4 @@
--- What is known of the bytes past a device's buffer.
+-- What is known of the bytes after a device's buffer.
 use Rattle.std.specs.Prelude.{◌≡◌, ℕ, Bool, true, false, List, Option, None}
 use Rattle.std.specs.IoError.{error_kind}
 use Rattle.std.specs.declared.io.traits.Read.{Ghosts}
@@ -16,7 +16,7 @@ read_ahead input = reader_buffer input.buffered
 abbrev pub coming : {R : Type 0} {read : Ghosts R} → (R → Option (List ℕ)) → Input R read → Option (List ℕ)
 coming remaining input = reader_remaining (λ retried. remaining retried.device) input.buffered
 
--- bytes that are asked for only where they are said to be known
+-- bytes that count as known only where the flag says so
 abbrev pub if_known : Bool → Option (List ℕ) → Option (List ℕ)
 if_known true bytes = bytes
 if_known false bytes = None
@@ -33,6 +33,6 @@ pending output = writer_buffer output.buffered
 abbrev pub taken_so_far : {W : Type 0} → (W → Option (List ℕ)) → Output W → Option (List ℕ)
 taken_so_far contents output = writer_contents (λ retried. contents retried.device) output.buffered
 
--- the device's fault is a rejected growth
+-- the device's fault is a growth of memory that failed
 abbrev pub IsOutOfMemory : Fault → Type 0
 IsOutOfMemory fault = error_kind fault ≡ OutOfMemory

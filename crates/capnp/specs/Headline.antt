@@ -1,4 +1,4 @@
--- What readers of streams return, in texts of messages.
+-- What readers of streams return, by the encodings of messages.
 use Rattle.std.specs.Prelude.{◌≡◌, ℕ, ◌*◌, ◌+◌, ◌≤◌, List, length, ◌⊎◌, Option, None, IfSome, Result, Ok, Err, IfOk, IfErr}
 use Rattle.capnp_frame.specs.declared.error.Error.{Error}
 use Rattle.capnp_frame.specs.declared.error.ErrorKind.{ErrorKind}
@@ -8,7 +8,7 @@ use Rattle.capnp_frame.specs.SegmentTable.{table_size}
 use Rattle.capnp_frame.specs.Source.{IfKnown}
 use Rattle.capnp_frame.specs.Texts.{Grammar, BeginsWith}
 
--- a failure that the bytes give no cause for
+-- a failure that does not depend on the bytes
 abbrev pub IsFault : ErrorKind → Type 0
 IsFault kind = (kind ≡ DeviceFailed) ⊎ (kind ≡ OutOfMemory)
 
@@ -16,26 +16,31 @@ IsFault kind = (kind ≡ DeviceFailed) ⊎ (kind ≡ OutOfMemory)
 abbrev pub BufferHasRoom : ℕ → List (List ℕ) → Type 0
 BufferHasRoom room message = table_size (length message) + 8 * size_in_words message ≤ room
 
--- What a reader that grows returns of a stream in a grammar: `old` is unread before the call, and `new` after it.
+-- What a reader that allocates returns for a stream in a grammar: `old` is unread before the call,
+-- and `new` after it.
 pub record ReturnsEncodings (IsText : Grammar) (limit : Option ℕ) (old new : Option (List ℕ))
     (result : Result (Option (List (List ℕ))) Error) : Type 0 where
-  -- a text of the message that is returned is there, the message is within the limit, and just that text is consumed
+  -- an encoding of the message that is returned is there, the message is within the limit, and only
+  -- that encoding is consumed
   pub found : IfOk result (λ found. IfSome found (λ message. IfKnown old new (BeginsWith IsText limit message)))
-  -- where the text of a message within the limit is, the call fails only with the device's failure or for want of memory
+  -- where there is an encoding of a message within the limit, the call fails only with the device's
+  -- failure or for want of memory
   pub accepted : IfSome old (λ raw. (message : List (List ℕ)) (rest : List ℕ) → BeginsWith IsText limit message raw rest
       → IfErr result (λ error. IsFault error.kind))
 
 -- What a reader into a caller-provided buffer of `room` bytes returns.
 pub record ReturnsEncodingsInto (IsText : Grammar) (limit : Option ℕ) (room : ℕ) (old new : Option (List ℕ))
     (result : Result (Option (List (List ℕ))) Error) : Type 0 where
-  -- a text of the message that is returned is there, the message is within the limit, and just that text is consumed
+  -- an encoding of the message that is returned is there, the message is within the limit, and only
+  -- that encoding is consumed
   pub found : IfOk result (λ found. IfSome found (λ message. IfKnown old new (BeginsWith IsText limit message)))
-  -- where the text of a message within the limit is, and the buffer has room for it, the call fails only with the
-  -- device's failure
+  -- where there is an encoding of a message within the limit, and the buffer has room for it, the
+  -- call fails only with the device's failure
   pub accepted : IfSome old (λ raw. (message : List (List ℕ)) (rest : List ℕ) → BeginsWith IsText limit message raw rest
       → BufferHasRoom room message → IfErr result (λ error. error.kind ≡ DeviceFailed))
 
--- As the form that may return None; where that does, the call fails with PrematureEndOfFile.
+-- The same as the form that may return None, but where that does, this one fails with
+-- PrematureEndOfFile.
 abbrev pub OrFailsAtEnd : (Result (Option (List (List ℕ))) Error → Type 0) → Result (Option (List (List ℕ))) Error → Type 0
 OrFailsAtEnd tried (Ok found) = tried (Ok found)
 OrFailsAtEnd tried (Err error) = tried (Err error) ⊎ ((error.kind ≡ PrematureEndOfFile) × tried (Ok None))

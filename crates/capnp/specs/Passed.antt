@@ -1,4 +1,4 @@
--- Words of the crates below, for callers that depend on this crate alone.
+-- Definitions of the crates below, for callers that depend on this crate alone.
 pub use Rattle.capnp_frame.specs.declared.error.Error.{Error}
 pub use Rattle.capnp_frame.specs.declared.error.ErrorKind.{ErrorKind}
 pub use Rattle.capnp_frame.specs.declared.error.ErrorKind.TheVariants.{DeviceFailed, OutOfMemory}

@@ -16,7 +16,7 @@ kind_of (Some error) = Some error.kind
 abbrev pub LacksMemory : Option Error → Type 0
 LacksMemory refusal = kind_of refusal ≡ Some OutOfMemory
 
--- a reader fails so where its source ends within a message
+-- a reader fails with this kind where its source ends within a message
 abbrev pub IsCutKind : ErrorKind → Type 0
 IsCutKind kind = (kind ≡ FailedToFillTheWholeBuffer) ⊎ (kind ≡ PrematureEndOfPackedInput)
 
@@ -26,15 +26,15 @@ IsCut refusal = IsSomeAnd refusal (λ error. IsCutKind error.kind)
 abbrev pub TellsCut : Option Error → Bool → Type 0
 TellsCut refusal declared = IsTrue declared ↔ IsCut refusal
 
--- What is read of a stream in memory: messages, where the last of them ends, and why no further one was read, if the stream doesn't
--- end there.
+-- What is read of a stream in memory: messages, where the last of them ends, and why no further one
+-- was read, if the stream doesn't end there.
 pub record ReadsEach (rule : Padding) (format : Format) (limit : Option ℕ) (stream : List ℕ) (messages : List (List (List ℕ))) (end : ℕ)
     (refusal : Option Error) : Type 0 where
   -- the messages are the first `end` bytes
   pub within : end ≤ length stream
   pub texts : AreEncodings (grammar_of rule format) limit messages stream (drop end stream)
-  -- and there the stream ends, or is rejected so
+  -- and there the stream ends, or its reader fails with this kind
   pub ends : LacksMemory refusal ⊎ EndsBy rule format limit (kind_of refusal) (drop end stream)
-  -- so it is the one list of messages that the stream is, memory aside
+  -- so it is the only list of messages that the stream is, unless memory is lacking
   pub exact : (listed : List (List (List ℕ))) (ending : Option ErrorKind) → IsStream rule format limit listed ending stream
       → LacksMemory refusal ⊎ (messages ≡ listed) × (kind_of refusal ≡ ending)

@@ -22,16 +22,18 @@ pub record IsLog (limit : Option ℕ) (records : List (List (List ℕ))) (log : 
 
 -- What appending a record does to a log, `old` before the call and `new` after it.
 pub record AppendsRecord {X : Type 0} (message : List (List ℕ)) (old new : List ℕ) (result : Result X Error) : Type 0 where
-  -- a log of records is one with this record after them
+  -- a log of records becomes one with this record after them
   pub appended : (limit : Option ℕ) (records : List (List (List ℕ))) → IsLog limit records old → KeepsLimit (lengths message) limit
       → OnOk result (IsLog limit (records ++ message ∷ []) new)
   -- a call that fails leaves the log as it was
   pub unchanged : OnErr result (new ≡ old)
-  -- it fails by the number of segments exactly where there are more than a reader accepts, and else for want of memory
+  -- it fails by the number of segments exactly where there are more than a reader accepts, and else
+  -- only for want of memory
   pub count : KeepsCount message result
   pub refused : IfErr result (λ error. RefusesMany message error.kind ⊎ (error.kind ≡ OutOfMemory))
 
--- The log is cut within the record that follows these, one that a reader takes: `whole` is there of them, and of it some bytes, but not all.
+-- The log is cut within the record that follows these, one that a reader accepts: `whole` is the
+-- records before it, and some bytes of it are there, but not all.
 pub record IsCutLog (limit : Option ℕ) (records : List (List (List ℕ))) (whole log : List ℕ) : Type 0 where
   pub before : IsLog limit records whole
   pub next : List (List ℕ)
@@ -48,14 +50,14 @@ pub record IsCutLog (limit : Option ℕ) (records : List (List (List ℕ))) (who
 -- What is read of a log.
 pub record ReadsLog (limit : Option ℕ) (log : List ℕ) (messages : List (List (List ℕ))) (end : ℕ) (refusal : Option Error) : Type 0 where
   pub within : end ≤ length log
-  -- what was appended is read back, in order, memory aside
+  -- the records that were appended are read back, in order, unless memory is lacking
   pub back : (records : List (List (List ℕ))) → IsLog limit records log
       → LacksMemory refusal ⊎ (messages ≡ records) × (refusal ≡ None) × (end ≡ length log)
-  -- where the log is cut within a record those before it are read, and where they end is told
+  -- where the log is cut within a record, those before it are read, and `end` is where they end
   pub cut : (records : List (List (List ℕ))) (whole part missing : List ℕ) (next : List (List ℕ)) → IsLog limit records whole
       → IsWritable next → IsPackedEncodingOf next (part ++ missing) → 0 < length missing → log ≡ whole ++ part
       → LacksMemory refusal ⊎ (messages ≡ records) × (end ≡ length whole)
-  -- why no further one was read is what is there
+  -- the reason why no further record was read is right
   pub ends : LacksMemory refusal ⊎ EndsBy Zero Packed limit (kind_of refusal) (drop end log)
-  -- and where a record is cut that a reader takes, it is a kind that says so
+  -- and where a record is cut that a reader accepts, the reason is a kind that says so
   pub declared : (records : List (List (List ℕ))) (whole : List ℕ) → IsCutLog limit records whole log → LacksMemory refusal ⊎ IsCut refusal

@@ -22,16 +22,16 @@ use Rattle.capnp.specs.Written.{output_of}
 abbrev pub HasRootTree : List (List ℕ) → Trees → Type 0
 HasRootTree segments trees = (traversed : ℕ) × At (message_of segments) (root ∷ []) trees traversed
 
--- the tree of a value does
+-- the tree of a value is at the root
 abbrev pub HasRootOf : (Trees → Type 0) → List (List ℕ) → Type 0
 HasRootOf has_tree segments = (trees : Trees) × has_tree trees × HasRootTree segments trees
 
--- the message has more words than the limit, and the failure tells how many
+-- the message has more words than the limit, and the failure carries their number
 abbrev pub RefusesSize : List (List ℕ) → Option ℕ → ErrorKind → Type 0
 RefusesSize message limit kind = IsTooLarge (lengths message) limit × (kind ≡ MessageTooLarge (size_in_words message))
 
--- What a call returns that writes a message and reads it back by these options. `segments` and `options_of` are what is seen of
--- a reader.
+-- What a call returns that writes a message and reads it back with these options. `segments` and
+-- `options_of` are what is seen of a reader.
 pub record ReadsWritten {X : Type 0} (message : List (List ℕ)) (options : ReaderOptions) (segments : X → List (List ℕ))
     (options_of : X → ReaderOptions) (result : Result X Error) : Type 0 where
   -- the segments are those that were written
@@ -47,12 +47,12 @@ pub record ReadsWritten {X : Type 0} (message : List (List ℕ)) (options : Read
 -- Why a value is not set, and what that leaves: a null root.
 pub record StaysUnset {A S : Type 0} (alloc : Ghosts A S) (has_tree : Trees → Type 0) (refuses : ErrorKind → Type 0) (old new : Built A) (kind : ErrorKind) : Type 0 where
   pub cleared : IsCleared alloc old new
-  -- it is as `set_root` fails
+  -- it fails as `set_root` does
   pub refused : LacksWords has_tree refuses false kind ⊎ StopsFirst alloc old new.spaces kind ⊎ FindsNoRoom alloc (HasWords has_tree false) old new.spaces kind
 
 -- Why a message whose root is set is not read back, and what that leaves: the value at the root.
 pub record StaysUnread {A S : Type 0} (alloc : Ghosts A S) (has_tree : Trees → Type 0) (limit : Option ℕ) (old new : Built A) (kind : ErrorKind) : Type 0 where
   pub set : IsSet has_tree false new.spaces
   pub placed : IsPut alloc (HasWords has_tree false) old new
-  -- it is for too many segments, for too many words, or for want of memory
+  -- it fails for too many segments, for too many words, or for want of memory
   pub refused : RefusesMany (output_of new) kind ⊎ RefusesSize (output_of new) limit kind ⊎ (kind ≡ OutOfMemory)

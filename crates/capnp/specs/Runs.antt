@@ -16,22 +16,22 @@ use Rattle.capnp.specs.declared.streams.StoppedAt.{StoppedAt}
 use Rattle.capnp.specs.Headline.{IsFault}
 use Rattle.capnp.specs.Streams.{grammar_of, refuses_of, rules_of, StandsNext, RefusesNext, IsStream}
 
--- What is written of a message, by its index: Writes index message text.
+-- What is written for a message, by its index, as a relation: `Writes index message text`.
 abbrev pub Writing : Type 1
 Writing = ℕ → List (List ℕ) → List ℕ → Type 0
 
--- How a message of an index may fail to be written, beside the device's failure.
+-- How writing the message of an index may fail, beside the device's failure.
 pub record DecliningWriting : Type 1 where
-  -- it lacks what is to be written of it, by this kind
+  -- it lacks what is to be written for it, with this kind
   pub lacks : ℕ → List (List ℕ) → ErrorKind → Type 0
-  -- the sink breaks off what is written of it, by this kind
+  -- the sink fails within what is written for it, with this kind
   pub breaks : ℕ → List (List ℕ) → ErrorKind → Type 0
   -- memory is taken to write it
   pub takes_memory : ℕ → List (List ℕ) → Type 0
-  -- what the sink is left with of it
+  -- what is left of it in the sink
   pub leaves : Writing
 
--- of messages, the first of this index
+-- what is written for messages, the first of which has this index
 abbrev pub WritesFrom : Writing → ℕ → List (List (List ℕ)) → List ℕ → Type 0
 WritesFrom Writes index [] text = text ≡ []
 WritesFrom Writes index (m ∷ ms) text = (first others : List ℕ) × Writes index m first × WritesFrom Writes (index + 1) ms others × (text ≡ first ++ others)
@@ -39,42 +39,42 @@ WritesFrom Writes index (m ∷ ms) text = (first others : List ℕ) × Writes in
 abbrev pub WritesAll : Writing → List (List (List ℕ)) → List ℕ → Type 0
 WritesAll Writes messages text = WritesFrom Writes 0 messages text
 
--- the next message of a stream was written under this index
+-- the next message of a stream was written, under this index
 pub record HasWrittenNext (rule : Padding) (format : Format) (limit : Option ℕ) (Writes : Writing) (index : ℕ) (before after : Option (List ℕ)) (raw rest : List ℕ) : Type 0 where
   pub message : List (List ℕ)
   pub stands : StandsNext rule format limit message raw rest
   pub written : IfKnown before after (Adds (Writes index message))
 
--- A given number of messages from the front of raw were written, and then rest is unread.
+-- This many messages from the front of `raw` were written, and then `rest` is unread.
 pub record HasWritten (rule : Padding) (format : Format) (limit : Option ℕ) (Writes : Writing) (count : ℕ) (before after : Option (List ℕ)) (raw rest : List ℕ) : Type 0 where
   pub messages : List (List (List ℕ))
   pub counted : length messages ≡ count
   pub texts : AreEncodings (grammar_of rule format) limit messages raw rest
   pub written : IfKnown before after (Adds (WritesAll Writes messages))
 
--- why the next message was not read: the device's fault, want of memory where memory is taken, so that no more is
--- consumed than was asked for till then, or what is there
+-- why the next message was not read: the device's fault; want of memory where memory is taken, with
+-- no more consumed than was asked for until then; or an error of the unread bytes
 abbrev pub IsReadingFault : Padding → Format → Option ℕ → ErrorKind → Option (List ℕ) → Option (List ℕ) → Type 0
 IsReadingFault rule format limit kind old new = (kind ≡ DeviceFailed)
     ⊎ ((kind ≡ OutOfMemory) × IfKnown old new ((rules_of rule format).takes_memory limit))
     ⊎ IfKnown old new (RefusesNext rule format limit kind)
 
--- a message is not written for what it is, or by its sink
+-- a message is not written because of what it is, or because its sink fails
 abbrev pub Declined : DecliningWriting → ℕ → List (List ℕ) → ErrorKind → Type 0
 Declined Declines index message kind = Declines.lacks index message kind ⊎ Declines.breaks index message kind
 
--- why a message was not written: the device's fault, want of memory where memory is taken, what it lacks, or that the sink rejects
--- some of it
+-- why a message was not written: the device's fault, want of memory where memory is taken, what it
+-- lacks, or a failure of the sink within it
 abbrev pub IsWritingFault : DecliningWriting → ℕ → List (List ℕ) → ErrorKind → Type 0
 IsWritingFault Declines index message kind = (kind ≡ DeviceFailed) ⊎ ((kind ≡ OutOfMemory) × Declines.takes_memory index message)
     ⊎ Declined Declines index message kind
 
--- the sink failed or rejected some of a message, so that a front of it may be written; else `same` holds
+-- the sink failed within a message, so a front of it may be written; else `same` holds
 abbrev pub BreaksOffOr : DecliningWriting → ℕ → List (List ℕ) → Type 0 → ErrorKind → Type 0
 BreaksOffOr Declines index message same kind = (kind ≡ DeviceFailed) ⊎ Declines.breaks index message kind ⊎ same
 
--- a failure that the unread bytes give no cause for: the device's, or that some message that can be written is not, so want of memory
--- only where memory is taken to write it
+-- a failure that does not depend on the unread bytes: the device's, or that some message that can
+-- be written is not, which is want of memory only where memory is taken to write it
 abbrev pub IsRunFault : DecliningWriting → ℕ → ErrorKind → Type 0
 IsRunFault Declines index kind = (kind ≡ DeviceFailed)
     ⊎ ((message : List (List ℕ)) × IsWritable message × IsWritingFault Declines index message kind)
@@ -83,7 +83,8 @@ IsRunFault Declines index kind = (kind ≡ DeviceFailed)
 abbrev pub most_messages : ℕ
 most_messages = 2 ^ 64 - 1
 
--- Below, of a run over raw that leaves `left` unread, and whose sink has `before`, and then `after`.
+-- Below, a run over `raw` leaves `left` unread, and its sink has `before` before the run and
+-- `after` after it.
 
 -- All messages are written, or as many as one run takes.
 pub record RanOut (rule : Padding) (format : Format) (limit : Option ℕ) (Writes : Writing) (left before after : Option (List ℕ)) (raw : List ℕ) : Type 0 where
@@ -93,14 +94,14 @@ pub record RanOut (rule : Padding) (format : Format) (limit : Option ℕ) (Write
   pub written : HasWritten rule format limit Writes count before after raw rest
   pub done : (rest ≡ []) ⊎ (count ≡ most_messages)
 
--- A given number of messages are written and nothing more, since the next one was not read.
+-- This many messages are written and nothing more, since the next one was not read.
 pub record StoppedReading (rule : Padding) (format : Format) (limit : Option ℕ) (Writes : Writing) (count : ℕ) (kind : ErrorKind) (left before after : Option (List ℕ)) (raw : List ℕ) : Type 0 where
   pub rest : List ℕ
   pub written : HasWritten rule format limit Writes count before after raw rest
   pub fault : IsReadingFault rule format limit kind (Some rest) left
 
--- A given number of messages are written, and the next one was read and not written as a whole. Nothing of it is written
--- unless the sink broke it off, and nothing after a hole.
+-- This many messages are written, and the next one was read but not written completely. Nothing of
+-- it is written unless the sink failed within it, and there is no gap.
 pub record StoppedWriting (rule : Padding) (format : Format) (limit : Option ℕ) (Writes : Writing) (Declines : DecliningWriting) (count : ℕ) (kind : ErrorKind) (left before after : Option (List ℕ)) (raw : List ℕ) : Type 0 where
   pub rest : List ℕ
   pub between : Option (List ℕ)
@@ -112,23 +113,23 @@ pub record StoppedWriting (rule : Padding) (format : Format) (limit : Option ℕ
   pub left_of_it : IfKnown between after (Adds (Declines.leaves count message))
   pub untouched : BreaksOffOr Declines count message (after ≡ between) kind
 
--- it stopped by this kind after a given number of messages
+-- it stopped with this kind after this many messages
 abbrev pub HasStopped : Padding → Format → Option ℕ → Writing → DecliningWriting → ℕ → ErrorKind → Option (List ℕ) → Option (List ℕ) → Option (List ℕ) → List ℕ → Type 0
 HasStopped rule format limit Writes Declines count kind left before after raw =
     StoppedReading rule format limit Writes count kind left before after raw
     ⊎ StoppedWriting rule format limit Writes Declines count kind left before after raw
 
--- what the result of a run says that it did
+-- what a run did, by its result
 abbrev pub HasRun : Padding → Format → Option ℕ → Writing → DecliningWriting → Result (Unit {0}) StoppedAt → Option (List ℕ) → Option (List ℕ) → Option (List ℕ) → List ℕ → Type 0
 HasRun rule format limit Writes Declines (Ok done) left before after raw = RanOut rule format limit Writes left before after raw
 HasRun rule format limit Writes Declines (Err stop) left before after raw = HasStopped rule format limit Writes Declines stop.message stop.error.kind left before after raw
 
--- the result says that the stream is these messages, and ends so
+-- the result says that the stream is these messages, and ends in this way
 abbrev pub IsResultOf : Result (Unit {0}) StoppedAt → List (List (List ℕ)) → Option ErrorKind → Type 0
 IsResultOf (Ok done) messages ending = ending ≡ None
 IsResultOf (Err stop) messages ending = (ending ≡ Some stop.error.kind) × (stop.message ≡ length messages)
 
--- one of these messages, the one of this index, is not written by this kind
+-- writing the message of this index, one of these messages, fails with this kind
 pub record FaultsAt (Declines : DecliningWriting) (messages : List (List (List ℕ))) (index : ℕ) (kind : ErrorKind) : Type 0 where
   pub before : List (List (List ℕ))
   pub message : List (List ℕ)
@@ -137,7 +138,8 @@ pub record FaultsAt (Declines : DecliningWriting) (messages : List (List (List �
   pub counted : length before ≡ index
   pub fault : IsWritingFault Declines index message kind
 
--- a run over these messages stopped by a fault: no later than where the next one is read, or at one of them
+-- a run over these messages stopped by a fault: no later than where the next one is read, or at one
+-- of them
 abbrev pub StopsByFault : DecliningWriting → List (List (List ℕ)) → ℕ → ErrorKind → Type 0
 StopsByFault Declines messages index kind = (IsFault kind × (index ≤ length messages)) ⊎ FaultsAt Declines messages index kind
 
@@ -146,21 +148,22 @@ abbrev pub IsFaulted : DecliningWriting → Result (Unit {0}) StoppedAt → List
 IsFaulted Declines (Ok done) messages = ⊥
 IsFaulted Declines (Err stop) messages = StopsByFault Declines messages stop.message stop.error.kind
 
--- What a run over the messages of a stream reads, writes and returns. `source` is what is seen of the source (the members of
--- the trait Read), which is `old` before the run and `new` after it; `sink` of the sink (those of Write), `before` and `after`.
+-- What a run over the messages of a stream reads, writes and returns. `source` is what is seen of
+-- the source (the members of the trait Read), which is `old` before the run and `new` after it;
+-- `sink` is what is seen of the sink (those of Write), which is `before` and then `after`.
 pub record WritesEach {S T : Type 0} (source : Ghosts S) (old new : S) (sink : SinkGhosts T) (before after : T)
     (rule : Padding) (format : Format) (limit : Option ℕ) (Writes : Writing) (Declines : DecliningWriting)
     (result : Result (Unit {0}) StoppedAt) : Type 0 where
   -- each message is written until none is left, or those before the place where the run stopped
   pub written : IfSome (source.unread old)
       (HasRun rule format limit Writes Declines result (source.unread new) (sink.written before) (sink.written after))
-  -- what is returned says how the stream ends, and after how many messages, but for a fault
+  -- the result says how the stream ends, and after how many messages, except for a fault
   pub exact : IfSome (source.unread old) (λ raw. (messages : List (List (List ℕ))) (ending : Option ErrorKind)
       → IsStream rule format limit messages ending raw → length messages < most_messages
       → IsResultOf result messages ending ⊎ IsFaulted Declines result messages)
   -- it fails with one of the reader's kinds, or with a fault at the message of that index
   pub kinds : IfErr result (λ stop. IsReaderKind rule (refuses_of format) stop.error.kind ⊎ IsRunFault Declines stop.message stop.error.kind)
-  -- a device is blamed only where one of the two failed
+  -- `DeviceFailed` is returned only where one of the two devices failed
   pub failed : IfErr result (λ stop. stop.error.kind ≡ DeviceFailed
       → Fails (source.failures old) (source.failures new) ⊎ Fails (sink.failures before) (sink.failures after))
   -- the source moves on, or stays
@@ -168,7 +171,7 @@ pub record WritesEach {S T : Type 0} (source : Ghosts S) (old new : S) (sink : S
   -- what was written before stays at the front
   pub grows : Grows sink.written sink.failures sink.same before after
 
--- a run, where it isn't told after how many messages it stopped
+-- the same for a run that doesn't return after how many messages it stopped
 abbrev pub WithoutCount : (Result (Unit {0}) StoppedAt → Type 0) → Result (Unit {0}) Error → Type 0
 WithoutCount Run (Ok done) = Run (Ok done)
 WithoutCount Run (Err error) = (message : ℕ) × Run (Err (record { message = message; error = error }))

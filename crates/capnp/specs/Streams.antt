@@ -1,4 +1,4 @@
--- Streams of either format: texts of messages after one another.
+-- Streams in either format: encodings of messages one after another.
 use Rattle.std.specs.Prelude.{◌≡◌, ℕ, List, ◌++◌, Option, None, ◌↔◌}
 use Rattle.capnp_frame.specs.declared.error.ErrorKind.{ErrorKind}
 use Rattle.capnp_frame.specs.declared.serialize.segment_table.Padding.{Padding}
@@ -21,16 +21,16 @@ pub record IsPlainSource (gives : Giving) (refuses : Refusing) : Type 0 where
 abbrev pub BeginsFramed : Padding → Option ℕ → List (List ℕ) → List ℕ → List ℕ → Type 0
 BeginsFramed rule limit message raw rest = BeginsWith (IsFrame rule) limit message raw rest
 
--- a packed encoding
+-- the same for a packed encoding
 abbrev pub BeginsPacked : Padding → Option ℕ → List (List ℕ) → List ℕ → List ℕ → Type 0
 BeginsPacked rule limit message raw rest = BeginsWith (IsPackedFrame rule) limit message raw rest
 
--- the texts of a format, their padding by the rule
+-- the encodings of a format, with a padding that the rule accepts
 abbrev pub grammar_of : Padding → Format → Grammar
 grammar_of rule Framed = IsFrame rule
 grammar_of rule Packed = IsPackedFrame rule
 
--- what requests take of a stream of a format, and by which kinds they are rejected
+-- what requests take of a stream in a format, and with which kinds they fail
 abbrev pub gives_of : Format → Giving
 gives_of Framed = Splits
 gives_of Packed = Unpacks
@@ -39,7 +39,7 @@ abbrev pub refuses_of : Format → Refusing
 refuses_of Framed = RunsShort
 refuses_of Packed = RefusesChunk
 
--- what the readers of a format go by, over a source of plain bytes
+-- the rules of the readers of a format, over a source of plain bytes
 abbrev pub rules_of : Padding → Format → StreamRules
 rules_of rule format = record {
   stands = λ message raw rest. (text : List ℕ) × grammar_of rule format text message × (raw ≡ text ++ rest);
@@ -49,19 +49,19 @@ rules_of rule format = record {
   provided_kinds = IsProvidedReaderKind rule (refuses_of format);
 }
 
--- a text of the message in this format is at the front, and the message is within the limit
+-- an encoding of the message in this format is at the front, and the message is within the limit
 abbrev pub StandsNext : Padding → Format → Option ℕ → List (List ℕ) → List ℕ → List ℕ → Type 0
 StandsNext rule format limit message raw rest = BeginsWith (grammar_of rule format) limit message raw rest
 
--- the reader of this format is rejected there by this kind, and leaves `left` unread
+-- the reader of this format fails there with this kind, and leaves `left` unread
 abbrev pub RefusesNext : Padding → Format → Option ℕ → ErrorKind → List ℕ → List ℕ → Type 0
 RefusesNext rule format limit kind rest left = RefusesStream rule (gives_of format) (refuses_of format) limit None kind rest left
 
--- why no text of a message is there: nothing is left, or the reader rejects by this kind
+-- why no further message is there: nothing is left, or the reader fails with this kind
 abbrev pub EndsBy : Padding → Format → Option ℕ → Option ErrorKind → List ℕ → Type 0
 EndsBy rule format limit ending rest = EndsEncodings rule (gives_of format) (refuses_of format) limit ending rest
 
--- The stream is texts of these messages, each within the limit, and then ends so.
+-- The stream is encodings of these messages, each within the limit, and then ends in this way.
 pub record IsStream (rule : Padding) (format : Format) (limit : Option ℕ) (messages : List (List (List ℕ))) (ending : Option ErrorKind) (raw : List ℕ) : Type 0 where
   pub rest : List ℕ
   pub texts : AreEncodings (grammar_of rule format) limit messages raw rest

@@ -27,7 +27,8 @@ output_of_way Unpack = Framed
 abbrev pub Transcodes : Way → Appending → Writing
 Transcodes way appends index message text = AppendsMessage (output_of_way way) appends message text
 
--- and how it may fail to be written: by a chunk that the sink rejects, or, from four segments on, for want of memory for its table
+-- and how writing it may fail: the sink fails for a chunk, or, from four segments on, memory for
+-- the table is lacking
 abbrev pub DeclinesTranscoded : Way → Appending → Leaving → Declining → DecliningWriting
 DeclinesTranscoded way appends leaves refuses = record {
   lacks = λ index message kind. ⊥;
@@ -36,17 +37,17 @@ DeclinesTranscoded way appends leaves refuses = record {
   leaves = λ index message. LeavesMessage (output_of_way way) appends leaves message;
 }
 
--- the text of a message in the other format
+-- the encoding of a message in the other format
 abbrev pub IsOtherText : Way → Writing
 IsOtherText Pack index message text = IsPackedEncodingOf message text
 IsOtherText Unpack index message text = IsFrameEncoding message text
 
--- What a call does that writes each message of a stream, its padding by the rule, in the other format. `source` and `sink`
--- are what is seen of them (the members of the traits Read and Write); the source is `old` before the call and `new` after
--- it, the sink `before` and `after`.
+-- What a call does that writes each message of a stream, by this rule of padding, in the other
+-- format. `source` and `sink` are what is seen of them (the members of the traits Read and Write);
+-- the source is `old` before the call and `new` after it, the sink `before` and `after`.
 pub record TranscodesEach {S T : Type 0} (source : Ghosts S) (old new : S) (sink : SinkGhosts T) (before after : T)
     (rule : Padding) (way : Way) (limit : Option ℕ) (result : Result (Unit {0}) Error) : Type 0 where
-  -- a plain sink gets the texts in the other format
+  -- a plain sink gets the encodings in the other format
   pub texts : IsPlainSink sink.appends → WithoutCount (WritesEach source old new sink before after rule (input_of way) limit
       (IsOtherText way) (DeclinesTranscoded way sink.appends sink.leaves sink.refuses)) result
   -- every sink gets what the chunks of the messages add

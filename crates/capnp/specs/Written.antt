@@ -18,11 +18,11 @@ use Rattle.capnp_pack.specs.PackedSink.{AppendsPacked, LeavesPacked, DeclinesPac
 use Rattle.capnp.specs.declared.streams.Format.{Format}
 use Rattle.capnp.specs.declared.streams.Format.TheVariants.{Framed, Packed}
 
--- a plain sink adds just the chunk
+-- a plain sink adds exactly the chunk
 abbrev pub IsPlainSink : Appending → Type 0
 IsPlainSink appends = (chunk text : List ℕ) → appends chunk text → text ≡ chunk
 
--- the text that is written of a message, framed and packed
+-- the encoding that is written of a message, framed and packed
 abbrev pub IsFrameEncoding : List (List ℕ) → List ℕ → Type 0
 IsFrameEncoding message text = text ≡ frame_bytes message
 
@@ -37,12 +37,13 @@ IsTextOf Packed = IsPackedEncodingOf
 abbrev pub output_of : {A : Type 0} → Built A → List (List ℕ)
 output_of built = map used_of built.spaces
 
--- why a writer fails: by the device, as its sink rejects one of the chunks, or before it writes, for more segments than a reader
--- accepts or, from four on, for want of memory
+-- why a writer fails: its device fails, the sink fails for one of the chunks, or, before it writes,
+-- there are more segments than a reader accepts, or from four segments on memory is lacking
 abbrev pub RefusesWriter : Declining → List (List ℕ) → ErrorKind → Type 0
 RefusesWriter refuses message kind = (kind ≡ DeviceFailed) ⊎ DeclinesSome refuses (chunks message) kind ⊎ RefusesUnwritten message kind
 
--- what a chunk adds to a sink in this format, what a call that fails leaves of it, and by which kinds it may be rejected
+-- what a chunk adds to a sink in this format, what a call that fails leaves of it, and with which
+-- kinds it may fail
 abbrev pub AppendsAs : Format → Appending → Appending
 AppendsAs Framed appends = appends
 AppendsAs Packed appends = AppendsPacked appends
@@ -69,21 +70,23 @@ pub record WritesMessage {S X : Type 0} (format : Format) (sink : Ghosts S) (old
   -- it fails by the number of segments exactly where there are more than a reader accepts, and then the sink stays as it was
   pub count : KeepsCount message result
   pub unwritten : ExceedsSegmentLimit message → new ≡ old
-  -- to a plain sink the text of the message is added
+  -- a plain sink gets the encoding of the message
   pub text : IsPlainSink sink.appends → OnOk result (IfKnown (sink.written old) (sink.written new) (Adds (IsTextOf format message)))
-  -- to every sink is added what the message's chunks add, one after the other
+  -- every sink gets what the message's chunks add, one after the other
   pub written : OnOk result (IfKnown (sink.written old) (sink.written new) (Adds (AppendsMessage format sink.appends message)))
-  -- where it fails, what the first chunks add is written, and of the next one what the sink leaves of it; nothing is after a hole
+  -- where it fails, what the first chunks add is written, and of the next one what the sink leaves
+  -- of it, without a gap
   pub left : OnErr result (IfKnown (sink.written old) (sink.written new) (Adds (LeavesMessage format sink.appends sink.leaves message)))
   pub refused : IfErr result (λ error. RefusesWriter (DeclinesAs format sink.refuses) message error.kind)
   -- a failure that isn't the sink's leaves the sink as it was
   pub untouched : FailsOr result (λ kind. DeclinesSome (DeclinesAs format sink.refuses) (chunks message) kind ⊎ (new ≡ old))
-  -- the device is blamed only where it failed
+  -- `DeviceFailed` is returned only where the device failed
   pub failed : IfErr result (λ error. error.kind ≡ DeviceFailed → Fails (sink.failures old) (sink.failures new))
   -- what was written before stays at the front, also where the call fails
   pub grows : Grows sink.written sink.failures sink.same old new
 
--- one of these messages has more segments than a reader accepts, and the failure tells their number
+-- one of these messages has more segments than a reader accepts, and the failure carries their
+-- number
 abbrev pub RefusesManyOf : List (List (List ℕ)) → ErrorKind → Type 0
 RefusesManyOf [] kind = ⊥
 RefusesManyOf (m ∷ ms) kind = RefusesMany m kind ⊎ RefusesManyOf ms kind
@@ -98,15 +101,16 @@ abbrev pub AppendsEach : (List (List ℕ) → List ℕ → Type 0) → List (Lis
 AppendsEach Writes [] text = text ≡ []
 AppendsEach Writes (m ∷ ms) text = (first others : List ℕ) × Writes m first × AppendsEach Writes ms others × (text ≡ first ++ others)
 
--- A writer fails at this message by this kind, and leaves this text of it: nothing, unless the device failed or the sink rejected a
--- chunk.
+-- A writer fails at this message with this kind, and leaves these bytes of it: none, unless the
+-- device failed or the sink failed for a chunk.
 pub record StopsMessage (format : Format) (appends : Appending) (leaves : Leaving) (refuses : Declining) (message : List (List ℕ)) (kind : ErrorKind)
     (text : List ℕ) : Type 0 where
   pub refused : RefusesWriter (DeclinesAs format refuses) message kind
   pub left : LeavesMessage format appends leaves message text
   pub untouched : (kind ≡ DeviceFailed) ⊎ DeclinesSome (DeclinesAs format refuses) (chunks message) kind ⊎ (text ≡ [])
 
--- Of messages that are written one after the other the first ones are added, and the writer of the next one fails so.
+-- Of messages that are written one after the other, the first ones are added, and the writer of the
+-- next one fails in this way.
 abbrev pub StopsEach : (List (List ℕ) → List ℕ → Type 0) → (List (List ℕ) → ErrorKind → List ℕ → Type 0) → List (List (List ℕ)) → ErrorKind → List ℕ → Type 0
 StopsEach Writes Stops [] kind text = ⊥
 StopsEach Writes Stops (m ∷ ms) kind text = Stops m kind text
@@ -116,18 +120,19 @@ StopsEach Writes Stops (m ∷ ms) kind text = Stops m kind text
 -- the trait Write), `old` and `new` are the sink before the call and after it.
 pub record WritesMessages {S X : Type 0} (format : Format) (sink : Ghosts S) (old new : S) (messages : List (List (List ℕ)))
     (result : Result X Error) : Type 0 where
-  -- to a plain sink the texts of the messages are added
+  -- a plain sink gets the encodings of the messages
   pub text : IsPlainSink sink.appends → OnOk result (IfKnown (sink.written old) (sink.written new) (Adds (AppendsEach (IsTextOf format) messages)))
-  -- to every sink is added what the messages' chunks add
+  -- every sink gets what the messages' chunks add
   pub written : OnOk result (IfKnown (sink.written old) (sink.written new) (Adds (AppendsEach (AppendsMessage format sink.appends) messages)))
-  -- where it fails, the first messages are written, and it is the writer of the next one that fails so; nothing is after a hole
+  -- where it fails, the first messages are written, and the writer of the next one fails in this
+  -- way, without a gap
   pub stops : IfErr result (λ error. IfKnown (sink.written old) (sink.written new)
       (Adds (StopsEach (AppendsMessage format sink.appends) (StopsMessage format sink.appends sink.leaves sink.refuses) messages error.kind)))
   -- what is written has no more segments than a reader accepts
   pub few : OnOk result (AllByRecursion IsWithinSegmentLimit messages)
   -- it fails as the writer of one of them does
   pub refused : IfErr result (λ error. RefusesOneOf (DeclinesAs format sink.refuses) messages error.kind)
-  -- the device is blamed only where it failed
+  -- `DeviceFailed` is returned only where the device failed
   pub failed : IfErr result (λ error. error.kind ≡ DeviceFailed → Fails (sink.failures old) (sink.failures new))
   -- what was written before stays at the front, also where the call fails
   pub grows : Grows sink.written sink.failures sink.same old new

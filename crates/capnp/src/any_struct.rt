@@ -1,3 +1,3 @@
-//! A struct of any sizes: its type, and its views.
+//! A struct of any size: its type, and its views.
 pub use capnp_build::any_struct::StructBuilder;
 pub use capnp_wire::any_struct::{Owned, StructReader};

@@ -19,19 +19,19 @@ use capnp_frame::serialize::{OwnedSegments, Padding};
 use capnp_message::Reader;
 use std::alloc::Global;
 
-/// What was written of messages, and what was read of that.
+/// What was written of messages, and what was read back.
 #[derive(Drop)]
 pub struct ReadBack {
-    /// The texts of the messages, one after the other, in bytes.
+    /// The encodings of the messages, one after the other, in bytes.
     pub text: Vec<u8>,
-    /// As many messages as were written, read of that text.
+    /// The messages that were read back, as many as were written.
     pub readers: Vec<Reader<OwnedSegments>>,
     /// What was read after them.
     pub end: Option<Reader<OwnedSegments>>,
 }
 
-/// Writes messages to a vector, one after the other, and reads them from there: as many as were
-/// written, and what follows them.
+/// Writes messages to a vector, one after the other, and reads them back: as many as were written,
+/// and then what follows them.
 ///
 /// Fails with `InvalidNumberOfSegments` for a message of more than 511 segments, and else with
 /// `OutOfMemory` alone.
@@ -59,7 +59,7 @@ pub fn write_and_read_back<S: ReaderSegments>(
 /// Writes messages one after the other.
 ///
 /// Fails as the writer of one of them does: with `InvalidNumberOfSegments` for more than 511
-/// segments, with `OutOfMemory`, from four segments on, or as the sink does. The first messages are
+/// segments, with `OutOfMemory` from four segments on, or as the sink does. The first messages are
 /// then written, and of the next one what the sink leaves of its chunks.
 pub fn write_messages<W: Write, S: ReaderSegments>(
     alloc: Global,
@@ -79,7 +79,7 @@ pub fn write_messages<W: Write, S: ReaderSegments>(
 
 /// Reads `count` messages, one after the other.
 ///
-/// Fails as `read_message` of the format does where a message isn't there, and with `OutOfMemory`.
+/// Fails as `read_message` of the format does where no message is there, and with `OutOfMemory`.
 pub fn read_messages<R: BufRead>(
     alloc: Global,
     format: Format,

@@ -1,2 +1,2 @@
-//! A list of data: its type, and its view.
+//! A list of `Data`: its type, and its view.
 pub use capnp_wire::data_list::{Owned, Reader};

@@ -1,5 +1,5 @@
-//! What std reads and writes, as files, standard input and standard output, as a source and a sink
-//! of messages.
+//! Readers and writers of std, such as files, standard input and standard output, as sources and
+//! sinks of messages.
 //!
 //! Both are buffered, and both try an interrupted call again. Any other failure of the device is
 //! `DeviceFailed`.
@@ -14,10 +14,10 @@ use crate::{Error, ErrorKind};
 pub use input::Input;
 pub use output::Output;
 
-/// The size in bytes of the buffer before a device that is read.
+/// The size in bytes of the buffer for a device that is read.
 pub const BUFFER_BYTES: usize = 4096;
 
-/// A size in bytes for the buffer before a device that is written.
+/// A size in bytes for the buffer of a device that is written.
 pub const OUTPUT_BYTES: usize = 32768;
 
 /// How often a device failed, up to 2^64 - 1.

@@ -17,22 +17,22 @@ ghost use Rattle.capnp.specs.Written.{IsTextOf, AppendsEach};
 
 use capnp_frame::serialize::Padding;
 
-/// A stream begins with at most one message, which leaves one rest. So all readers of a format
-/// return the same message.
+/// A stream begins with at most one message, which leaves the same bytes after it. So all readers
+/// of a format return the same message.
 pub fn one_message_begins_a_stream()
     ensures { (rule : Padding) (format : Format) (limit : Option ℕ) (message other : List (List ℕ))
         (raw rest left : List ℕ) → StandsNext rule format limit message raw rest →
         StandsNext rule format limit other raw left → (message ≡ other) × (rest ≡ left) }
 {}
 
-/// Where a stream ends, or its reader fails, no message begins it.
+/// Where a stream ends, or its reader fails, no message begins the stream.
 pub fn no_message_begins_an_end()
     ensures { (rule : Padding) (format : Format) (limit : Option ℕ) (ending : Option ErrorKind)
         (message : List (List ℕ)) (raw rest : List ℕ) → EndsBy rule format limit ending raw →
         StandsNext rule format limit message raw rest → ⊥ }
 {}
 
-/// A stream is one list of messages, and ends in one way.
+/// A stream is one list of messages, and ends in only one way.
 pub fn a_stream_is_one_list()
     ensures { (rule : Padding) (format : Format) (limit : Option ℕ) (messages others : List (List (List ℕ)))
         (ending other : Option ErrorKind) (raw : List ℕ) →
@@ -41,7 +41,7 @@ pub fn a_stream_is_one_list()
 {}
 
 /// Messages that are written one after the other, each of no more than 511 segments, are a stream
-/// of just these messages, within any limit of words that they keep.
+/// of exactly these messages, within any limit of words that they keep.
 pub fn what_is_written_is_a_stream()
     ensures { (rule : Padding) (format : Format) (limit : Option ℕ) (messages : List (List (List ℕ)))
         (text : List ℕ) → AllByRecursion IsWritable messages → AllByRecursion IsWithinSegmentLimit messages →
@@ -49,9 +49,9 @@ pub fn what_is_written_is_a_stream()
         AppendsEach (IsTextOf format) messages text → IsStream rule format limit messages None text }
 {}
 
-/// The tree at the root of a message that is built is the root tree of what is read of its text, in
-/// both formats, for no more than 511 segments within the limit of words. What follows the text is
-/// left.
+/// The tree at the root of a message that is built is the root tree of what is read of its
+/// encoding, in both formats, for no more than 511 segments within the limit of words. What follows
+/// the encoding is left unread.
 pub fn a_root_is_read_back()
     ensures { (rule : Padding) (format : Format) (limit : Option ℕ) (spaces : List Space) (trees : Trees)
         (text rest left : List ℕ) (read : List (List ℕ)) → HasRootTree (map used_of spaces) trees →

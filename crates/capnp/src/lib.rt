@@ -1,8 +1,9 @@
 //! Messages of Cap'n Proto in both formats: framed, and packed.
 //!
-//! A reader returns a message exactly where the unread bytes begin with a text of it, within the
-//! limits, and leaves what follows. Writers add the text of a message. `specs/Headline.antt` and
-//! `specs/Streams.antt` say so, over the grammars of the crates below.
+//! A reader returns a message exactly where the unread bytes begin with an encoding of it, within
+//! the limits, and leaves what follows. Writers add the encoding of a message.
+//! `specs/Headline.antt` and `specs/Streams.antt` define this, over the grammars of the crates
+//! below.
 #![tactic(auto)]
 
 pub mod any_object;

@@ -1,4 +1,5 @@
-//! Messages that are read and built, what is accepted of them, and what holds their segments.
+//! Messages that are read and built, the limits of what is accepted, and the types that hold
+//! segments.
 pub use capnp_build::allocator::Allocator;
 pub use capnp_build::segment_space::SegmentSpace;
 pub use capnp_frame::message::{

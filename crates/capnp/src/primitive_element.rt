@@ -1,2 +1,2 @@
-//! Numbers and bools, as fields and elements are.
+//! Numbers and bools, the types of fields and elements.
 pub use capnp_wire::primitive_element::PrimitiveElement;

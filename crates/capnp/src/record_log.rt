@@ -1,7 +1,7 @@
-//! A log of packed records: one is appended, and all are read back, also where the log is cut.
+//! A log of packed records: records are appended, and all are read back, also where the log is cut.
 //!
-//! A log is a stream of packed messages whose padding is zero. What is appended to a file by
-//! `serialize_packed::write_message` is such a log, too.
+//! A log is a stream of packed messages whose padding is zero. So a file to which
+//! `serialize_packed::write_message` appends is a log, too.
 ghost use Rattle.std.specs.Prelude.{◌≡◌, map};
 ghost use Rattle.std.specs.List.{AllByRecursion};
 ghost use Rattle.capnp_frame.specs.Writing.{IsWritable};
@@ -17,7 +17,7 @@ use std::alloc::Global;
 /// Appends a record, a message that was built, to a log.
 ///
 /// Fails with `InvalidNumberOfSegments` where the record has more than 511 segments, and else with
-/// `OutOfMemory` alone. Then the log stays as it was.
+/// `OutOfMemory` alone. The log then stays as it was.
 ///
 /// ```
 /// let mut log = Vec::new(alloc);
@@ -34,8 +34,7 @@ pub fn append<M: BuiltMessage>(alloc: Global, log: &mut Vec<u8>, message: &M) ->
     append_segments(alloc, log, message)
 }
 
-/// Appends a record of any segments to a log. It needs the segments that a writer needs, and fails as
-/// `append` does.
+/// Appends a record of any segments that can be written to a log, and fails as `append` does.
 pub fn append_segments<S: ReaderSegments>(
     alloc: Global,
     log: &mut Vec<u8>,
@@ -54,9 +53,10 @@ pub fn append_segments<S: ReaderSegments>(
     }
 }
 
-/// Reads all records of a log, and tells where they end.
+/// Reads all records of a log, and returns where they end.
 ///
-/// Where `is_cut` says so, the log is to be truncated to `end` before the next record is appended.
+/// If `is_cut` returns true, the log is to be truncated to `end` before the next record is
+/// appended.
 pub fn read_log(alloc: Global, log: &[u8], options: ReaderOptions) -> StreamRead
     ensures read { ReadsLog options.traversal_limit_in_words log.now
         (map (λ reader. reader.segments) result.messages.items) result.end result.refusal }

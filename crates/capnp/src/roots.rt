@@ -24,7 +24,7 @@ use std::alloc::Global;
 /// the root of what is read is the value's tree.
 ///
 /// Fails as `Builder::set_root` does, and then the root is null; or with `InvalidNumberOfSegments`
-/// for more than 511 segments, with `MessageTooLarge` past the limit of words, and with
+/// for more than 511 segments, with `MessageTooLarge` past the limit of words, or with
 /// `OutOfMemory`, and then the value is the root.
 pub fn set_and_read_back<T, V: SetterInput<T> + Drop, A: Allocator>(
     alloc: Global,
@@ -40,7 +40,7 @@ pub fn set_and_read_back<T, V: SetterInput<T> + Drop, A: Allocator>(
     ensures size { OnOk result (KeepsLimit (lengths (output_of message.new)) options.traversal_limit_in_words) }
     ensures placed { OnOk result
         (IsPut A.Allocator (HasWords (V.has_tree value) false) message.old message.new) }
-    // Nothing else is written, and the root is null or the value.
+    // Nothing else is written; the root is null, or the value.
     ensures refused { IfErr result (λ error.
         StaysUnset A.Allocator (V.has_tree value) (V.refuses value) message.old message.new error.kind
         ⊎ StaysUnread A.Allocator (V.has_tree value) options.traversal_limit_in_words
@@ -51,8 +51,8 @@ pub fn set_and_read_back<T, V: SetterInput<T> + Drop, A: Allocator>(
     write_and_read_back(alloc, format, message, options)
 }
 
-/// Writes a message that is built to a vector and reads it from there: the segments are those that
-/// were written.
+/// Writes a message that is built to a vector, and reads it back: the segments are those that were
+/// written.
 ///
 /// Fails with `InvalidNumberOfSegments` for more than 511 segments, with `MessageTooLarge` past the
 /// limit of words, and else with `OutOfMemory` alone.

@@ -1,4 +1,5 @@
-//! Streams of messages: the next one, all of them, as an iterator or at once, and what is done with each.
+//! Streams of messages: the next message, or all of them, as an iterator, at once, or each handed
+//! to a writer.
 ghost use Rattle.std.specs.Prelude.{◌≡◌, ◌⊎◌, None, IfSome, OnOk, OnErr, IfErr};
 ghost use Rattle.std.specs.List.{AllByRecursion};
 ghost use Rattle.capnp_frame.specs.declared.error.ErrorKind.{ErrorKind};
@@ -38,25 +39,25 @@ pub enum Format {
 /// Where a run over the messages of a stream stopped.
 #[derive(Debug, Drop)]
 pub struct StoppedAt {
-    /// How many messages were written before.
+    /// How many messages were written before it stopped.
     pub message: u64,
-    /// Why the next one was not read, or not written as a whole.
+    /// Why the next one was not read, or not written completely.
     pub error: Error,
 }
 
-/// What is written of each message of a stream.
+/// What is written for each message of a stream.
 pub trait MessageWriter {
-    /// What is added for a message, by its index, to a sink that appends so.
+    /// What is added for a message, by its index, to a sink that appends in this way.
     ghost writes: { Self → Appending → Writing };
 
-    /// How a message may fail to be written to a sink that appends, leaves and declines so: with
-    /// which kinds, whether memory is taken for it, and what is left of it.
+    /// How writing a message may fail, to a sink that appends, leaves and declines in this way:
+    /// with which kinds, whether memory is taken for it, and what is left of it.
     ghost declines: { Self → Appending → Leaving → Declining → DecliningWriting };
 
-    /// Writes what there is to write of a message of this index.
+    /// Writes what there is to write for the message of this index.
     ///
     /// The message has 1 to 511 segments, each of whole words and fewer than 2^32 of them. `memory`
-    /// is caller-provided scratch space, whose content doesn't matter, before and after.
+    /// is caller-provided scratch space, whose content doesn't matter before or after the call.
     ///
     /// Fails with a kind that `declines` names, with `OutOfMemory` only where `declines` says that
     /// memory is taken, and with `DeviceFailed` only where the sink's device failed.
@@ -85,14 +86,14 @@ pub trait MessageWriter {
         ensures grows { Grows W.written W.failures W.same sink.old sink.new };
 }
 
-/// Writes what `writer` has to write of each message of `source`, its padding by the rule, in turn,
-/// until none is left.
+/// Reads each message of `source` by this rule of padding, and writes what `writer` writes for it,
+/// until no message is left.
 ///
-/// It takes at most 2^64 - 1 messages, and leaves the rest unread. The memory of a message serves
-/// the next one too.
+/// It takes at most 2^64 - 1 messages, and leaves the rest unread. The memory of a message is
+/// reused for the next one.
 ///
-/// Fails, after how many messages `StoppedAt` tells, where the reader of the next message fails, or
-/// `writer` at this message.
+/// Fails where the reader of the next message fails, or `writer` for this message. `StoppedAt` says
+/// after how many messages.
 pub fn write_each_message<R: BufRead, W: Write, M: MessageWriter>(
     alloc: Global,
     format: Format,
@@ -109,7 +110,7 @@ pub fn write_each_message<R: BufRead, W: Write, M: MessageWriter>(
     write_all(alloc, format, padding, options, writer, source, sink)
 }
 
-// Does so, message by message.
+// Does the same, message by message.
 fn write_all<R: BufRead, W: Write, M: MessageWriter>(
     alloc: Global,
     format: Format,
@@ -146,8 +147,8 @@ fn write_all<R: BufRead, W: Write, M: MessageWriter>(
     Ok(())
 }
 
-// Reads the next message of a stream of this format, its padding by the rule, into the memory of
-// the one before.
+// Reads the next message of a stream in this format, by this rule of padding, into the memory of
+// the message before it.
 fn read_next<R: BufRead>(
     format: Format,
     padding: Padding,

@@ -1,2 +1,2 @@
-//! A list of text: its type, and its view.
+//! A list of `Text`: its type, and its view.
 pub use capnp_wire::text_list::{Owned, Reader};

@@ -58,7 +58,7 @@ impl MessageWriter for Way {
 /// It takes at most 2^64 - 1 messages, and leaves the rest unread.
 ///
 /// Fails as the reader of the next message does, with `NonZeroPadding` for a padding that isn't
-/// zero, or as the sink does, or with `OutOfMemory`. The texts of the messages before are then
+/// zero, or as the sink does, or with `OutOfMemory`. The messages before are then written.
 /// written.
 ///
 /// ```
@@ -79,8 +79,8 @@ pub fn transcode<R: BufRead, W: Write>(
     transcode_by(alloc, Padding::Zero, way, source, sink, options)
 }
 
-/// Writes each message as `transcode` does, but accepts any padding, as older writers left it. What
-/// is written has zero padding.
+/// Writes each message as `transcode` does, but accepts any padding, which older writers may have
+/// left. What is written has zero padding.
 pub fn transcode_lenient<R: BufRead, W: Write>(
     alloc: Global,
     way: Way,
@@ -94,7 +94,7 @@ pub fn transcode_lenient<R: BufRead, W: Write>(
     transcode_by(alloc, Padding::Any, way, source, sink, options)
 }
 
-// Writes each message in the other format, its padding by a rule.
+// Writes each message in the other format, by this rule of padding.
 fn transcode_by<R: BufRead, W: Write>(
     alloc: Global,
     padding: Padding,

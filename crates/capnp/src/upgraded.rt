@@ -1,2 +1,2 @@
-//! Lists that are read as what their elements became, or were: their views.
+//! Lists whose elements became structs, or were structs before: their views.
 pub use capnp_wire::upgraded::{ListList, NumberList, PointerList, StructList};

@@ -27,7 +27,7 @@ null_kind Other stands = absurd (no_root stands.0 stands.1 stands.2 stands.3)
 null_shown : (shown : RootKind) → IsRootKind shown [] → ShowsRoot shown null
 null_shown shown stands = subst (λ kind. ShowsRoot kind null) (sym (null_kind shown stands)) refl
 
--- so what has been there has a segment
+-- so where a kind is tested, there is a segment
 pub no_bytes : (n : ℕ) (spaces : List Space) → IsRootKind (Bytes n) spaces → spaces ≡ [] → ⊥
 no_bytes n spaces stands empty = let none : Bytes n ≡ Null = null_kind (Bytes n) (subst (λ s. IsRootKind (Bytes n) s) empty stands) in cc
 
@@ -41,7 +41,7 @@ no_number spaces index number empty =
     let some = root_there spaces (root ∷ []) (tree (numbers 5 number.values) none none) number.traversed refl number.stands in
     absurd (omega (arith, some, ap length empty))
 
--- what is rejected declines the root, null where there is no segment
+-- a failure declines the root, which is null where there is no segment
 pub declined_there : (spaces : List Space) (declines : Form → ErrorKind → Type 0) (shown : RootKind) (bytes : List ℕ) (r : Result (Unit {0}) Error)
     → ForRoot spaces (ShowsRoot shown) → IsRootKind shown spaces → ForRoot spaces (HoldsForm bytes)
     → IfErr r (λ error. (form : Form) → ShowsRoot shown form → HoldsForm bytes form → declines form error.kind) → IfErr r (λ error. DeclinesRoot declines spaces error.kind)

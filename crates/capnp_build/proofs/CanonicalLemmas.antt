@@ -11,7 +11,8 @@ use Rattle.capnp_build.specs.Built.{Built}
 use Rattle.capnp_build.specs.Outcomes.{SetsRootCanonical, ClearsRoot, RefusesCanonical}
 use Rattle.capnp_build.proofs.OutcomeLemmas.{cleared_root, room_first}
 
--- what rejects a value once the root is cleared: `many`, `measured` and `full` say what each line comes to
+-- why a value fails once the root is cleared: `many`, `measured` and `full` say what each line
+-- comes to
 fails_with : {A S : Type 0} (alloc : allocator.Ghosts A S) (has_tree : Trees → Type 0) (refuses : ErrorKind → Type 0) (old cleared : Built A) (kind : ErrorKind) (P : Type 0)
     {done : Unit {0}} → ClearsRoot alloc old cleared (Ok done) → (1 < length cleared.spaces → kind ≡ NotOneSegment → P) → (length cleared.spaces ≡ 1 → LacksWords has_tree refuses true kind → P)
     → (length cleared.spaces ≡ 1 → kind ≡ NotOneSegment → (words : ℕ) → HasWords has_tree true words → free_words_of (space_at cleared.spaces 0) < words → P)

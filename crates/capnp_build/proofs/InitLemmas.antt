@@ -75,7 +75,7 @@ inits_null alloc schema n old new clear inits =
       others = clear.others;
     }
 
--- a view of a new object is rejected as the object is
+-- a view of a new object fails as making the object does
 pub init_refused : {A S K M V : Type 0} (alloc : allocator.Ghosts A S) (schema : owned_builder.Ghosts K) (n : ℕ) (built : M → Built A) (message : V → MutBor M) (old : MutBor M) (new : Built A)
     (error : Error) → InitsRoot alloc schema n (built old.now) new (Err error) → InitsView alloc schema n built message old (Err error)
 init_refused alloc schema n built message old new error told = record {

@@ -42,7 +42,7 @@ pub root_there : (spaces : List Space) (places : List Place) (trees : Trees) (tr
 root_there spaces places trees traversed e nowhere = cc
 root_there spaces places trees traversed e (at {place = p} {shape = s} object inner rest) = object_there spaces p s object
 
--- where the root's word is, the first segment has it
+-- where there is a word for the root, the first segment has it
 some_word : (xs : List ℕ) (x : ℕ) → slice_get xs 0 ≡ Some x → 0 < length xs
 some_word [] x e = cc
 some_word (y ∷ xs) x e = omega arith

@@ -80,7 +80,7 @@ sets_root_unmeasured alloc has_tree refuses old new error clear lacks exact foun
   others = clear.others;
 }
 
--- an error of the block's segment is not for one that is out, where none was
+-- an error of the block's segment is not SegmentTaken, where no segment was out
 pub available_alone : {A S : Type 0} (alloc : allocator.Ghosts A S) (old cleared : Built A) (words : ℕ) {done : Unit {0}} → ClearsRoot alloc old cleared (Ok done) → words < 2 ^ 29
     → HasNoRoom cleared.spaces words → ((others : List Out) → alloc.out cleared.allocator (pairs cleared.spaces others) → HasLarge (words + 1) (pairs cleared.spaces others))
     → old.spaces ≡ [] → alloc.out old.allocator [] → ⊥

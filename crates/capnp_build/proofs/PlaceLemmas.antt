@@ -59,7 +59,7 @@ on_err : {A E : Type 0} (r : Result A E) (P Q : Type 0) → (P → Q) → OnErr 
 on_err (Ok a) P Q step p = tt
 on_err (Err e) P Q step p = step p
 
--- what is rejected later leaves the root cleared
+-- what fails after the root is cleared leaves it cleared
 pub still_cleared : {A S : Type 0} (alloc : Ghosts A S) (old cleared last : Built A) (r : Result (Unit {0}) Error) → IsPreorder alloc.same → IsCleared alloc old cleared → OnErr r (last.location ≡ None)
     → OnErr r (last.spaces ≡ cleared.spaces) → alloc.same cleared.allocator last.allocator → KeepsOthers alloc.out (state_of cleared) (state_of last) → OnErr r (IsCleared alloc old last)
 still_cleared alloc old cleared last (Ok done) keeps c null kept alike others = tt

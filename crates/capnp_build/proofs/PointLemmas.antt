@@ -1,4 +1,4 @@
--- Bodies that are in segments, and pointers to them.
+-- Bodies in segments, and pointers to them.
 use Rattle.std.proofs.Common.{◌≡◌, ℕ, zero, suc, ◌+◌, ◌-◌, ◌*◌, ◌^◌, ◌<◌, ◌≤◌, List, [], ◌++◌, length, take, drop, Some, slice_set, w64, refl, ap, sym, subst, ◌∙◌, arith, length-set, length-append}
 use Rattle.std.specs.Int.{to_le_bytes}
 use Rattle.capnp_wire.specs.Pointer.{number_of, words_of, words_from}

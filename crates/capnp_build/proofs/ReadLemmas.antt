@@ -142,7 +142,7 @@ number_read (numbers c values) bytes words i holds has within =
 number_read pointers bytes words i holds has within = absurd has
 number_read (structs d p rows) bytes words i holds has within = absurd has
 
--- what is shown is there
+-- the kind that is shown is that of the object there
 pub shown_there : (spaces : List Space) (location : RootLocation) (shown : RootKind) (form : Form) (children : Trees) → IsLaid spaces location form children → ShowsRoot shown form → IsRootKind shown spaces
 shown_there spaces location Null form children r shows = tt
 shown_there spaces location (Bytes n) form children r shows =

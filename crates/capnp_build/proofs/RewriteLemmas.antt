@@ -29,7 +29,7 @@ root_alike : (k start : ℕ) (form f : Form) (children : Trees) → ((offset : �
 root_alike zero start form f children alike = sym (alike (start - 1))
 root_alike (suc k) start form f children alike = refl
 
--- where the new bytes are the body of a tree whose pointer is the same, it is there
+-- where the new bytes are the body of a tree whose pointer is the same, that tree is at the root
 pub rewritten : (spaces last : List Space) (location : RootLocation) (form f : Form) (children : Trees) (start : ℕ) (w : List ℕ) → IsLaid spaces location form children → start + length w ≤ 8 * location.words
     → last ≡ slice_set spaces location.segment (with_bytes (space_at spaces location.segment) (8 * location.start + start) w)
     → ((offset : ℕ) → pointer f (count children) offset ≡ pointer form (count children) offset) → object_size f (count children) ≡ object_size form (count children) → HasRoom f (count children)
@@ -71,7 +71,7 @@ rewritten spaces last location form f children start w r inside e alike wide roo
       );
     }
 
--- bytes are told by their words
+-- words determine their bytes
 words_number : (k : ℕ) (b : List ℕ) → length b ≡ 8 * k → number_of (2 ^ 64) (words_of b) ≡ number_of 256 b
 words_number k b long =
     let value : number_of (2 ^ 64) (take k (words_of b)) ≡ number_of 256 (take (8 * k) (drop (8 * 0) b)) = numbers_from 0 k (length b / 8) b (omega (arith, long)) (omega arith) in

@@ -1,4 +1,5 @@
--- What the steps keep by which a value is placed at a null root (src/arena/placing.rt, src/pointing.rt).
+-- What is kept by the steps that place a value where the root is null (src/arena/placing.rt,
+-- src/pointing.rt).
 use Rattle.std.specs.Prelude.{⊤, ◌≡◌, ℕ, ◌+◌, ◌*◌, Bool, ◌<◌, ◌≤◌, max, take, drop, List, length, Option, None, MatchOption, Result, IfErr, OnOk, OnErr}
 use Rattle.capnp_frame.specs.declared.error.Error.{Error}
 use Rattle.capnp_frame.specs.declared.error.ErrorKind.TheVariants.{SegmentTaken}
@@ -16,7 +17,8 @@ use Rattle.capnp_build.specs.Placed.{IsAtEnd, IsPlaced, HasNoRoom, LacksSegment,
 abbrev pub IsNew : Form → List Space → Type 0
 IsNew form spaces = (traversed : ℕ) × Root (message spaces) form none traversed
 
--- A block of a given number of words is placed at the null root, which is then such a root, or nothing changes.
+-- A block of this many words is placed where the root is null, and the root is then as `stands`
+-- says, or nothing changes.
 pub record PutsBlock {A S : Type 0} (alloc : Ghosts A S) (stands : List Space → Type 0) (words : ℕ) (old new : Built A)
     (result : Result (Unit {0}) Error) : Type 0 where
   pub set : OnOk result (stands new.spaces)
@@ -33,7 +35,8 @@ pub record PutsBlock {A S : Type 0} (alloc : Ghosts A S) (stands : List Space �
   -- what else the allocator has out stays out
   pub others : KeepsOthers alloc.out (state_of old) (state_of new)
 
--- A value's block is placed in a segment that has room for it, after a given number of words of a landing pad.
+-- A value's block is placed in a segment that has room for it, after this many words of a landing
+-- pad.
 pub record PlacesBlock {A S : Type 0} (alloc : Ghosts A S) (has_tree : Trees → Type 0) (canonical : Bool) (segment landing_pad words : ℕ)
     (old new : Built A) : Type 0 where
   pub set : IsSet has_tree canonical new.spaces
@@ -46,11 +49,11 @@ pub record PlacesBlock {A S : Type 0} (alloc : Ghosts A S) (has_tree : Trees →
   -- what else the allocator has out stays out
   pub others : KeepsOthers alloc.out (state_of old) (state_of new)
 
--- The root's word leads to the body that is at a location; no segment becomes longer.
+-- The root's word leads to the body at a location; no segment becomes longer.
 pub record PointsRoot {A : Type 0} (location : RootLocation) (old new : BuilderState A) : Type 0 where
   pub stands : (form : Form) (children : Trees) → HasBody old.spaces location form children → IsLaid new.spaces location form children
   pub rewritten : IsRewritten old new
-  -- the used bytes before the body and its landing pad stay, but for the root's word
+  -- the used bytes before the body and its landing pad stay, except for the root's word
   pub bytes : (i from n : ℕ) → (i ≡ 0 → 8 ≤ from) → (0 < i → i ≡ location.segment → from + n + 8 ≤ 8 * location.start) → from + n ≤ length (space_at old.spaces i).used
       → take n (drop from (space_at new.spaces i).used) ≡ take n (drop from (space_at old.spaces i).used)
 

@@ -17,11 +17,11 @@ Fits (Bytes n) = n < 2 ^ 29
 Fits (Words n) = n < 2 ^ 29
 Fits (Struct d) = d < 2 ^ 16
 
--- the pointer to an object that begins a given number of words after it
+-- the pointer to an object that begins this many words after it
 abbrev pub body_tag : ℕ → Body → ℕ
 body_tag offset (Bytes n) = 1 + 4 * offset + 2 * 2 ^ 32 + n * 2 ^ 35
 body_tag offset (Words n) = 1 + 4 * offset + 5 * 2 ^ 32 + n * 2 ^ 35
--- of a struct of no words it leads to itself, since a word of zeros is null
+-- the pointer to a struct of no words leads to itself, since a word of zeros is null
 body_tag offset (Struct zero) = 4 * (2 ^ 30 - 1)
 body_tag offset (Struct (suc n)) = 4 * offset + suc n * 2 ^ 32
 

@@ -8,7 +8,7 @@ use Rattle.capnp_build.specs.Filled.{IsBlockOf, with_more}
 use Rattle.capnp_frame.specs.declared.words.Word.{Word}
 use Rattle.capnp_wire.specs.Tree.{Trees}
 
--- the segments in order, and the allocator as it is
+-- the segments in order, and the allocator in its present state
 pub record BuilderState (A : Type 0) : Type 0 where
   pub spaces : List Space
   pub allocator : A
@@ -33,15 +33,16 @@ pairs (space ∷ spaces) others = pairs spaces (pair space ∷ others)
 abbrev pub AreOut : (List Out → Type 0) → List Space → Type 0
 AreOut out spaces = (others : List Out) × out (pairs spaces others)
 
--- with the segments as they are now, the others may still be out
+-- with the segments as they are now, other segments that were out may still be out
 abbrev pub KeepsOthers : {A : Type 0} → (A → List Out → Type 0) → BuilderState A → BuilderState A → Type 0
 KeepsOthers out old new = (others : List Out) → out old.allocator (pairs old.spaces others) → out new.allocator (pairs new.spaces others)
 
--- once the segments are back, the others may still be out
+-- once the segments are back, other segments that were out may still be out
 abbrev pub ReturnsRegion : {A : Type 0} → (A → List Out → Type 0) → BuilderState A → A → Type 0
 ReturnsRegion out old allocator = (others : List Out) → out old.allocator (pairs old.spaces others) → out allocator others
 
--- the segments are returned one by one, the last one first, each with just the words that are used of it
+-- the segments are returned one by one, the last one first, each with exactly the number of its
+-- used words
 abbrev pub ReturnsEach : {A : Type 0} → (A → Out → ℕ → A → Type 0) → List Space → A → A → Type 0
 ReturnsEach returns [] old new = new ≡ old
 ReturnsEach {A = A} returns (space ∷ spaces) old new = (between : A) × ReturnsEach returns spaces old between × returns between (pair space) (length space.used / 8) new
@@ -49,7 +50,7 @@ ReturnsEach {A = A} returns (space ∷ spaces) old new = (between : A) × Return
 abbrev pub no_space : Space
 no_space = record { used = []; size = 0; is_provided = false }
 
--- the number of the segment at a place
+-- the number of the segment that is kept there
 abbrev pub index_of : SegmentPlace → ℕ
 index_of First = 0
 index_of (Further other) = suc other
@@ -57,7 +58,7 @@ index_of (Further other) = suc other
 abbrev pub space_at : List Space → ℕ → Space
 space_at spaces index = slice_index_or spaces index no_space
 
--- the words that are free, as far as they may be used
+-- the free words, as far as they may be used
 abbrev pub free_words_of : Space → ℕ
 free_words_of space = min (space.size / 8) (2 ^ 29) - length space.used / 8
 

@@ -10,7 +10,7 @@ use Rattle.capnp_build.specs.Bytes.{Space, written}
 abbrev pub IsBlockOf : (Trees → Type 0) → Bool → Word → List ℕ → Type 0
 IsBlockOf has_tree canonical word block = (trees : Trees) → has_tree trees → pointed word block ≡ layout (output canonical trees)
 
--- n bytes from an index on are the block of a value
+-- n bytes from this index on are the block of a value
 pub record IsFilled (has_tree : Trees → Type 0) (canonical : Bool) (word : Word) (from n : ℕ) (old new : List ℕ) : Type 0 where
   pub block : List ℕ
   pub len : length block ≡ n
@@ -21,7 +21,7 @@ pub record IsFilled (has_tree : Trees → Type 0) (canonical : Bool) (word : Wor
 abbrev pub with_more : Space → List ℕ → Space
 with_more space block = record { used = space.used ++ block; size = space.size; is_provided = space.is_provided }
 
--- a given number of words more are used, which are the block of a value
+-- this many more words are used, which are the block of a value
 pub record IsAppended (has_tree : Trees → Type 0) (canonical : Bool) (word : Word) (words : ℕ) (old new : Space) : Type 0 where
   pub block : List ℕ
   pub len : length block ≡ 8 * words

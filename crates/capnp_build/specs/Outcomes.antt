@@ -17,32 +17,35 @@ use Rattle.capnp_build.specs.Built.{Built, state_of, message, size_in_words, Has
 use Rattle.capnp_build.specs.Placed.{Refuses, DeclinesRoot, IsPut, IsInit}
 use Rattle.capnp_build.specs.Placed.{InitWords, FindsNoRoom, IsCleared, IsZeroAt, KeepsRooms, HasRootAlone, IsLookedAt}
 
--- there is no segment yet, and the allocator rejects the first one, of a word
+-- there is no segment yet, and the request of the first one, of a word, fails
 abbrev pub LacksFirst : {A S : Type 0} → allocator.Ghosts A S → Built A → ErrorKind → Type 0
 LacksFirst alloc old kind = (length old.spaces ≡ 0) × Refuses alloc old.allocator 1 kind
 
--- so there is none after the call
+-- so there is no segment after the call
 abbrev pub StopsFirst : {A S : Type 0} → allocator.Ghosts A S → Built A → List Space → ErrorKind → Type 0
 StopsFirst alloc old spaces kind = (spaces ≡ []) × LacksFirst alloc old kind
 
--- the first segment has room for a block of a given number of words, or has to be granted with that room
+-- the first segment has room for a block of this many words, or has to be granted with that room
 abbrev pub HasRoomFirst : {A S : Type 0} → allocator.Ghosts A S → Built A → ℕ → Type 0
 HasRoomFirst alloc old words = ((0 < length old.spaces) × (words ≤ free_words_of (space_at old.spaces 0)))
     ⊎ ((old.spaces ≡ []) × ((most : ℕ) × alloc.grants old.allocator 1 most × (words < most)))
 
--- so a fact holds, where a block of such words, and of no more, has room there
+-- `fact` holds, where a block of such words, the largest one, has room there
 abbrev pub FitsFirst : {A S : Type 0} → allocator.Ghosts A S → (ℕ → Type 0) → Built A → Type 0 → Type 0
 FitsFirst alloc measured old fact = (words : ℕ) → measured words → ((other : ℕ) → measured other → other ≤ words) → HasRoomFirst alloc old words → fact
 
--- a fact holds as the first action on a message, over an allocator that has to grant the first segment
+-- `fact` holds of the first action on a message, over an allocator that has to grant the first
+-- segment
 abbrev pub WhereGranted : {A S : Type 0} → allocator.Ghosts A S → Built A → Type 0 → Type 0
 WhereGranted alloc old fact = old.spaces ≡ [] → (most : ℕ) → alloc.grants old.allocator 1 most → fact
 
--- as the first action, over an allocator that has nothing out, a call does not fail with SegmentTaken, but where `refuses` says so
+-- as the first action, over an allocator that has nothing out, a call fails with SegmentTaken only
+-- where `refuses` says so
 abbrev pub NotExhaustedWhileAvailable : {A S X : Type 0} → allocator.Ghosts A S → (ErrorKind → Type 0) → Built A → Result X Error → Type 0
 NotExhaustedWhileAvailable alloc refuses old result = old.spaces ≡ [] → alloc.out old.allocator [] → IfErr result (λ error. error.kind ≡ SegmentTaken → refuses error.kind)
 
--- which error of a value in canonical form comes once the old root is cleared: the lines are tested in this order
+-- with which error setting a value in canonical form fails once the old root is cleared: the lines
+-- are tested in this order
 abbrev pub RefusesCanonical : (Trees → Type 0) → (ErrorKind → Type 0) → List Space → ErrorKind → Type 0
 RefusesCanonical has_tree refuses spaces kind =
     -- there are more segments
@@ -52,7 +55,8 @@ RefusesCanonical has_tree refuses spaces kind =
     -- the segment has no room
     ⊎ ((length spaces ≡ 1) × (kind ≡ NotOneSegment) × ((words : ℕ) × HasWords has_tree true words × (free_words_of (space_at spaces 0) < words)))
 
--- What setting the root to a value keeps: to a value that is such a tree, and of which `measure` fails so.
+-- What setting the root to a value keeps. `has_tree` holds of the value's tree, and `refuses` of
+-- the kinds with which `measure` fails.
 pub record SetsRoot {A S : Type 0} (alloc : allocator.Ghosts A S) (has_tree : Trees → Type 0) (refuses : ErrorKind → Type 0)
     (old new : Built A) (result : Result (Unit {0}) Error) : Type 0 where
   pub set : OnOk result (IsSet has_tree false new.spaces)
@@ -67,7 +71,7 @@ pub record SetsRoot {A S : Type 0} (alloc : allocator.Ghosts A S) (has_tree : Tr
       ⊎ FindsNoRoom alloc (HasWords has_tree false) old new.spaces error.kind)
   -- the first segment is asked for before the value is measured
   pub none : new.spaces ≡ [] → IfErr result (λ error. LacksFirst alloc old error.kind)
-  -- what `measure` fails with is returned
+  -- the error of `measure` is returned
   pub exact : (kind : ErrorKind) → LacksWords has_tree refuses false kind → IsErrAnd result (λ error. (error.kind ≡ kind) ⊎ StopsFirst alloc old new.spaces error.kind)
   -- a value is set where the first segment has room
   pub fits : (words : ℕ) → HasWords has_tree false words → HasRoomFirst alloc old words → IsOk result
@@ -88,11 +92,12 @@ pub record SetsRootCanonical {A S : Type 0} (alloc : allocator.Ghosts A S) (has_
   pub whole : old.spaces ≡ [] → OnOk result (IsWhole has_tree true new.spaces)
   -- after a failure the root is null
   pub nulled : OnErr result (IsCleared alloc old new)
-  -- it fails as the allocator fails to hand out the first segment; once that is there, by the first line that holds
+  -- it fails as the allocator fails to hand out the first segment; once that is there, with the
+  -- first line that holds
   pub kind : IfErr result (λ error. StopsFirst alloc old new.spaces error.kind ⊎ RefusesCanonical has_tree refuses new.spaces error.kind)
   -- where there was a segment, the first line that holds is returned
   pub exact : (kind : ErrorKind) → RefusesCanonical has_tree refuses old.spaces kind → IsErrAnd result (λ error. error.kind ≡ kind)
-  -- what `measure` fails with is returned, once the first segment is there
+  -- the error of `measure` is returned, once the first segment is there
   pub lacks : old.spaces ≡ [] → (kind : ErrorKind) → LacksWords has_tree refuses true kind → IsErrAnd result (λ error. (error.kind ≡ kind) ⊎ StopsFirst alloc old new.spaces error.kind)
   -- a value is set where the one segment has room
   pub fits : length old.spaces ≤ 1 → (words : ℕ) → HasWords has_tree true words → HasRoomFirst alloc old words → IsOk result
@@ -101,8 +106,8 @@ pub record SetsRootCanonical {A S : Type 0} (alloc : allocator.Ghosts A S) (has_
   -- what else the allocator has out stays out
   pub others : KeepsOthers alloc.out (state_of old) (state_of new)
 
--- What making the root a new object of length `n` keeps: of a type of which `schema` is what is seen (the members of the
--- trait OwnedBuilder).
+-- What making the root a new object of length `n` keeps. `schema` is what is seen of its type (the
+-- members of the trait OwnedBuilder).
 pub record InitsRoot {A S K : Type 0} (alloc : allocator.Ghosts A S) (schema : owned_builder.Ghosts K) (n : ℕ) (old new : Built A)
     (result : Result (Unit {0}) Error) : Type 0 where
   pub inits : OnOk result ((form : Form) × (traversed : ℕ) × schema.inits n form × Root (message new.spaces) form none traversed)
@@ -112,11 +117,11 @@ pub record InitsRoot {A S K : Type 0} (alloc : allocator.Ghosts A S) (schema : o
   pub placed : OnOk result (IsInit alloc (InitWords schema.inits n) old new)
   -- after a failure the root is null
   pub nulled : OnErr result (IsCleared alloc old new)
-  -- it fails as the type has no such object, as the allocator fails to hand out the first segment, or where no segment
-  -- has room
+  -- it fails because the type has no such object, as the allocator fails to hand out the first
+  -- segment, or where no segment has room
   pub kind : IfErr result (λ error. schema.refuses n error.kind ⊎ StopsFirst alloc old new.spaces error.kind
       ⊎ FindsNoRoom alloc (InitWords schema.inits n) old new.spaces error.kind)
-  -- the first segment is asked for before the type is
+  -- the first segment is asked for before the type is asked
   pub none : new.spaces ≡ [] → IfErr result (λ error. LacksFirst alloc old error.kind)
   -- an object that the type has is made where the first segment has room
   pub fits : FitsFirst alloc (InitWords schema.inits n) old (IfErr result (λ error. schema.refuses n error.kind))
@@ -125,7 +130,7 @@ pub record InitsRoot {A S K : Type 0} (alloc : allocator.Ghosts A S) (schema : o
   -- what else the allocator has out stays out
   pub others : KeepsOthers alloc.out (state_of old) (state_of new)
 
--- What making the root null, and the old body zero, keeps.
+-- What a call keeps that makes the root null, and its old body zero.
 pub record ClearsRoot {A S : Type 0} (alloc : allocator.Ghosts A S) (old new : Built A) (result : Result (Unit {0}) Error) : Type 0 where
   pub null : new.location ≡ None
   pub null_word : HasNullRoot new.spaces
@@ -146,11 +151,12 @@ pub record ClearsRoot {A S : Type 0} (alloc : allocator.Ghosts A S) (old new : B
   -- no room is lost
   pub rooms : KeepsRooms old.spaces new.spaces
   pub new_object : old.spaces ≡ [] → OnOk result (HasRootAlone new.spaces)
-  -- where it has to be granted, the first segment is, with a given number of words
+  -- where it has to be granted, the first segment is, with this many words
   pub granted : old.spaces ≡ [] → (most : ℕ) → alloc.grants old.allocator 1 most → IsOk result × ((space_at new.spaces 0).size / 8 ≡ most)
   pub available : NotExhaustedWhileAvailable alloc (λ kind. ⊥) old result
 
--- What making sure of a root keeps: where there is no segment, a null one is in a new segment afterwards.
+-- What making sure that there is a root keeps: where there is no segment, a null root is in a new
+-- segment after the call.
 pub record EnsuresRoot {A S : Type 0} (alloc : allocator.Ghosts A S) (old new : Built A) (result : Result (Unit {0}) Error) : Type 0 where
   pub there : OnOk result (0 < length new.spaces)
   pub none : OnErr result (new.spaces ≡ [])
@@ -163,13 +169,14 @@ pub record EnsuresRoot {A S : Type 0} (alloc : allocator.Ghosts A S) (old new : 
   -- what else the allocator has out stays out
   pub others : KeepsOthers alloc.out (state_of old) (state_of new)
 
--- What a look at the root keeps, whether a type takes the object there.
+-- What a look at the root keeps, which tests whether a type accepts the object there.
 pub record LooksAtRoot {A S K : Type 0} (alloc : allocator.Ghosts A S) (schema : owned_builder.Ghosts K) (old new : Built A)
     (result : Result (Unit {0}) Error) : Type 0 where
   pub taken : OnOk result (ForRoot new.spaces schema.takes)
   pub there : OnOk result (0 < length new.spaces)
   pub looked : IsLookedAt alloc old new
-  -- it fails as the allocator fails to hand out the first segment, or as the type declines the root
+  -- it fails as the allocator fails to hand out the first segment, or because the type declines the
+  -- root
   pub kind : IfErr result (λ error. StopsFirst alloc old new.spaces error.kind ⊎ DeclinesRoot schema.declines old.spaces error.kind)
   -- where it has to be granted, the first segment is
   pub granted : WhereGranted alloc old (IfErr result (λ error. DeclinesRoot schema.declines old.spaces error.kind))
@@ -177,15 +184,16 @@ pub record LooksAtRoot {A S K : Type 0} (alloc : allocator.Ghosts A S) (schema :
   -- what else the allocator has out stays out
   pub others : KeepsOthers alloc.out (state_of old) (state_of new)
 
--- A message of no segments, whose root is null, and of whose allocator a fact holds.
+-- A message of no segments, whose root is null, and of whose allocator `fact` holds.
 pub record IsNewMessage {A : Type 0} (fact : A → Type 0) (built : Built A) : Type 0 where
   pub spaces : built.spaces ≡ []
   pub location : built.location ≡ None
   pub allocator : fact built.allocator
 
--- What the allocator that comes back keeps: each segment has gone back to it with its used words.
+-- What is kept of the allocator that is returned: each segment has gone back to it with its used
+-- words.
 pub record GivesBack {A S : Type 0} (alloc : allocator.Ghosts A S) (state : BuilderState A) (last : A) : Type 0 where
   pub available : ReturnsRegion alloc.out state last
-  -- by just such returns the allocator came to be as it is
+  -- exactly these returns led to its present state
   pub returned : ReturnsEach alloc.returns state.spaces state.allocator last
   pub same : alloc.same state.allocator last

@@ -12,29 +12,30 @@ use Rattle.capnp_build.specs.declared.allocator.Allocator.{Ghosts}
 use Rattle.capnp_build.specs.declared.arena.location.RootLocation.{RootLocation}
 use Rattle.capnp_build.specs.Built.{size_in_words, HasNullRoot, Built, state_of, ForRoot, KeepsOutside}
 
--- no segment has room for a block of a given number of words, nor one after the first for it and its landing pad
+-- no segment has room for a block of this many words, nor one after the first for it and its
+-- landing pad
 pub record HasNoRoom (spaces : List Space) (words : ℕ) : Type 0 where
   pub first : free_words_of (space_at spaces 0) < words
   pub others : (i : ℕ) → 0 < i → i < length spaces → free_words_of (space_at spaces i) < words + 1
 
--- an allocator rejects a request of a given number of words
+-- a request of this many words may fail with this kind
 abbrev pub Refuses : {A S : Type 0} → Ghosts A S → A → ℕ → ErrorKind → Type 0
 Refuses alloc allocator asked kind = alloc.refuses allocator asked kind × MayRefuse asked kind
 
--- a further segment of a given number of words is not had: there are as many segments as there may be, the list of those after the
--- first can't grow, or the allocator rejects it
+-- a further segment of this many words can't be had: there are as many segments as there may be,
+-- the list of those after the first can't grow, or the allocator fails
 abbrev pub LacksSegment : {A S : Type 0} → Ghosts A S → BuilderState A → ℕ → ErrorKind → Type 0
 LacksSegment alloc state asked kind =
     ((2 ^ 32 ≤ length state.spaces + 1) × (kind ≡ AllocationTooLarge asked))
     ⊎ ((length state.spaces + 1 < 2 ^ 32) × (((0 < length state.spaces) × (kind ≡ OutOfMemory)) ⊎ Refuses alloc state.allocator asked kind))
 
--- want of room in these segments once the old root is cleared: the value has a given number of words, no segment has room for
--- them, and a further one is not had
+-- want of room in these segments once the old root is cleared: the value has this many words, no
+-- segment has room for them, and a further segment can't be had
 pub record FindsNoRoom {A S : Type 0} (alloc : Ghosts A S) (measured : ℕ → Type 0) (old : Built A) (spaces : List Space) (kind : ErrorKind) : Type 0 where
   pub words : ℕ
   pub words_are : measured words
   pub full : HasNoRoom spaces words
-  -- the allocator that is asked, where there was a segment as it was before the call
+  -- the allocator that is asked; where there was a segment, it is as before the call
   pub asked : A
   pub lacks : LacksSegment alloc (record { spaces = spaces; allocator = asked }) (words + 1) kind
   pub stays : 0 < length old.spaces → asked ≡ old.allocator
@@ -51,7 +52,8 @@ InitWords inits n words = (form : Form) × inits n form × NewWords form words
 abbrev pub IsAdded : List Space → List Space → Type 0
 IsAdded old new = (space : Space) × (new ≡ old ++ space ∷ []) × (space.used ≡ [])
 
--- a block of a given number of words is after the used words of a segment and a landing pad of as many
+-- a block of this many words is after the used words of a segment and a landing pad of
+-- `landing_pad` words
 pub record IsAtEnd (old : List Space) (location : Option RootLocation) (segment landing_pad words : ℕ) : Type 0 where
   pub place : RootLocation
   pub place_is : location ≡ Some place
@@ -59,8 +61,8 @@ pub record IsAtEnd (old : List Space) (location : Option RootLocation) (segment 
   pub words_are : place.words ≡ words
   pub start_is : 8 * place.start ≡ length (space_at old segment).used + 8 * landing_pad
 
--- a block of a given number of words is in the first segment where that has room, else after a landing pad in the first one
--- with room for both, else in a new one; no other words are taken
+-- a block of this many words is in the first segment where that has room, else after a landing pad
+-- in the first one with room for both, else in a new one; no other words are taken
 pub record IsPlaced {A : Type 0} (old : List Space) (new : Built A) (words : ℕ) : Type 0 where
   pub local : words ≤ free_words_of (space_at old 0) → IsAtEnd old new.location 0 0 words × (length new.spaces ≡ length old)
       × (size_in_words new.spaces ≡ size_in_words old + words)
@@ -76,7 +78,7 @@ KeepsRooms old last = 0 < length old → (length last ≡ length old) × ((i : �
 abbrev pub IsZeroAt : List Space → RootLocation → Type 0
 IsZeroAt spaces location = take (8 * location.words) (drop (8 * location.start) (space_at spaces location.segment).used) ≡ replicate (8 * location.words) 0
 
--- one segment, of which the root's word alone is used
+-- one segment, of which only the root's word is used
 abbrev pub HasRootAlone : List Space → Type 0
 HasRootAlone spaces = (length spaces ≡ 1) × (length (space_at spaces 0).used ≡ 8) × (8 ≤ (space_at spaces 0).size)
 
@@ -89,13 +91,13 @@ pub record IsCleared {A S : Type 0} (alloc : Ghosts A S) (old last : Built A) : 
   pub rooms : KeepsRooms old.spaces last.spaces
   -- no other used word changes
   pub outside : KeepsOutside old.location old.spaces last.spaces
-  -- where there was no segment, there is none yet, or one with the root's word alone
+  -- where there was no segment, there is none yet, or one of which only the root's word is used
   pub new_object : old.spaces ≡ [] → (last.spaces ≡ []) ⊎ HasRootAlone last.spaces
   pub same_allocator : alloc.same old.allocator last.allocator
   -- what else the allocator has out stays out
   pub others : KeepsOthers alloc.out (state_of old) (state_of last)
 
--- a block of a given number of words is in a segment from a word on
+-- a block of this many words is in a segment, from this word on
 pub record StandsAt (location : Option RootLocation) (segment start words : ℕ) : Type 0 where
   pub place : RootLocation
   pub place_is : location ≡ Some place
@@ -107,13 +109,14 @@ pub record StandsAt (location : Option RootLocation) (segment start words : ℕ)
 abbrev pub most_words : Space → ℕ
 most_words space = min (space.size / 8) (2 ^ 29)
 
--- a block of a given number of words as the first one: just after the root's word where the first segment has room, else after
--- its landing pad at the front of a second one; no other words are used
+-- the first block of a message, of this many words: just after the root's word where the first
+-- segment has room, else after its landing pad at the front of a second one; no other words are
+-- used
 pub record IsFirst {A : Type 0} (new : Built A) (words : ℕ) : Type 0 where
   pub local : words < most_words (space_at new.spaces 0) → StandsAt new.location 0 1 words × (length new.spaces ≡ 1) × (size_in_words new.spaces ≡ 1 + words)
   pub far : most_words (space_at new.spaces 0) ≤ words → StandsAt new.location 1 1 words × (length new.spaces ≡ 2) × (size_in_words new.spaces ≡ 2 + words)
 
--- where the first segment has to be granted, it is the granted one, of a given number of words
+-- where the first segment has to be granted, it is the granted one, of this many words
 abbrev pub IsGranted : {A S : Type 0} → Ghosts A S → Built A → List Space → Type 0
 IsGranted alloc old spaces = old.spaces ≡ [] → (most : ℕ) → alloc.grants old.allocator 1 most → (space_at spaces 0).size / 8 ≡ most
 
@@ -140,25 +143,27 @@ pub record IsInit {A S : Type 0} (alloc : Ghosts A S) (measured : ℕ → Type 0
   pub zero : MatchOption old.location ⊤ (IsZeroAt new.spaces)
   pub outside : KeepsOutside old.location old.spaces new.spaces
 
--- want of room: once the old root is cleared, no segment has room for a block of such words, nor is a further one had
+-- want of room: once the old root is cleared, no segment has room for a block of such words, and a
+-- further one can't be had
 pub record FoundNoRoom {A S : Type 0} (alloc : Ghosts A S) (measured : ℕ → Type 0) (old : Built A) (kind : ErrorKind) : Type 0 where
   pub cleared : Built A
   pub is_cleared : IsCleared alloc old cleared
   pub no_room : FindsNoRoom alloc measured old cleared.spaces kind
 
--- after a look at the root: all is as it was, but that there is a null root where there was no segment
+-- after a look at the root, everything is as it was, except that there is a null root where there
+-- was no segment
 pub record IsLookedAt {A S : Type 0} (alloc : Ghosts A S) (old last : Built A) : Type 0 where
   pub stays : 0 < length old.spaces → last ≡ old
   pub null_word : old.spaces ≡ [] → HasNullRoot last.spaces
   pub size : size_in_words last.spaces ≤ max 1 (size_in_words old.spaces)
-  -- where there was no segment, there is none yet, or one with the root's word alone
+  -- where there was no segment, there is none yet, or one of which only the root's word is used
   pub new_object : old.spaces ≡ [] → (last.spaces ≡ []) ⊎ HasRootAlone last.spaces
   pub granted : IsGranted alloc old last.spaces
   pub same_allocator : alloc.same old.allocator last.allocator
   -- what else the allocator has out stays out
   pub others : KeepsOthers alloc.out (state_of old) (state_of last)
 
--- the root is declined, null where there is no segment
+-- a type declines the root, which is null where there is no segment
 abbrev pub DeclinesRoot : (Form → ErrorKind → Type 0) → List Space → ErrorKind → Type 0
 DeclinesRoot declines [] kind = declines null kind
 DeclinesRoot declines (space ∷ spaces) kind = ForRoot (space ∷ spaces) (λ form. declines form kind)

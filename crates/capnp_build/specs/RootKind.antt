@@ -5,7 +5,7 @@ use Rattle.capnp_wire.specs.Tree.{Form, null, struct, numbers, pointers, structs
 use Rattle.capnp_build.specs.declared.root_kind.RootKind.{RootKind}
 use Rattle.capnp_build.specs.declared.root_kind.RootKind.TheVariants.{Null, Bytes, Words, Struct, Other}
 
--- neither null nor a struct nor a list of bytes or of words
+-- neither null, nor a struct, nor a list of bytes or of words
 abbrev pub IsOther : Form → Type 0
 IsOther null = ⊥
 IsOther (struct words) = ⊥
@@ -13,7 +13,7 @@ IsOther (numbers code values) = (code ≢ 2) × (code ≢ 5)
 IsOther pointers = ⊤
 IsOther (structs d p rows) = ⊤
 
--- what is shown of an object
+-- the kind of an object
 abbrev pub ShowsRoot : RootKind → Form → Type 0
 ShowsRoot Null form = form ≡ null
 ShowsRoot (Bytes n) form = (values : List ℕ) × (form ≡ numbers 2 values) × (length values ≡ n)
@@ -21,7 +21,8 @@ ShowsRoot (Words n) form = (values : List ℕ) × (form ≡ numbers 5 values) ×
 ShowsRoot (Struct d) form = (words : List ℕ) × (form ≡ struct words) × (length words ≡ d)
 ShowsRoot Other form = IsOther form
 
--- the object's bytes begin with what it is: text and data, a list of words, or the data words of a struct
+-- the bytes begin with the object's content: text and data, a list of words, or the data words of a
+-- struct
 abbrev pub HoldsForm : List ℕ → Form → Type 0
 HoldsForm bytes (numbers code values) =
     (code ≡ 2 → take (length values) bytes ≡ values) × (code ≡ 5 → words_of (take (8 * length values) bytes) ≡ values)

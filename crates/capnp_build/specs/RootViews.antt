@@ -1,5 +1,6 @@
--- What the calls keep that return a view of the root's object, or write through one (src/arena/root.rt, src/any_pointer.rt
--- and the views). `message` is the reference that a view holds, and `built` what is seen of the message after it.
+-- What is kept by the calls that return a view of the root's object, or write through one
+-- (src/arena/root.rt, src/any_pointer.rt and the views). `message` is the reference in a view, and
+-- `built` what is seen of the message through it.
 use Rattle.std.specs.Prelude.{◌≡◌, ◌⊎◌, ℕ, ◌*◌, ◌^◌, ◌<◌, List, [], length, map, Result, IfOk, IfErr, IsOk, MatchResult}
 use Rattle.std.specs.Borrow.{MutBor}
 use Rattle.std.specs.Result.{IsErrAnd}
@@ -21,7 +22,8 @@ use Rattle.capnp_build.specs.Placed.{DeclinesRoot, InitWords, IsInit, FoundNoRoo
 use Rattle.capnp_build.specs.Written.{IsWritten}
 use Rattle.capnp_build.specs.Outcomes.{LacksFirst, FitsFirst, WhereGranted, NotExhaustedWhileAvailable}
 
--- What a call keeps that makes the root a new object of length `n` and returns a view that writes it.
+-- What is kept by a call that makes the root a new object of length `n` and returns a view that
+-- writes it.
 pub record InitsView {A S K M V : Type 0} (alloc : allocator.Ghosts A S) (schema : owned_builder.Ghosts K) (n : ℕ) (built : M → Built A)
     (message : V → MutBor M) (old : MutBor M) (result : Result V Error) : Type 0 where
   -- the view writes the message that was borrowed
@@ -32,8 +34,8 @@ pub record InitsView {A S K M V : Type 0} (alloc : allocator.Ghosts A S) (schema
   pub there : IfOk result (λ view. 0 < length (built (message view).now).spaces)
   -- which words it takes, once the old root is cleared
   pub placed : IfOk result (λ view. IsInit alloc (InitWords schema.inits n) (built old.now) (built (message view).now))
-  -- it fails as the type has no such object, as the allocator fails to hand out the first segment, or where no segment
-  -- had room once the old root was cleared
+  -- it fails because the type has no such object, as the allocator fails to hand out the first
+  -- segment, or where no segment had room once the old root was cleared
   pub kind : IfErr result (λ error. schema.refuses n error.kind ⊎ LacksFirst alloc (built old.now) error.kind
       ⊎ FoundNoRoom alloc (InitWords schema.inits n) (built old.now) error.kind)
   -- an object that the type has is made where the first segment has room
@@ -43,7 +45,7 @@ pub record InitsView {A S K M V : Type 0} (alloc : allocator.Ghosts A S) (schema
   -- what else the allocator has out stays out
   pub others : IfOk result (λ view. KeepsOthers alloc.out (state_of (built old.now)) (state_of (built (message view).now)))
 
--- What a call keeps that returns a view of the root's object, where the type takes it.
+-- What is kept by a call that returns a view of the root's object, where the type accepts it.
 pub record GetsView {A S K M V : Type 0} (alloc : allocator.Ghosts A S) (schema : owned_builder.Ghosts K) (built : M → Built A)
     (message : V → MutBor M) (old : MutBor M) (result : Result V Error) : Type 0 where
   -- the view writes the message that was borrowed
@@ -54,14 +56,16 @@ pub record GetsView {A S K M V : Type 0} (alloc : allocator.Ghosts A S) (schema 
   pub looked : IfOk result (λ view. IsLookedAt alloc (built old.now) (built (message view).now))
   -- what else the allocator has out stays out
   pub others : IfOk result (λ view. KeepsOthers alloc.out (state_of (built old.now)) (state_of (built (message view).now)))
-  -- it fails as the allocator fails to hand out the first segment, or as the type declines the root
+  -- it fails as the allocator fails to hand out the first segment, or because the type declines the
+  -- root
   pub kind : IfErr result (λ error. LacksFirst alloc (built old.now) error.kind
       ⊎ DeclinesRoot schema.declines (built old.now).spaces error.kind)
   -- where it has to be granted, the first segment is
   pub granted : WhereGranted alloc (built old.now) (IfErr result (λ error. DeclinesRoot schema.declines (built old.now).spaces error.kind))
   pub available : NotExhaustedWhileAvailable alloc (DeclinesRoot schema.declines (built old.now).spaces) (built old.now) result
 
--- What writing into the root's object keeps: a relation of the segments before and after says what is written.
+-- What writing into the root's object keeps: `writes` relates the segments before and after, and
+-- says what is written.
 pub record WritesRoot {A : Type 0} (writes : List Space → List Space → Type 0) (old new : Built A) : Type 0 where
   pub set : writes old.spaces new.spaces
   pub written : IsWritten old new
@@ -73,14 +77,15 @@ pub record WritesView {A M : Type 0} (built : M → Built A) (writes : List Spac
   pub set : writes (built old.now).spaces (built new.now).spaces
   pub written : IsWritten (built old.now) (built new.now)
 
--- What the size of the tree at the root keeps: it is what a reading pointer to it returns.
+-- What the size of the tree at the root is: what a reader of the root returns.
 pub record SizesRoot (spaces : List Space) (result : Result MessageSize Error) : Type 0 where
   pub returned : let pointer : Pointer = unlimited_root (map used_of spaces) in MatchResult result
       (λ size. Measures pointer size.word_count × (size.cap_count ≡ 0)) (λ error. RejectsMeasuring pointer error.kind)
   pub measured : (words : ℕ) → Measures (unlimited_root (map used_of spaces)) words → words < 2 ^ 64 → IsOk result
   pub exact : (kind : ErrorKind) → RejectsMeasuring (unlimited_root (map used_of spaces)) kind → IsErrAnd result (λ error. error.kind ≡ kind)
 
--- The bytes of the object at the root and of what it holds: the words of the whole tree, and no more.
+-- The bytes of the object at the root and of everything below it: the words of the whole tree, and
+-- no more.
 pub record HoldsTree (spaces : List Space) (bytes : List ℕ) : Type 0 where
   pub words : (form : Form) (children : Trees) (traversed : ℕ) → Root (words_of_message spaces) form children traversed → words_of bytes ≡ body (tree form children none)
   pub size : (form : Form) (children : Trees) (traversed : ℕ) → Root (words_of_message spaces) form children traversed → length bytes ≡ 8 * total_words (tree form children none)

@@ -7,7 +7,7 @@ use Rattle.capnp_build.specs.Out.{Out}
 use Rattle.capnp_build.specs.BuilderState.{space_at, pairs as pairs_of}
 use Rattle.capnp_build.specs.Built.{Built, message, size_in_words, LiesOutside}
 
--- the root is a struct with such a data word
+-- the root is a struct with a data word of this index
 pub record HasField (spaces : List Space) (index : ℕ) : Type 0 where
   pub words : List ℕ
   pub children : Trees
@@ -15,33 +15,33 @@ pub record HasField (spaces : List Space) (index : ℕ) : Type 0 where
   pub stands : At (message spaces) (root ∷ []) (tree (struct words) children none) traversed
   pub within : index < length words
 
--- one of the root's data words is another one, and all else is as it was
+-- one of the root's data words is replaced, and everything else is as it was
 abbrev pub IsFieldSet : List Space → List Space → ℕ → ℕ → Type 0
 IsFieldSet spaces last index word =
     (words : List ℕ) (children : Trees) (traversed : ℕ) → At (message spaces) (root ∷ []) (tree (struct words) children none) traversed
     → (after : ℕ) × At (message last) (root ∷ []) (tree (struct (slice_set words index word)) children none) after
 
--- the root is a list of bytes with a given number of them from an index on
+-- the root is a list of bytes with this many of them from this index on
 pub record HasBytes (spaces : List Space) (index n : ℕ) : Type 0 where
   pub values : List ℕ
   pub traversed : ℕ
   pub stands : At (message spaces) (root ∷ []) (tree (numbers 2 values) none none) traversed
   pub within : index + n ≤ length values
 
--- some of the root's bytes are others, and all else is as it was
+-- some of the root's bytes are replaced, and everything else is as it was
 abbrev pub IsBytesSet : List Space → List Space → ℕ → List ℕ → Type 0
 IsBytesSet spaces last index bytes =
     (values : List ℕ) (traversed : ℕ) → At (message spaces) (root ∷ []) (tree (numbers 2 values) none none) traversed
     → (after : ℕ) × At (message last) (root ∷ []) (tree (numbers 2 (written values index bytes)) none none) after
 
--- the root is a list of words with such a number
+-- the root is a list of words with an element of this index
 pub record HasNumber (spaces : List Space) (index : ℕ) : Type 0 where
   pub values : List ℕ
   pub traversed : ℕ
   pub stands : At (message spaces) (root ∷ []) (tree (numbers 5 values) none none) traversed
   pub within : index < length values
 
--- one of the root's numbers is another one, and all else is as it was
+-- one of the root's elements is replaced, and everything else is as it was
 abbrev pub IsNumberSet : List Space → List Space → ℕ → ℕ → Type 0
 IsNumberSet spaces last index number =
     (values : List ℕ) (traversed : ℕ) → At (message spaces) (root ∷ []) (tree (numbers 5 values) none none) traversed

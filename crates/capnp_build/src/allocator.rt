@@ -1,4 +1,4 @@
-//! What hands out segments and takes them back.
+//! Allocators of segments.
 ghost use Rattle.std.specs.Prelude.{◌≡◌, ℕ, ◌+◌, ◌*◌, ◌/◌, ◌^◌, ◌<◌, ◌≤◌, ◌⊎◌, List, length};
 ghost use Rattle.capnp_frame.specs.declared.error.ErrorKind.{ErrorKind};
 ghost use Rattle.capnp_frame.specs.Source.{IsPreorder};
@@ -12,37 +12,37 @@ use capnp_frame::Result;
 /// Hands out segments, and takes them back.
 ///
 /// For implementers: `out` says which segments may be out, each by its length in bytes and whether
-/// it is caller-provided. `same` is what each call keeps, as the caller-provided region of an
-/// allocator. `grants` says which requests have to be granted, where an allocator can promise that:
-/// memory is never sure to be there. `refuses` says how a request may be rejected, and `returns` what
-/// a return does, by the segment and its used words. An allocator for which nothing depends on these
-/// two leaves them open, and code over any allocator still shows that it asked for just these words
-/// where it was rejected, and that it returns just these words.
+/// it is caller-provided. `same` is what every call leaves the same, as the caller-provided region
+/// of an allocator. `grants` says which requests have to be granted, where an allocator can promise
+/// that: memory is never sure to be there. `refuses` says with which kinds a request may fail, and
+/// `returns` what taking a segment back does, by the segment and its used words. An allocator for
+/// which nothing depends on the last two may leave them open: code over any allocator still shows
+/// that it asked for exactly these words where a request failed, and that it gives back exactly
+/// these words.
 pub trait Allocator: Drop {
     /// The bytes of a segment.
     type Segment: SegmentSpace;
 
-    /// These segments may be out of the allocator.
+    /// Which segments may be out of the allocator.
     ghost out: { Self → List Out → Type 0 };
 
-    /// What each call keeps.
+    /// What every call leaves the same.
     ghost same: { Self → Self → Type 0 };
 
-    /// A request of a given number of words has to be granted, by a segment of a given number of
-    /// words.
+    /// Which requests have to be granted: of this many words, by a segment of that many words.
     ghost grants: { Self → ℕ → ℕ → Type 0 };
 
-    /// A request of a given number of words may be rejected so.
+    /// With which kinds a request of this many words may fail.
     ghost refuses: { Self → ℕ → ErrorKind → Type 0 };
 
-    /// A return of a segment, of which this many words were used, leads from the one allocator to
+    /// Taking back a segment, of which this many words were used, leads from the one allocator to
     /// the other.
     ghost returns: { Self → Out → ℕ → Self → Type 0 };
 
     /// Hands out a segment of at least this many words and fewer than 2^32, all zero.
     ///
-    /// Fails with `OutOfMemory`, with `AllocationTooLarge` of the words asked, or with
-    /// `SegmentTaken`, alone; with the last only while a segment is out that is large enough.
+    /// Fails only with `OutOfMemory`, with `AllocationTooLarge` of the words asked for, or with
+    /// `SegmentTaken`; with the last only while a segment is out that is large enough.
     fn allocate_segment(&mut self, minimum_size: u32) -> Result<Self::Segment>
         ensures { HandsOut out same grants refuses Self.Segment.content Self.Segment.is_provided
             minimum_size self.old self.new result };
@@ -56,10 +56,10 @@ pub trait Allocator: Drop {
             (record { length = length (Self.Segment.content segment); is_provided = Self.Segment.is_provided segment })
             words_used self.old self.new };
 
-    /// What each call keeps, several calls keep together.
+    /// What every call leaves the same, several calls do, too.
     ghost keeps: { IsPreorder same };
 
-    /// Some segments may be out, or none.
+    /// Some list of segments, which may be empty, is out.
     ghost accounts: { (allocator : Self) → (list : List Out) × out allocator list };
 }
 

@@ -40,7 +40,7 @@ impl<'a, M: Building> View<'a, M, Owned> {
     /// Whether the root is null.
     pub fn is_null(&self) -> bool
         ensures root { ForRoot (M.built self.now.message.now).spaces (λ form. IsTrue result ↔ (form ≡ null)) }
-        // This holds for a message of no segments, too.
+        // This holds of a message of no segments, too.
         ensures none { (M.built self.now.message.now).spaces ≡ [] → IsTrue result }
     {
         match self.message.root_kind() {
@@ -59,7 +59,7 @@ impl<'a, M: Building> View<'a, M, Owned> {
         self.message.target_size()
     }
 
-    /// The root's object as a view of a type, without a test of its kind.
+    /// The root's object as a view of a type, whose kind is not tested.
     pub fn into_view<K>(self) -> View<'a, M, K>
         ensures same { result.message.ghost_name ≡ self.entry.message.ghost_name }
         ensures value { result.message.now ≡ self.entry.message.now }
@@ -81,9 +81,9 @@ impl<'a, M: Building> View<'a, M, Owned> {
 
     /// The root as a view of a type. Nothing changes.
     ///
-    /// Fails with a kind that `declines` of the type names, where it doesn't take the object: for
-    /// the types of this crate with `WrongPointerKind` or `TextNotTerminated`, as their reading
-    /// views do.
+    /// Fails with a kind that `declines` of the type names, where the type doesn't accept the
+    /// object: for the types of this crate with `WrongPointerKind` or `TextNotTerminated`, as their
+    /// reading views do.
     pub fn get_as<K: OwnedBuilder>(self) -> Result<View<'a, M, K>>
         ensures same { IfOk result (λ view. view.message.ghost_name ≡ self.entry.message.ghost_name) }
         ensures looked { IfOk result (λ view. view.message.now ≡ self.entry.message.now) }

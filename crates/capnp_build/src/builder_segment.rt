@@ -50,7 +50,7 @@ impl<S: SegmentSpace> BuilderSegment<S> {
         &self.segment.bytes()[..8 * self.words as usize]
     }
 
-    /// The used words.
+    /// The number of used words.
     pub fn words(&self) -> u32
         ensures within { length self.now.used ≤ self.now.size }
         ensures counts { CountsUsedWords result self.now.used }
@@ -58,7 +58,7 @@ impl<S: SegmentSpace> BuilderSegment<S> {
         self.words
     }
 
-    /// The free words, counted as far as the segment has 2^29.
+    /// The number of free words, up to a length of the segment of 2^29 words.
     pub fn room(&self) -> u32
         ensures { result ≡ min (self.now.size / 8) (2 ^ 29) - length self.now.used / 8 }
     {
@@ -67,7 +67,7 @@ impl<S: SegmentSpace> BuilderSegment<S> {
         most - self.words
     }
 
-    /// Uses this many words more.
+    /// Uses this many more words.
     pub fn grow(&mut self, words: u32)
         requires { words ≤ min (self.old.size / 8) (2 ^ 29) - length self.old.used / 8 }
         ensures { self.new ≡ with_block self.old (8 * words) }
@@ -92,7 +92,7 @@ impl<S: SegmentSpace> BuilderSegment<S> {
         pointer
     }
 
-    /// Writes bytes into those that are used.
+    /// Replaces used bytes, from this index on.
     pub fn write_at(&mut self, at: usize, bytes: &[u8])
         requires { at + length bytes.now ≤ length self.old.used }
         ensures { self.new ≡ with_bytes self.old at bytes.now }

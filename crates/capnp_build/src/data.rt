@@ -1,4 +1,4 @@
-//! Bytes that are built.
+//! Builders of `Data`.
 ghost use Rattle.std.specs.Prelude.{◌≡◌, ℕ, ◌+◌, ◌-◌, ◌*◌, ◌^◌, ◌/◌, ◌<◌, ◌≤◌, List, [], ◌∷◌, length, take, min, replicate};
 ghost use Rattle.capnp_frame.specs.declared.error.ErrorKind.TheVariants.{AllocationTooLarge};
 ghost use Rattle.capnp_wire.specs.Tree.{numbers};
@@ -15,7 +15,7 @@ use crate::view::{Building, View};
 use capnp_frame::{Error, ErrorKind, Result};
 pub use capnp_wire::data::Owned;
 
-/// Bytes that are written in place.
+/// The bytes of a `Data`, written in place.
 pub type Builder<'a, M> = View<'a, M, Owned>;
 
 impl OwnedBuilder for Owned {
@@ -52,7 +52,7 @@ impl<'a, M: Building> View<'a, M, Owned> {
         self.message.write_bytes(index, &[byte]);
     }
 
-    /// Writes bytes over the present ones, from an index on.
+    /// Replaces bytes, from this index on.
     pub fn write(&mut self, index: u32, bytes: &[u8])
         requires { HasBytes (M.built self.old.message.now).spaces index (length bytes.now) }
         ensures { WritesView M.built (λ old new. IsBytesSet old new index bytes.now)

@@ -1,4 +1,4 @@
-//! New objects, as values that a root is set to.
+//! New objects, as values that the root is set to.
 ghost use Rattle.std.specs.Prelude.{◌≡◌};
 ghost use Rattle.capnp_wire.specs.Tree.{none, tree, count};
 ghost use Rattle.capnp_build.specs.Body.{Fits, zero_form, output_new_object};
@@ -38,7 +38,7 @@ impl NewObject {
         NewObject { body }
     }
 
-    /// The words of the object.
+    /// The number of words of the object.
     pub fn words(&self) -> u32
         ensures { HasWords (λ trees. trees ≡ tree (zero_form self.now) none none) false result }
     {

@@ -28,7 +28,7 @@ impl Body {
         }
     }
 
-    /// The pointer to it, from this many words before it.
+    /// The pointer to it, for an object that begins this many words after the pointer.
     pub fn tag(self, offset: u32) -> u64
         requires fits { Fits self }
         requires local { offset < 2 ^ 29 }

@@ -11,23 +11,23 @@ use capnp_frame::Result;
 
 /// A type of a schema that can be built.
 pub trait OwnedBuilder {
-    /// The object that an init of this length makes.
+    /// The object that is made for this length.
     ghost inits: { ℕ → Form → Type 0 };
 
-    /// An init of this length fails with this kind.
+    /// With which errors making an object of this length fails.
     ghost refuses: { ℕ → ErrorKind → Type 0 };
 
-    /// The object that an init of length `n` makes; `None` for null. Fails with a kind that
-    /// `refuses` names.
+    /// The object that is made for length `n`; `None` for null. Fails with a kind that `refuses`
+    /// names.
     fn object(n: u32) -> Result<Option<Body>>
         ensures inits { IfOk result (λ body. inits n (new_form body)) }
         ensures fits { IfOk result OptionFits }
         ensures refused { IfErr result (λ error. refuses n error.kind) };
 
-    /// There is a view of this object.
+    /// Which objects have a view.
     ghost takes: { Form → Type 0 };
 
-    /// There is none, and this is the error.
+    /// With which error an object without a view fails.
     ghost declines: { Form → ErrorKind → Type 0 };
 
     /// Checks that an object of this kind, with these bytes, can be viewed as this type. Fails with

@@ -65,8 +65,8 @@ impl<A: Allocator> Segments<A> {
         self.write_at(0, 0, &pointer.to_le_bytes());
     }
 
-    /// Makes the word before a body in another segment its landing pad, and the root's word a
-    /// pointer to that.
+    /// Makes the word before a body in another segment its landing pad, and the root's word a far
+    /// pointer to the landing pad.
     pub fn point_far(&mut self, location: RootLocation)
         requires other { 0 < location.segment }
         requires some { 0 < location.words }

@@ -1,4 +1,4 @@
-//! Lists of numbers that are built.
+//! Builders of lists of numbers.
 ghost use Rattle.std.specs.Prelude.{◌≡◌, ℕ, ◌+◌, ◌-◌, ◌*◌, ◌^◌, ◌/◌, ◌<◌, ◌≤◌, List, [], length, replicate, slice_index_or};
 ghost use Rattle.capnp_frame.specs.declared.error.ErrorKind.TheVariants.{AllocationTooLarge};
 ghost use Rattle.capnp_wire.specs.Tree.{numbers};
@@ -42,7 +42,7 @@ impl OwnedBuilder for Owned<u64> {
 }
 
 impl<'a, M: Building> View<'a, M, Owned<u64>> {
-    /// Sets a number.
+    /// Sets an element.
     pub fn set(&mut self, index: u32, number: u64)
         requires { HasNumber (M.built self.old.message.now).spaces index }
         ensures { WritesView M.built (λ old new. IsNumberSet old new index number)
@@ -51,7 +51,7 @@ impl<'a, M: Building> View<'a, M, Owned<u64>> {
         self.message.set_number(index, number);
     }
 
-    /// A number; 0 past the last one.
+    /// An element; 0 past the last one.
     pub fn get(&self, index: u32) -> u64
         ensures root { ForRoot (M.built self.now.message.now).spaces (λ form. (words : List ℕ) → IsWords form words → result ≡ slice_index_or words index 0) }
         ensures none { (M.built self.now.message.now).spaces ≡ [] → result ≡ 0 }

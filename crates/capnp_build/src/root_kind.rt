@@ -7,7 +7,7 @@ ghost use Rattle.capnp_build.specs.RootKind.{ShowsRoot};
 
 use capnp_wire::pointer_word::{LocalShape, local_shape};
 
-/// What a pointer leads to, as far as builders have views of it.
+/// What a pointer leads to, for the objects of which builders have views.
 #[derive(Clone, Copy)]
 pub enum RootKind {
     Null,
@@ -15,12 +15,12 @@ pub enum RootKind {
     Bytes(u32),
     /// A list of words.
     Words(u32),
-    /// A struct of data words, and of pointers.
+    /// A struct, with its number of data words.
     Struct(u16),
     Other,
 }
 
-/// What a pointer word says.
+/// The kind of the object by its pointer word.
 pub(crate) fn read_tag(tag: u64) -> RootKind
     ensures { (form : Form) (n : ℕ) → HasRoom form n → tag ≡ pointer form n 0 → ShowsRoot result form }
 {

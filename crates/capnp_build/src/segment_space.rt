@@ -20,7 +20,7 @@ pub trait SegmentSpace: Drop {
     fn bytes(&self) -> &[u8]
         ensures { result.now ≡ content self.now };
 
-    /// Writes bytes from an index on.
+    /// Replaces bytes, from this index on.
     fn write_at(&mut self, at: usize, bytes: &[u8])
         requires { at + length bytes.now ≤ length (content self.old) }
         ensures { IsOverwritten content is_provided at bytes.now self.old self.new };
@@ -31,8 +31,8 @@ pub trait SegmentSpace: Drop {
         requires within { to ≤ length (content self.old) }
         ensures { IsOverwritten content is_provided from (replicate (to - from) 0) self.old self.new };
 
-    /// Writes a value into the bytes between two indexes, which are zero and just its words, and
-    /// returns the pointer to it for a block that follows this pointer at once.
+    /// Writes a value into the bytes between two indexes, which are zero and exactly its words, and
+    /// returns the pointer to it from just before them.
     fn write_value<T, V: SetterInput<T>>(
         &mut self,
         from: usize,
@@ -105,7 +105,7 @@ impl<'a> SegmentSpace for &'a mut [u8] {
     }
 }
 
-// Writes a value into a part of these bytes, which is zero and just its words.
+// Writes a value into a part of these bytes, which is zero and exactly its words.
 fn write_into<T, V: SetterInput<T>>(
     bytes: &mut [u8],
     from: usize,

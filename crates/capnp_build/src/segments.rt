@@ -20,7 +20,8 @@ use capnp_wire::traits::SetterInput;
 use std::alloc::Global;
 use std::marker::Model;
 
-// Where a segment of a message is kept: in place, or at an index of the vector of the others.
+// Where a segment of a message is kept: in its own field, or at an index of the vector of the
+// others.
 #[derive(Clone, Copy)]
 enum SegmentPlace {
     First,
@@ -28,7 +29,7 @@ enum SegmentPlace {
 }
 
 impl SegmentPlace {
-    // The place of the segment of a number.
+    // Where the segment of this number is kept.
     fn of(index: u32) -> SegmentPlace
         ensures { index ≡ index_of result }
     {
@@ -39,7 +40,7 @@ impl SegmentPlace {
     }
 }
 
-/// The segments of a message: the first one in place, the others in a vector.
+/// The segments of a message: the first one in a field of its own, the others in a vector.
 pub struct Segments<A: Allocator> {
     allocator: A,
     first: Option<BuilderSegment<A::Segment>>,
@@ -99,7 +100,7 @@ impl<A: Allocator> Segments<A> {
         }
     }
 
-    /// The free words of a segment.
+    /// The number of free words of a segment.
     pub fn room(&self, index: u32) -> u32
         requires { index < length self.now.spaces }
         ensures { result ≡ free_words_of (space_at self.now.spaces index) }
@@ -113,7 +114,7 @@ impl<A: Allocator> Segments<A> {
         }
     }
 
-    /// The used words of a segment.
+    /// The number of used words of a segment.
     pub fn words(&self, index: u32) -> u32
         requires { index < length self.now.spaces }
         ensures { CountsUsedWords result (space_at self.now.spaces index).used }
@@ -127,15 +128,15 @@ impl<A: Allocator> Segments<A> {
         }
     }
 
-    /// The used words can be written, once there is a segment.
+    /// A fact for callers: the used words can be written, once there is a segment.
     pub fn are_writable(&self)
         ensures { CanBeWritten self.now.spaces }
     {
-        // For the prover: a look at a field brings in the invariant, which says this.
+        // For the prover: reading a field brings in the invariant, which says this.
         let first = &self.first;
     }
 
-    /// The used words of all segments.
+    /// The number of used words of all segments.
     pub fn size_in_words(&self) -> usize
         ensures { result ≡ size_in_words self.now.spaces }
     {
@@ -146,7 +147,7 @@ impl<A: Allocator> Segments<A> {
         words
     }
 
-    /// Uses this many words more of a segment.
+    /// Uses this many more words of a segment.
     pub fn grow(&mut self, index: u32, words: u32)
         requires within { index < length self.old.spaces }
         requires room { words ≤ free_words_of (space_at self.old.spaces index) }
@@ -165,7 +166,7 @@ impl<A: Allocator> Segments<A> {
         }
     }
 
-    /// Writes bytes over used ones of a segment.
+    /// Replaces used bytes of a segment, from this index on.
     pub fn write_at(&mut self, index: u32, at: usize, bytes: &[u8])
         requires within { index < length self.old.spaces }
         requires room { at + length bytes.now ≤ length (space_at self.old.spaces index).used }
@@ -231,7 +232,7 @@ impl<A: Allocator> Segments<A> {
         }
     }
 
-    /// Adds an unused segment of this many words or more. Fails as `LacksSegment` says.
+    /// Adds an unused segment of at least this many words. Fails with the kinds of `LacksSegment`.
     pub fn add(&mut self, words: u32) -> Result<()>
         ensures added { OnOk result ((space : Space) × (self.new.spaces ≡ self.old.spaces ++ space ∷ []) × (space.used ≡ []) × (words ≤ space.size / 8)) }
         ensures refused { OnErr result (self.new.spaces ≡ self.old.spaces) }
@@ -260,7 +261,7 @@ impl<A: Allocator> Segments<A> {
         Ok(())
     }
 
-    /// The allocator, after each segment went back to it.
+    /// The allocator, to which each segment went back.
     pub fn into_allocator(self) -> A
         ensures { GivesBack A.Allocator self result }
     {
@@ -280,7 +281,7 @@ impl<A: Allocator> Segments<A> {
     }
 }
 
-// Returns a segment to its allocator, with the words that are used of it.
+// Returns a segment to its allocator, with the number of words that are used of it.
 fn return_segment<A: Allocator>(allocator: &mut A, part: BuilderSegment<A::Segment>)
     requires { IsOut (A.out allocator.old) (pair part) }
     ensures { TakesBack A.out A.same A.returns (pair part) (length part.used / 8) allocator.old allocator.new }
@@ -290,7 +291,7 @@ fn return_segment<A: Allocator>(allocator: &mut A, part: BuilderSegment<A::Segme
 }
 
 impl<A: Allocator> Drop for Segments<A> {
-    // Each segment goes back on the way.
+    // Each segment goes back to the allocator.
     fn drop(self)
         ensures { (last : A) × GivesBack A.Allocator self last }
     {

@@ -1,4 +1,4 @@
-//! Text that is built.
+//! Builders of `Text`.
 ghost use Rattle.std.specs.Prelude.{◌≡◌, ℕ, ◌+◌, ◌-◌, ◌^◌, ◌/◌, ◌<◌, ◌≤◌, List, [], ◌∷◌, ◌++◌, length, take, min, replicate, true, false};
 ghost use Rattle.capnp_frame.specs.declared.error.ErrorKind.TheVariants.{AllocationTooLarge};
 ghost use Rattle.capnp_wire.specs.Tree.{numbers};
@@ -14,7 +14,7 @@ use crate::view::{Building, View};
 use capnp_frame::{Error, ErrorKind, Result};
 pub use capnp_wire::text::Owned;
 
-/// A text that is written in place.
+/// A `Text` that is written in place.
 pub type Builder<'a, M> = View<'a, M, Owned>;
 
 impl OwnedBuilder for Owned {
@@ -49,7 +49,7 @@ impl OwnedBuilder for Owned {
 }
 
 impl<'a, M: Building> View<'a, M, Owned> {
-    /// Sets a byte before the last zero byte.
+    /// Sets a byte in front of the zero byte at the end.
     pub fn set(&mut self, index: u32, byte: u8)
         requires { HasBytes (M.built self.old.message.now).spaces index 2 }
         ensures { WritesView M.built (λ old new. IsBytesSet old new index (byte ∷ []))
@@ -58,7 +58,7 @@ impl<'a, M: Building> View<'a, M, Owned> {
         self.message.write_bytes(index, &[byte]);
     }
 
-    /// Writes bytes over those before the last zero byte, from an index on.
+    /// Replaces bytes in front of the zero byte at the end, from this index on.
     pub fn write(&mut self, index: u32, bytes: &[u8])
         requires { HasBytes (M.built self.old.message.now).spaces index (length bytes.now + 1) }
         ensures { WritesView M.built (λ old new. IsBytesSet old new index bytes.now)
@@ -67,7 +67,7 @@ impl<'a, M: Building> View<'a, M, Owned> {
         self.message.write_bytes(index, bytes);
     }
 
-    /// The bytes before the last zero byte.
+    /// The bytes in front of the zero byte at the end.
     pub fn as_bytes(&self) -> &[u8]
         ensures root { ForRoot (M.built self.now.message.now).spaces (λ form. (bytes : List ℕ) → IsText form bytes → result.now ≡ bytes) }
         ensures none { (M.built self.now.message.now).spaces ≡ [] → result.now ≡ [] }
@@ -78,7 +78,7 @@ impl<'a, M: Building> View<'a, M, Owned> {
         }
     }
 
-    /// The number of bytes before the last zero byte.
+    /// The number of bytes in front of the zero byte at the end.
     pub fn len(&self) -> u32
         ensures count { ForRoot (M.built self.now.message.now).spaces (λ form. (bytes : List ℕ) → IsText form bytes → result ≡ length bytes) }
         ensures each { (index count : ℕ) → 0 < count → index + count ≤ result → HasBytes (M.built self.now.message.now).spaces index (count + 1) }
@@ -90,7 +90,7 @@ impl<'a, M: Building> View<'a, M, Owned> {
     }
 }
 
-// Whether these bytes are a text: whether the last of them is zero.
+// Whether these bytes are a `Text`: whether the last of them is zero.
 fn ends_with_zero(bytes: &[u8]) -> bool
     ensures yes { result ≡ true → ((text : List ℕ) × (bytes.now ≡ text ++ 0 ∷ [])) }
     ensures no { result ≡ false → (text : List ℕ) → bytes.now ≡ text ++ 0 ∷ [] → ⊥ }
@@ -105,7 +105,7 @@ fn ends_with_zero(bytes: &[u8]) -> bool
     true
 }
 
-// The first `count` bytes but the last of them.
+// The first `count` bytes without the last of them.
 fn before_the_last(bytes: &[u8], count: u32) -> &[u8]
     ensures { result.now ≡ take (min (count - 1) (length bytes.now)) bytes.now }
 {

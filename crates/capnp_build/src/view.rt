@@ -17,7 +17,7 @@ use capnp_wire::MessageSize;
 use capnp_wire::traits::SetterInput;
 use std::marker::PhantomData;
 
-/// What holds a message that is built: an arena, or a type that has one inside.
+/// A message that is built: an arena, or a type that has one inside.
 pub trait Building: Drop {
     type Allocator: Allocator;
 
@@ -29,7 +29,7 @@ pub trait Building: Drop {
         ensures form { ForRoot (built self.now).spaces (ShowsRoot result) }
         ensures stands { IsRootKind result (built self.now).spaces };
 
-    /// The words of the tree at the root, after its pointer; none where the root is null.
+    /// The bytes of the tree at the root, without the root pointer; none where the root is null.
     fn root_bytes(&self) -> &[u8]
         ensures form { ForRoot (built self.now).spaces (HoldsForm result.now) }
         ensures tree { HoldsTree (built self.now).spaces result.now };
@@ -40,20 +40,20 @@ pub trait Building: Drop {
         ensures { WritesRoot (λ old new. IsFieldSet old new index word)
             (built self.old) (built self.new) };
 
-    /// Sets a number of the list of words at the root.
+    /// Sets an element of the list of words at the root.
     fn set_number(&mut self, index: u32, number: u64)
         requires { HasNumber (built self.old).spaces index }
         ensures { WritesRoot (λ old new. IsNumberSet old new index number)
             (built self.old) (built self.new) };
 
-    /// Writes bytes over those of the list of bytes at the root, from an index on.
+    /// Replaces bytes of the list of bytes at the root, from this index on.
     fn write_bytes(&mut self, index: u32, bytes: &[u8])
         requires { HasBytes (built self.old).spaces index (length bytes.now) }
         ensures { WritesRoot (λ old new. IsBytesSet old new index bytes.now)
             (built self.old) (built self.new) };
 
     /// The size of the tree at the root. Fails as `any_pointer::Reader::target_size` does of a
-    /// reading pointer to it.
+    /// reader of the root.
     fn target_size(&self) -> Result<MessageSize>
         ensures { SizesRoot (built self.now).spaces result };
 
@@ -132,7 +132,7 @@ impl<'a, M: Building, K> View<'a, M, K> {
 pub fn init<M: Building, K: OwnedBuilder>(message: &mut M, n: u32) -> Result<()>
     ensures inits { InitsRoot M.Allocator.Allocator K.OwnedBuilder n
         (M.built message.old) (M.built message.new) result }
-    // The error by what the message was before the call.
+    // The error, by the message before the call.
     ensures no_room { IfErr result (λ error. K.refuses n error.kind
         ⊎ LacksFirst M.Allocator.Allocator (M.built message.old) error.kind
         ⊎ FoundNoRoom M.Allocator.Allocator (InitWords K.inits n) (M.built message.old) error.kind) }

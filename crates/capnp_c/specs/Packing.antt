@@ -25,7 +25,7 @@ pub record PacksChunks {S X : Type 0} (sink : Ghosts S) (old new : S) (chunks : 
   pub packed : OnOk result (IfKnown (sink.written old) (sink.written new) (Adds (AppendsAll (AppendsPacked sink.appends) chunks)))
   -- it fails with the device's failure, or as one of the chunks is rejected
   pub refused : IfErr result (λ error. (error.kind ≡ DeviceFailed) ⊎ DeclinesSome (DeclinesPacked sink.refuses) chunks error.kind)
-  -- the device is blamed only where it failed
+  -- `DeviceFailed` is returned only where the device failed
   pub failed : IfErr result (λ error. error.kind ≡ DeviceFailed → Fails (sink.failures old) (sink.failures new))
   -- where the sink grants the packed encoding, the step succeeds
   pub granted : (text : List ℕ) (more : ℕ) → AppendsAll Packs chunks text → sink.grants old (length text + more)

@@ -17,13 +17,13 @@ pub passed_on : {Y : Type 0} {error : Error} (P : Error → Type 0) (result : Re
 passed_on P (Ok y) is p = tt
 passed_on P (Err e) is p = subst P (sym is) p
 
--- a call that is returned, after one that was
+-- a call that succeeds, after one that did
 pub Asked-ok : {S Y : Type 0} {unread : S → Option (List ℕ)} {failures : S → ℕ} {same : S → S → Type 0} {a b c : S}
     {returned : Y} → (same a b → same b c → same a c) → Advances unread failures same a b
     → Advances unread failures same b c → Asked unread failures same a c (Ok returned)
 Asked-ok {a = a} {b = b} {c = c} join first second = record { failed = tt; advances = Advances-join a b c join first second }
 
--- a call that is rejected, after one that was returned
+-- a call that fails, after one that succeeded
 pub Asked-err : {S X Y : Type 0} {unread : S → Option (List ℕ)} {failures : S → ℕ} {same : S → S → Type 0} {a b c : S}
     {error : Error} {result : Result Y Error} → (same a b → same b c → same a c) → IsErrAnd result (λ y. y ≡ error)
     → Advances unread failures same a b → Asked {X = X} unread failures same b c (Err error)
@@ -35,7 +35,7 @@ Asked-err {failures = failures} {a = a} {b = b} {c = c} {result = result} join i
       advances = Advances-join a b c join first second.advances;
     }
 
--- a call after one that was returned
+-- a call after one that succeeded
 pub Asked-after : {S X : Type 0} {unread : S → Option (List ℕ)} {failures : S → ℕ} {same : S → S → Type 0} {a b c : S}
     (result : Result X Error) → (same a b → same b c → same a c) → Advances unread failures same a b
     → Asked unread failures same b c result → Asked unread failures same a c result

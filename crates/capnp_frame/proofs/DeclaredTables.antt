@@ -44,7 +44,7 @@ number_at (suc index) (suc count) bytes less =
     let further : 4 + 4 * index ≡ 4 * suc index = omega arith in
     number_at index count (drop 4 bytes) (omega arith) ∙ ap (λ l. Some (number l)) (drop-drop (4 * index) 4 bytes ∙ ap (λ k. drop k bytes) further)
 
--- the numbers of fields are what they spell
+-- the numbers in the fields of some numbers are these numbers
 numbers_declared : (ns rest : List ℕ) → AllByRecursion FitsField ns → numbers (length ns) (flat_map field ns ++ rest) ≡ ns
 numbers_declared [] rest fits = refl
 numbers_declared (n ∷ ns) rest fits =
@@ -109,12 +109,12 @@ table_is rule bytes count tells kept =
     padding_is : (count many : ℕ) → count ≡ many → table_size count - 4 * (count + 1) ≡ 4 * ((many + 1) % 2)
     padding_is count many same = omega arith
 
--- and where they are one, its padding is taken
+-- and where they are one, the rule accepts its padding
 pub padding_declared : (rule : Padding) (bytes : List ℕ) (count : ℕ) → IsTable rule (take (table_size count) bytes) (declared_lengths count bytes) → KeepsPadding rule (declared_padding count bytes)
 padding_declared rule bytes count table =
     subst (KeepsPadding rule) (sym (padding_at (take (table_size count) bytes) (declared_lengths count bytes) count table (sym (length-declared count bytes)))) table.kept
 
--- a table at the front is told
+-- the fields of a table at the front declare its lengths
 pub record Declared (rule : Padding) (bytes ns : List ℕ) : Type 0 where
   pub tells : DeclaresTable bytes (length ns)
   pub lengths : declared_lengths (length ns) bytes ≡ ns

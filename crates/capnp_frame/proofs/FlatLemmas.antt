@@ -83,7 +83,7 @@ cut_segments form rule limit bytes count total keeps kept room is short =
       ),
     )
 
--- a message that is at the front and is accepted isn't rejected
+-- where an accepted message is at the front, no line holds
 pub RefusesFlat-apart : (form : FlatForm) (rule : Padding) (limit : Option ℕ) (kind : ErrorKind) (bytes : List ℕ)
     (segments : List (List ℕ)) (rest : List ℕ) → HasFrame rule bytes segments rest → IsWithin segments limit
     → RefusesFlat form rule limit kind bytes → ⊥
@@ -145,7 +145,7 @@ above_range count range = elim (cases_lt 0 count) [ inl some ↦ some | inr none
 counts : (last count many : ℕ) → count ≡ (last + 1) % 2 ^ 32 → last + 1 ≡ many → many ≤ 2 ^ 32 → count < 512 → 0 < count → count ≡ many
 counts last count many is declared most few some = omega arith
 
--- the number of segments that the first word at the front tells
+-- the number of segments that the first word at the front declares
 first_tells : (empty : ErrorKind) (bytes word left : List ℕ) (count : ℕ) → Splits bytes 8 word left → Tells word count
     → (length bytes ≡ 8 + length left) × (count_of (by_words empty) (number bytes) ≡ count)
 first_tells empty bytes word left count (split, long) (last, fits, read, is) =

@@ -19,7 +19,7 @@ stands_apart : (rules : FlatRules) (kind : ErrorKind) (bytes rest : List ℕ) (m
 stands_apart rules kind bytes rest message begins =
     RefusesFlat-apart rules.form rules.padding rules.limit kind bytes message rest (begins.text, begins.is_text, begins.spelled) begins.within
 
--- where it fails, it is by its rules
+-- where a call fails, it fails by its rules
 
 lacks_alone : (X : Type 0) (form : FlatForm) (rule : Padding) (limit : Option ℕ) (bytes : List ℕ) (error : Error)
     → OrLacksMemory form ((error.kind ≡ OutOfMemory) × AcceptsCount form bytes) (RefusesFlat form rule limit error.kind bytes)
@@ -49,7 +49,7 @@ reads_none {X} rules bytes left segments error (Err own) is stays refused =
       exact = λ kind line. first_line rules.form rules.padding rules.limit bytes error.kind kind refused line;
     })
 
--- where it finds a message, that is there
+-- where a call finds a message, that message is there
 
 accepts : {X : Type 0} (form : FlatForm) (x : X) → AcceptsFlat form (Ok x)
 accepts (by_words empty) x = tt
@@ -81,7 +81,7 @@ reads_held rules bytes left segments x count holds are keeps kept is =
       exact = λ kind line. stands_apart rules kind bytes rest (segments x) begins line;
     }
 
--- what is handed on, in another view of the segments
+-- what is returned, with the segments seen in another way
 
 pub reads_shown : {X Y : Type 0} (rules : FlatRules) (bytes : List ℕ) (left : Option (List ℕ)) (segments : X → List (List ℕ))
     (others : Y → List (List ℕ)) (x : X) (y : Y) → others y ≡ segments x → ReadsFlat rules bytes left segments (Ok x)

@@ -1,4 +1,4 @@
--- A framed encoding that a reader has put into a buffer, its padding zero.
+-- A framed encoding that a reader has put into a buffer, with zero padding.
 use Rattle.std.proofs.Common.{◌≡◌, ℕ, ◌+◌, ◌-◌, ◌*◌, ◌≤◌, List, ◌++◌, length, take, drop, replicate, sym, ap, ◌∙◌, subst, arith, append_assoc, length-append}
 use Rattle.std.proofs.lemmas.List.{take_at, drop_at, drop-drop, length-drop, take-take}
 use borrow.Rule.Slice.PartMut.{put_mid, post_of}
@@ -13,7 +13,7 @@ use Rattle.capnp_frame.proofs.FrameLemmas.{zero_padded_is, length-table}
 use Rattle.capnp_frame.proofs.DeclaredTables.{table_is, Declared, declared_from_table, length-declared}
 use Rattle.capnp_frame.proofs.FrontMessages.{found_from_held}
 
--- the padding of a message that is held is zeroed: the same message is held
+-- the padding of the message in a buffer is zeroed: the buffer has the same message
 pub record IsZeroed (before after : List ℕ) (count : ℕ) : Type 0 where
   pub holds : HoldsMessage after count
   pub lengths_are : declared_lengths count after ≡ declared_lengths count before
@@ -60,7 +60,7 @@ padding_zeroed before zeros count start len holds start_is end_is zeros_are =
     zeroed_as : (before spelled after : List ℕ) (count : ℕ) → after ≡ spelled → IsZeroed before spelled count → IsZeroed before after count
     zeroed_as before spelled after count is declared = subst (λ l. IsZeroed before l count) (sym is) declared
 
--- so its text is at the front
+-- so its framed encoding is at the front
 pub zeroed_begins : (before after : List ℕ) (count size total : ℕ) → IsZeroed before after count → size ≡ table_size count
     → total ≡ 8 * sum (declared_lengths count before) → HasFrame Zero after (declared_segments count after) (drop (size + total) after)
 zeroed_begins before after count size total zero size_is total_is =

@@ -32,7 +32,7 @@ cut-take (n ∷ ns) bytes =
     ∙ ap (λ l. take (8 * n) bytes ∷ cut ns l) (sym others)
     ∙ ap (λ l. l ∷ cut ns (drop (8 * n) (take (8 * sum (n ∷ ns)) bytes))) (sym first)
 
--- a message that is held is at the front
+-- a message that a buffer has after a table is the one at its front
 pub record Found (rule : Padding) (bytes : List ℕ) (count : ℕ) : Type 0 where
   pub begins : HasFrame rule bytes (declared_segments count bytes) (drop (table_size count + 8 * sum (declared_lengths count bytes)) bytes)
   pub lengths_are : lengths (declared_segments count bytes) ≡ declared_lengths count bytes
@@ -64,7 +64,7 @@ found_from_held rule bytes count holds kept =
       lengths_are = are;
     }
 
--- and a message that is at the front is held
+-- and a message at its front is one that it has after a table
 pub record Held (rule : Padding) (bytes : List ℕ) (segments : List (List ℕ)) : Type 0 where
   pub holds : HoldsMessage bytes (length segments)
   pub lengths_are : declared_lengths (length segments) bytes ≡ lengths segments
@@ -103,7 +103,7 @@ held_from_begins rule bytes segments rest limit (text, frame, is) within =
       rest_is = λ left begins. sym (parts left begins).2 ∙ ap (λ k. drop (table_size (length segments) + 8 * k) bytes) total;
     }
 
--- what is told is within, where it keeps the limit
+-- the declared lengths are within the limit, where they keep it
 pub within_declared : (bytes : List ℕ) (count : ℕ) (limit : Option ℕ) → HoldsMessage bytes count → KeepsLimit (declared_lengths count bytes) limit → IsWithin (declared_segments count bytes) limit
 within_declared bytes count limit holds keeps =
     let len = length-declared count bytes in

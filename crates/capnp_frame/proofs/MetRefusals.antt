@@ -20,7 +20,7 @@ use Rattle.capnp_frame.proofs.RefusalLemmas.{in_range, within_limit, small_room,
 
 -- the lines, as a reader meets them
 
--- a count that is accepted is the one that the word tells
+-- a number of segments that is accepted is the one that the word declares
 Tells-accepted : (word : List ℕ) (count : ℕ) → DeclaresAccepted word count → Tells word count
 Tells-accepted word count accepted =
     let some = accepted.some in
@@ -29,7 +29,7 @@ Tells-accepted word count accepted =
 
 -- the lines of a table that is completed
 
--- the source rejects the other words
+-- the request of the other words fails
 pub others_stop : (rule : Padding) (gives : Giving) (refuses : Refusing) (F : Type 0) (limit : Option ℕ) (kind : ErrorKind)
     (word : List ℕ) (count : ℕ) (old new : Option (List ℕ)) → IfKnown old new IsTail
     → F ⊎ IsRefused refuses (8 * (count / 2)) old kind
@@ -44,7 +44,7 @@ some_table : (table : List ℕ) (count : ℕ) → DeclaresTable table count → 
     → IsTable Any (take 8 table ++ drop 8 table) (declared_lengths count table)
 some_table table count tells size = whole_table Any (take 8 table) table count refl size tells tt
 
--- its segments pass the limit
+-- its segments have more words than the limit
 pub limit_refuses : (rule : Padding) (limit : Option ℕ) (kind : ErrorKind) (table : List ℕ) (count total : ℕ) → DeclaresTable table count
     → length table ≡ table_size count → total ≡ sum (declared_lengths count table)
     → IsSomeAnd limit (λ most. most < total) × (kind ≡ MessageTooLarge total) → RefusesComplete rule limit kind table
@@ -53,7 +53,7 @@ limit_refuses rule limit kind table count total tells size sums (over, is) =
     let large : IsTooLarge ns limit = subst (λ k. IsSomeAnd limit (λ most. most < k)) sums over in
     λ following. (ns, some_table table count tells size, inl (large, (is ∙ ap MessageTooLarge sums, refl)))
 
--- its padding is not taken
+-- the rule does not accept its padding
 pub padding_refuses : (rule : Padding) (limit : Option ℕ) (kind : ErrorKind) (table : List ℕ) (count : ℕ) → DeclaresTable table count
     → length table ≡ table_size count → KeepsLimit (declared_lengths count table) limit
     → (KeepsPadding rule (declared_padding count table) → ⊥) → kind ≡ NonZeroPadding → RefusesComplete rule limit kind table
@@ -159,7 +159,7 @@ segments_met {gives} {refuses} rule laws F limit room kind old mid new ns len fi
     (small_room room (table_size (length ns)) (table_size (length ns) + 8 * sum ns) (omega arith) fits) here
     accepts (inr (fits, subst (λ k. refuses mid k kind) long refused))) sent tail p)
 
--- the errors of a reader that grows
+-- the errors of a reader that allocates
 
 pub or_memory : {F G R : Type 0} → F ⊎ R → F ⊎ G ⊎ R
 or_memory (inl p) = inl p

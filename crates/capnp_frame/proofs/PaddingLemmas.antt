@@ -38,7 +38,7 @@ abbrev first : List ℕ → ℕ
 first [] = 0
 first (byte ∷ bytes) = byte
 
--- a padding is taken or not
+-- the rule accepts a padding or does not
 pub padding_cases : (rule : Padding) (padding : List ℕ) → KeepsPadding rule padding ⊎ (KeepsPadding rule padding → ⊥)
 padding_cases Any padding = inl tt
 padding_cases Zero [] = inl refl

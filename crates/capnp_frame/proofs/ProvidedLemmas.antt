@@ -93,7 +93,7 @@ lacks_segments rule laws limit buffer count total len old mid read room lacks =
     body_met rule laws limit (Some len) old mid (declared_lengths count buffer) (λ short. absurd (omega arith)) (omega arith)
     read.found (declared_within buffer count limit read.tells read.within)
 
--- the source rejects the segments
+-- the request of the segments fails
 pub segments_refused : {gives : Giving} {refuses : Refusing} (rule : Padding) (laws : IsSource gives refuses) (F : Type 0)
     (limit : Option ℕ) (kind : ErrorKind) (buffer : List ℕ) (count total len n : ℕ) (old mid new : Option (List ℕ))
     → FindsTable rule gives limit buffer count total old mid → table_size count + 8 * total ≤ len → n ≡ 8 * total

@@ -35,7 +35,7 @@ Asks-once laws kind other raw n F G after (inr p) (inr q) =
     let same = laws.unique raw n q.0 q.1 p.0 p.1 q.2 p.2 in
     after p.0 p.1 p.3 (subst (λ l. G p.0 l) same.1 (subst (λ l. G l q.1) same.0 q.3))
 
--- what is asked and given comes to what is after it
+-- after a request that is given come the lines after it
 Asks-after : {gives : Giving} {refuses : Refusing} {P : Type 0} (laws : IsSource gives refuses) (kind : ErrorKind)
     (raw : List ℕ) (n : ℕ) (bytes rest : List ℕ) (F : List ℕ → List ℕ → Type 0) → gives raw n bytes rest
     → (F bytes rest → P) → Asks gives refuses kind raw n F → P
@@ -148,7 +148,7 @@ pub RefusesStream-some : (rule : Padding) (gives : Giving) (refuses : Refusing) 
     (raw left : List ℕ) → RefusesStream rule gives refuses limit room kind raw left → (LacksRoom room 8 → ⊥) → raw ≡ [] → ⊥
 RefusesStream-some rule gives refuses limit room kind raw left refused fits none = Unless-after fits (λ x. absurd (x.0 none)) refused
 
--- a message that is there and is accepted isn't rejected
+-- where an accepted message is, no line holds
 pub RefusesStream-apart : {gives : Giving} {refuses : Refusing} (rule : Padding) (laws : IsSource gives refuses) (limit room : Option ℕ)
     (kind : ErrorKind) (raw left rest : List ℕ) (segments : List (List ℕ)) → MessageStands rule gives segments raw rest
     → IsWithin segments limit → (LacksRoom room (table_size (length (lengths segments)) + 8 * size_in_words segments)
@@ -173,7 +173,7 @@ Asks-map : {gives others : Giving} {refuses also : Refusing}
 Asks-map given refused kind raw n F G f (inl p) = inl (refused raw n kind p)
 Asks-map given refused kind raw n F G f (inr p) = inr (p.0, p.1, given raw n p.0 p.1 p.2, f p.0 p.1 p.3)
 
--- the lines of one source are those of another that gives and rejects what it does
+-- the lines of one source are those of another that gives the same and fails in the same way
 pub RefusesAtStart-map : (rule : Padding) {gives others : Giving} {refuses also : Refusing}
     (given : (raw : List ℕ) (n : ℕ) (bytes rest : List ℕ) → gives raw n bytes rest → others raw n bytes rest)
     (refused : (raw : List ℕ) (n : ℕ) (kind : ErrorKind) → refuses raw n kind → also raw n kind)

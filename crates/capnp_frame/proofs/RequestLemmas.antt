@@ -61,7 +61,7 @@ parts_once (x ∷ xs) (y ∷ ys) p q lens e =
     let parts = same_front x y (concat xs) (concat ys) (omega arith) e in
     ap (λ l. l ∷ xs) parts.0 ∙ ap (λ l. y ∷ l) (parts_once xs ys p.1 q.1 others parts.1)
 
--- a message is at one front alone
+-- at most one message is at a front
 pub MessageStands-once : {rule other : Padding} (gives : Giving) (raw rest left : List ℕ) (segments others : List (List ℕ))
     → ((raw : List ℕ) (n : ℕ) (bytes rest others left : List ℕ) → gives raw n bytes rest → gives raw n others left
     → (bytes ≡ others) × (rest ≡ left)) → ((raw : List ℕ) (n : ℕ) (bytes rest : List ℕ) → gives raw n bytes rest
@@ -84,7 +84,7 @@ table_not_empty rule gives (Some raw) (Some left) ns empty table e =
     let eight : ◌≡◌ {A = ℕ} 8 0 = empty 8 table.first table.between (subst (λ l. gives l 8 table.first table.between) (same_Some raw [] e) table.first_given) in
     absurd (omega arith)
 
--- parts of overwritten bytes
+-- the parts of bytes that are overwritten
 pub overwritten_parts : (ns items : List ℕ) (segments : List (List ℕ)) (len : ℕ) (w : List ℕ)
     → length items ≡ 8 * sum ns → len ≡ length items → cut ns items ≡ segments
     → cut ns (take len (w ++ drop (length w) items)) ≡ cut (lengths segments) (overwritten (concat segments) w)
@@ -93,7 +93,7 @@ overwritten_parts ns items segments len w long same parts =
     let lens : lengths segments ≡ ns = ap lengths (sym parts) ∙ (lengths-cut ns items long).0 in
     ap (λ k. cut ns (take k (w ++ drop (length w) items))) same ∙ ap (λ l. cut ns (overwritten l w)) (sym bytes) ∙ ap (λ l. cut l (overwritten (concat segments) w)) (sym lens)
 
--- a message is by the requests of one source where it does by another's
+-- the requests of one source give a message where those of another do
 pub MessageStands-map : {rule : Padding} {gives others : Giving}
     (given : (raw : List ℕ) (n : ℕ) (bytes rest : List ℕ) → gives raw n bytes rest → others raw n bytes rest)
     (segments : List (List ℕ)) (raw rest : List ℕ) → MessageStands rule gives segments raw rest

@@ -1,4 +1,4 @@
--- What the results of a reader that grows come to.
+-- What the results of a reader that allocates come to.
 use Rattle.std.proofs.Common.{◌≡◌, ℕ, Option, Some, None, IfSome, ◌⊎◌, inl, inr, List, [], Result, Ok, Err, IfErr}
 use Rattle.std.specs.Prelude.{IfOk, IfNone}
 use Rattle.std.specs.List.{AllByRecursion}
@@ -49,7 +49,7 @@ exact rule M laws limit (Some raw) new (Err e) found within none (inr (inl p)) =
 exact rule M laws limit (Some raw) None (Err e) found within none (inr (inr p)) = absurd p
 exact rule M laws limit (Some raw) (Some left) (Err e) found within none (inr (inr p)) = λ kind rest q. inr (inr (RefusesStream-once rule laws limit None e.kind kind raw left rest p q))
 
--- a reader that grows keeps all of it, once these are known of its call
+-- a reader that allocates keeps all of it, once these are known of its call
 pub reads_stream : {S : Type 0} (rule : Padding) (source : Ghosts S) (laws : IsSource source.gives source.refuses) (old new : S)
     (limit : Option ℕ) (r : Result (Option (List (List ℕ))) Error)
     → IfOk r (λ found. IfSome found (λ segments. IfKnown (source.unread old) (source.unread new) (MessageStands rule source.gives segments)))

@@ -15,7 +15,7 @@ use Rattle.capnp_frame.specs.Writing.{IsWithinSegmentLimit, RefusesMany, chunks}
 use Rattle.capnp_frame.proofs.SourceLemmas.{IfKnown-join, IfKnown-weaker, IfKnown-refl, Grows-join, Grows-refl, Fails-join}
 use Rattle.capnp_frame.proofs.WritingLemmas.{take-next, written_more, written_one, DeclinesSome-front, DeclinesSome-back, refused_at}
 
--- what is rejected for one reason is rejected for either
+-- what fails for one reason fails for one of two
 declined : {F P Q : Type 0} → F ⊎ P → F ⊎ (P ⊎ Q)
 declined (inl failed) = inl failed
 declined (inr refused) = inr (inl refused)
@@ -152,7 +152,7 @@ stopped_first sink old new chunk others e left refused failed grows = record {
   grows = grows;
 }
 
--- the chunk at an index is rejected, after those before it
+-- the chunk at an index fails, after those before it are written
 pub stopped_at : {S X : Type 0} (sink : Ghosts S) (keeps : IsPreorder sink.same) (a b c : S) (segments : List (List ℕ)) (index : ℕ)
     (segment : List ℕ) (e : Error) → slice_get segments index ≡ Some segment
     → IfKnown (sink.written a) (sink.written b) (Adds (AppendsAll sink.appends (take index segments))) → Grows sink.written sink.failures sink.same a b
@@ -177,7 +177,7 @@ pub few_written : {S X : Type 0} (sink : Ghosts S) (old new : S) (segments : Lis
     → WritesChunks sink old new (chunks segments) (RefusesUnwritten segments) r → WritesSegments sink old new segments r
 few_written sink old new segments r few declared = record { count = count_kept segments r few; unwritten = λ many. absurd (omega arith); parts = declared }
 
--- and one with more is rejected before the sink is asked
+-- and one with more fails before the sink is asked
 pub many_refused : {S X : Type 0} (sink : Ghosts S) (keeps : IsPreorder sink.same) (same : S) (segments : List (List ℕ)) (e : Error)
     → RefusesMany segments e.kind → WritesSegments {X = X} sink same same segments (Err e)
 many_refused sink keeps same segments e many = record {

@@ -1,4 +1,4 @@
--- What is written of a message: its text and its size.
+-- What is written of a message: its framed encoding and its size.
 use Rattle.std.proofs.Common.{◌≡◌, ℕ, ◌+◌, ◌*◌, ◌/◌, ◌<◌, ◌≤◌, ◌^◌, ◌⊎◌, inl, inr, List, [], ◌∷◌, ◌++◌, length, take, drop, ap, ◌∙◌, arith, length-append}
 use Rattle.std.proofs.lemmas.List.{append-nil, take_all, take-append-drop}
 use Rattle.std.proofs.lemmas.List.Folds.{concat-append}
@@ -28,7 +28,7 @@ HasTable-writable segments writable =
     let few = writable.few in
     record { some = omega arith; count = omega arith; each = writable.each }
 
--- a frame takes a given number of words
+-- a framed encoding has this number of words
 pub length-frame_bytes : (segments : List (List ℕ)) → IsWritable segments → length (frame_bytes segments) ≡ 8 * serialized_words segments
 length-frame_bytes segments writable =
     let table = zero_padded_table (lengths segments) in
@@ -61,7 +61,7 @@ declines_memory [] kind p = absurd p
 declines_memory (x ∷ xs) kind (inl p) = p
 declines_memory (x ∷ xs) kind (inr p) = declines_memory xs kind p
 
--- a vector rejects a message for too many segments, or for want of memory
+-- writing a message to a vector fails only for too many segments, or for want of memory
 pub lacks_memory_alone : (segments : List (List ℕ)) (kind : ErrorKind) → (kind ≡ DeviceFailed → Fails 0 0)
     → (kind ≡ DeviceFailed) ⊎ DeclinesSome (ByKind OutOfMemory) (chunks segments) kind ⊎ RefusesUnwritten segments kind
     → RefusesMany segments kind ⊎ (kind ≡ OutOfMemory)

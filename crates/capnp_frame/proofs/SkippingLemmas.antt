@@ -51,7 +51,7 @@ read_dropped gives bytes a b plain = IfKnown-weaker a b (λ raw rest given.
     let joined : length raw ≡ length bytes + length rest = ap length (split.0) ∙ length-append bytes rest in
     (omega (arith, joined), sym (drop_at bytes rest (length bytes) refl) ∙ ap (drop (length bytes)) (sym (split.0))))
 
--- what is rejected after some bytes is rejected before them
+-- a request that fails after some bytes fails before them
 refused_after : (refuses : Refusing) (j m n : ℕ) (a b : Option (List ℕ)) (kind : ErrorKind) → RunShort refuses → j + m ≤ n
     → IfKnown a b (Drops j) → IsRefused refuses m b kind → IsRefused refuses n a kind
 refused_after refuses j m n None None kind plain both dropped refused = refused
@@ -71,7 +71,7 @@ pub fails_after : {X : Type 0} (refuses : Refusing) (j m n : ℕ) (a b : Option 
 fails_after refuses j m n a b (Ok x) plain both dropped refused = tt
 fails_after refuses j m n a b (Err e) plain both dropped refused = short_after refuses j m n a b e.kind plain both dropped refused
 
--- nothing is left after fewer bytes than are asked
+-- nothing is left after fewer bytes than are asked for
 pub short_at_end : (refuses : Refusing) (j n : ℕ) (a b : Option (List ℕ)) (kind : ErrorKind) → RunShort refuses → j < n
     → IfKnown a b (Drops j) → IfSome b (λ raw. raw ≡ []) → kind ≡ FailedToFillTheWholeBuffer → IsRefused refuses n a kind
 short_at_end refuses j n None b kind plain some dropped end is = ([], 1, (plain [] 1 kind).0 (lit< tt, is))

@@ -23,7 +23,7 @@ pub IfKnown-refl : (P : List ℕ → List ℕ → Type 0) (a : Option (List ℕ)
 IfKnown-refl P None p = tt
 IfKnown-refl P (Some x) p = p x
 
--- what is rejected after some bytes
+-- what fails after some bytes
 pub IfKnown-refused : {P R : List ℕ → List ℕ → Type 0} (a b c : Option (List ℕ)) (refuses : Refusing) (n : ℕ)
     (kind : ErrorKind) → ((x y z : List ℕ) → P x y → refuses y n kind → R x z) → IfKnown a b P → IfKnown b c IsTail
     → IsRefused refuses n b kind → IfKnown a c R
@@ -44,7 +44,7 @@ Advances-join {unread} a b c join p q = record {
   same_source = join p.same_source q.same_source;
 }
 
--- two results to one request
+-- two parts of one request
 pub ReturnsPart-join : {gives : Giving} {refuses : Refusing} (n : ℕ) (a b raw mid left : List ℕ)
     → ReturnsPart gives refuses n a raw mid → ReturnsPart gives refuses (n - length a) b mid left
     → ReturnsPart gives refuses n (a ++ b) raw left
@@ -64,14 +64,14 @@ ReturnsPart-join {gives} {refuses} n a b raw mid left p q =
       );
     }
 
--- a result that is the whole request
+-- a part that is the whole request
 pub ReturnsPart-whole : {gives : Giving} {refuses : Refusing} (n : ℕ) (got raw left : List ℕ)
     → ((l : List ℕ) → gives l 0 [] l) → length got ≡ n → ReturnsPart gives refuses n got raw left → gives raw n got left
 ReturnsPart-whole {gives} {refuses} n got raw left nothing whole p =
     let over : n - length got ≡ 0 = omega arith in
     subst (λ l. gives raw n l left) (append-nil got) (p.joins [] left (subst (λ k. gives left k [] left) (sym over) (nothing left)))
 
--- no result yet
+-- no bytes yet
 pub ReturnsPart-none : {gives : Giving} {refuses : Refusing} (n : ℕ) (raw : List ℕ) → ReturnsPart gives refuses n [] raw raw
 ReturnsPart-none {gives} {refuses} n raw =
     let same : n ≡ n - 0 = omega arith in
@@ -137,13 +137,13 @@ ReturnsPart-filled gives refuses filled buffer old new nothing full taken =
     let whole : take filled buffer ≡ buffer = take_all filled buffer full in
     IfKnown-weaker old new (λ x y t. ReturnsPart-whole (length buffer) buffer x y nothing refl (subst (λ l. ReturnsPart gives refuses (length buffer) l x y) whole t)) taken
 
--- a source that returned some bytes was not at its end
+-- a source that gave some bytes was not at its end
 pub not_at_end : (old : Option (List ℕ)) (count n : ℕ) → IfSome old (λ raw. 0 < n → (count ≡ 0) ↔ (raw ≡ [])) → 0 < n → (count ≡ 0 → ⊥) → old ≡ Some [] → ⊥
 not_at_end old count n end some more e =
     let P : Option (List ℕ) → Type 0 = λ o. IfSome o (λ raw. 0 < n → (count ≡ 0) ↔ (raw ≡ [])) in
     more ((subst P e end some).1 refl)
 
--- a claim on errors under a premise that can't hold
+-- a claim about errors under a premise that can't hold
 pub IfErr-vacuous : {X E A : Type 0} (Q : E → Type 0) (r : Result X E) → (A → ⊥) → IfErr r (λ e. A → Q e)
 IfErr-vacuous Q (Ok x) never = tt
 IfErr-vacuous Q (Err e) never = λ a. absurd (never a)
@@ -179,7 +179,7 @@ pub ends : (n : ℕ) (old : Option (List ℕ)) → IfSome old (λ raw. raw ≡ [
 ends n None end = tt
 ends n (Some raw) end = λ _. (λ _. end, λ _. refl)
 
--- a request that is returned whole
+-- a request that is given as a whole
 pub ReturnsPart-given : (gives : Giving) (refuses : Refusing) (n : ℕ) (got raw left : List ℕ)
     → ((l : List ℕ) → gives l 0 [] l) → ((l bytes rest : List ℕ) → gives l 0 bytes rest → (bytes ≡ []) × (rest ≡ l))
     → ((l : List ℕ) (m : ℕ) (bytes rest others tail : List ℕ) → gives l m bytes rest → gives l m others tail

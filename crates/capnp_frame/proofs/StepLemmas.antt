@@ -12,7 +12,7 @@ use Rattle.capnp_frame.specs.Refusals.{IsReaderKind, IsProvidedReaderKind}
 use Rattle.capnp_frame.specs.Steps.{AsksNext, AsksNextInto}
 use Rattle.capnp_frame.proofs.AskLemmas.{Asked-ok, Asked-err}
 
--- a step that finds what comes next, after one that was returned
+-- a step that finds what comes next, after one that succeeded
 
 pub asks_found : {S X : Type 0} (source : Ghosts S) (rule : Padding) (takes : List ℕ → List ℕ → Type 0)
     (lines : ErrorKind → List ℕ → List ℕ → Type 0) (a b c : S) (found : X)
@@ -39,7 +39,7 @@ asks_found_into source rule room lines a b c found enough join first second = re
   asked = Asked-ok join first second;
 }
 
--- and one that fails, after one that was returned
+-- and one that fails, after one that succeeded
 
 pub asks_failed : {S X Y : Type 0} (source : Ghosts S) (rule : Padding) (takes : List ℕ → List ℕ → Type 0)
     (lines : ErrorKind → List ℕ → List ℕ → Type 0) (a b c : S) (error : Error) (result : Result (Option Y) Error)

@@ -42,7 +42,7 @@ count_declared first others ns n table word read fits =
     let same : n ≡ length ns - 1 = field-once n (length ns - 1) fits (omega arith) (read ∙ sym front ∙ sym declared) in
     omega arith
 
--- a text is a table of one list of lengths alone
+-- bytes are a table of at most one list of lengths
 pub IsTable-once : {rule other : Padding} (text ns ms : List ℕ) → IsTable rule text ns → IsTable other text ms → ns ≡ ms
 IsTable-once text ns ms p q =
     let whole : table_bytes ns p.padding ≡ table_bytes ms q.padding = sym p.spelled ∙ q.spelled in
@@ -69,7 +69,7 @@ padding_at text ns count table many =
 pub any_table : {rule : Padding} (text ns : List ℕ) → IsTable rule text ns → IsTable Any text ns
 any_table text ns table = record { can = table.can; padding = table.padding; padded = table.padded; kept = tt; spelled = table.spelled }
 
--- zeros are taken by each rule
+-- each rule accepts zeros
 pub zeros_kept : (rule : Padding) (count : ℕ) → KeepsPadding rule (replicate count 0)
 zeros_kept Any count = tt
 zeros_kept Zero count = ap (λ k. replicate k 0) (sym (length-replicate count 0))
@@ -91,7 +91,7 @@ declared ns first others table size =
     let read : from_le_bytes w32 (take 4 first) ≡ length ns - 1 = ap (from_le_bytes w32) (sym front ∙ sym spelled) ∙ from_le_bytes-to_le_bytes_4 (length ns - 1) (omega arith) in
     omega arith
 
--- one table is at a front
+-- at most one table is at a front
 pub TableStands-once : {rule other : Padding} (gives : Giving) (raw ns rest ms left : List ℕ)
     → ((raw : List ℕ) (n : ℕ) (bytes rest others left : List ℕ) → gives raw n bytes rest → gives raw n others left
     → (bytes ≡ others) × (rest ≡ left)) → ((raw : List ℕ) (n : ℕ) (bytes rest : List ℕ) → gives raw n bytes rest

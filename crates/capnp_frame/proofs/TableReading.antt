@@ -31,7 +31,7 @@ completed_given gives word chunk after old new long is =
     let size : length after - 8 ≡ length chunk = omega (arith, ap length is, length-append word chunk) in
     IfKnown-weaker old new (λ raw rest given. subst (λ k. gives raw k (drop 8 after) rest) (sym size) (subst (λ l. gives raw (length chunk) l rest) (sym others) given))
 
--- the bytes are a table of a given number of segments, where its first word tells so
+-- the bytes are a table of this number of segments, where its first word declares so
 pub tells_complete : (table : List ℕ) (count : ℕ) → DeclaresAccepted (take 8 table) count → length table ≡ table_size count → SpellsLengths table count → DeclaresTable table count
 tells_complete table count accepted long spells = record {
   some = accepted.some;
@@ -51,7 +51,7 @@ whole_table rule word table count front long tells kept =
     let whole : IsTable rule table ns = subst (λ l. IsTable rule l ns) (take_all (table_size count) table (omega arith)) (table_is rule table count tells kept) in
     subst (λ l. IsTable rule l ns) parts whole
 
--- of another padding they are none
+-- where the rule does not accept its padding they are none
 pub broken_table : (rule : Padding) (word table : List ℕ) (count : ℕ) → take 8 table ≡ word → length table ≡ table_size count
     → (KeepsPadding rule (declared_padding count table) → ⊥) → IsTable rule (word ++ drop 8 table) (declared_lengths count table) → ⊥
 broken_table rule word table count front long broken is =

@@ -1,4 +1,4 @@
--- A stream parts into texts in one way.
+-- A stream parts into encodings in only one way.
 use Rattle.std.proofs.Common.{◌≡◌, ℕ, ◌≤◌, Option, Some, None, List, [], ◌∷◌, ◌++◌, length, refl, sym, ap, ◌∙◌, subst, arith, lit<, length-append, ◌↔◌}
 use Rattle.std.specs.List.{concat}
 use Rattle.capnp_frame.specs.declared.error.ErrorKind.{ErrorKind}
@@ -14,12 +14,13 @@ use Rattle.capnp_frame.proofs.FrameLemmas.{plain_requests, any_frame}
 use Rattle.capnp_frame.proofs.RequestLemmas.{MessageStands-once}
 use Rattle.capnp_frame.proofs.RefusalLemmas.{given_some, RefusesStream-apart, RefusesStream-once, RefusesStream-some}
 
--- What a grammar's texts have with its source's requests: one message begins a stream, and none does where it ends.
+-- How the encodings of a grammar and the requests of a source go together: at most one message
+-- begins a stream, and none does where it ends.
 pub record PartsStreams (IsText : Grammar) (rule : Padding) (gives : Giving) (refuses : Refusing) (limit : Option ℕ) : Type 0 where
   pub begins_once : (m n : List (List ℕ)) (raw rest left : List ℕ) → BeginsWith IsText limit m raw rest → BeginsWith IsText limit n raw left → (m ≡ n) × (rest ≡ left)
   pub ends_apart : (ending : Option ErrorKind) (m : List (List ℕ)) (raw rest : List ℕ) → EndsEncodings rule gives refuses limit ending raw → BeginsWith IsText limit m raw rest → ⊥
 
--- more texts are none after an end
+-- no further encodings follow an end
 pub AreEncodings-most : {IsText : Grammar} {rule : Padding} {gives : Giving} {refuses : Refusing} {limit : Option ℕ}
     (parts : PartsStreams IsText rule gives refuses limit) (ending : Option ErrorKind) (ms ns : List (List (List ℕ)))
     (raw rest left : List ℕ) → AreEncodings IsText limit ms raw rest → EndsEncodings rule gives refuses limit ending rest
@@ -47,14 +48,14 @@ AreEncodings-once {IsText} {limit = limit} parts ending other (m ∷ ms) (n ∷ 
     let inner = AreEncodings-once parts ending other ms ns texts.0 rest left texts.2 ends (subst (λ l. AreEncodings IsText limit ns l left) same.1 others.2) also in
     (ap (λ x. x ∷ ms) (sym same.0) ∙ ap (λ l. n ∷ l) inner.0, inner.1)
 
--- one more text
+-- one more encoding
 pub AreEncodings-push : (IsText : Grammar) (limit : Option ℕ) (ms : List (List (List ℕ))) (m : List (List ℕ))
     (raw between rest : List ℕ) → AreEncodings IsText limit ms raw between → BeginsWith IsText limit m between rest
     → AreEncodings IsText limit (ms ++ m ∷ []) raw rest
 AreEncodings-push IsText limit [] m raw between rest texts begins = (rest, subst (λ l. BeginsWith IsText limit m l rest) texts begins, refl)
 AreEncodings-push IsText limit (n ∷ ns) m raw between rest texts begins = (texts.0, texts.1, AreEncodings-push IsText limit ns m texts.0 between rest texts.2 begins)
 
--- a grammar's texts are what three requests of a source take
+-- the encodings of a grammar are what three requests of a source take
 abbrev pub AreRequested : Grammar → Padding → Giving → Type 0
 AreRequested IsText rule gives = (segments : List (List ℕ)) (raw rest : List ℕ) → MessageStands rule gives segments raw rest ↔ ((text : List ℕ) × IsText text segments × (raw ≡ text ++ rest))
 
@@ -78,7 +79,7 @@ parts_streams {gives = gives} rule laws texts limit = record {
   ends_apart = nothing_at_end rule laws texts limit;
 }
 
--- no text begins a different one
+-- no encoding is the start of a different one
 pub texts_part : {IsText : Grammar} {gives : Giving} {refuses : Refusing} (rule : Padding) (laws : IsSource gives refuses)
     (texts : AreRequested IsText rule gives) (text other rest left : List ℕ) (segments others : List (List ℕ))
     → IsText text segments → IsText other others → text ++ rest ≡ other ++ left → (text ≡ other) × (segments ≡ others)
@@ -90,12 +91,12 @@ texts_part {gives = gives} rule laws texts text other rest left segments others 
     let long : length text ≡ length other = omega (arith, ap length e, ap length same.1, length-append text rest, length-append other left) in
     ((same_front text other rest left long e).0, same.0, same.1)
 
--- no frame begins a different one
+-- no frame is the start of a different one
 pub frames_part : {rule also : Padding} (text other rest left : List ℕ) (segments others : List (List ℕ)) → IsFrame rule text segments
     → IsFrame also other others → text ++ rest ≡ other ++ left → (text ≡ other) × (segments ≡ others) × (rest ≡ left)
 frames_part text other rest left segments others is so = texts_part Any splitting (plain_requests Any) text other rest left segments others (any_frame text segments is) (any_frame other others so)
 
--- chunks after one another that are added as they are
+-- chunks one after another that are added as they are
 pub chunks_joined : (chunks : List (List ℕ)) (text : List ℕ) → AppendsAll AppendsSame chunks text ↔ (text ≡ concat chunks)
 chunks_joined [] text = (λ all. all, λ all. all)
 chunks_joined (p ∷ ps) text = (

@@ -47,7 +47,7 @@ four_lengths = refl
 pub cut_word : RefusesStream Zero Splits RunsShort (Some 8) None FailedToFillTheWholeBuffer (0 ∷ 0 ∷ 0 ∷ 0 ∷ []) []
 cut_word = inr (λ x. x, ((λ e. cc), inl (lit< tt, refl)))
 
--- a count field of 4294967295 tells no segment
+-- a count field of 4294967295 declares no segment
 pub wrapped_count : RefusesStream Zero Splits RunsShort (Some 8) None (InvalidNumberOfSegments 0) (255 ∷ 255 ∷ 255 ∷ 255 ∷ 0 ∷ 0 ∷ 0 ∷ 0 ∷ []) []
 wrapped_count = inr (λ x. x, ((λ e. cc), inr (255 ∷ 255 ∷ 255 ∷ 255 ∷ 0 ∷ 0 ∷ 0 ∷ 0 ∷ [], [], (refl, refl), (0, (4294967295, lit< tt, refl, refl), inl (inl refl, (refl, refl))))))
 

@@ -11,7 +11,7 @@ use Rattle.capnp_frame.specs.Writing.{IsWritable}
 use Rattle.capnp_frame.proofs.AgreementLemmas.{index_below}
 use Rattle.capnp_frame.proofs.WritingLemmas.{AllByRecursion-at, fits_at, le_of_not_lt}
 
--- a segment is of whole words, and a table can tell how many
+-- a segment is of whole words, and a table can say how many
 abbrev pub IsWhole : List ℕ → Type 0
 IsWhole segment = IsWholeWords segment × FitsField (word_count segment)
 
@@ -29,7 +29,7 @@ fit_fields : (segments : List (List ℕ)) → AllByRecursion IsWhole segments �
 fit_fields [] all = tt
 fit_fields (s ∷ ss) all = (all.0.1, fit_fields ss all.1)
 
--- segments that are whole can be written, as many as a table can tell
+-- segments that are whole can be written, if a table can say how many they are
 pub IsWritable-whole : (segments : List (List ℕ)) → 0 < length segments → length segments < 2 ^ 32 → AllByRecursion IsWhole segments → IsWritable segments
 IsWritable-whole segments some few all = record { some = some; few = few; whole = whole_words segments all; each = fit_fields segments all }
 
@@ -37,7 +37,7 @@ IsWritable-whole segments some few all = record { some = some; few = few; whole 
 pub IsWhole-at : (segments : List (List ℕ)) (i : ℕ) (segment : List ℕ) → IsWritable segments → slice_get segments i ≡ Some segment → IsWhole segment
 IsWhole-at segments i segment writable here = (AllByRecursion-at IsWholeWords segments i segment writable.whole here, fits_at segments i segment writable.each here)
 
--- where no segment is shown, there are no more
+-- where there is no segment of an index, there are no later ones
 ends_there : (segments : List (List ℕ)) (i : ℕ) → slice_get segments i ≡ None → length segments ≤ i
 ends_there segments i none = le_of_not_lt (length segments) i (λ less. false≢true (subst IsSome none ((index_below segments i).1 less)))
 

@@ -146,7 +146,7 @@ refused_at refuses segments index segment kind here (inr refused) = inr (Decline
 pub le_of_not_lt : (m n : ℕ) → (n < m → ⊥) → m ≤ n
 le_of_not_lt m n never = omega arith
 
--- what each item keeps, an item keeps
+-- what holds of each item holds of the item at an index
 pub AllByRecursion-at : {X : Type 0} (P : X → Type 0) (xs : List X) (i : ℕ) (x : X) → AllByRecursion P xs → slice_get xs i ≡ Some x → P x
 AllByRecursion-at P [] i x all here = cc
 AllByRecursion-at P (y ∷ ys) zero x all here = let same : y ≡ x = cc in subst P same all.0

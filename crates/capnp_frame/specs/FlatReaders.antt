@@ -26,42 +26,44 @@ buffer_rules rule limit = record { form = by_words EmptyBuffer; padding = rule; 
 abbrev pub no_alloc_rules : Padding → Option ℕ → FlatRules
 no_alloc_rules rule limit = record { form = by_fields; padding = rule; limit = limit }
 
--- By these rules a text of the message is at the front of the bytes, and `rest` after it.
+-- By these rules the bytes begin with a framed encoding of the message, and `rest` follows it.
 abbrev pub StandsBy : FlatRules → List (List ℕ) → List ℕ → List ℕ → Type 0
 StandsBy rules message bytes rest = BeginsWith (IsFrame rules.padding) rules.limit message bytes rest
 
--- by these rules this line of the table of errors is the first to hold
+-- by these rules, the first line of the table of errors that holds has this kind
 abbrev pub RefusesBy : FlatRules → ErrorKind → List ℕ → Type 0
 RefusesBy rules kind bytes = RefusesFlat rules.form rules.padding rules.limit kind bytes
 
--- What is left after a message: of a slice what it holds then, of a buffer some bytes.
+-- `stands` holds of what is left after a message: of a slice, what it has after the call; of a
+-- buffer, some bytes.
 abbrev pub Leaves : Option (List ℕ) → (List ℕ → Type 0) → Type 0
 Leaves (Some left) stands = stands left
 Leaves None stands = (rest : List ℕ) × stands rest
 
--- a reader that takes memory may lack it
+-- the condition `other`; for a reader that takes memory, `lacks` or `other`
 abbrev pub OrLacksMemory : FlatForm → Type 0 → Type 0 → Type 0
 OrLacksMemory (by_words empty) lacks other = lacks ⊎ other
 OrLacksMemory by_fields lacks other = other
 
--- where a message is, only a reader that takes memory may fail, for want of it
+-- where a message is, only a reader that takes memory may fail, and only for want of it
 abbrev pub AcceptsFlat : {X : Type 0} → FlatForm → Result X Error → Type 0
 AcceptsFlat (by_words empty) result = IfErr result (λ error. error.kind ≡ OutOfMemory)
 AcceptsFlat by_fields result = IsOk result
 
--- What each reader of bytes in memory keeps, by its rules. `left` is what a slice holds after the call, or none for a
--- buffer, and `segments` sees the segments of what is returned.
+-- What each reader of bytes in memory keeps, by its rules. `left` is what a slice has after the
+-- call, or none for a buffer, and `segments` is how the segments of what is returned are seen.
 pub record ReadsFlat {X : Type 0} (rules : FlatRules) (bytes : List ℕ) (left : Option (List ℕ))
     (segments : X → List (List ℕ)) (result : Result X Error) : Type 0 where
   -- the message that is returned is at the front, within the limit, and a slice moves just past it
   pub found : IfOk result (λ found. Leaves left (StandsBy rules (segments found) bytes))
-  -- a message that is there is returned, but where memory is lacking
+  -- a message that is there is returned, unless memory is lacking
   pub accepted : (message : List (List ℕ)) (rest : List ℕ) → StandsBy rules message bytes rest → AcceptsFlat rules.form result
   -- a failure leaves a slice as it was
   pub unchanged : OnErr result (IfSome left (λ left. left ≡ bytes))
   -- a reader fails for want of memory once the number of segments is accepted, or with a line of the table
   pub refused : IfErr result (λ error. OrLacksMemory rules.form
       ((error.kind ≡ OutOfMemory) × AcceptsCount rules.form bytes) (RefusesBy rules error.kind bytes))
-  -- where a line is the first to hold, it fails with that line's kind, but where memory is lacking
+  -- where a line is the first to hold, the call fails with that line's kind, unless memory is
+  -- lacking
   pub exact : (kind : ErrorKind) → RefusesBy rules kind bytes
       → IsErrAnd result (λ error. OrLacksMemory rules.form (error.kind ≡ OutOfMemory) (error.kind ≡ kind))

@@ -10,7 +10,8 @@ use Rattle.capnp_frame.specs.Front.{number, declared_lengths, declared_padding}
 
 -- How a table is taken.
 pub data FlatForm : Type 0 where
-  -- as by a stream reader: its first word, then its other words at once; no bytes have a kind of their own
+  -- as a stream reader does: its first word, then its other words at once; an input of no bytes has
+  -- an error of its own
   by_words : (empty : ErrorKind) → FlatForm
   -- field by field
   by_fields : FlatForm
@@ -20,7 +21,7 @@ abbrev pub empty_kind : FlatForm → ErrorKind
 empty_kind (by_words empty) = empty
 empty_kind by_fields = MessageEndsPrematurely 4 0
 
--- the error of a table that is cut, where a given number of bytes are there
+-- the error of a table that is cut, where this many bytes are there
 abbrev pub cut_kind : FlatForm → ℕ → ErrorKind
 cut_kind (by_words empty) there = FailedToFillTheWholeBuffer
 cut_kind by_fields there = MessageEndsPrematurely 4 (there % 4)
@@ -35,7 +36,7 @@ abbrev pub count_of : FlatForm → ℕ → ℕ
 count_of (by_words empty) last = (last + 1) % 2 ^ 32
 count_of by_fields last = last + 1
 
--- The number of segments is there and accepted: where a reader takes memory for their lengths.
+-- The number of segments is there and accepted. Here a reader takes memory for their lengths.
 abbrev pub AcceptsCount : FlatForm → List ℕ → Type 0
 AcceptsCount form bytes = (count_end form ≤ length bytes) × (IsOutOfRange (count_of form (number bytes)) → ⊥)
 
@@ -66,7 +67,8 @@ RefusesCount form rule limit kind bytes count =
     Unless (length bytes < lengths_end form count) (kind ≡ cut_kind form (length bytes)) (
     RefusesLengths form rule limit kind bytes count (declared_lengths count bytes)))
 
--- All lines: a reader that takes the table in this form, its padding by the rule, rejects the bytes by this kind.
+-- All lines: a reader that takes the table in this form, with this rule of padding, fails with this
+-- kind.
 abbrev pub RefusesFlat : FlatForm → Padding → Option ℕ → ErrorKind → List ℕ → Type 0
 RefusesFlat form rule limit kind bytes =
     Unless (bytes ≡ []) (kind ≡ empty_kind form) (

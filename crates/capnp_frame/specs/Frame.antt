@@ -5,7 +5,8 @@ use Rattle.capnp_frame.specs.Message.{IsWholeWords, lengths}
 use Rattle.capnp_frame.specs.declared.serialize.segment_table.Padding.{Padding}
 use Rattle.capnp_frame.specs.SegmentTable.{IsTable, zero_padded_table}
 
--- The text is a segment table with a padding that the rule takes, then the bytes of the segments in order.
+-- `text` is a segment table, whose padding the rule accepts, followed by the bytes of the segments
+-- in order.
 pub record IsFrame (rule : Padding) (text : List ℕ) (segments : List (List ℕ)) : Type 0 where
   pub table : List ℕ
   pub lengths_declared : IsTable rule table (lengths segments)

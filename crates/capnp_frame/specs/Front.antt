@@ -11,7 +11,8 @@ use Rattle.capnp_frame.specs.Frame.{IsFrame}
 use Rattle.capnp_frame.specs.Limits.{IsWithin}
 use Rattle.capnp_frame.specs.declared.serialize.segment_table_info.NoAllocSegmentTableInfo.{NoAllocSegmentTableInfo}
 
--- a frame of the message is at the front, its padding by the rule, and `rest` after it
+-- a framed encoding of the message is at the front, with a padding that the rule accepts, and
+-- `rest` after it
 abbrev pub HasFrame : Padding → List ℕ → List (List ℕ) → List ℕ → Type 0
 HasFrame rule bytes segments rest = (text : List ℕ) × IsFrame rule text segments × (bytes ≡ text ++ rest)
 
@@ -40,7 +41,7 @@ abbrev pub numbers : ℕ → List ℕ → List ℕ
 numbers zero bytes = []
 numbers (suc count) bytes = number bytes ∷ numbers count (drop 4 bytes)
 
--- the lengths of a given number of segments, as the fields after the first tell them
+-- the lengths of a given number of segments, as the fields after the first declare them
 abbrev pub declared_lengths : ℕ → List ℕ → List ℕ
 declared_lengths count bytes = numbers count (drop 4 bytes)
 
@@ -52,7 +53,8 @@ declared_padding count bytes = drop (4 * (count + 1)) (take (table_size count) b
 abbrev pub declared_segments : ℕ → List ℕ → List (List ℕ)
 declared_segments count bytes = cut (declared_lengths count bytes) (drop (table_size count) bytes)
 
--- The lengths that a given number of fields tell fit their fields, and the fields are their spelling.
+-- The lengths that this many fields declare fit their fields, and written as fields they are these
+-- bytes again.
 pub record SpellsLengths (bytes : List ℕ) (count : ℕ) : Type 0 where
   pub each : AllByRecursion FitsField (declared_lengths count bytes)
   pub spelled : flat_map field (declared_lengths count bytes) ≡ take (4 * count) (drop 4 bytes)

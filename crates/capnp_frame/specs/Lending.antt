@@ -7,7 +7,7 @@ use Rattle.capnp_frame.specs.SegmentLengths.{cut}
 use Rattle.capnp_frame.specs.declared.serialize.owned_segments.OwnedSegments.{OwnedSegments}
 use Rattle.capnp_frame.specs.contracts.serialize.owned_segments.OwnedSegments.{the_row}
 
--- w over the front of `old`, whose length stays
+-- `w` written over the front of `old`, whose length stays
 abbrev pub overwritten : List ℕ → List ℕ → List ℕ
 overwritten old w = take (length old) (w ++ drop (length w) old)
 

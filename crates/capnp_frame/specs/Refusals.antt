@@ -9,15 +9,15 @@ use Rattle.capnp_frame.specs.Source.{Giving, Refusing}
 use Rattle.capnp_frame.specs.Limits.{AreWithin}
 use Rattle.capnp_frame.specs.Requests.{TableStands}
 
--- A test: where it holds its own line, and else what comes after it.
+-- A test: its own line where it holds, and the lines after it where it does not.
 abbrev pub Unless : Type 0 → Type 0 → Type 0 → Type 0
 Unless holds line after = (holds × line) ⊎ ((holds → ⊥) × after)
 
--- A request: the source's error, or else what comes after its bytes.
+-- A request: the source's error, or else the lines after its bytes.
 abbrev pub Asks : Giving → Refusing → ErrorKind → List ℕ → ℕ → (List ℕ → List ℕ → Type 0) → Type 0
 Asks gives refuses kind raw n after = refuses raw n kind ⊎ ((bytes rest : List ℕ) × gives raw n bytes rest × after bytes rest)
 
--- the number of segments that the first word of a table tells, in four bytes, modulo 2 ^ 32
+-- the number of segments that the first word of a table declares, in four bytes, modulo 2 ^ 32
 abbrev pub Tells : List ℕ → ℕ → Type 0
 Tells word count = (last : ℕ) × FitsField last × (field last ≡ take 4 word) × (count ≡ (last + 1) % 2 ^ 32)
 
@@ -25,7 +25,7 @@ Tells word count = (last : ℕ) × FitsField last × (field last ≡ take 4 word
 abbrev pub IsOutOfRange : ℕ → Type 0
 IsOutOfRange count = (count ≡ 0) ⊎ (512 ≤ count)
 
--- the first word of a table tells this number of segments, and it is accepted
+-- the first word of a table declares this number of segments, and it is accepted
 pub record DeclaresAccepted (word : List ℕ) (count : ℕ) : Type 0 where
   pub some : 0 < count
   pub few : count < 512
@@ -35,20 +35,20 @@ pub record DeclaresAccepted (word : List ℕ) (count : ℕ) : Type 0 where
 abbrev pub IsTooLarge : List ℕ → Option ℕ → Type 0
 IsTooLarge ns limit = IsSomeAnd limit (λ most. most < sum ns)
 
--- a caller-provided buffer is shorter than this; what grows never is
+-- a caller-provided buffer is shorter than this; a reader that allocates has no such buffer
 abbrev pub LacksRoom : Option ℕ → ℕ → Type 0
 LacksRoom room n = IsSomeAnd room (λ len. len < n)
 
--- A reader stops by a kind of its own, and leaves what is here.
+-- The reader fails with a kind of its own, and leaves the bytes `here` unread.
 abbrev pub StopsBy : ErrorKind → ErrorKind → List ℕ → List ℕ → Type 0
 StopsBy own kind here left = (kind ≡ own) × (left ≡ here)
 
--- the text is no table by the rule, though it is one with another padding
+-- the bytes are no table by the rule, though they are one with another padding
 abbrev pub BreaksPadding : Padding → List ℕ → List ℕ → Type 0
 BreaksPadding rule text ns = IsTable rule text ns → ⊥
 
--- Below, a reader stops by `kind` and leaves `left` unread, or goes on to `after`, the lines after a table of these
--- lengths. Where the source rejects, what it leaves is open.
+-- Below, a reader fails with `kind` and leaves `left` unread, or goes on to `after`, the lines
+-- after a table of these lengths. Where the source fails, nothing is said of what it leaves.
 
 -- the lines of the limit and of the padding: both parts of the table are read, `word` and `others`
 abbrev pub RefusesAtLimit : Padding → Option ℕ → ErrorKind → (List ℕ → List ℕ → Type 0) → List ℕ → List ℕ → List ℕ → List ℕ → Type 0
@@ -74,18 +74,19 @@ RefusesAtStart rule gives refuses limit room kind after raw left =
     Unless (LacksRoom room 8) (StopsBy BufferNotLargeEnough kind raw left) (
     (raw ≢ []) × Asks gives refuses kind raw 8 (RefusesAtCount rule gives refuses limit room kind after left))
 
--- A reader of a table alone rejects by this kind: it ends after the padding's line.
+-- A reader of a table alone fails with this kind: its lines end after the padding's.
 abbrev pub RefusesTable : Padding → Giving → Refusing → Option ℕ → Option ℕ → ErrorKind → List ℕ → List ℕ → Type 0
 RefusesTable rule gives refuses limit room kind raw left = RefusesAtStart rule gives refuses limit room kind (λ ns following. ⊥) raw left
 
--- All lines: a reader of a message rejects by this kind. After the table come the room for the segments and their
--- request.
+-- All lines: a reader of a message fails with this kind. After the table come the room for the
+-- segments and the request of them.
 abbrev pub RefusesStream : Padding → Giving → Refusing → Option ℕ → Option ℕ → ErrorKind → List ℕ → List ℕ → Type 0
 RefusesStream rule gives refuses limit room kind raw left = RefusesAtStart rule gives refuses limit room kind (λ ns following.
     Unless (LacksRoom room (table_size (length ns) + 8 * sum ns)) (StopsBy BufferNotLargeEnough kind following left) (
     refuses following (8 * sum ns) kind)) raw left
 
--- the first word of a table is at the front, and the number of segments that it tells is accepted
+-- the first word of a table is at the front, and the number of segments that it declares is
+-- accepted
 pub record CountStands (gives : Giving) (raw rest : List ℕ) : Type 0 where
   pub word : List ℕ
   pub count : ℕ
@@ -93,17 +94,18 @@ pub record CountStands (gives : Giving) (raw rest : List ℕ) : Type 0 where
   pub declared : Tells word count
   pub accepted : IsOutOfRange count → ⊥
 
--- Where a reader that grows takes memory: for the lengths once their number is accepted, and for the segments once
--- their table is, with the limit and the padding. What it has asked for till then is consumed, and no more.
+-- Where a reader that allocates takes memory: for the lengths once their number is accepted, and
+-- for the segments once their table is, with the limit and the padding. Only what it has asked for
+-- until then is consumed.
 abbrev pub TakesMemory : Padding → Giving → Option ℕ → List ℕ → List ℕ → Type 0
 TakesMemory rule gives limit raw left = CountStands gives raw left
     ⊎ ((lengths : List ℕ) × TableStands rule gives lengths raw left × AreWithin lengths limit)
 
--- the kind of a padding that the rule rejects
+-- the kind of a padding that the rule does not accept
 abbrev pub IsPaddingKind : Padding → ErrorKind → Type 0
 IsPaddingKind rule kind = (rule ≡ Zero) × (kind ≡ NonZeroPadding)
 
--- the kinds met while a table is completed, also where the unread bytes aren't known
+-- the kinds with which completing a table may fail, also where the unread bytes aren't known
 abbrev pub IsTableKind : Padding → Refusing → ErrorKind → Type 0
 IsTableKind rule refuses kind = (kind ≡ DeviceFailed)
     ⊎ ((total : ℕ) × (kind ≡ MessageTooLarge total))
@@ -118,8 +120,8 @@ IsProvidedReaderKind rule refuses kind = (kind ≡ DeviceFailed) ⊎ (kind ≡ B
     ⊎ IsPaddingKind rule kind
     ⊎ ((raw : List ℕ) × (n : ℕ) × refuses raw n kind)
 
--- the kinds of a reader that grows, also where the unread bytes aren't known: the device's, want of memory, its own, or one
--- of the source
+-- the kinds of a reader that allocates, also where the unread bytes aren't known: the device's,
+-- want of memory, its own, or one of the source
 abbrev pub IsReaderKind : Padding → Refusing → ErrorKind → Type 0
 IsReaderKind rule refuses kind = (kind ≡ DeviceFailed) ⊎ (kind ≡ OutOfMemory)
     ⊎ ((count : ℕ) × IsOutOfRange count × (kind ≡ InvalidNumberOfSegments count))

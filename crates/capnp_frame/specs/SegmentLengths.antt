@@ -14,7 +14,8 @@ ranges lengths = ranges_from 0 lengths
 abbrev pub range_len : ℕ × ℕ → ℕ
 range_len range = range.1 - range.0
 
--- The bytes cut into segments of these lengths, in words. What is after the last is left out.
+-- The bytes cut into segments of these lengths, in words. Bytes after the last segment are left
+-- out.
 abbrev pub cut : List ℕ → List ℕ → List (List ℕ)
 cut [] bytes = []
 cut (n ∷ ns) bytes = take (8 * n) bytes ∷ cut ns (drop (8 * n) bytes)

@@ -18,7 +18,7 @@ FitsField n = n < 2 ^ 32
 abbrev pub padding_len : List ℕ → ℕ
 padding_len lengths = 4 * ((length lengths + 1) % 2)
 
--- padding that the rule takes: any bytes, or zeros
+-- padding that the rule accepts: any bytes, or zeros
 abbrev pub KeepsPadding : Padding → List ℕ → Type 0
 KeepsPadding Any padding = ⊤
 KeepsPadding Zero padding = padding ≡ replicate (length padding) 0
@@ -35,13 +35,13 @@ zero_padded_table lengths = table_bytes lengths (replicate (padding_len lengths)
 abbrev pub table_size : ℕ → ℕ
 table_size count = 8 * (count / 2 + 1)
 
--- what has a table: one segment at least, and each number fits its field
+-- lengths that have a table: at least one, and each number fits its field
 pub record HasTable (lengths : List ℕ) : Type 0 where
   pub some : 0 < length lengths
   pub count : length lengths ≤ 2 ^ 32
   pub each : AllByRecursion FitsField lengths
 
--- The text is a segment table of these lengths, in words, with a padding that the rule takes.
+-- `text` is a segment table of these lengths, in words, with a padding that the rule accepts.
 pub record IsTable (rule : Padding) (text lengths : List ℕ) : Type 0 where
   pub can : HasTable lengths
   pub padding : List ℕ

@@ -3,15 +3,15 @@ use Rattle.std.specs.Prelude.{◌≡◌, ℕ, ◌≤◌, ◌⊎◌, List, [], �
 use Rattle.capnp_frame.specs.declared.error.ErrorKind.{ErrorKind}
 use Rattle.capnp_frame.specs.Source.{IfKnown, IsFront}
 
--- A chunk adds a text: appends chunk text.
+-- What a chunk adds to a sink, as a relation: `appends chunk text`.
 abbrev pub Appending : Type 1
 Appending = List ℕ → List ℕ → Type 0
 
--- A call that fails leaves a part of a chunk: leaves chunk text.
+-- What a call that fails may leave of a chunk, as a relation: `leaves chunk text`.
 abbrev pub Leaving : Type 1
 Leaving = List ℕ → List ℕ → Type 0
 
--- A chunk may fail with a kind beside the device's: rejects chunk kind.
+-- With which kinds a chunk may fail beside the device's, as a relation: `refuses chunk kind`.
 abbrev pub Declining : Type 1
 Declining = List ℕ → ErrorKind → Type 0
 
@@ -27,7 +27,7 @@ LeavesNothing chunk text = text ≡ []
 abbrev pub LeavesFront : Leaving
 LeavesFront chunk text = IsFront text chunk
 
--- a sink rejects by its own kind alone, whatever the chunk
+-- a sink fails with one kind of its own, whatever the chunk
 abbrev pub ByKind : ErrorKind → Declining
 ByKind own chunk kind = kind ≡ own
 
@@ -40,23 +40,24 @@ abbrev pub DeclinesSome : Declining → List (List ℕ) → ErrorKind → Type 0
 DeclinesSome refuses [] kind = ⊥
 DeclinesSome refuses (chunk ∷ chunks) kind = refuses chunk kind ⊎ DeclinesSome refuses chunks kind
 
--- after is before with a text that P holds of
+-- `after` is `before` followed by bytes of which P holds
 abbrev pub Adds : (List ℕ → Type 0) → List ℕ → List ℕ → Type 0
 Adds P before after = (text : List ℕ) × P text × (after ≡ before ++ text)
 
--- the texts of the chunks, joined
+-- what the chunks add, joined
 abbrev pub AppendsAll : Appending → List (List ℕ) → List ℕ → Type 0
 AppendsAll appends [] text = text ≡ []
 AppendsAll appends (chunk ∷ chunks) text = (first others : List ℕ) × appends chunk first × AppendsAll appends chunks others × (text ≡ first ++ others)
 
--- Of chunks that are written one after the other the first ones are added, and of the next one nothing, or what the call
--- that fails leaves of it.
+-- Of chunks that are written one after the other the first ones are added; of the next one nothing,
+-- or what a call that fails leaves of it.
 abbrev pub LeavesSome : Appending → Leaving → List (List ℕ) → List ℕ → Type 0
 LeavesSome appends leaves [] text = text ≡ []
 LeavesSome appends leaves (chunk ∷ chunks) text = (text ≡ []) ⊎ leaves chunk text
     ⊎ ((first others : List ℕ) × appends chunk first × LeavesSome appends leaves chunks others × (text ≡ first ++ others))
 
--- What each call keeps of a sink: what was written stays at the front, no failure is taken back, and it is the same sink.
+-- What each call keeps of a sink: what was written stays at the front, the count of failures does
+-- not fall, and it is the same sink.
 pub record Grows {S : Type 0} (written : S → Option (List ℕ)) (failures : S → ℕ) (same : S → S → Type 0) (old new : S) : Type 0 where
   pub front : IfKnown (written old) (written new) IsFront
   pub counted : failures old ≤ failures new

@@ -1,4 +1,5 @@
--- What a call returns that skips a message, and tells the lengths of its segments (src/serialize/skipping.rt).
+-- What a call returns that skips a message and returns the lengths of its segments
+-- (src/serialize/skipping.rt).
 use Rattle.std.specs.Prelude.{◌≡◌, ℕ, ◌≤◌, List, length, drop, Option, Some, None, Result, Ok, Err}
 use Rattle.capnp_frame.specs.declared.error.Error.{Error}
 use Rattle.capnp_frame.specs.declared.serialize.segment_table.Padding.{Padding}
@@ -6,7 +7,8 @@ use Rattle.capnp_frame.specs.Message.{lengths}
 use Rattle.capnp_frame.specs.Requests.{MessageStands}
 use Rattle.capnp_frame.specs.Source.{Giving}
 
--- It returns what a reader may return of which `Reads` holds: of some message the lengths, None, or a failure.
+-- The result is that of a reader, of which `Reads` holds, with the lengths of a message in the
+-- message's place.
 abbrev pub SkipsMessage : (Result (Option (List (List ℕ))) Error → Type 0) → Result (Option (List ℕ)) Error → Type 0
 SkipsMessage Reads (Ok (Some ns)) = (message : List (List ℕ)) × (lengths message ≡ ns) × Reads (Ok (Some message))
 SkipsMessage Reads (Ok None) = Reads (Ok None)

@@ -16,17 +16,17 @@ use Rattle.capnp_frame.specs.Errors.{FailsWith}
 use Rattle.capnp_frame.specs.Refusals.{RefusesAtLimit, RefusesRest, IsTableKind, IsReaderKind, IsProvidedReaderKind}
 use Rattle.capnp_frame.specs.Asking.{Asked, FailsOr}
 
--- A step that completes a table of a given number of segments stops by a line of the table of errors: by the request of its
--- other words, the limit, or the padding.
+-- A step that completes a table of a given number of segments fails by a line of the table of
+-- errors: the request of its other words, the limit, or the padding.
 abbrev pub StopsAtTable : Padding → Giving → Refusing → Option ℕ → ErrorKind → List ℕ → ℕ → List ℕ → List ℕ → Type 0
 StopsAtTable rule gives refuses limit kind first count raw left = RefusesRest rule gives refuses limit kind (λ ns following. ⊥) left first count raw
 
--- The limit or the padding rejects a table that is complete, whatever is unread after it.
+-- A complete table fails by the limit or by the padding, whatever is unread after it.
 abbrev pub RefusesComplete : Padding → Option ℕ → ErrorKind → List ℕ → Type 0
 RefusesComplete rule limit kind table = (following : List ℕ) → RefusesAtLimit rule limit kind (λ ns rest. ⊥) following (take 8 table) (drop 8 table) following
 
--- What a step keeps that reads the words of a table after its first, tests the limit and the padding, and fills in where
--- each segment begins and ends.
+-- What is kept by a step that reads the words of a table after its first, tests the limit and the
+-- padding, and fills in where each segment begins and ends.
 pub record ReadsLengths {S : Type 0} (source : Ghosts S) (old new : S) (rule : Padding) (limit : Option ℕ) (first : List ℕ)
     (indices : List (ℕ × ℕ)) (result : Result ℕ Error) : Type 0 where
   -- the lengths between the indices are those of the table that is there
@@ -41,7 +41,8 @@ pub record ReadsLengths {S : Type 0} (source : Ghosts S) (old new : S) (rule : P
   pub kinds : IfErr result (λ error. IsTableKind rule source.refuses error.kind)
   pub asked : Asked source.unread source.failures source.same old new result
 
--- What a step finds that reads a table to the front of a caller-provided buffer: of a given number of segments and words.
+-- What is found by a step that reads a table, of this many segments and words, to the front of a
+-- caller-provided buffer.
 pub record FindsTable (rule : Padding) (gives : Giving) (limit : Option ℕ) (buffer : List ℕ) (count total : ℕ) (old new : Option (List ℕ)) : Type 0 where
   -- the table is there, and just its bytes are consumed
   pub found : IfKnown old new (TableStands rule gives (declared_lengths count buffer))
@@ -56,8 +57,8 @@ pub record FindsMessage (rule : Padding) (gives : Giving) (limit : Option ℕ) (
   pub total_is : bytes ≡ 8 * sum (declared_lengths count buffer)
   pub within : KeepsLimit (declared_lengths count buffer) limit
 
--- What a step keeps beside what it finds, where it reads what comes next in a stream, or none at its end. Memory is
--- taken where `takes` holds, and `lines` are those of the table of errors.
+-- What is kept, beside what is found, by a step that reads what comes next in a stream, or none at
+-- its end. It takes memory where `takes` holds, and `lines` are those of the table of errors.
 pub record AsksNext {S X : Type 0} (source : Ghosts S) (old new : S) (rule : Padding) (takes : List ℕ → List ℕ → Type 0)
     (lines : ErrorKind → List ℕ → List ℕ → Type 0) (result : Result (Option X) Error) : Type 0 where
   pub none : IfOk result (λ found. IfNone found (IfSome (source.unread old) (λ raw. raw ≡ [])))

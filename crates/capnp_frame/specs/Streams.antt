@@ -16,11 +16,12 @@ use Rattle.capnp_frame.specs.Source.{Giving, Refusing, IfKnown, Advances, Fails}
 use Rattle.capnp_frame.specs.Errors.{FailsWith}
 use Rattle.capnp_frame.specs.Refusals.{RefusesStream, TakesMemory, IsReaderKind, IsProvidedReaderKind}
 
--- A message is at the front of `raw`, and `rest` after it: is segments raw rest.
+-- A message is at the front of `raw`, and `rest` after it, as a relation:
+-- `stands segments raw rest`.
 abbrev pub Standing : Type 1
 Standing = List (List ℕ) → List ℕ → List ℕ → Type 0
 
--- What a reader returns, by the message that is seen in it: of one that may return None, and of one that does not.
+-- What a reader returns, by the message in it: a reader that may return None, and one that may not.
 abbrev pub next_in : {X : Type 0} → (X → List (List ℕ)) → Result (Option X) Error → Result (Option (List (List ℕ))) Error
 next_in segments result = result_map_both (option_map segments) (λ error. error) result
 
@@ -31,17 +32,20 @@ message_in segments result = result_map_both (λ held. Some (segments held)) (λ
 pub record StreamRules : Type 1 where
   -- where a message is
   pub stands : Standing
-  -- where a reader that grows takes memory, within a limit of words: takes_memory limit raw left
+  -- where a reader that allocates takes memory, within a limit of words: `takes_memory limit raw
+  -- left`
   pub takes_memory : Option ℕ → List ℕ → List ℕ → Type 0
-  -- the table of errors, within a limit of words and the bytes of a caller-provided buffer: the first line that holds
-  -- fails with this kind, and leaves `left` unread: rejects limit room kind raw left
+  -- the table of errors, within a limit of words and the bytes of a caller-provided buffer: the
+  -- first line that holds fails with this kind, and leaves `left` unread:
+  -- `refuses limit room kind raw left`
   pub refuses : Option ℕ → Option ℕ → ErrorKind → List ℕ → List ℕ → Type 0
-  -- the kinds that a reader that grows fails with, also where the unread bytes aren't known
+  -- the kinds with which a reader that allocates may fail, also where the unread bytes aren't known
   pub kinds : ErrorKind → Type 0
   -- the kinds that a reader into a caller-provided buffer may return
   pub provided_kinds : ErrorKind → Type 0
 
--- Framed messages, their padding by the rule, over a source whose requests take and fail so.
+-- Framed messages, with a padding that the rule accepts, over a source with these requests and
+-- errors.
 abbrev pub framed_rules : Padding → Giving → Refusing → StreamRules
 framed_rules rule gives refuses = record {
   stands = MessageStands rule gives;
@@ -51,8 +55,8 @@ framed_rules rule gives refuses = record {
   provided_kinds = IsProvidedReaderKind rule refuses;
 }
 
--- What each reader of a stream that grows returns. `source` is what is seen of the source (the members of the trait Read),
--- `old` and `new` are the source before the call and after it.
+-- What each reader of a stream that allocates returns. `source` is what is seen of the source (the
+-- members of the trait Read), `old` and `new` are the source before the call and after it.
 pub record ReadsStream {S : Type 0} (source : Ghosts S) (old new : S) (rules : StreamRules) (limit : Option ℕ)
     (result : Result (Option (List (List ℕ))) Error) : Type 0 where
   -- the message that is returned is there, and just its bytes are consumed
@@ -72,11 +76,12 @@ pub record ReadsStream {S : Type 0} (source : Ghosts S) (old new : S) (rules : S
   pub refused : IfErr result (λ error. (error.kind ≡ DeviceFailed)
       ⊎ ((error.kind ≡ OutOfMemory) × IfKnown (source.unread old) (source.unread new) (rules.takes_memory limit))
       ⊎ IfKnown (source.unread old) (source.unread new) (rules.refuses limit None error.kind))
-  -- where a line is the first to hold, the call fails with that line's kind, but for these two
+  -- where a line is the first to hold, the call fails with that line's kind, unless the device
+  -- fails or memory is lacking
   pub exact : IfSome (source.unread old) (λ raw. (kind : ErrorKind) (left : List ℕ) → rules.refuses limit None kind raw left
       → IsErrAnd result (λ error. (error.kind ≡ DeviceFailed) ⊎ (error.kind ≡ OutOfMemory) ⊎ (error.kind ≡ kind)))
   pub kinds : IfErr result (λ error. rules.kinds error.kind)
-  -- the device is blamed only where it failed
+  -- `DeviceFailed` is returned only where the device failed
   pub failed : IfErr result (λ error. error.kind ≡ DeviceFailed → Fails (source.failures old) (source.failures new))
   -- the source moves on, or stays
   pub advances : Advances source.unread source.failures source.same old new
@@ -103,11 +108,12 @@ pub record ReadsStreamInto {S : Type 0} (source : Ghosts S) (old new : S) (rules
   -- it fails with the device's failure, or with a line of the table of errors
   pub refused : IfErr result (λ error. (error.kind ≡ DeviceFailed)
       ⊎ IfKnown (source.unread old) (source.unread new) (rules.refuses limit (Some room) error.kind))
-  -- where a line is the first to hold, the call fails with that line's kind, but for the device's failure
+  -- where a line is the first to hold, the call fails with that line's kind, unless the device
+  -- fails
   pub exact : IfSome (source.unread old) (λ raw. (kind : ErrorKind) (left : List ℕ) → rules.refuses limit (Some room) kind raw left
       → IsErrAnd result (λ error. (error.kind ≡ DeviceFailed) ⊎ (error.kind ≡ kind)))
   pub kinds : IfErr result (λ error. rules.provided_kinds error.kind)
-  -- the device is blamed only where it failed
+  -- `DeviceFailed` is returned only where the device failed
   pub failed : IfErr result (λ error. error.kind ≡ DeviceFailed → Fails (source.failures old) (source.failures new))
   -- the source moves on, or stays
   pub advances : Advances source.unread source.failures source.same old new

@@ -1,4 +1,4 @@
--- Texts of messages after one another, as a stream has them.
+-- Encodings of messages one after another, as a stream has them.
 use Rattle.std.specs.Prelude.{◌≡◌, ℕ, List, [], ◌∷◌, ◌++◌, Option, Some, None}
 use Rattle.capnp_frame.specs.declared.error.ErrorKind.{ErrorKind}
 use Rattle.capnp_frame.specs.declared.serialize.segment_table.Padding.{Padding}
@@ -6,23 +6,23 @@ use Rattle.capnp_frame.specs.Limits.{IsWithin}
 use Rattle.capnp_frame.specs.Source.{Giving, Refusing}
 use Rattle.capnp_frame.specs.Refusals.{RefusesStream}
 
--- A text is one of a message: IsText text segments.
+-- Which bytes encode which message, as a relation: `IsText text segments`.
 abbrev pub Grammar : Type 1
 Grammar = List ℕ → List (List ℕ) → Type 0
 
--- a text of the message is at the front, and the message is within the limit
+-- `raw` begins with an encoding of the message, and the message is within the limit
 pub record BeginsWith (IsText : Grammar) (limit : Option ℕ) (segments : List (List ℕ)) (raw rest : List ℕ) : Type 0 where
   pub text : List ℕ
   pub is_text : IsText text segments
   pub within : IsWithin segments limit
   pub spelled : raw ≡ text ++ rest
 
--- texts of these messages are at the front, one after the other, and then the rest
+-- `raw` begins with encodings of these messages, one after the other, and `rest` follows them
 abbrev pub AreEncodings : Grammar → Option ℕ → List (List (List ℕ)) → List ℕ → List ℕ → Type 0
 AreEncodings IsText limit [] raw rest = rest ≡ raw
 AreEncodings IsText limit (m ∷ ms) raw rest = (between : List ℕ) × BeginsWith IsText limit m raw between × AreEncodings IsText limit ms between rest
 
--- why no text of a message is there: nothing is left, or a reader by the rule of padding rejects by this kind
+-- why no message follows: nothing is left, or a reader by the rule of padding fails with this kind
 abbrev pub EndsEncodings : Padding → Giving → Refusing → Option ℕ → Option ErrorKind → List ℕ → Type 0
 EndsEncodings rule gives refuses limit None rest = rest ≡ []
 EndsEncodings rule gives refuses limit (Some kind) rest = (left : List ℕ) × RefusesStream rule gives refuses limit None kind rest left

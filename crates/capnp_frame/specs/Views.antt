@@ -2,7 +2,7 @@
 use Rattle.std.specs.Prelude.{ℕ, List}
 use denote.Ref.{Bor}
 
--- the bytes after a slice
+-- the bytes that a slice refers to
 abbrev pub shown : Bor (List ℕ) → List ℕ
 shown slice = slice.now
 

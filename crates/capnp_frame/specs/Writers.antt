@@ -11,44 +11,48 @@ use Rattle.capnp_frame.specs.Sink.{Adds, AppendsAll, LeavesSome, DeclinesSome, G
 use Rattle.capnp_frame.specs.Source.{IfKnown, Fails}
 use Rattle.capnp_frame.specs.Writing.{IsWithinSegmentLimit, ExceedsSegmentLimit, RefusesMany, chunks, serialized_words}
 
--- What each function that writes does to its sink. `sink` is what is seen of the sink (the members of the trait Write),
--- `old` and `new` are the sink before the call and after it. `adds` holds of what is added where the call succeeds, `leaves`
--- of what is added where it fails, and `declines` of the kinds that it may fail with beside the device's.
+-- What each function that writes does to its sink. `sink` is what is seen of the sink (the members
+-- of the trait Write), `old` and `new` are the sink before the call and after it. `adds` says what
+-- is added where the call succeeds, `leaves` what is added where it fails, and `declines` which
+-- kinds it may fail with beside the device's.
 pub record WritesTo {S X : Type 0} (sink : Ghosts S) (old new : S) (adds leaves : List ℕ → Type 0) (declines : ErrorKind → Type 0)
     (result : Result X Error) : Type 0 where
   -- where the call succeeds, this is added after what was written before
   pub written : OnOk result (IfKnown (sink.written old) (sink.written new) (Adds adds))
-  -- where it fails, that: nothing is after a hole
+  -- where it fails, bytes of which `leaves` holds are added after what was written before
   pub left : OnErr result (IfKnown (sink.written old) (sink.written new) (Adds leaves))
   -- it fails with the device's failure, or with a kind that is declined
   pub refused : FailsOr result declines
-  -- the device is blamed only where it failed
+  -- `DeviceFailed` is returned only where the device failed
   pub failed : IfErr result (λ error. error.kind ≡ DeviceFailed → Fails (sink.failures old) (sink.failures new))
   -- what was written before stays at the front, also where the call fails
   pub grows : Grows sink.written sink.failures sink.same old new
 
--- What writing chunks, one after the other, does to a sink. `lacks` holds of the kinds that the call may fail with before
--- anything is written.
+-- What writing chunks, one after the other, does to a sink. `lacks` says which kinds the call may
+-- fail with before anything is written.
 pub record WritesChunks {S X : Type 0} (sink : Ghosts S) (old new : S) (chunks : List (List ℕ)) (lacks : ErrorKind → Type 0)
     (result : Result X Error) : Type 0 where
   -- where the call succeeds, what the chunks add is after what was written before
   pub written : OnOk result (IfKnown (sink.written old) (sink.written new) (Adds (AppendsAll sink.appends chunks)))
-  -- where it fails, the first chunks are written, and of the next one what the sink leaves of it; nothing is after a hole
+  -- where it fails, the first chunks are added, and of the next one what the sink leaves of it,
+  -- without a gap
   pub left : OnErr result (IfKnown (sink.written old) (sink.written new) (Adds (LeavesSome sink.appends sink.leaves chunks)))
-  -- it fails with the device's failure, as the sink rejects one of the chunks, or with a kind that is lacked
+  -- it fails with the device's failure, with a kind of the sink's for one of the chunks, or with a
+  -- kind of which `lacks` holds
   pub refused : FailsOr result (λ kind. DeclinesSome sink.refuses chunks kind ⊎ lacks kind)
   -- a failure that isn't the sink's leaves the sink as it was
   pub untouched : FailsOr result (λ kind. DeclinesSome sink.refuses chunks kind ⊎ (new ≡ old))
-  -- the device is blamed only where it failed
+  -- `DeviceFailed` is returned only where the device failed
   pub failed : IfErr result (λ error. error.kind ≡ DeviceFailed → Fails (sink.failures old) (sink.failures new))
   -- what was written before stays at the front, also where the call fails
   pub grows : Grows sink.written sink.failures sink.same old new
 
--- from four segments on, memory is taken for the table of a message
+-- from four segments on, the call may lack memory for the table
 abbrev pub LacksTable : List (List ℕ) → ErrorKind → Type 0
 LacksTable segments kind = (4 ≤ length segments) × (kind ≡ OutOfMemory)
 
--- why a message is rejected before anything of it is written: by the number of its segments, or for want of memory for its table
+-- why a call fails before anything is written: by the number of segments, or for want of memory for
+-- the table
 abbrev pub RefusesUnwritten : List (List ℕ) → ErrorKind → Type 0
 RefusesUnwritten segments kind = RefusesMany segments kind ⊎ LacksTable segments kind
 
@@ -56,7 +60,7 @@ RefusesUnwritten segments kind = RefusesMany segments kind ⊎ LacksTable segmen
 pub record KeepsCount {X : Type 0} (segments : List (List ℕ)) (result : Result X Error) : Type 0 where
   -- what is written has no more segments than a reader accepts
   pub few : OnOk result (IsWithinSegmentLimit segments)
-  -- where there are more the call fails for their number, before all else
+  -- where there are more, the call fails by their number, before all else
   pub many : ExceedsSegmentLimit segments → FailsWith result (InvalidNumberOfSegments (length segments))
 
 -- What each function that writes a message does to its sink.
@@ -67,12 +71,13 @@ pub record WritesSegments {S X : Type 0} (sink : Ghosts S) (old new : S) (segmen
   -- else the chunks of the message are written, one after the other
   pub parts : WritesChunks sink old new (chunks segments) (RefusesUnwritten segments) result
 
--- What each function that returns the framed encoding of a message keeps, `bytes` being the text that is seen of it.
+-- What each function keeps that returns the framed encoding of a message; `bytes` is how the
+-- encoding is seen in the result.
 pub record ReturnsEncoding {X : Type 0} (segments : List (List ℕ)) (bytes : X → List ℕ) (result : Result X Error) : Type 0 where
   pub text : IfOk result (λ text. bytes text ≡ frame_bytes segments)
   -- the call fails by the number of segments exactly where there are more than a reader accepts
   pub count : KeepsCount segments result
-  -- with fewer it fails for want of memory alone
+  -- with no more than that it fails for want of memory alone
   pub kinds : IfErr result (λ error. RefusesMany segments error.kind ⊎ (error.kind ≡ OutOfMemory))
 
 -- What each function that counts the words of a framed encoding keeps.

@@ -22,11 +22,11 @@ IsWithinSegmentLimit segments = length segments < 512
 abbrev pub ExceedsSegmentLimit : List (List ℕ) → Type 0
 ExceedsSegmentLimit segments = 512 ≤ length segments
 
--- there are more, and the failure tells their number
+-- there are more, and the failure carries their number
 abbrev pub RefusesMany : List (List ℕ) → ErrorKind → Type 0
 RefusesMany segments kind = ExceedsSegmentLimit segments × (kind ≡ InvalidNumberOfSegments (length segments))
 
--- the first word, and where there are more the other words
+-- the first word, and the other words as one chunk where there are any
 abbrev pub word_and_rest : List ℕ → List (List ℕ)
 word_and_rest table = if nat_lt 8 (length table) then take 8 table ∷ drop 8 table ∷ [] else take 8 table ∷ []
 

@@ -10,7 +10,7 @@ pub type Result<T> = std::result::Result<T, Error>;
 
 /// The kind of an error, with the numbers it carries.
 ///
-/// Its text is its name, with its numbers after it in parentheses.
+/// A kind is displayed as its name, with its numbers after it in parentheses.
 #[derive(Clone, Copy, Debug, PartialEq, Eq, thiserror::Error)]
 pub enum ErrorKind {
     /// The source ended within a chunk.
@@ -28,8 +28,9 @@ pub enum ErrorKind {
     /// A segment table has, or is to have, this number of segments, which is not from 1 to 511.
     #[error("InvalidNumberOfSegments({0})")]
     InvalidNumberOfSegments(usize),
-    /// The segments have this many words, and after the table the input has only this many. Where
-    /// the table itself is cut: a field of four bytes, of which the input has only this many.
+    /// The input ends early. Where the segments are cut, the numbers are the words that the
+    /// segments have and the words that the input has after the table. Where the table is cut, they
+    /// are 4, the bytes of a field, and how many bytes of that field the input has.
     #[error("MessageEndsPrematurely({0}, {1})")]
     MessageEndsPrematurely(usize, usize),
     /// A number of words or bytes does not fit `usize`.
@@ -41,7 +42,7 @@ pub enum ErrorKind {
     /// The source ended where a message was to begin.
     #[error("PrematureEndOfFile")]
     PrematureEndOfFile,
-    /// Packed input ended within a group, or before one that its chunk still wants.
+    /// Packed input ended within a group, or before a group that its chunk still needs.
     #[error("PrematureEndOfPackedInput")]
     PrematureEndOfPackedInput,
     /// A run of packed words goes past the end of its chunk.
@@ -53,7 +54,7 @@ pub enum ErrorKind {
     /// The device of a source or a sink failed.
     #[error("DeviceFailed")]
     DeviceFailed,
-    /// A chunk to be packed or unpacked is not of whole words.
+    /// The length of a chunk to be packed or unpacked is not a multiple of eight bytes.
     #[error("NotWholeWords")]
     NotWholeWords,
     /// An object or a segment of this many words is too large, or has no room.
@@ -80,7 +81,7 @@ pub enum ErrorKind {
     /// A pointer leads to another kind of object than was asked for.
     #[error("WrongPointerKind")]
     WrongPointerKind,
-    /// A text has no zero byte at its end.
+    /// A `Text` does not end with a zero byte.
     #[error("TextNotTerminated")]
     TextNotTerminated,
     /// A canonical form has more words than a segment may.
@@ -130,7 +131,7 @@ impl ErrorKind {
     }
 }
 
-/// An error: what a call returns that failed.
+/// The error of a call that failed.
 #[derive(Clone, Debug, Drop, thiserror::Error)]
 #[error("{kind}")]
 pub struct Error {

@@ -34,7 +34,7 @@ pub trait Read {
     /// With which kind a request fails.
     ghost refuses: { Refusing };
 
-    /// What each call keeps, for example the reference that a source reads from.
+    /// What every call leaves the same, for example the reference that a source reads from.
     ghost same: { Self → Self → Type 0 };
 
     /// Reads some bytes into the front of `buffer`, and returns how many: 0 only where nothing is
@@ -48,12 +48,12 @@ pub trait Read {
             (ReturnsPart gives refuses (length buffer.new) (take count buffer.new))) }
         ensures end { IfOk result (λ count. IfSome (unread self.old)
             (λ raw. 0 < length buffer.new → (count ≡ 0) ↔ (raw ≡ []))) }
-        // Where `read` returns no byte, `read_exact` fails with this kind.
+        // Where `read` returns 0 and `buffer` has room, `read_exact` fails with this kind.
         ensures spent { IfOk result (λ count. count ≡ 0 → 0 < length buffer.new →
             IsRefused refuses (length buffer.new) (unread self.old)
             ErrorKind.FailedToFillTheWholeBuffer) }
 
-        // An error.
+        // With which kinds it fails.
         ensures failed { IfErr result (λ error. error.kind ≡ ErrorKind.DeviceFailed →
             Fails (failures self.old) (failures self.new)) }
         ensures refused { IfErr result (λ error. (error.kind ≡ ErrorKind.DeviceFailed)
@@ -94,7 +94,7 @@ pub trait Read {
     ghost keeps: { IsPreorder same };
 }
 
-/// A plain source, which shows the bytes that it gives next.
+/// A plain source (its bytes are taken as they are) that shows the bytes that it gives next.
 pub trait BufRead: Read {
     /// The bytes that `fill_buf` showed and `consume` may take.
     ghost shown: { Self → List ℕ };
@@ -144,10 +144,10 @@ pub trait Write {
     /// How many further bytes the sink is sure to take, in any chunks.
     ghost grants: { Self → ℕ → Type 0 };
 
-    /// What each call keeps, for example the reference that a sink writes to.
+    /// What every call leaves the same, for example the reference that a sink writes to.
     ghost same: { Self → Self → Type 0 };
 
-    /// Writes all of `chunk`. A call that fails adds at most a part of it, which `leaves` tells.
+    /// Writes all of `chunk`. A call that fails adds at most a part of it: what `leaves` says.
     ///
     /// Fails with `DeviceFailed` only where the device failed in the call, and else with a kind
     /// that `refuses` names for this chunk. A chunk within what the sink `grants` never fails.

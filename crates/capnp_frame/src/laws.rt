@@ -24,15 +24,15 @@ pub fn message_has_a_frame()
         AllByRecursion IsWholeWords segments → IsFrame rule (frame_bytes segments) segments }
 {}
 
-/// By the rule of zero padding the text that is written is the only frame of a message.
+/// With zero padding, the only framed encoding of a message is the one that is written.
 pub fn zero_padding_leaves_one_frame()
     ensures { (text : List ℕ) (segments : List (List ℕ)) →
         IsFrame Padding.Zero text segments → text ≡ frame_bytes segments }
 {}
 
-/// Zero padding is some padding: a table, and a message by its requests of any source, is one by
-/// the rule of zero padding exactly where it is one by the rule of any padding and its table is the
-/// one that is written, whose padding is zero.
+/// By the rule of zero padding, bytes are a table exactly where they are one by the rule of any
+/// padding and are the table that is written, whose padding is zero. The same holds of a message
+/// that is read by requests of any source.
 pub fn zero_padding_is_some_padding<R: Read>()
     ensures table { (text ns : List ℕ) → IsTable Padding.Zero text ns
         ↔ (IsTable Padding.Any text ns × (text ≡ zero_padded_table ns)) }
@@ -42,8 +42,8 @@ pub fn zero_padding_is_some_padding<R: Read>()
         × (any.table.first ++ any.table.others ≡ zero_padded_table (lengths m))) }
 {}
 
-/// No framed encoding begins a different one, by either rule of padding, and each is the text of one
-/// message alone. So joined texts can be taken apart in one way only.
+/// No framed encoding is the start of a different one, by either rule of padding, and each encodes
+/// only one message. So joined encodings can be taken apart in only one way.
 pub fn frames_part_in_one_way()
     ensures { (rule also : Padding) (text other rest left : List ℕ)
         (segments others : List (List ℕ)) →
@@ -51,15 +51,15 @@ pub fn frames_part_in_one_way()
         (text ≡ other) × (segments ≡ others) × (rest ≡ left) }
 {}
 
-/// The three requests of a plain source take just a framed encoding of the message.
+/// The three requests for a message take exactly its framed encoding from a plain source.
 pub fn plain_requests_take_a_frame()
     ensures { (rule : Padding) (segments : List (List ℕ)) (raw rest : List ℕ) →
         MessageStands rule Splits segments raw rest
         ↔ ((text : List ℕ) × IsFrame rule text segments × (raw ≡ text ++ rest)) }
 {}
 
-/// A message of more words than the limit fails with `MessageTooLarge`, which tells how many it
-/// has.
+/// Reading a message of more words than the limit fails with `MessageTooLarge`, of how many words
+/// it has.
 pub fn message_past_the_limit_is_refused<R: Read>()
     ensures { (rule : Padding) (limit : Option ℕ) (m : List (List ℕ)) (raw rest : List ℕ) →
         MessageStands rule R.gives m raw rest → length m < 512 → IsTooLarge (lengths m) limit →
@@ -73,16 +73,16 @@ pub fn plain_chunks_are_joined()
         ↔ (text ≡ concat chunks) }
 {}
 
-/// The chunks that are handed to a sink are the framed encoding, joined, and `serialized_size_in_words`
-/// tells its length.
+/// The chunks that are handed to a sink, joined, are the framed encoding, and
+/// `serialized_size_in_words` returns its length.
 pub fn chunks_are_the_frame()
     ensures joined { (segments : List (List ℕ)) → concat (chunks segments) ≡ frame_bytes segments }
     ensures size { (segments : List (List ℕ)) → IsWritable segments →
         length (concat (chunks segments)) ≡ 8 * serialized_words segments }
 {}
 
-/// A plain sink that keeps at most a front of a chunk where a call fails, keeps a front of the
-/// framed encoding.
+/// If a plain sink keeps at most the start of a chunk in a call that fails, it keeps the start of
+/// the framed encoding where writing a message fails.
 pub fn what_is_left_of_a_message_is_a_front<W: Write>()
     ensures { ((chunk text : List ℕ) → W.leaves chunk text → LeavesFront chunk text) →
         (segments : List (List ℕ)) (text : List ℕ) →
@@ -90,8 +90,8 @@ pub fn what_is_left_of_a_message_is_a_front<W: Write>()
         IsFront text (frame_bytes segments) }
 {}
 
-/// The readers of slices and buffers accept the same bytes with the same segments: what one form
-/// rejects the other rejects, and only one message can be at a front.
+/// The readers of slices and buffers accept the same bytes with the same segments: where one form
+/// fails the other fails, and bytes begin with at most one message.
 pub fn flat_readers_agree()
     ensures refused { (form other : FlatForm) (rule : Padding) (limit : Option ℕ) (kind : ErrorKind)
         (bytes : List ℕ) → AllByRecursion (λ byte. byte < 256) bytes →
@@ -109,14 +109,14 @@ pub fn indexes_are_below_the_length()
         IsSome (slice_get segments index) ↔ (index < length segments) }
 {}
 
-/// What never counts a failure is never blamed for one: no call over a slice as a source, or over a
-/// vector or a caller-provided buffer as a sink, fails with `DeviceFailed`.
+/// A source or sink that never counts a failure is never blamed for one: no call over a slice as a
+/// source, or over a vector or a caller-provided buffer as a sink, fails with `DeviceFailed`.
 pub fn slices_never_fail()
     ensures { (kind : ErrorKind) → (kind ≡ ErrorKind.DeviceFailed → Fails 0 0) →
         kind ≢ ErrorKind.DeviceFailed }
 {}
 
-/// Writing a message to a vector fails for want of memory alone, or for too many segments.
+/// Writing a message to a vector fails only for want of memory or for too many segments.
 pub fn vectors_lack_memory_alone()
     ensures { (kind : ErrorKind) (segments : List (List ℕ)) →
         (kind ≡ ErrorKind.DeviceFailed → Fails 0 0) →

@@ -16,16 +16,16 @@
 //!
 //! Where something is cut, a reader of a stream fails as its source does, over plain bytes with
 //! `FailedToFillTheWholeBuffer`. A reader of a slice or a buffer fails with `EmptySlice` or
-//! `EmptyBuffer` for no bytes, with `FailedToFillTheWholeBuffer` for a table, and with
-//! `MessageEndsPrematurely` for segments. `NoAllocBufferSegments` takes the table field by field,
-//! so each test comes as soon as its fields are there, and fails with `MessageEndsPrematurely` for
-//! whatever is cut.
+//! `EmptyBuffer` for no bytes, with `FailedToFillTheWholeBuffer` for a table that is cut, and with
+//! `MessageEndsPrematurely` for segments that are cut. `NoAllocBufferSegments` reads the table
+//! field by field, so each test comes as soon as its fields are there, and fails with
+//! `MessageEndsPrematurely` for whatever is cut.
 //!
 //! `DeviceFailed` comes only where a source's device failed in the call. A reader that takes memory
 //! fails with `OutOfMemory` where there is none, after the number of segments is accepted. One into
-//! a caller-provided buffer fails with `BufferNotLargeEnough` instead: before all else where the
-//! buffer is shorter than 8 bytes, after the number is accepted where it is shorter than the table,
-//! and after the padding is where it is shorter than table and segments.
+//! a caller-provided buffer fails with `BufferNotLargeEnough` instead: first of all where the
+//! buffer is shorter than 8 bytes; where it is shorter than the table, once the number of segments
+//! is accepted; and where it is shorter than table and segments, once the padding is accepted.
 //!
 //! [standard stream framing]: https://capnproto.org/encoding.html#serialization-over-a-stream
 mod buffer_segments;

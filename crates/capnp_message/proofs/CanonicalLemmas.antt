@@ -15,7 +15,7 @@ use Rattle.capnp_wire.proofs.views.OneValueLemmas.{one_of_pointer}
 use Rattle.capnp_message.specs.Canonical.{HasForm, LacksForm, ReturnsForm}
 use Rattle.capnp_message.specs.Seen.{ReadMessage, root_of}
 
--- where the root's word is not, that is the reason
+-- where there is no word for the root, that is the error
 root_lacks : (p : Pointer) (kind : ErrorKind) → p.place ≡ Some root → NoWord p.message root kind → LacksForm p kind
 root_lacks p kind there none = inl (root, there, at_pointer (no_word none))
 
@@ -41,13 +41,13 @@ form_found p (Ok x) P returned has = tt
 form_found p (Err e) P (inl lacks) has = absurd (lacks_or_has p e.kind lacks has)
 form_found p (Err e) P (inr full) has = full
 
--- where a tree is, no walk stops
+-- where there is a tree, no walk stops
 pub tree_found : {limit : Option ℕ} (m : List (List ℕ)) (nesting : ℕ) (r : Result Bool Error) → IfErr r (λ error. StopsWalk m (root ∷ []) nesting limit error.kind)
     → (trees : Trees) → TreeAt m root nesting limit trees → IsOk r
 tree_found m nesting (Ok x) stops trees t = refl
 tree_found {limit} m nesting (Err e) stops trees t = absurd (stops_has_no_trees m (root ∷ []) nesting t.traversed limit e.kind trees stops t.stand t.shallow t.within)
 
--- where the root's word is not, there is no form
+-- where there is no word for the root, there is no form
 pub no_form : {S T : Type 0} (segments : S → List (List ℕ)) (inside message : ReadMessage S) (words : T → List ℕ) {error : Error} (r : Result T Error) → inside ≡ message
     → IsErrAnd r (λ y. y ≡ error) → NoWord (root_of segments inside).message root error.kind → ReturnsForm (root_of segments message) words r
 no_form segments inside message words (Ok form) same is none = absurd is

@@ -1,4 +1,4 @@
--- Roots whose word is not, and views of the root.
+-- Roots for which there is no word, and views of the root.
 use Rattle.std.proofs.Common.{◌≡◌, ◌≢◌, inl, inr, ℕ, List, Some, None, Result, Ok, Err, ap, sym, ◌∙◌, subst}
 use Rattle.std.specs.Result.{IsErrAnd}
 use Rattle.capnp_frame.specs.declared.error.Error.{Error}
@@ -14,7 +14,7 @@ use Rattle.capnp_wire.proofs.pointers.FaultLemmas.{no_word_there}
 use Rattle.capnp_message.specs.Seen.{ReadMessage, root_of, HasRoot}
 use Rattle.capnp_message.specs.Roots.{ReadsRoot}
 
--- a word that is not is rejected in one way
+-- for a word that is not there, there is one error
 pub no_word_once : (m : List (List ℕ)) (place : Place) (own kind : ErrorKind) → NoWord m place own → NoWord m place kind → own ≡ kind
 no_word_once m place own kind p q = one_refusal m place 0 own kind (no_word p) (no_word q)
 
@@ -24,7 +24,7 @@ invalid_pointer_once m own kind {nesting} none (place, stands, fault) =
     let same : root ≡ place = cc in
     one_refusal m root nesting own kind (no_word none) (subst (λ (p : Place). Fault m p nesting kind) (sym same) fault)
 
--- where the word is, none is
+-- where the word is there, there is no error
 pub word_apart : (m : List (List ℕ)) (word : ℕ) (kind : ErrorKind) → word_at m root ≡ Some word → NoWord m root kind → ⊥
 word_apart m word kind stands refused =
     let none : word_at m root ≡ None = no_word_there m root kind refused in
@@ -35,7 +35,7 @@ no_limit : (m : List (List ℕ)) (kind : ErrorKind) → NoWord m root kind → k
 no_limit m kind (no_segment e) same = cc
 no_limit m kind (past_segment there e) same = cc
 
--- where the root's own word is not, no view is had
+-- where there is no word for the root, there is no view
 pub root_nowhere : {S V : Type 0} (segments : S → List (List ℕ)) (inside message : ReadMessage S) (shows : Pointer → V → Type 0) (accepts : Pointer → Type 0)
     (refuses declines : Pointer → ErrorKind → Type 0) {error : Error} (r : Result V Error) → inside ≡ message → IsErrAnd r (λ y. y ≡ error)
     → NoWord (root_of segments inside).message root error.kind
@@ -55,7 +55,7 @@ root_nowhere {S} segments inside message shows accepts refuses declines {error} 
       nowhere = λ kind nowhere. no_word_once m root e.kind kind own nowhere;
     }
 
--- a view of the root's pointer, where its word is
+-- a view of the root's pointer, where there is a word for it
 read_root : {V : Type 0} (pointer : Pointer) (shows : V → Type 0) (accepts : Type 0) (refuses declines : ErrorKind → Type 0) (r : Result V Error) → HasRoot pointer
     → IsViewOf pointer shows accepts refuses declines r → ReadsRoot pointer shows accepts refuses declines r
 read_root pointer shows accepts refuses declines (Ok view) has told = record {

@@ -9,19 +9,20 @@ use Rattle.capnp_wire.specs.Trim.{trim}
 use Rattle.capnp_wire.specs.Views.{Pointer}
 use Rattle.capnp_wire.specs.Values.{LacksWords, LeadsToTree, StopsWalkFrom, IsCanonicalForm}
 
--- A message has a canonical form: a tree is at its root, within the nesting depth left and the limit, and the form has at
--- most 2 ^ 29 words with its root pointer.
+-- A message has a canonical form: there is a tree at its root, within the nesting depth left and
+-- the limit, and the form has at most 2 ^ 29 words with its root pointer.
 pub record HasForm (pointer : Pointer) : Type 0 where
   pub trees : Trees
   pub tree_is : LeadsToTree pointer trees
   pub few : 1 + total_words (trim trees) ≤ 2 ^ 29
 
--- It has none: a walk over its root tree stops, for this reason, or the form has more words.
+-- It has none: a walk over its root tree stops with this error, or the form has more words.
 abbrev pub LacksForm : Pointer → ErrorKind → Type 0
 LacksForm pointer kind = LacksWords (LeadsToTree pointer) (StopsWalkFrom pointer) true kind
 
--- What each call keeps that returns the canonical form, of which `words` sees the words: it is the form, or there is none, for
--- the one reason, or memory is wanting.
+-- What each call keeps that returns the canonical form; `words` is how its words are seen. The form
+-- is returned, or the call fails because there is none, with the one error, or because memory is
+-- lacking.
 pub record ReturnsForm {T : Type 0} (pointer : Pointer) (words : T → List ℕ) (result : Result T Error) : Type 0 where
   pub returned : MatchResult result (λ form. IsCanonicalForm pointer (words form))
       (λ error. LacksForm pointer error.kind ⊎ (error.kind ≡ OutOfMemory))

@@ -6,20 +6,20 @@ use Rattle.capnp_message.specs.declared.heap_allocator.AllocationStrategy.{Alloc
 use Rattle.capnp_message.specs.declared.heap_allocator.HeapAllocator.{HeapAllocator}
 use Rattle.capnp_message.specs.declared.scratch_space.ScratchSpaceHeapAllocator.{ScratchSpaceHeapAllocator}
 
--- how many words a heap hands out next, how that grows, and the most that it comes to
+-- how many words a heap hands out next, how that number grows, and its maximum
 pub record IsHeapOf (size : ℕ) (grows : AllocationStrategy) (most : ℕ) (heap : HeapAllocator) : Type 0 where
   pub next : heap.next_size ≡ size
   pub strategy : heap.allocation_strategy ≡ grows
   pub maximum : heap.max_segment_words ≡ most
 
--- with this heap after the region, which stays as it is
+-- the heap after the region is this one, and the region stays as it is
 pub record WithHeap (old : ScratchSpaceHeapAllocator) (words : ℕ) (grows : AllocationStrategy) (new : ScratchSpaceHeapAllocator) : Type 0 where
   pub region : new.region ≡ old.region
   pub size : new.size ≡ old.size
   pub next : new.heap.next_size ≡ words
   pub strategy : new.heap.allocation_strategy ≡ grows
 
--- the heap as it was
+-- the heap stays as it was
 abbrev pub KeepsHeap : HeapAllocator → HeapAllocator → Type 0
 KeepsHeap old new = IsHeapOf old.next_size old.allocation_strategy old.max_segment_words new
 
@@ -27,13 +27,14 @@ KeepsHeap old new = IsHeapOf old.next_size old.allocation_strategy old.max_segme
 abbrev pub StartsAnew : HeapAllocator → HeapAllocator → Type 0
 StartsAnew old new = IsHeapOf (min 1024 old.max_segment_words) old.allocation_strategy old.max_segment_words new
 
--- a segment came back: a caller-provided one is the region, which is at home, any other one went to the heap
+-- a segment came back: the caller-provided one is the region, which is available again; any other
+-- one went to the heap
 abbrev pub ReturnsTo : Bool → ScratchSpaceHeapAllocator → ScratchSpaceHeapAllocator → Type 0
 ReturnsTo true old new = IsAvailable new.region old.size × KeepsHeap old.heap new.heap
 ReturnsTo false old new = (new.region ≡ old.region) × StartsAnew old.heap new.heap
 
--- the heap after a segment that was asked for by a given number of words: a caller-provided one leaves it as it was, one of
--- its own counts
+-- the heap after it handed out a segment for a request of this many words: the caller-provided
+-- region leaves the heap as it was, a segment of the heap is counted
 abbrev pub CountsSegment : Bool → ℕ → HeapAllocator → HeapAllocator → Type 0
 CountsSegment true asked old new = KeepsHeap old new
 CountsSegment false asked old new =

@@ -1,4 +1,4 @@
--- One caller-provided region: at home, or away (src/scratch_space.rt, src/single_segment.rt).
+-- One caller-provided region: available, or out (src/scratch_space.rt, src/single_segment.rt).
 use Rattle.std.specs.Prelude.{◌≡◌, ◌⊎◌, ℕ, ◌/◌, ◌<◌, ◌≤◌, true, List, [], ◌∷◌, length, Option, Some, None, IfSome, IsSome, MatchOption, refl}
 use Rattle.std.specs.Borrow.{MutBor}
 use Rattle.capnp_frame.specs.declared.error.ErrorKind.{ErrorKind}
@@ -6,34 +6,34 @@ use Rattle.capnp_frame.specs.declared.error.ErrorKind.TheVariants.{AllocationToo
 use Rattle.capnp_build.specs.Bytes.{ZeroFrom}
 use Rattle.capnp_build.specs.Out.{Out, provided_of}
 
--- a region of a given number of bytes, as a segment that is out
+-- a region of this many bytes, as a segment that is out
 abbrev pub region_out : ℕ → Out
 region_out size = record { length = size; is_provided = true }
 
--- the region alone is out while it is away, and nothing while it is at home
+-- only the region is out, or nothing is while it is available
 abbrev pub IsOutAlone : {X : Type 0} → Option X → ℕ → List Out → Type 0
 IsOutAlone region size list = MatchOption region (list ≡ region_out size ∷ []) (λ _. list ≡ [])
 
--- of what is caller-provided, the region alone is out while it is away, and nothing while it is at home
+-- of what is caller-provided, only the region is out, or nothing is while it is available
 abbrev pub IsProvidedAlone : {X : Type 0} → Option X → ℕ → List Out → Type 0
 IsProvidedAlone region size list = MatchOption region (provided_of list ≡ size ∷ []) (λ _. provided_of list ≡ [])
 
--- it is at home, whole and all zero
+-- it is available, whole and all zero
 pub record IsAvailable (region : Option (MutBor (List ℕ))) (size : ℕ) : Type 0 where
   pub available : IsSome region
   pub whole : IfSome region (λ r. length r.now ≡ size)
   pub zero : IfSome region (λ r. ZeroFrom 0 r.now)
 
--- while it is at home a request of no more words than it has is granted, by the region
+-- while it is available, a request of no more words than it has is granted, by the region
 abbrev pub GrantsRegion : {X : Type 0} → Option X → ℕ → ℕ → ℕ → Type 0
 GrantsRegion region size asked words = IsSome region × (asked ≤ size / 8) × (words ≡ size / 8)
 
--- a request of more words than it has is rejected, and while it is away any other one
+-- a request of more words than it has fails, and while it is out so does any other one
 abbrev pub RefusesRegion : {X : Type 0} → Option X → ℕ → ℕ → ErrorKind → Type 0
 RefusesRegion region size asked kind =
     ((size / 8 < asked) × (kind ≡ AllocationTooLarge asked)) ⊎ ((asked ≤ size / 8) × (region ≡ None) × (kind ≡ SegmentTaken))
 
--- either way some segments are out, if only none
+-- in either case there is a list of the segments that are out, which may be empty
 pub some_out : {X : Type 0} (region : Option X) (size : ℕ) → (list : List Out) × IsOutAlone region size list
 some_out None size = (region_out size ∷ [], refl)
 some_out (Some x) size = ([], refl)
@@ -42,7 +42,7 @@ pub some_provided : {X : Type 0} (region : Option X) (size : ℕ) → (list : Li
 some_provided None size = (region_out size ∷ [], refl)
 some_provided (Some x) size = ([], refl)
 
--- a caller-provided region is at home
+-- a caller-provided region is available
 pub record HoldsRegion (region : Option (MutBor (List ℕ))) (bytes : ℕ) (provided : MutBor (List ℕ)) : Type 0 where
   pub same : IfSome region (λ r. r.ghost_name ≡ provided.ghost_name)
   pub available : IsSome region

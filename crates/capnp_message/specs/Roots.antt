@@ -10,21 +10,22 @@ use Rattle.capnp_wire.specs.Faults.{NoWord}
 use Rattle.capnp_wire.specs.Views.{Pointer, IsInvalidPointer, MeetsLimit}
 use Rattle.capnp_message.specs.Seen.{ReadMessage, HasRoot}
 
--- What each view of the root keeps: it shows what is there, or the root's own word is not, or the view fails for a
--- stated cause.
+-- What each view of the root keeps: the view shows what is there, or the call fails because there
+-- is no word for the root, or with a stated error of the view.
 pub record ReadsRoot {V : Type 0} (pointer : Pointer) (shows : V → Type 0) (accepts : Type 0)
     (refuses declines : ErrorKind → Type 0) (result : Result V Error) : Type 0 where
   pub returned : MatchResult result shows (λ error. NoWord pointer.message root error.kind ⊎ refuses error.kind)
   pub stands : OnOk result (HasRoot pointer)
-  -- without a limit it is had of what it accepts, and no limit is met
+  -- without a limit there is a view of what it accepts, and no error of the limit
   pub found : pointer.limit ≡ None → HasRoot pointer → accepts → IsOk result
   pub unlimited : pointer.limit ≡ None → IfErr result (λ error. error.kind ≢ ReadLimitExceeded)
-  -- where no object is, and the root itself is no view, whatever was read before
+  -- where no object is there, this is the error, whatever was read before, unless the view accepts
+  -- the pointer itself
   pub exact : (kind : ErrorKind) → IsInvalidPointer pointer kind → (accepts → ⊥) → IsErrAnd result (λ error. error.kind ≡ kind)
-  -- where an object is that is no such view
+  -- where an object is there that the view declines
   pub declined : (kind : ErrorKind) → HasRoot pointer → declines kind
       → IsErrAnd result (λ error. (error.kind ≡ kind) ⊎ MeetsLimit pointer error.kind)
-  -- where the root's own word is not
+  -- where there is no word for the root
   pub nowhere : (kind : ErrorKind) → NoWord pointer.message root kind → IsErrAnd result (λ error. error.kind ≡ kind)
 
 -- These segments are read without a traversal limit, and with objects nested up to 2 ^ 31 - 1 deep.

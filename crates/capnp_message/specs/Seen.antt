@@ -20,6 +20,6 @@ root_of segments reader = record {
   limit = reader.options.traversal_limit_in_words;
 }
 
--- its word is
+-- there is a word for the root
 abbrev pub HasRoot : Pointer → Type 0
 HasRoot pointer = (word : ℕ) × (word_at pointer.message root ≡ Some word)

@@ -23,7 +23,7 @@ use std::alloc::Global;
 use std::marker::Model;
 
 /// A message that is built, in segments that an allocator hands out. When it is dropped, each
-/// segment goes back.
+/// segment goes back to the allocator.
 ///
 /// ```
 /// let mut message = Builder::new_default(alloc);
@@ -36,7 +36,7 @@ pub struct Builder<A: Allocator> {
     pub(crate) arena: BuilderArena<A>,
 }
 
-// Clauses see the segments, the place of the root's tree, and the allocator.
+// Clauses see the segments, the location of the root's tree, and the allocator.
 impl<A: Allocator> Model for Builder<A> {
     ghost use Rattle.capnp_build.specs.Built.{Built};
 
@@ -58,8 +58,9 @@ impl<A: Allocator> Builder<A> {
 
     /// Sets the root to a value.
     ///
-    /// The value is one block: after the used words of the first segment where these leave room for
-    /// it, else with its landing pad in another segment that has room, else in a new one.
+    /// The value is written as one block: after the used words of the first segment where these
+    /// leave room for it, else with its landing pad in another segment that has room, else in a new
+    /// one.
     ///
     /// Fails with the first of these: as the allocator does to hand out the first segment
     /// (`OutOfMemory`, `AllocationTooLarge` or `SegmentTaken`), as `measure` of the value does, and
@@ -73,8 +74,8 @@ impl<A: Allocator> Builder<A> {
         self.arena.set_root::<T, V>(&value)
     }
 
-    /// Sets the root to a value in canonical form, in the first segment. As the first action on the
-    /// message it makes the one segment the canonical form.
+    /// Sets the root to a value in canonical form, in the first segment. If this is the first
+    /// action on the message, its one segment is then the canonical form.
     ///
     /// Fails with the first of these: as the allocator does to hand out the first segment, with
     /// `NotOneSegment` where there are more segments, as `measure` of the value does, and with
@@ -86,8 +87,8 @@ impl<A: Allocator> Builder<A> {
         self.arena.set_root_canonical::<T, V>(&value)
     }
 
-    /// The root as a reading view, which borrows it from the segments: null without a segment. It
-    /// has no traversal limit, and takes no segment.
+    /// The root as a view to read, which borrows it from the segments; null where there is no
+    /// segment. It has no traversal limit, and no segment is allocated.
     ///
     /// Fails as `any_pointer::Reader::get_as` of `capnp_wire` does of the root.
     pub fn get_root_as_reader<'a, T: FromPointerReader<'a, BuilderArena<A>>>(&'a self) -> Result<T>
@@ -98,7 +99,8 @@ impl<A: Allocator> Builder<A> {
         self.arena.get_root_as_reader().get_as()
     }
 
-    /// The used words of each segment, to be written. Once there is a segment, they can be.
+    /// The used words of each segment, for writing the message. Once there is a segment, they can
+    /// be written.
     pub fn get_segments_for_output(&self) -> OutputSegments<'_, A>
         ensures segments { result ≡ map used_of self.now.spaces }
         ensures writable { 0 < length self.now.spaces → IsWritable result }
@@ -106,15 +108,15 @@ impl<A: Allocator> Builder<A> {
         OutputSegments::new(&self.arena)
     }
 
-    /// The used words of all segments.
+    /// The number of used words of all segments.
     pub fn size_in_words(&self) -> usize
         ensures { result ≡ size_in_words self.now.spaces }
     {
         self.arena.size_in_words()
     }
 
-    /// The message as one that is read, without a traversal limit and with objects nested up to
-    /// 2^31 - 1 deep.
+    /// The message as one to be read, without a traversal limit and with objects nested up to 2^31
+    /// - 1 deep.
     pub fn into_reader(self) -> Reader<Builder<A>>
         ensures { IsReadUnlimited self result }
     {
@@ -152,7 +154,7 @@ impl Builder<HeapAllocator> {
     }
 }
 
-// Segment `id` is the used words of the builder's.
+// Segment `id` is the used words of the builder's segment.
 impl<A: Allocator> ReaderSegments for Builder<A> {
     ghost segments = { λ message. map used_of message.spaces };
 
@@ -162,7 +164,7 @@ impl<A: Allocator> ReaderSegments for Builder<A> {
 
     fn is_empty(&self) -> bool
         ensures empty { IsTrue result ↔ (map used_of self.now.spaces ≡ []) }
-        // So a test of this shows that the message can be written.
+        // So where this returns false, the message can be written.
         ensures some { result ≡ false → 0 < length self.now.spaces }
     {
         self.arena.is_empty()

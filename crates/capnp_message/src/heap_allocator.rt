@@ -1,4 +1,4 @@
-//! Segments from the heap.
+//! An allocator of segments from the heap.
 ghost use Rattle.std.specs.Prelude.{⊤, ◌≡◌, ℕ, ◌-◌, ◌*◌, ◌/◌, ◌≤◌, ◌<◌, ◌^◌, false, [], length, IfOk, OnOk, OnErr, IfErr};
 ghost use Rattle.capnp_frame.specs.declared.error.ErrorKind.TheVariants.{OutOfMemory};
 ghost use Rattle.capnp_message.specs.Next.{size_of, next_after};
@@ -9,23 +9,23 @@ use capnp_build::allocator::Allocator;
 use capnp_frame::{Error, ErrorKind, Result};
 use std::alloc::Global;
 
-/// How large the segments of a heap are, one after the other.
+/// How large the segments from the heap are, one after the other.
 #[derive(Clone, Copy, Debug)]
 pub enum AllocationStrategy {
-    /// Each has as many words as the first, or as many as are asked for.
+    /// Each has as many words as the first, or as many as are asked for if that is more.
     FixedSize,
-    /// Each has as many words as all before it, up to the maximum.
+    /// The next size grows by the words of each segment, up to the maximum.
     GrowHeuristically,
 }
 
-/// The words of the first segment.
+/// The number of words of the first segment.
 pub const SUGGESTED_FIRST_SEGMENT_WORDS: u32 = 1024;
 
 /// How segments grow.
 pub const SUGGESTED_ALLOCATION_STRATEGY: AllocationStrategy = AllocationStrategy::GrowHeuristically;
 
-/// Segments from the heap. Each has as many words as are asked for, or the next size where that is
-/// more.
+/// Allocates segments from the heap. Each has as many words as are asked for, or the next size
+/// where that is more.
 #[derive(Drop)]
 pub struct HeapAllocator {
     alloc: Global,
@@ -63,8 +63,8 @@ impl HeapAllocator {
         }
     }
 
-    /// Sets the maximum segment size in words, at least the next size. Larger requests still get
-    /// what they ask for.
+    /// Sets the maximum segment size in words, at least the next size. A larger request still gets
+    /// as many words as it asks for.
     pub fn max_segment_words(self, words: u32) -> HeapAllocator
         requires { self.next_size ≤ words }
         ensures { IsHeapOf self.next_size self.allocation_strategy words result }
@@ -89,7 +89,7 @@ impl HeapAllocator {
         }
     }
 
-    // Counts a segment of this many words.
+    // Counts a segment of this many words: the next size grows.
     fn grow(&mut self, size: u32)
         ensures { IsHeapOf
             (next_after self.old.allocation_strategy
@@ -126,10 +126,11 @@ impl Allocator for HeapAllocator {
 
     ghost refuses = { λ allocator asked kind. kind ≡ OutOfMemory };
 
-    // The next size is the suggested first one again, or the maximum.
+    // The next size is then the suggested first one again, or the maximum.
     ghost returns = { λ old segment words new. StartsAnew old new };
 
-    // Beside what any allocator ensures: how many words there are, and what the next size is.
+    // In addition to what any allocator ensures: how many words there are, and what the next size
+    // is.
     fn allocate_segment(&mut self, minimum_size: u32) -> Result<Vec<u8>>
         ensures hands_out { HandsOut (λ allocator list. ⊤) (λ old new. ⊤) (λ allocator asked words. ⊥)
             (λ allocator asked kind. kind ≡ OutOfMemory) (λ s. s.items) (λ s. false)

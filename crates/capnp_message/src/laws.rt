@@ -1,4 +1,4 @@
-//! Facts about the canonical forms of messages, and about regions that are given back.
+//! Facts about the canonical forms of messages, and about regions that come back.
 ghost use Rattle.std.specs.Prelude.{◌≡◌, ◌≤◌, ◌⊎◌, ℕ, List, [], ◌∷◌, Some, None, true, IfOk, IfErr};
 ghost use Rattle.capnp_frame.specs.declared.error.ErrorKind.TheVariants.{OutOfMemory};
 ghost use Rattle.capnp_wire.specs.Pointer.{words_of};
@@ -64,7 +64,7 @@ pub fn canonicalize_twice<S: ReaderSegments + Drop>(
     })
 }
 
-// Whether a canonical form of a pointer is canonical by itself, and its own canonical words.
+// Whether a canonical form of a pointer is canonical, and its own canonical words.
 fn canonicalize_form(
     alloc: Global,
     form: &[u8],
@@ -84,13 +84,13 @@ fn canonicalize_form(
     Ok((is_canonical, words))
 }
 
-/// A single region of which nothing is out is at home, and all zero.
+/// A single region of which nothing is out is available: whole, and all zero.
 pub fn a_single_region_comes_home(allocator: &SingleSegmentAllocator<'_>)
     ensures { IsOutAlone allocator.now.region allocator.now.size [] →
         IsAvailable allocator.now.region allocator.now.size }
 {}
 
-/// The region before a heap is at home where nothing caller-provided is out.
+/// The region of a scratch-space allocator is available where nothing caller-provided is out.
 pub fn a_scratch_region_comes_home(allocator: &ScratchSpaceHeapAllocator<'_>)
     ensures { IsProvidedAlone allocator.now.region allocator.now.size [] →
         IsAvailable allocator.now.region allocator.now.size }

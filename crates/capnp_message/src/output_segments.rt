@@ -1,4 +1,4 @@
-//! What is written of a message that is built.
+//! The segments of a message that is built, for writing it.
 ghost use Rattle.std.specs.Prelude.{◌≡◌, ℕ, ◌<◌, List, length, map};
 ghost use Rattle.capnp_frame.specs.Writing.{IsWritable};
 ghost use Rattle.capnp_build.specs.BuilderState.{used_of};

@@ -74,9 +74,9 @@ impl<S: ReaderSegments> Reader<S> {
     /// A message of more than one segment is not canonical, nor is one with a far pointer.
     ///
     /// Fails with `InvalidSegmentId(0)` without a segment, and else where the walk over the objects
-    /// stops before it meets what is not canonical: as a view of one of them does, or with
-    /// `ReadLimitExceeded` where they have more words than the traversal limit. The walk counts
-    /// from 0, takes no memory, and leaves what views have counted.
+    /// stops before it meets what is not canonical: with the error of a view of one of them, or
+    /// with `ReadLimitExceeded` where they have more words than the traversal limit. The walk
+    /// counts from 0, takes no memory, and does not change what views have counted.
     pub fn is_canonical(&self) -> Result<bool>
         ensures returned { let pointer = root_of S.segments self.now in
             MatchResult result (λ is. IsTrue is ↔ IsCanonical pointer.message)
@@ -94,10 +94,10 @@ impl<S: ReaderSegments> Reader<S> {
     /// The canonical form of the message, as the bytes of its one segment.
     ///
     /// Fails where there is no first word, as `get_root` does, and where a walk over the root tree
-    /// stops: as a view of one of its objects does, or with `ReadLimitExceeded` where they have
-    /// more words than the traversal limit. Above 2^29 words, the root pointer among them, it fails
-    /// with `CanonicalTooLarge`, and once the form is measured with `OutOfMemory`. The walk counts
-    /// from 0, and leaves what views have counted.
+    /// stops: with the error of a view of one of its objects, or with `ReadLimitExceeded` where
+    /// they have more words than the traversal limit. Above 2^29 words, the root pointer among
+    /// them, it fails with `CanonicalTooLarge`, and once the form is measured with `OutOfMemory`.
+    /// The walk counts from 0, and does not change what views have counted.
     pub fn canonical_segment(&self, alloc: Global) -> Result<Vec<u8>>
         ensures returned { let pointer = root_of S.segments self.now in MatchResult result
             (λ bytes. IsCanonicalForm pointer (words_of bytes.items))
@@ -112,8 +112,8 @@ impl<S: ReaderSegments> Reader<S> {
         canonical_bytes(alloc, &root)
     }
 
-    /// The canonical form of the message, word by word: equal for two messages exactly where their
-    /// root trees are equal, trimmed.
+    /// The canonical form of the message, word by word. It is equal for two messages exactly where
+    /// their root trees are equal once trimmed.
     ///
     /// Fails as `canonical_segment` does.
     ///
@@ -145,8 +145,8 @@ impl<S: ReaderSegments> Reader<S> {
         arena.into_segments()
     }
 
-    /// The words of all segments, at most `usize::MAX`. Bytes after the last whole word of a
-    /// segment are not counted.
+    /// The number of words of all segments, at most `usize::MAX`. Bytes after the last whole word
+    /// of a segment are not counted.
     pub fn size_in_words(&self) -> usize
         requires { length (S.segments self.now.segments) < 2 ^ 32 }
         ensures { result ≡ min (size_in_words (S.segments self.now.segments)) (2 ^ 64 - 1) }

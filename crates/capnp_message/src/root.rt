@@ -58,8 +58,8 @@ impl<A: Allocator> Builder<A> {
     /// Makes the root a new object of length `n`, all zero, and returns a view that writes it.
     ///
     /// Fails as the allocator does to hand out the first segment; with a kind that `refuses` of the
-    /// type names, for the types of `capnp_build` with `AllocationTooLarge`, where it has no object
-    /// of this length; and for want of room as `set_root` does. The root is then null.
+    /// type names, where the type has no object of this length (the types of `capnp_build` with
+    /// `AllocationTooLarge`); and for want of room as `set_root` does. The root is then null.
     ///
     /// ```
     /// let mut numbers = message.initn_root::<primitive_list::Owned<u64>>(3)?;
@@ -94,8 +94,9 @@ impl<A: Allocator> Builder<A> {
     /// The object at the root, as a view that writes it.
     ///
     /// Fails as the allocator does to hand out the first segment, and with a kind that `declines`
-    /// of the type names, where it doesn't take the object: for the types of `capnp_build` with
-    /// `WrongPointerKind` or `TextNotTerminated`, as their reading views do. The root stays.
+    /// of the type names, where the type doesn't accept the object (the types of `capnp_build` with
+    /// `WrongPointerKind` or `TextNotTerminated`, as their reading views do). The root stays as it
+    /// is.
     pub fn get_root<'a, K: OwnedBuilder>(&'a mut self) -> Result<View<'a, Builder<A>, K>>
         ensures* rests { sem 𝓛 (RestsIfErr
             (the_row A.row A.Segment.row A.Allocator A.Segment.SegmentSpace)

@@ -1,4 +1,4 @@
-//! One region first, then segments from the heap.
+//! An allocator of one caller-provided region first, and then of segments from the heap.
 ghost use Rattle.std.specs.Prelude.{◌≡◌, ◌⊎◌, ℕ, ◌*◌, ◌/◌, ◌^◌, ◌<◌, ◌≤◌, true, false, length, IfOk, IfErr, IsSome, IsOk, OnOk, OnErr, None};
 ghost use Rattle.std.specs.Option.{ForSome};
 ghost use Rattle.capnp_frame.specs.declared.error.ErrorKind.TheVariants.{OutOfMemory};
@@ -66,8 +66,8 @@ impl<'a> SegmentSpace for ScratchSegment<'a> {
     }
 }
 
-/// One caller-provided region, where it is not handed out and large enough, else segments from the
-/// heap. While it is not handed out, the region is all zero.
+/// Hands out one caller-provided region, while it is available and large enough, and else segments
+/// from the heap. While the region is available, it is all zero.
 #[derive(Drop)]
 pub struct ScratchSpaceHeapAllocator<'a> {
     region: Option<&'a mut [u8]>,
@@ -141,11 +141,11 @@ impl<'a> Allocator for ScratchSpaceHeapAllocator<'a> {
 
     ghost refuses = { λ allocator asked kind. kind ≡ OutOfMemory };
 
-    // The region is back, or the heap is as after a return to it.
+    // The region is available again, or the heap is as after taking back one of its segments.
     ghost returns = { λ old segment words new. ReturnsTo segment.is_provided old new };
 
-    // Beside what any allocator ensures: where the region is caller-provided, and what the heap
-    // hands out.
+    // In addition to what any allocator ensures: where the segment is the caller-provided region,
+    // and what the heap hands out.
     fn allocate_segment(&mut self, minimum_size: u32) -> Result<ScratchSegment<'a>>
         ensures hands_out { HandsOut (λ allocator. IsProvidedAlone allocator.region allocator.size)
             (λ old new. new.size ≡ old.size)
@@ -174,7 +174,7 @@ impl<'a> Allocator for ScratchSpaceHeapAllocator<'a> {
         Ok(ScratchSegment::Owned(segment))
     }
 
-    // What was used of the region is made zero, so all of it is zero while it is not handed out. A
+    // What was used of the region is made zero, so all of it is zero while it is available. A
     // segment from the heap goes back to the heap, as to a heap alone.
     fn deallocate_segment(&mut self, segment: ScratchSegment<'a>, words_used: u32) {
         match segment {

@@ -1,4 +1,4 @@
-//! One region, as the only segment.
+//! An allocator of one caller-provided region.
 ghost use Rattle.std.specs.Prelude.{◌≡◌, ◌≢◌, ◌⊎◌, ℕ, ◌*◌, ◌/◌, ◌^◌, ◌<◌, ◌≤◌, true, length, IsSome, IsNone, IsOk, OnOk, None, Some};
 ghost use Rattle.std.specs.Option.{ForSome};
 ghost use Rattle.std.specs.Result.{IsErrAnd};
@@ -11,8 +11,8 @@ ghost use Rattle.capnp_build.specs.Allocating.{HandsOut};
 use capnp_build::allocator::Allocator;
 use capnp_frame::{Error, ErrorKind, Result};
 
-/// One caller-provided region, as the only segment. It takes no memory. While it is not handed out,
-/// it is all zero.
+/// Hands out one caller-provided region, as the only segment. It takes no memory. While the region
+/// is available, it is all zero.
 ///
 /// ```
 /// let mut region = [0; 24];
@@ -60,7 +60,7 @@ impl<'a> Allocator for SingleSegmentAllocator<'a> {
 
     ghost returns = { λ old segment words new. IsAvailable new.region old.size };
 
-    // Beside what any allocator ensures: when it fails, and with which kind.
+    // In addition to what any allocator ensures: when it fails, and with which kind.
     fn allocate_segment(&mut self, minimum_size: u32) -> Result<&'a mut [u8]>
         ensures hands_out { HandsOut (λ allocator. IsOutAlone allocator.region allocator.size)
             (λ old new. new.size ≡ old.size)
@@ -83,7 +83,7 @@ impl<'a> Allocator for SingleSegmentAllocator<'a> {
         }
     }
 
-    // What was used is made zero, so all of the region is zero while it is not handed out.
+    // What was used is made zero, so all of the region is zero while it is available.
     fn deallocate_segment(&mut self, segment: &'a mut [u8], words_used: u32) {
         segment[..8 * words_used as usize].fill(0);
         self.region = Some(segment);

@@ -72,7 +72,7 @@ impl<T, A: Allocator> TypedBuilder<T, A> {
         &self.message
     }
 
-    /// The message, to be changed.
+    /// The message, to change it.
     pub fn borrow_inner_mut(&mut self) -> &mut Builder<A>
         ensures* writes_back { sem 𝓛 (Lends
             (typed_row T.row A.row A.Segment.row A.Allocator A.Segment.SegmentSpace)
@@ -83,8 +83,8 @@ impl<T, A: Allocator> TypedBuilder<T, A> {
         &mut self.message
     }
 
-    /// The message as one that is read, without a traversal limit and with objects nested up to
-    /// 2^31 - 1 deep.
+    /// The message as one to be read, without a traversal limit and with objects nested up to 2^31
+    /// - 1 deep.
     pub fn into_reader(self) -> TypedReader<Builder<A>, T>
         ensures { IsReadUnlimited self result }
     {
@@ -99,7 +99,7 @@ impl<T, A: Allocator> TypedBuilder<T, A> {
         self.message.set_root::<T, V>(value)
     }
 
-    /// The root as a reading view of its type. It fails as `get_root_as_reader` of the message
+    /// The root as a view of its type to read. It fails as `get_root_as_reader` of the message
     /// does.
     pub fn get_root_as_reader<'a>(&'a self) -> Result<T::Reader>
     where

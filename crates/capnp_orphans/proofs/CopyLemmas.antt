@@ -1,4 +1,5 @@
--- Copies of what a reader shows (src/copied.rt): their words, and a pointer that is copied or rejected.
+-- Copies of what a reader shows (src/copied.rt): their words, and a pointer that is copied, or
+-- can't be.
 use Rattle.std.proofs.Common.{◌≡◌, ℕ, zero, suc, ◌+◌, ◌*◌, ◌/◌, ◌^◌, ◌<◌, ◌≤◌, ◌⊎◌, inl, inr, length, take, List, [], ◌∷◌, ◌++◌, Option, Some, MatchOption, Result, refl, sym, ◌∙◌, ap, subst, arith, append_assoc, length-append}
 use Rattle.std.specs.Prelude.{slice_set, slice_index, replicate, true, false, ◌-◌, ◌%◌, ◌==◌, if◌then◌else◌}
 use Rattle.std.specs.Result.{IsErrAnd}
@@ -103,7 +104,7 @@ Stops pointer before segment kind = RefusesCopy pointer kind
     ⊎ ((words : ℕ) × TakesCopy pointer words × (kind ≡ AllocationTooLarge words)
     × ((2 ^ 29 ≤ length segment.bytes / 8 + before + words) ⊎ ExceedsMost (before + words) segment))
 
--- it is rejected
+-- it can't be
 pub stopped : {T : Type 0} (pointer : Pointer) (before : ℕ) (kind : ErrorKind) (old between : Segment) (result : Result T Error) → Appends before old between → between.most ≡ old.most
     → Fails (TakesCopy pointer) (RefusesCopy pointer) between result → Stops pointer before old kind → IsErrAnd result (λ error. error.kind ≡ kind)
 stopped pointer before kind old between result appends most fails (inl refused) = fails.exact kind refused

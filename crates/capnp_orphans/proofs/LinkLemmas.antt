@@ -1,4 +1,4 @@
--- Pointers to orphans: what is read where they are.
+-- Pointers to orphans: what is read at their places.
 use Rattle.std.proofs.Common.{◌≡◌, ℕ, zero, suc, ◌+◌, ◌-◌, ◌*◌, ◌/◌, ◌%◌, ◌^◌, ◌<◌, ◌≤◌, List, [], ◌∷◌, ◌++◌, length, Some, None, Option, slice_get, refl, ◌∙◌, ap, arith}
 use Rattle.capnp_wire.specs.Tree.{Form, null, struct, numbers, pointers, structs}
 use Rattle.capnp_wire.specs.Object.{is_null}
@@ -57,7 +57,7 @@ some_struct segment place start words links low small some room stand h =
 empty_points : (segment : List ℕ) (word : ℕ) → slice_get segment word ≡ Some (struct_pointer minus_one 0 0) → Points segment word (struct_pointer minus_one 0 0) word
 empty_points segment word stand = record { stands = stand; positive = omega arith; is_local = omega arith; target = omega arith }
 
--- an object is read where its words are, wherever the pointer to it is
+-- an object is read from its words, wherever the pointer to it is
 pub read_link : (segment : List ℕ) (place start : ℕ) (form : Form) (links : List ℕ) → place < 2 ^ 29 → start < 2 ^ 29 → place ≤ length segment → HasRoom form (length links)
     → slice_get segment place ≡ Some (link (pointer form (length links) start) place) → Holds segment start (own form links) → Read (segment ∷ []) 0 segment place start form links
 read_link segment place start null [] low small within room stand h = record { traversed = 0; object = is_null stand; linked = refl }

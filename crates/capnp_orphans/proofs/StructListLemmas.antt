@@ -141,7 +141,7 @@ split_orphans body (word ∷ a) b (tree form children others) are =
     let s = split_orphans body a b others are.1 in
     record { front = tree form children s.front; rest = s.rest; whole = ap (λ (t : Trees). tree form children t) s.whole; front_are = (are.0, s.front_are); rest_are = s.rest_are }
 
--- the trees that the structs hold are at their pointers
+-- the trees below the structs are at their pointers
 rows_stand : {T : Type 0} {D P : ℕ} (first : ℕ) (body more : List ℕ) (xs : List (StructDraft T D P)) (trees : Trees) (place : ℕ) → AreSized xs → AreOrphans body (adopted_by xs) trees
     → place + length xs * (D + P) ≤ 2 ^ 29 → Holds (first ∷ (body ++ more)) place (elements xs place)
     → (traversed : ℕ) × At ((first ∷ (body ++ more)) ∷ []) (row_places 0 place D P (length xs)) trees traversed

@@ -1,4 +1,4 @@
--- What drafts take of structs that are read (src/copied.rt).
+-- What drafts take from structs that are read (src/copied.rt).
 use Rattle.std.specs.Prelude.{◌≡◌, ◌⊎◌, ℕ, zero, suc, ◌+◌, ◌-◌, ◌/◌, ◌^◌, ◌<◌, ◌≤◌, min, false, List, [], ◌∷◌, ◌++◌, length, take, replicate, slice_index_or, Result, IfOk, IfErr, IsOk, OnOk}
 use Rattle.std.specs.Result.{IsErrAnd}
 use Rattle.capnp_frame.specs.declared.error.Error.{Error}
@@ -12,7 +12,7 @@ use Rattle.capnp_orphans.specs.Segments.{Segment, body_of, Appends, ExceedsMost}
 use Rattle.capnp_orphans.specs.Held.{AreValues}
 use Rattle.capnp_orphans.specs.Adding.{Keeps, LacksRoom, HasRoom}
 
--- the data words of a struct, cut to a given number or filled up with zeros
+-- the data words of a struct, cut to this many or filled up with zeros
 abbrev pub words_in : Struct → ℕ → List ℕ
 words_in fields count = take count (fields.words ++ replicate count 0)
 
@@ -21,20 +21,21 @@ abbrev pub pointers_in : Struct → ℕ → List Pointer
 pointers_in fields zero = []
 pointers_in fields (suc count) = pointers_in fields count ++ pointer_in fields count ∷ []
 
--- the words of a copy of what a pointer leads to, and why it has none
+-- how many words a copy of what a pointer leads to has, and why there is none
 abbrev pub TakesCopy : Pointer → ℕ → Type 0
 TakesCopy pointer words = HasWords (LeadsToTree pointer) false words
 
 abbrev pub RefusesCopy : Pointer → ErrorKind → Type 0
 RefusesCopy pointer kind = LacksWords (LeadsToTree pointer) (StopsWalkFrom pointer) false kind
 
--- the words of copies of what its first pointers lead to
+-- how many words the copies of what its first pointers lead to have
 abbrev pub TakesCopies : Struct → ℕ → ℕ → Type 0
 TakesCopies fields zero words = words ≡ 0
 TakesCopies fields (suc count) words =
     (before last : ℕ) × TakesCopies fields count before × TakesCopy (pointer_in fields count) last × (words ≡ before + last)
 
--- Where copying fails: the pointers before this one are copied, and it is rejected, or there is no room for its words.
+-- Where copying fails: the pointers before this one are copied, and this one can't be, or there is
+-- no room for its words.
 pub record StopsAt (fields : Struct) (count : ℕ) (old new : Segment) (kind : ErrorKind) : Type 0 where
   pub index : ℕ
   pub before : ℕ
@@ -45,14 +46,14 @@ pub record StopsAt (fields : Struct) (count : ℕ) (old new : Segment) (kind : E
 
 -- What copying the first pointers of a struct keeps. `old` and `new` are the segment before and after it.
 pub record Copies {T : Type 0} (fields : Struct) (count : ℕ) (old new : Segment) (pointers : T → List ℕ) (result : Result T Error) : Type 0 where
-  -- each orphan holds the tree that the pointer leads to, and null stays null
+  -- each orphan is of the tree that the pointer leads to, and null stays null
   pub copies : IfOk result (λ made. AreValues LeadsToTree (body_of new) (pointers_in fields count) (pointers made))
   pub nulls : (index : ℕ) → index < count → Denotes (pointer_in fields index) nothing → IfOk result (λ made. slice_index_or (pointers made) index 0 ≡ 0)
-  -- all orphans hold what they held, also after a failure
+  -- all orphans keep their trees, also after a failure
   pub keeps : Keeps old new
-  -- just the copies are appended
+  -- exactly the copies are appended
   pub appended : OnOk result ((words : ℕ) × TakesCopies fields count words × Appends words old new)
-  -- it fails at the first pointer that is rejected, or whose copy there is no room for
+  -- it fails at the first pointer that can't be copied, or whose copy there is no room for
   pub kind : IfErr result (λ error. StopsAt fields count old new error.kind)
   -- it succeeds where there is room for the copies in the memory that is there
   pub fits : (words : ℕ) → TakesCopies fields count words → HasRoom words old → IsOk result
@@ -61,7 +62,7 @@ pub record Copies {T : Type 0} (fields : Struct) (count : ℕ) (old new : Segmen
       → StopsWalkFrom (pointer_in fields index) kind → IsErrAnd result (λ error. error.kind ≡ kind)
   pub large : (index before : ℕ) (trees : Trees) → index < count → TakesCopies fields index before → HasRoom before old → LeadsToTree (pointer_in fields index) trees
       → 2 ^ 29 ≤ total_words trees → IsErrAnd result (λ error. error.kind ≡ AllocationTooLarge (min (total_words trees) (2 ^ 32 - 1)))
-  -- nor is one by which a segment would have 2 ^ 29 words, or a region more than it has room for
+  -- nor is one with which a segment would have 2 ^ 29 words, or a region more than it has room for
   pub long : (index before words : ℕ) → index < count → TakesCopies fields index before → HasRoom before old → TakesCopy (pointer_in fields index) words
       → 2 ^ 29 ≤ length old.bytes / 8 + before + words → IsErrAnd result (λ error. error.kind ≡ AllocationTooLarge words)
   pub full : (index before words : ℕ) → index < count → TakesCopies fields index before → HasRoom before old → TakesCopy (pointer_in fields index) words

@@ -1,5 +1,5 @@
--- What orphans hold (src/draft.rt, src/orphanage.rt). In each fact `body` is the body of the segment, `old` the body before the
--- orphan was written, and `word` the orphan's.
+-- What orphans are (src/draft.rt, src/orphanage.rt). In each fact `body` is the body of the
+-- segment, `old` the body before the orphan was written, and `word` the orphan's word.
 use Rattle.std.specs.Prelude.{◌≡◌, ◌⊎◌, ⊤, ℕ, ◌+◌, ◌-◌, ◌*◌, ◌^◌, ◌<◌, ◌≤◌, min, List, [], ◌∷◌, ◌++◌, length, All}
 use Rattle.capnp_frame.specs.declared.error.ErrorKind.{ErrorKind}
 use Rattle.capnp_frame.specs.declared.error.ErrorKind.TheVariants.{AllocationTooLarge}
@@ -18,17 +18,17 @@ HoldsValue has_tree body word = (form : Form) × (children : Trees) × has_tree 
 
 -- It is a struct of these data words, written right after the old body, which has adopted the orphans of these words.
 pub record HoldsStruct (old words adopted body : List ℕ) (word : ℕ) : Type 0 where
-  -- it holds what these are
+  -- its tree has the trees of these orphans
   pub tree_is : (children : Trees) → AreOrphans old adopted children → IsOrphan body word (struct words) children
-  -- whatever they are, its words are these
+  -- whatever the orphans are, its words are these
   pub words_are : body ≡ old ++ (words ++ links adopted (1 + length old + length words))
   pub word_is : word ≡ pointer (struct words) (length adopted) (1 + length old)
 
 -- It is a list of the pointers to these orphans, written right after the old body.
 pub record HoldsPointers (old adopted body : List ℕ) (word : ℕ) : Type 0 where
-  -- it holds what these are
+  -- its tree has the trees of these orphans
   pub tree_is : (children : Trees) → AreOrphans old adopted children → IsOrphan body word pointers children
-  -- whatever they are, its words are these
+  -- whatever the orphans are, its words are these
   pub words_are : body ≡ old ++ links adopted (1 + length old)
   pub word_is : word ≡ list_pointer (1 + length old) 6 (length adopted)
 
@@ -46,16 +46,16 @@ abbrev pub adopted_by : {T : Type 0} {D P : ℕ} → List (StructDraft T D P) �
 adopted_by [] = []
 adopted_by (draft ∷ drafts) = draft.pointers ++ adopted_by drafts
 
--- the words of structs, the one after the other from a place on
+-- the words of structs, one after the other from a place on
 abbrev pub elements : {T : Type 0} {D P : ℕ} → List (StructDraft T D P) → ℕ → List ℕ
 elements [] place = []
 elements {D = D} {P = P} (draft ∷ drafts) place = (draft.words ++ links draft.pointers (place + D)) ++ elements drafts (place + D + P)
 
 -- It is the list of these structs, written right after the old body: their tag, and then their words.
 pub record HoldsStructs {T : Type 0} {D P : ℕ} (old : List ℕ) (drafts : List (StructDraft T D P)) (body : List ℕ) (word : ℕ) : Type 0 where
-  -- it holds what the orphans are that they have adopted
+  -- its tree has the trees of the orphans that they have adopted
   pub tree_is : (children : Trees) → AreOrphans old (adopted_by drafts) children → IsOrphan body word (structs D P (rows_of drafts)) children
-  -- whatever these are, its words are these
+  -- whatever the orphans are, its words are these
   pub words_are : body ≡ old ++ (struct_pointer (length drafts) D P ∷ elements drafts (2 + length old))
   pub word_is : word ≡ list_pointer (1 + length old) 7 (length drafts * (D + P))
 
@@ -64,7 +64,7 @@ abbrev pub AreSized : {T : Type 0} {D P : ℕ} → List (StructDraft T D P) → 
 AreSized [] = ⊤
 AreSized {D = D} {P = P} (draft ∷ drafts) = ((length draft.words ≡ D) × (length draft.pointers ≡ P) × All (λ w. w < 2 ^ 64) draft.words) × AreSized drafts
 
--- Orphans in order are these values, each of which is such a tree.
+-- Orphans in order are those of these values, each of which is such a tree.
 abbrev pub AreValues : {A : Type 0} → (A → Trees → Type 0) → List ℕ → List A → List ℕ → Type 0
 AreValues has_tree body [] [] = ⊤
 AreValues has_tree body [] (word ∷ words) = ⊥
@@ -84,18 +84,18 @@ FitsPointer d p = (d < 2 ^ 16) × (p < 2 ^ 16)
 abbrev pub ExceedsPointer : ℕ → ℕ → ErrorKind → Type 0
 ExceedsPointer d p kind = (2 ^ 16 ≤ d ⊎ 2 ^ 16 ≤ p) × (kind ≡ AllocationTooLarge (2 ^ 16))
 
--- the words of a struct, and why it has none
+-- how many words a struct has, and why it can't be written
 abbrev pub TakesStruct : ℕ → ℕ → ℕ → Type 0
 TakesStruct d p words = FitsPointer d p × (words ≡ d + p)
 
--- the words of a list of a given number of pointers, and why it has none
+-- how many words a list of this many pointers has, and why it can't be written
 abbrev pub TakesPointers : ℕ → ℕ → Type 0
 TakesPointers n words = (n < 2 ^ 29) × (words ≡ n)
 
 abbrev pub ManyPointers : ℕ → ErrorKind → Type 0
 ManyPointers n kind = (2 ^ 29 ≤ n) × (kind ≡ AllocationTooLarge (min n (2 ^ 32 - 1)))
 
--- the words of a list of a given number of structs, its tag among them, and why it has none
+-- how many words a list of this many structs has, with its tag, and why it can't be written
 abbrev pub TakesStructs : ℕ → ℕ → ℕ → ℕ → Type 0
 TakesStructs d p n words = FitsPointer d p × (n < 2 ^ 29) × (words ≡ 1 + n * (d + p)) × (words < 2 ^ 29)
 

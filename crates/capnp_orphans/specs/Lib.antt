@@ -1,4 +1,4 @@
--- What a segment holds that is built from the bottom up.
+-- What is in a segment that is built from the bottom up.
 pub mod Orphans
 pub mod Segments
 pub mod Held

@@ -1,4 +1,4 @@
--- What callers conclude of orphans, for their own proofs.
+-- What callers may conclude about orphans, in proofs of their own.
 use Rattle.std.specs.Prelude.{◌≡◌, ℕ, ◌+◌, ◌<◌, List, [], ◌∷◌, ◌++◌, length, take, map, slice_index_or, Result, Ok, Err, IfOk, refl}
 use Rattle.std.proofs.Common.{sym, ◌∙◌, ap, subst, append_assoc, slice_get, Some}
 use Rattle.std.proofs.lemmas.List.{map-append, take_more}
@@ -12,7 +12,7 @@ use Rattle.capnp_orphans.specs.Segments.{Segment, body_of}
 use Rattle.capnp_orphans.specs.Held.{HoldsValue, HoldsStruct, HoldsPointers, HoldsStructs, rows_of, adopted_by, AreValues, AreTrees}
 use Rattle.capnp_orphans.specs.Adding.{Keeps, SetsRoot}
 
--- what is held stays held when words are appended
+-- an orphan is still one of the same tree when words are appended
 pub still_orphan : (body more : List ℕ) (word : ℕ) (form : Form) (children : Trees) → IsOrphan body word form children → IsOrphan (body ++ more) word form children
 still_orphan body more word form children h = record {
   leads = λ first others place low stand.
@@ -22,7 +22,7 @@ still_orphan body more word form children h = record {
       subst (λ (l : List ℕ). StandsAt l place form children) (sym same) (h.leads first (more ++ others) place low there);
 }
 
--- two steps
+-- two steps, one after the other
 pub keeps_on : (first second third : Segment) → Keeps first second → Keeps second third → Keeps first third
 keeps_on first second third one two = λ word form children h. two word form children (one word form children h)
 
@@ -56,7 +56,7 @@ pub one_value_more : {A : Type 0} (has_tree : A → Trees → Type 0) (old new :
 one_value_more has_tree old new values words value word keeps are is =
     one_more has_tree (body_of new) values words value word (kept_values has_tree old new values words keeps are) is
 
--- The next value of a list, whose orphan is pushed: of a loop the step.
+-- The next value of a list, whose orphan is pushed: the step of a loop.
 pub pushed_value : {A B : Type 0} (has_tree : A → Trees → Type 0) (old new : Segment) (values : List A) (i : ℕ) (d : A) (word : B → ℕ) (items pushed : List B) (object : B) → i < length values
     → Keeps old new → pushed ≡ items ++ object ∷ [] → AreValues has_tree (body_of old) (take i values) (map word items) → HoldsValue (has_tree (slice_index_or values i d)) (body_of new) (word object)
     → AreValues has_tree (body_of new) (take (i + 1) values) (map word pushed)
@@ -77,7 +77,8 @@ their_trees has_tree body (value ∷ values) (word ∷ words) are =
     let r = their_trees has_tree body values words are.1 in
     (tree are.0.0 are.0.1 r.0, (are.0.3, r.1), (are.0.2, r.2))
 
--- what is added is a value, once it is known what the orphans are that it has adopted: a struct, a list of pointers, of structs
+-- what is added is a value, once the trees of the orphans are known that it has adopted: a struct,
+-- a list of pointers, a list of structs
 pub struct_value : {T : Type 0} (old new words adopted : List ℕ) (children : Trees) (has_tree : Trees → Type 0) (word : T → ℕ) (result : Result T Error) → AreOrphans old adopted children
     → has_tree (tree (struct words) children none) → IfOk result (λ object. HoldsStruct old words adopted new (word object)) → IfOk result (λ object. HoldsValue has_tree new (word object))
 struct_value old new words adopted children has_tree word (Ok object) are is h = (struct words, children, is, h.tree_is children are)

@@ -1,12 +1,13 @@
--- Objects of one segment that no pointer needs to lead to yet (src/orphan.rt). Each is written once, when all that it holds is
--- written, and no word of it changes after that; of the segment only its first word, the root's, does. What is after that
--- one is here the body of the segment.
+-- Objects of one segment to which no pointer leads yet (src/orphan.rt). Each is written once, when
+-- everything below it is written, and no word of it changes after that; of the segment only the
+-- first word, the root's, does. What comes after that word is called the body of the segment here.
 use Rattle.std.specs.Prelude.{◌≡◌, ℕ, ◌+◌, ◌-◌, ◌*◌, ◌/◌, ◌%◌, ◌^◌, ◌<◌, ◌==◌, if◌then◌else◌, List, [], ◌∷◌, ◌++◌, Some, slice_get}
 use Rattle.capnp_wire.specs.Tree.{Form, Trees, none, tree}
 use Rattle.capnp_wire.specs.Reached.{At}
 
--- The word of an orphan is the pointer to it, with the word of the segment where it begins in place of the offset. This is the
--- pointer that leads there from a place. Null, and the pointer to a struct of no words, stay as they are.
+-- The word of an orphan is the pointer to it, with the index of the word at which it begins in
+-- place of the offset. This is the pointer that leads to it from a given place. Null, and the
+-- pointer to a struct of no words, stay as they are.
 abbrev pub link : ℕ → ℕ → ℕ
 link word place =
     if word % 4 + word / 2 ^ 32 == 0 then word
@@ -22,13 +23,13 @@ abbrev pub StandsAt : List ℕ → ℕ → Form → Trees → Type 0
 StandsAt segment place form children =
     (traversed : ℕ) × At (segment ∷ []) (record { segment = 0; word = place } ∷ []) (tree form children none) traversed
 
--- Wherever the pointer to the orphan is in the segment, and whatever the root's word is and comes after the words that were
--- written so far, it stands for this tree.
+-- Wherever in the segment the pointer to the orphan is put, whatever the root's word is, and
+-- whatever is written after the words that are there, the pointer stands for this tree.
 pub record IsOrphan (body : List ℕ) (word : ℕ) (form : Form) (children : Trees) : Type 0 where
   pub leads : (first : ℕ) (more : List ℕ) (place : ℕ) → place < 2 ^ 29 → slice_get (first ∷ (body ++ more)) place ≡ Some (link word place)
       → StandsAt (first ∷ (body ++ more)) place form children
 
--- orphans in order are these trees
+-- orphans in order are those of these trees
 abbrev pub AreOrphans : List ℕ → List ℕ → Trees → Type 0
 AreOrphans body [] trees = trees ≡ none
 AreOrphans body (word ∷ words) none = ⊥

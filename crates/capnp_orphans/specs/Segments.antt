@@ -6,7 +6,8 @@ use Rattle.capnp_frame.specs.declared.error.ErrorKind.{ErrorKind}
 use Rattle.capnp_frame.specs.declared.error.ErrorKind.TheVariants.{OutOfMemory, AllocationTooLarge}
 use Rattle.capnp_wire.specs.Pointer.{words_of}
 
--- what is seen of a segment: its bytes, how many it can have at most, where that is known, and how many in the memory that it has
+-- what is seen of a segment: its bytes, how many it can have at most, where that is known, and how
+-- many fit the memory that it has
 pub record Segment : Type 0 where
   pub bytes : List ℕ
   pub most : Option ℕ
@@ -16,37 +17,39 @@ pub record Segment : Type 0 where
 abbrev pub body_of : Segment → List ℕ
 body_of segment = drop 1 (words_of segment.bytes)
 
--- it has whole words, the root's at least, and as few as a pointer can reach
+-- it is whole words, at least the root's, and not more than a pointer can reach
 pub record IsSegment (segment : Segment) : Type 0 where
   pub whole : length segment.bytes % 8 ≡ 0
   pub rooted : 8 ≤ length segment.bytes
   pub few : length segment.bytes < 2 ^ 32
 
--- the root's word alone, which is null, in the memory that was there
+-- only the root's word, which is null, in the same memory
 abbrev pub with_root_alone : Segment → Segment
 with_root_alone segment = record { bytes = replicate 8 0; most = segment.most; capacity = segment.capacity }
 
--- A given number of words are appended; all others stay, the root's among them.
+-- This many words are appended; all others stay, the root's among them.
 pub record Appends (words : ℕ) (old new : Segment) : Type 0 where
   pub block : List ℕ
   pub len : length block ≡ 8 * words
   pub bytes_are : new.bytes ≡ old.bytes ++ block
   pub body_is : body_of new ≡ body_of old ++ words_of block
 
--- for a given number of words more there is room in the memory that it has
+-- there is room for this many more words in the memory that it has
 abbrev pub GrantsWords : ℕ → Segment → Type 0
 GrantsWords words segment = length segment.bytes + 8 * words ≤ segment.capacity
 
--- it can't have as many
+-- it can't have this many more words
 abbrev pub ExceedsMost : ℕ → Segment → Type 0
 ExceedsMost words segment = MatchOption segment.most ⊥ (λ most. most < length segment.bytes + 8 * words)
 
--- why it does not take as many: a region is full, or on the heap more memory was needed, and rejected
+-- why this many more words can't be appended: a region is full, or on the heap more memory is
+-- needed and can't be had
 abbrev pub RefusesWords : ℕ → Segment → ErrorKind → Type 0
 RefusesWords words segment kind = (segment.capacity < length segment.bytes + 8 * words)
     × MatchOption segment.most (kind ≡ OutOfMemory) (λ most. (most < length segment.bytes + 8 * words) × (kind ≡ AllocationTooLarge words))
 
--- An object of a given number of words is appended, of which this holds by the bodies before and after it and by its word.
+-- An object of this many words is appended; `holds` says what it is, by the bodies before and after
+-- that, and by its word.
 pub record AppendsObject (holds : List ℕ → List ℕ → ℕ → Type 0) (words : ℕ) (old new : Segment) (result : Result ℕ Error) : Type 0 where
   pub appended : OnOk result (Appends words old new)
   pub holds_is : IfOk result (λ word. holds (body_of old) (body_of new) word)
@@ -58,14 +61,15 @@ pub record AppendsObject (holds : List ℕ → List ℕ → ℕ → Type 0) (wor
   pub memory : old.capacity ≤ new.capacity
   pub children : OnOk result (length new.bytes ≤ new.capacity)
 
--- the root's word is another one
+-- the root's word is replaced by this one
 pub record PutsRoot (word : ℕ) (old new : Segment) : Type 0 where
   pub words_are : words_of new.bytes ≡ word ∷ body_of old
   pub len : length new.bytes ≡ length old.bytes
   pub most : new.most ≡ old.most
   pub memory : new.capacity ≡ old.capacity
 
--- a block of a given number of words over the bytes from one on, and what holds of it once it follows a body
+-- a block of this many words is written over the bytes from this one on, and this is true of it
+-- once it follows a body
 pub record IsWrittenOver (from words : ℕ) (holds : List ℕ → List ℕ → ℕ → Type 0) (word : ℕ) (old new : List ℕ) : Type 0 where
   pub block : List ℕ
   pub block_long : length block ≡ 8 * words

@@ -13,9 +13,9 @@ use capnp_wire::any_pointer;
 use capnp_wire::any_struct::StructReader;
 
 impl<T, const D: usize, const P: usize> StructDraft<T, D, P> {
-    /// A struct of the data words of one that is read: cut to as many as the draft has, or filled
-    /// up with zeros, as a reader of the type reads them (encoding document, "Structs"). All its
-    /// pointers are null.
+    /// A struct with the data words of a struct that is read: cut to as many as the draft has, or
+    /// filled up with zeros, as a reader of the type reads them (encoding document, "Structs"). All
+    /// its pointers are null.
     pub fn from_data_section<R: ReaderSegments>(
         fields: &StructReader<'_, R>,
     ) -> StructDraft<T, D, P>
@@ -27,12 +27,12 @@ impl<T, const D: usize, const P: usize> StructDraft<T, D, P> {
         StructDraft::of_words(words, [0; P])
     }
 
-    /// A struct of the data words of one that is read, and of copies of what its pointers lead to,
-    /// each as `Orphanage::set` of that pointer writes it. Pointers beyond those of the draft are
-    /// left out; past the last one that is read they are null.
+    /// A struct with the data words of a struct that is read, and with copies of what its pointers
+    /// lead to, each written as `Orphanage::set` of that pointer writes it. Pointers beyond those
+    /// of the draft are left out; past the last one that is read they are null.
     ///
     /// Fails as `Orphanage::set` does of the first pointer that can't be copied. What was copied
-    /// before then stays in the segment, and no pointer leads to it.
+    /// before that stays in the segment, and no pointer leads to it.
     pub fn from_reader<R: ReaderSegments, S: GrowingSegment>(
         fields: &StructReader<'_, R>,
         objects: &mut Orphanage<S>,

@@ -14,7 +14,8 @@ use std::marker::PhantomData;
 /// A struct of a type of a schema, of this many data words and pointers, that is not written yet
 /// (encoding document, "Structs").
 ///
-/// It may be written more than once. What it has adopted is then held by each of these structs.
+/// It may be written more than once. Then each of the structs that are written has pointers to what
+/// it has adopted.
 ///
 /// ```
 /// let mut phone = StructDraft::<any_struct::Owned, 1, 1>::new();
@@ -28,7 +29,7 @@ pub struct StructDraft<T, const D: usize, const P: usize> {
     pub words: [u64; D],
 
     /// The words of the orphans that it has adopted, 0 for null. A word that no call returned does
-    /// as little harm as that of an orphan of another orphanage.
+    /// no more harm than that of an orphan of another orphanage.
     pub pointers: [u64; P],
 
     /// Its type in a schema.
@@ -62,7 +63,7 @@ impl<T, const D: usize, const P: usize> StructDraft<T, D, P> {
         }
     }
 
-    /// Sets a field of the data section, at an offset in units of its own width.
+    /// Sets a field of the data section, at an offset in units of the field's own width.
     #[inline(always)]
     pub fn set_data_field<N: PrimitiveElement>(&mut self, offset: u32, value: N)
         requires { width N.code * (offset + 1) ≤ 64 * D }
@@ -73,9 +74,9 @@ impl<T, const D: usize, const P: usize> StructDraft<T, D, P> {
         put_field(&mut self.words, N::size().bits(), offset, value.to_bits());
     }
 
-    /// Sets a field that has a default, at an offset in units of its own width. The data section
-    /// gets the bits in which the number differs from the default (encoding document, "Default
-    /// Values").
+    /// Sets a field that has a default, at an offset in units of the field's own width. The data
+    /// section gets the bits of the number XORed with those of the default (encoding document,
+    /// "Default Values").
     #[tactic(auto, using(std::proofs::lemmas::Nat::xor_lt))]
     #[inline(always)]
     pub fn set_data_field_mask<N: PrimitiveElement>(&mut self, offset: u32, value: N, default: N)
@@ -88,8 +89,8 @@ impl<T, const D: usize, const P: usize> StructDraft<T, D, P> {
         put_field(&mut self.words, N::size().bits(), offset, bits);
     }
 
-    /// A field of the data section, at an offset in units of its own width. Past the section it is
-    /// zero.
+    /// A field of the data section, at an offset in units of its own width. It is zero past the end
+    /// of the section.
     #[inline(always)]
     pub fn get_data_field<N: PrimitiveElement>(&self, offset: u32) -> N
         ensures { result ≡ N.value_of (field self.now.words (width N.code) offset) }
@@ -97,8 +98,8 @@ impl<T, const D: usize, const P: usize> StructDraft<T, D, P> {
         N::from_bits(field_bits(&self.words, N::size().bits(), offset))
     }
 
-    /// A field that has a default, at an offset in units of its own width. Past the section it is
-    /// the default.
+    /// A field that has a default, at an offset in units of its own width. It is the default past
+    /// the end of the section.
     #[tactic(auto, using(std::proofs::lemmas::Nat::xor_lt))]
     #[inline(always)]
     pub fn get_data_field_mask<N: PrimitiveElement>(&self, offset: u32, default: N) -> N
@@ -109,7 +110,7 @@ impl<T, const D: usize, const P: usize> StructDraft<T, D, P> {
         N::from_bits(field_bits(&self.words, N::size().bits(), offset) ^ default_bits)
     }
 
-    /// Whether the pointer at an index is set, and not to null. Past the last one none is.
+    /// Whether the pointer at this index is not null. Past the last one all are null.
     #[inline(always)]
     pub fn has_pointer(&self, index: usize) -> bool
         ensures { IsTrue result ↔ (slice_index_or self.now.pointers index 0 ≢ 0) }
@@ -117,7 +118,7 @@ impl<T, const D: usize, const P: usize> StructDraft<T, D, P> {
         word_at(&self.pointers, index as u64) != 0
     }
 
-    /// Makes the pointer at an index lead to an orphan, or null.
+    /// Makes the pointer at this index lead to an orphan, or null.
     #[inline(always)]
     pub fn adopt<U>(&mut self, index: usize, orphan: Orphan<U>)
         requires { index < P }
@@ -127,7 +128,7 @@ impl<T, const D: usize, const P: usize> StructDraft<T, D, P> {
         self.pointers[index] = orphan.word;
     }
 
-    /// Makes the pointer at an index null.
+    /// Makes the pointer at this index null.
     #[inline(always)]
     pub fn clear_pointer(&mut self, index: usize)
         requires { index < P }
@@ -152,7 +153,7 @@ fn field_bits(words: &[u64], width: u64, offset: u32) -> u64
     in_word(word_at(words, start / 64), width, start % 64)
 }
 
-// Some bits of a word, from one of its bits on.
+// Some bits of a word, from this bit on.
 #[inline(always)]
 fn in_word(word: u64, bits: u64, start: u64) -> u64
     requires within { bits + start ≤ 64 }

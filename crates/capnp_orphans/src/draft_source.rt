@@ -1,4 +1,4 @@
-//! Where the structs of lists come from.
+//! Sources of the structs of lists.
 ghost use Rattle.std.specs.Prelude.{◌≡◌, ◌<◌, List, length, get_or};
 ghost use Rattle.capnp_orphans.specs.declared.draft.StructDraft.{StructDraft};
 

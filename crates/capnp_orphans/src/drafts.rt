@@ -5,24 +5,24 @@ ghost use Rattle.capnp_orphans.specs.declared.draft.StructDraft.{StructDraft};
 use crate::draft::StructDraft;
 use crate::draft_source::DraftSource;
 
-/// A type that is written as a draft: a builder that the schema compiler writes.
+/// A type that is written as a draft: a builder that the schema compiler makes.
 pub trait Draft<T, const D: usize, const P: usize> {
     /// The draft.
     ghost draft: { Self → StructDraft T D P };
 
-    /// The struct as it is written.
+    /// The draft that is written.
     fn draft(&self) -> StructDraft<T, D, P>
         ensures { result ≡ draft self.now };
 }
 
-/// A source of the structs in a slice.
+/// A source of the structs of a slice.
 #[derive(Drop)]
 pub struct Drafts<'a, B> {
     builders: &'a [B],
 }
 
 impl<'a, B> Drafts<'a, B> {
-    /// The source of these structs.
+    /// A source of these structs.
     pub fn new(builders: &'a [B]) -> Drafts<'a, B>
         ensures { result.builders.now ≡ builders.now }
     {

@@ -8,10 +8,10 @@ use capnp_frame::{Error, ErrorKind, Result};
 use std::alloc::Global;
 use std::marker::Model;
 
-/// A segment on the heap, of whose bytes the first are used.
+/// A segment on the heap, of whose bytes the first ones are used.
 ///
-/// Speed: the others are what was written or made zero before, so an object is written over them,
-/// and `clear` is one store (`tools/time-building built`, `tree` and `table`).
+/// Speed: the bytes after these have been written or made zero before, so an object is written over
+/// them, and `clear` is one store (`tools/time-building built`, `tree` and `table`).
 #[derive(Drop)]
 pub struct Heap {
     bytes: Vec<u8>,
@@ -77,10 +77,11 @@ impl GrowingSegment for Heap {
     }
 }
 
-// Adds zeros to a vector, so that it has this many bytes at least. Returns whether it has, and
-// changes nothing where no more memory is to be had.
+// Adds zeros to a vector, so that it has at least this many bytes. Returns whether it has; changes
+// nothing where no more memory can be had.
 //
-// Speed: some more are added where the memory has room for them, so the next objects need no call.
+// Speed: further zeros are added where the memory has room for them, so the next objects need no
+// call.
 #[inline(never)]
 fn grown(bytes: &mut Vec<u8>, end: usize) -> bool
     requires longer { length bytes.old.items ≤ end }

@@ -1,12 +1,13 @@
 //! Messages of one segment that are built from the bottom up.
 //!
-//! An [`Orphanage`] is a segment that grows at its end. Each object is written once, when all that
-//! it holds is there, and is an [`Orphan`] until a pointer leads to it: that of another object,
-//! which adopts it, or the root. So pointers lead back ([encoding document], "Structs" and "Lists";
-//! an offset may be negative), and no word is changed once it is written, but for the root's.
+//! An [`Orphanage`] is a segment that grows at its end. Each object is written once, when
+//! everything below it is there, and is an [`Orphan`] until a pointer leads to it: that of another
+//! object, which adopts it, or the root. So pointers lead back ([encoding document], "Structs" and
+//! "Lists"; an offset may be negative), and no word except the root's is changed once it is
+//! written.
 //!
-//! Whether a pointer is null, which member of a union is set, how long a list and how deep a tree
-//! is, may be known at run time only. Types are known before.
+//! Whether a pointer is null, which member of a union is set, how long a list is and how deep a
+//! tree may be known only at run time. Types are known at compile time.
 //!
 //! [encoding document]: https://capnproto.org/encoding.html
 #![tactic(auto)]

@@ -7,19 +7,19 @@ ghost use Rattle.capnp_wire.specs.Pointer.{words_of};
 
 use capnp_frame::{Error, ErrorKind, Result};
 
-/// An object that is written after what a segment holds.
+/// An object that is written after the words of a segment.
 pub trait Object {
-    /// What holds of the object once it is written, by the words after the root's before and after
-    /// it, and by its word as an orphan.
+    /// What is true of the object once it is written, by the words after the root's before and
+    /// after that, and by its word as an orphan.
     ghost holds: { Self → List ℕ → List ℕ → ℕ → Type 0 };
 
-    /// It has this many words.
+    /// How many words it has, for contracts.
     ghost takes: { Self → ℕ → Type 0 };
 
-    /// It can't be written, and this is the error.
+    /// Why it can't be written: this is the error.
     ghost refuses: { Self → ErrorKind → Type 0 };
 
-    /// It is written over zeros alone, and not over whatever is there.
+    /// It has to be written over zeros, and not over any bytes.
     ghost wants_zeros: { Self → Bool };
 
     /// How many words it has. Fails with a kind that `refuses` names.
@@ -30,12 +30,12 @@ pub trait Object {
         ensures exact { (kind : ErrorKind) → refuses self.now kind →
             IsErrAnd result (λ error. error.kind ≡ kind) };
 
-    /// Whether it is written over zeros alone. One that fills its words is not.
+    /// Whether it has to be written over zeros. An object that writes all its words does not.
     fn wants_zeros(&self) -> bool
         ensures { result ≡ wants_zeros self.now };
 
-    /// Writes it over a block of just its words, which begins at a word of the segment. Returns its
-    /// word as an orphan.
+    /// Writes it over a block of exactly its words, which begins at this word of the segment.
+    /// Returns its word as an orphan.
     fn write(&self, start: u32, block: &mut [u8]) -> u64
         requires whole { length block.old % 8 ≡ 0 }
         requires takes { takes self.now (length block.old / 8) }
@@ -45,7 +45,7 @@ pub trait Object {
             holds self.now body (body ++ words_of block.new) result };
 }
 
-/// The error for too many elements or words, which it tells as far as 32 bits hold them.
+/// The error for too many elements or words, with their number as far as it fits 32 bits.
 pub(crate) fn allocation_too_large(number: usize) -> Error
     ensures { result.kind ≡ AllocationTooLarge (min number (2 ^ 32 - 1)) }
 {

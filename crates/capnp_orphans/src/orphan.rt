@@ -1,4 +1,4 @@
-//! Objects that no pointer needs to lead to yet.
+//! Objects to which no pointer leads yet.
 ghost use Rattle.std.specs.Prelude.{◌≡◌, ◌<◌, ◌^◌, ℕ};
 ghost use Rattle.capnp_orphans.specs.Orphans.{link};
 
@@ -6,14 +6,14 @@ use std::marker::PhantomData;
 
 /// An object of an orphanage, of a type of a schema; or null.
 ///
-/// It may be adopted more than once, and become the root, too: then several pointers lead to it,
+/// It may be adopted more than once, and become the root as well: then several pointers lead to it,
 /// and a reader counts its words once for each of them. An orphan of another orphanage, or of
 /// before the last `clear`, does no harm: its pointer leads to whatever is there, or to nothing,
 /// and a reader shows that or fails.
 #[derive_where(Clone, Copy)]
 pub struct Orphan<T> {
-    /// The pointer to it, with the word of the segment where it begins in place of the offset. A
-    /// word that no call returned does as little harm as that of an orphan of another orphanage.
+    /// The pointer to it, with the index of the word at which it begins in place of the offset. A
+    /// word that no call returned does no more harm than that of an orphan of another orphanage.
     pub word: u64,
 
     /// Its type in a schema.
@@ -29,8 +29,8 @@ impl<T> Orphan<T> {
         Orphan::of_word(0)
     }
 
-    /// The same object as one of another type of a schema. A view tests the object that it shows,
-    /// so a wrong type fails where the object is read.
+    /// The same object as an orphan of another type of a schema. A view tests the object that it
+    /// shows, so a wrong type fails where the object is read.
     #[inline(always)]
     pub fn of_type<U>(self) -> Orphan<U>
         ensures { result.word ≡ self.word }
@@ -78,7 +78,7 @@ impl OrphanWord for u64 {
     }
 }
 
-/// The pointer to an orphan, for a word of the segment.
+/// The pointer to an orphan, to be put into this word of the segment.
 #[inline(always)]
 pub(crate) fn link(word: u64, place: u32) -> u64
     requires { place < 2 ^ 29 }

@@ -29,16 +29,16 @@ use std::marker::Model;
 /// A message of one segment, whose objects are written one after the other, each once. Its first
 /// word is the root's, which is null until it is set.
 ///
-/// A call that writes an object returns its orphan, or fails and changes nothing. All orphans hold
-/// what they held, whatever is written later.
+/// A call that writes an object returns its orphan, or fails and changes nothing. All orphans keep
+/// their trees, whatever is written later.
 ///
 /// A segment has fewer than 2^29 words, so it needs no far pointer. A call whose object does not
-/// fit, there or in the region, fails with `AllocationTooLarge` of the object's words, and on the
-/// heap with `OutOfMemory` where the memory has no room and no more is to be had.
+/// fit into the segment, or into the region, fails with `AllocationTooLarge` of the object's words;
+/// on the heap a call fails with `OutOfMemory` where the memory has no room and no more can be had.
 ///
 /// The message is read in place, and written framed or packed by `write_message`, which takes the
-/// orphanage as it is. Once it is cleared it serves for the next message, and no call fails for want
-/// of memory as far as the memory that is there has room.
+/// orphanage as it is. Once the orphanage is cleared it serves for the next message, and no call
+/// fails for want of memory as long as the memory that it has is enough.
 ///
 /// ```
 /// let mut objects = Orphanage::new(alloc)?;
@@ -101,8 +101,8 @@ impl<'a> Orphanage<Region<'a>> {
 }
 
 impl<S: GrowingSegment> Orphanage<S> {
-    /// Lets all objects go, and keeps the memory. The root is null, and each orphan that was made
-    /// before is one of another orphanage.
+    /// Discards all objects, and keeps the memory. The root is null, and each orphan that was made
+    /// before counts as one of another orphanage.
     pub fn clear(&mut self)
         ensures { self.new ≡ with_root_alone self.old }
     {
@@ -134,8 +134,8 @@ impl<S: GrowingSegment> Orphanage<S> {
     }
 
     /// Writes a value that a pointer can be set to: one that is composed (`capnp_values`), or what
-    /// a view of another message shows. What a pointer leads to there, a list too, is copied as the
-    /// view `any_pointer::Reader` of it.
+    /// a view of another message shows. What a pointer leads to there, a list too, is copied when
+    /// it is given as the view `any_pointer::Reader`.
     ///
     /// Fails for 2^29 words and more with `AllocationTooLarge` of the value's words, at most
     /// 2^32 - 1; as its view does for what can't be read; and for want of room as `Orphanage` says.
@@ -149,10 +149,10 @@ impl<S: GrowingSegment> Orphanage<S> {
         self.write(&Value::<T, V>::new(value))
     }
 
-    /// Writes a text, with a zero byte at its end ("Blobs").
+    /// Writes a `Text`, with a zero byte at its end ("Blobs").
     ///
-    /// Fails for 2^29 - 1 bytes and more with `AllocationTooLarge` of the text's words, at most
-    /// 2^32 - 1, and for want of room as `Orphanage` says.
+    /// Fails for 2^29 - 1 bytes and more with `AllocationTooLarge` of its words, at most 2^32 - 1,
+    /// and for want of room as `Orphanage` says.
     #[inline(always)]
     pub fn text(&mut self, text: &str) -> Result<Orphan<text::Owned>>
         ensures adds { Adds (HoldsValue (IsTextTree text.now)) self.old self.new word_of result }
@@ -162,7 +162,7 @@ impl<S: GrowingSegment> Orphanage<S> {
         self.set::<text::Owned, &str>(&text)
     }
 
-    /// Writes data: some bytes ("Blobs").
+    /// Writes a `Data` ("Blobs").
     ///
     /// Fails for 2^29 bytes and more with `AllocationTooLarge` of their words, at most 2^32 - 1,
     /// and for want of room as `Orphanage` says.
@@ -176,8 +176,8 @@ impl<S: GrowingSegment> Orphanage<S> {
 
     /// Writes a list of numbers of any width, or of bools ("Lists").
     ///
-    /// Fails for 2^29 numbers and more with `AllocationTooLarge` of how many they are, at most
-    /// 2^32 - 1, and for want of room as `Orphanage` says.
+    /// Fails for 2^29 numbers and more with `AllocationTooLarge` of their number, at most 2^32 - 1,
+    /// and for want of room as `Orphanage` says.
     pub fn numbers<N: PrimitiveElement + Copy>(
         &mut self,
         items: &[N],
@@ -192,7 +192,7 @@ impl<S: GrowingSegment> Orphanage<S> {
         self.set::<primitive_list::Owned<N>, NumberList<'_, N>>(&list)
     }
 
-    /// Writes a struct ("Structs"). Of an orphan of another orphanage the pointer is written, too.
+    /// Writes a struct ("Structs"). The pointer to an orphan of another orphanage is written, too.
     ///
     /// Fails for 2^16 data words or pointers and more with `AllocationTooLarge(65536)`, and for
     /// want of room as `Orphanage` says.
@@ -208,10 +208,10 @@ impl<S: GrowingSegment> Orphanage<S> {
     }
 
     /// Writes a list of the pointers to some orphans ("Lists"): of texts, of data, of lists, or of
-    /// structs that are written each for itself.
+    /// structs that are written one by one.
     ///
-    /// Fails for 2^29 orphans and more with `AllocationTooLarge` of how many they are, at most
-    /// 2^32 - 1, and for want of room as `Orphanage` says.
+    /// Fails for 2^29 orphans and more with `AllocationTooLarge` of their number, at most 2^32 - 1,
+    /// and for want of room as `Orphanage` says.
     pub fn pointer_list<T>(&mut self, items: &[Orphan<T>]) -> Result<Orphan<list_list::Owned<T>>>
         ensures adds { Adds (HoldsPointers (body_of self.old) (map word_of items.now))
             self.old self.new word_of result }
@@ -223,9 +223,9 @@ impl<S: GrowingSegment> Orphanage<S> {
 
     /// Writes a list of structs, one after the other ("Lists").
     ///
-    /// Fails with `AllocationTooLarge`: of 65536 as `add` does, of how many structs there are for
-    /// 2^29 and more, and of the words of the list, its tag among them, for 2^29 and more; at most
-    /// of 2^32 - 1. For want of room it fails as `Orphanage` says.
+    /// Fails with `AllocationTooLarge`: of 65536 as `add` does; of the number of structs where
+    /// there are 2^29 or more; and of the words of the list, with its tag, where there are 2^29 or
+    /// more; at most of 2^32 - 1. For want of room it fails as `Orphanage` says.
     pub fn struct_list<T, const D: usize, const P: usize>(
         &mut self,
         items: &[StructDraft<T, D, P>],
@@ -258,7 +258,8 @@ impl<S: GrowingSegment> Orphanage<S> {
         self.segment.set_root_word(link(root.word, 0));
     }
 
-    /// Writes a struct and makes it the root. Fails as `add` does, and the root then stays.
+    /// Writes a struct and makes it the root. Fails as `add` does, and the root then stays as it
+    /// was.
     pub fn add_root<T, const D: usize, const P: usize>(
         &mut self,
         draft: &StructDraft<T, D, P>,
@@ -294,7 +295,7 @@ impl<S: GrowingSegment> BuiltMessage for Orphanage<S> {
 
     #[inline(always)]
     fn can_be_written(&self) {
-        // For the prover: a look at a field brings in the invariant, which says this.
+        // For the prover: reading a field brings in the invariant, which says this.
         let _segment = &self.segment;
     }
 }

@@ -48,7 +48,7 @@ impl<'a, T> Object for PointerList<'a, T> {
         false
     }
 
-    // Speed: a call, so that the loop that makes its orphans has the registers (`texts`).
+    // Speed: a call, so that the loop that makes the list's orphans has the registers (`texts`).
     #[inline(never)]
     fn write(&self, start: u32, block: &mut [u8]) -> u64 {
         put_links(self.items, start, block);

@@ -7,8 +7,8 @@ use crate::segment::{GrowingSegment, put_first, write_over, zero_first};
 use capnp_frame::{Error, ErrorKind, Result};
 use std::marker::Model;
 
-/// A caller-provided region, of which the first bytes are used. It takes no memory, and what the
-/// region held before does not matter.
+/// A caller-provided region, of which the first bytes are used. It takes no memory, and it does not
+/// matter which bytes the region had before.
 #[derive(Drop)]
 pub struct Region<'a> {
     bytes: &'a mut [u8],
@@ -31,8 +31,8 @@ impl<'a> Model for Region<'a> {
 }
 
 impl<'a> Region<'a> {
-    /// A region whose first word is used, and zero. One of fewer than 8 bytes fails with
-    /// `AllocationTooLarge`.
+    /// A region whose first word is used, and zero. Fails with `AllocationTooLarge` where it has
+    /// fewer than 8 bytes.
     pub(crate) fn new(bytes: &'a mut [u8]) -> Result<Region<'a>>
         ensures { MatchResult result
             (λ region. (region.bytes ≡ replicate 8 0) × (region.most ≡ Some (length bytes.old))

@@ -7,7 +7,8 @@ use crate::object::Object;
 use capnp_frame::Result;
 use capnp_wire::pointer_word::put_word;
 
-/// The bytes of a segment, to which objects are appended. None of its words but the root's changes.
+/// The bytes of a segment, to which objects are appended. None of its words except the root's
+/// changes.
 pub trait GrowingSegment: Drop {
     /// What contracts see of it.
     ghost state: { Self → Segment };
@@ -18,8 +19,8 @@ pub trait GrowingSegment: Drop {
 
     /// Writes an object of this many words after the bytes, and returns its word as an orphan.
     ///
-    /// Fails where the memory that is there has no room: on the heap with `OutOfMemory`, in a
-    /// region with `AllocationTooLarge` of these words. Nothing is changed then.
+    /// Fails where there is no room: on the heap with `OutOfMemory`, in a region with
+    /// `AllocationTooLarge` of these words. Nothing is changed then.
     fn append<O: Object>(&mut self, object: &O, words: u32) -> Result<u64>
         requires segment { IsSegment (state self.old) }
         requires takes { O.takes object.now words }
@@ -32,14 +33,14 @@ pub trait GrowingSegment: Drop {
         requires { IsSegment (state self.old) }
         ensures { PutsRoot word (state self.old) (state self.new) };
 
-    /// Lets all words go but the root's, which is made zero.
+    /// Discards all words but the root's, which is made zero.
     fn clear(&mut self)
         requires { IsSegment (state self.old) }
         ensures { state self.new ≡ with_root_alone (state self.old) };
 }
 
-/// Writes an object over the bytes of a segment from one on, which may be any. Returns its word as
-/// an orphan.
+/// Writes an object over the bytes of a segment from this one on, whatever they are. Returns its
+/// word as an orphan.
 #[inline(always)]
 pub(crate) fn write_over<O: Object>(bytes: &mut [u8], from: usize, words: u32, object: &O) -> u64
     requires within { from + 8 * words ≤ length bytes.old }
@@ -53,10 +54,10 @@ pub(crate) fn write_over<O: Object>(bytes: &mut [u8], from: usize, words: u32, o
     object.write((from / 8) as u32, &mut bytes[from..from + added])
 }
 
-// Makes some bytes zero, if that is wanted.
+// Makes some bytes zero, if that is asked for.
 //
-// Speed: for up to 64 just as many are made, by stores of a constant size, so a short object needs
-// no call whose branches depend on the size (`tools/time-building built`, `texts`).
+// Speed: up to 64 bytes are made zero by stores of a constant size, so a short object needs no call
+// whose branches depend on the size (`tools/time-building built`, `texts`).
 #[inline(always)]
 fn prepare(bytes: &mut [u8], from: usize, added: usize, zeros: bool)
     requires { from + added ≤ length bytes.old }
@@ -84,7 +85,7 @@ fn put_root(bytes: &mut [u8], word: u64)
     put_word(bytes, 0, word);
 }
 
-/// Puts a word at the start of a segment, which is the first of these bytes.
+/// Puts a word at the start of a segment, whose first bytes these are.
 #[inline(always)]
 pub(crate) fn put_first(bytes: &mut [u8], used: usize, word: u64)
     requires rooted { 8 ≤ used }

@@ -75,7 +75,7 @@ impl<'a, T, const D: usize, const P: usize, S: DraftSource<T, D, P>> Object
     }
 }
 
-// Puts structs into a block of just these, which begins at a word of the segment.
+// Puts structs into a block of exactly their words, which begins at this word of the segment.
 #[inline(always)]
 fn put_elements<T, const D: usize, const P: usize, S: DraftSource<T, D, P>>(
     source: &S,

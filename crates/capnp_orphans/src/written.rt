@@ -7,7 +7,8 @@ use crate::orphan::{OrphanWord, link};
 use capnp_values::put_words;
 use capnp_wire::pointer_word::put_word;
 
-/// Puts the pointers to orphans into a block of just these, which begins at a word of the segment.
+/// Puts the pointers to orphans into a block of exactly these, which begins at this word of the
+/// segment.
 #[inline(always)]
 pub(crate) fn put_links<W: OrphanWord>(items: &[W], place: u32, block: &mut [u8])
     requires room { length block.old ≡ 8 * length items.now }
@@ -23,7 +24,7 @@ pub(crate) fn put_links<W: OrphanWord>(items: &[W], place: u32, block: &mut [u8]
     }
 }
 
-/// Puts a struct into a block of just its words, which begins at a word of the segment.
+/// Puts a struct into a block of exactly its words, which begins at this word of the segment.
 #[inline(always)]
 pub(crate) fn put_struct(words: &[u64], pointers: &[u64], start: u32, block: &mut [u8])
     requires room { length block.old ≡ 8 * (length words.now + length pointers.now) }

@@ -32,7 +32,7 @@ tagged_group word os tag used end size old new is tagged_by low next fill zero_a
         let (g, made, ends) = ends_tagged word os tag (take end new) is tagged_by (omega (arith, some)) low in
         (g, made, ap (λ k. take k new) last ∙ ends old filled)
 
--- of words of which none is left, none is the first
+-- where no words are left, there is no first one
 pub none_left : (words : List (List ℕ)) (done : ℕ) (P : List ℕ → Type 0) → length words ≤ done → IfFirst (drop done words) P
 none_left words done P past = subst (λ l. IfFirst l P) (sym (drop_all done words past)) tt
 

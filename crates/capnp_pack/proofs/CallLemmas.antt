@@ -49,7 +49,7 @@ hands_passed sink old new stops more first hands e (Err own) is turn declared =
     subst (λ y. HandsOn sink old new more hands (Err y)) (sym is)
     (record { handed = tt; left = turn declared.left; refused = declared.refused; failed = declared.failed; grows = declared.grows })
 
--- a chunk that the sink rejects, after a call that returned
+-- the sink fails for a chunk, after a call that succeeded
 pub hands_err : {S X : Type 0} (sink : Sink S) (keeps : IsPreorder sink.same) (a b c : S) (stops : List ℕ → Type 0) (hands : X → Type 0) (chunk : List ℕ)
     (e : Error) (r : Result X Error) → IsErrAnd r (λ y. y ≡ e) → LeavesOf sink a c stops → (e.kind ≡ DeviceFailed) ⊎ sink.refuses chunk e.kind
     → (e.kind ≡ DeviceFailed → Fails (sink.failures b) (sink.failures c)) → Grows sink.written sink.failures sink.same a b
@@ -64,7 +64,7 @@ hands_err sink keeps a b c stops hands chunk e (Err own) is left refused failed 
       grows = Grows-join a b c (keeps.transitive a b c) before grows;
     })
 
--- a call of a packer that fails, after those that returned
+-- a call of a packer that fails, after those that succeeded
 pub hands_stopped : {S X Y : Type 0} (sink : Sink S) (keeps : IsPreorder sink.same) (a b c : S) (stops : List ℕ → Type 0) (hands : X → Type 0)
     (adds leaves : List ℕ → Type 0) (e : Error) (r : Result Y Error) → IsErrAnd r (λ y. y ≡ e)
     → (LeavesOf sink b c stops → IfKnown (sink.written a) (sink.written c) (Adds leaves)) → Grows sink.written sink.failures sink.same a b
@@ -103,7 +103,7 @@ takes_passed source old new finds refuses e (Err y) is refused declared = record
   };
 }
 
--- the same after a call that returned
+-- the same after a call that succeeded
 pub takes_err : {S X Y : Type 0} (source : Source S) (keeps : IsPreorder source.same) (a b c : S) (finds : Y → Type 0) (refuses : ErrorKind → Type 0)
     (e : Error) (r : Result Y Error) → IsErrAnd r (λ y. y ≡ e) → (e.kind ≡ DeviceFailed) ⊎ refuses e.kind
     → Advances source.unread source.failures source.same a b → Asked {X = X} source.unread source.failures source.same b c (Err e)
@@ -125,7 +125,7 @@ takes_own source old new finds refuses e kind is other refused advances = record
   asked = record { failed = λ device. absurd (other (sym is ∙ device)); advances = advances };
 }
 
--- two calls that returned
+-- two calls that succeeded
 pub takes_ok : {S X : Type 0} (source : Source S) (keeps : IsPreorder source.same) (a b c : S) (finds : X → Type 0) (refuses : ErrorKind → Type 0) (x : X)
     → finds x → Advances source.unread source.failures source.same a b → Advances source.unread source.failures source.same b c
     → TakesFrom source a c finds refuses (Ok x)
@@ -138,7 +138,7 @@ not_at_end byte None b taken at_end = cc
 not_at_end byte (Some raw) None taken at_end = absurd taken
 not_at_end byte (Some raw) (Some left) taken at_end = cc
 
--- a call that fails, or returns, after a byte was taken
+-- a call that fails, or succeeds, after a byte was taken
 pub next_err : {S X Y : Type 0} (source : Source S) (keeps : IsPreorder source.same) (a b c : S) (finds : Y → Type 0) (refuses : ErrorKind → Type 0)
     (e : Error) (r : Result (Option Y) Error) (byte : ℕ) → IfKnown (source.unread a) (source.unread b) (λ raw left. raw ≡ byte ∷ left)
     → IsErrAnd r (λ y. y ≡ e) → (e.kind ≡ DeviceFailed) ⊎ refuses e.kind → Advances source.unread source.failures source.same a b

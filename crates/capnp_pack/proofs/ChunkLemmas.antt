@@ -102,7 +102,7 @@ group_missing filled n buffer part old mid within fits same whole more taken som
 pub end_before : (old mid : Option (List ℕ)) → mid ≡ old → IfSome mid (λ raw. raw ≡ []) → IfSome old (λ raw. raw ≡ [])
 end_before old mid same end = subst (λ o. IfSome o (λ raw. raw ≡ [])) same end
 
--- none is there, nor was one before
+-- no group is there, nor was one before
 pub first_missing : (filled n : ℕ) (buffer part : List ℕ) (old mid : Option (List ℕ)) → filled ≤ length buffer → length part ≡ length buffer - filled
     → length buffer ≡ n → n % 8 ≡ 0 → mid ≡ old → IfSome mid (λ raw. raw ≡ []) → 0 < length (put_mid filled (length buffer - filled) buffer part)
     → IsRefused RefusesChunk (length (put_mid filled (length buffer - filled) buffer part)) old FailedToFillTheWholeBuffer

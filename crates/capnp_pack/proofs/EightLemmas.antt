@@ -57,7 +57,7 @@ zero_parts (b ∷ w) rest e =
     let p = zero_parts w rest (omega (arith, zeros_cons b (w ++ rest))) in
     (omega (arith, zeros_cons b (w ++ rest), zeros_cons b w, p.0), p.1)
 
--- with no zero byte none is in a word
+-- where no byte is zero, none is in a word
 pub all_full : (words : List (List ℕ)) → zero_bytes (concat words) ≡ 0 → AllByRecursion HasFewZeros words
 all_full [] e = tt
 all_full (w ∷ words) e = let p = zero_parts w (concat words) e in (omega (arith, p.0), all_full words p.1)
@@ -73,7 +73,7 @@ all_one P xs n within front here =
     let next : take 1 (drop n xs) ≡ get_or xs n [] ∷ [] = ap (take 1) (drop-cons xs n [] within) in
     subst (AllByRecursion P) (sym (take-add n 1 xs)) (AllByRecursion-append P (take n xs) (take 1 (drop n xs)) front (subst (AllByRecursion P) (sym next) (here, tt)))
 
--- a given number of words at the front are zero, and the next one isn't
+-- this many words at the front are zero, and the next one isn't
 abbrev pub StandInFront : List (List ℕ) → ℕ → Type 0
 StandInFront words k = (k ≤ length words) × AllByRecursion IsZero (take k words) × IfFirst (drop k words) (λ word. IsZero word → ⊥)
 
@@ -110,7 +110,7 @@ some_front (suc b ∷ bytes) some =
     let none : prefix_len (λ x. not (not (eqb x 0))) (suc b ∷ bytes) ≡ 0 = ap (λ v. cond (not (not v)) (1 + prefix_len (λ x. not (not (eqb x 0))) bytes) 0) (eqb-suc-zero b) in
     omega (arith, none)
 
--- where the lowest mark tells them
+-- the number of zero words, by the lowest mark
 pub zeros_declared : (words : List (List ℕ)) (marks : ℕ) → AllByRecursion IsWord words → length words ≡ 8 → marks ≡ tag_of (concat words) →
     (marks ≡ 0 → ⊥) → (count_trailing_zeros 64 marks / 8 < 8) × StandInFront words (count_trailing_zeros 64 marks / 8)
 zeros_declared words marks all eight e some =

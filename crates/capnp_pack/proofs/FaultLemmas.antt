@@ -32,7 +32,7 @@ fault_here raw n kind some fault =
 pub zeros_size : (more : ℕ) → group_size (zeros more) ≡ 8 * suc more
 zeros_size more = ap length (concat-zeros (suc more)) ∙ length-replicate (8 * suc more) 0
 
--- a run that is longer than what is asked
+-- a run that is longer than what is asked for
 pub long_run : (more n : ℕ) (left : List ℕ) → more < 256 → 0 < n → n < 8 * (more + 1) → MeetsFault (0 ∷ more ∷ left) n PackedInputDidNotEndCleanlyOnASegmentBoundary
 long_run more n left fits some long =
     fault_here (0 ∷ more ∷ left) n _ some (inr (inl (record { group = zeros more; following = left; head = record { is = fits; spelled = refl }; long = omega (arith, zeros_size more) }, refl)))
@@ -70,7 +70,7 @@ literal_cut bytes n some short =
       refl,
     ))
 
--- its count is larger than what is asked, or its run is cut
+-- its count is larger than what is asked for, or its run is cut
 pub literal_head : (word left : List ℕ) (count : ℕ) → length word ≡ 8 → count < 256 → IsHeadAt (literal word (replicate count zero_word)) (255 ∷ word ++ count ∷ left) left
 literal_head word left count whole fits =
     let same : length (replicate count zero_word) ≡ count = length-replicate count zero_word in

@@ -27,11 +27,11 @@ front_lanes tag word places row is tagged_by =
     let long : length lanes ≡ 16 = length-swz_l w8 16 (padded word) 0 places ∙ ap length row ∙ mark_row_len tag in
     ap (take (ones tag)) (eight_first lanes long) ∙ ap (λ js. take (ones tag) (take 8 (swz_l w8 16 (padded word) 0 js))) row ∙ nonzero_lanes tag word is tagged_by
 
--- a zero word's are zero
+-- those of a zero word are zero
 pub front_zero : (tag : ℕ) (word places : List ℕ) → places ≡ mark_row tag → tag ≡ 0 → take 1 (eight_lanes (swz_l w8 16 (padded word) 0 places)) ≡ 0 ∷ []
 front_zero tag word places row none = ap (λ js. take 1 (eight_lanes (swz_l w8 16 (padded word) 0 js))) (row ∙ ap mark_row none)
 
--- they are stored whole, of which only some are used
+-- all eight are stored, of which only some are used
 pub stored : (at count : ℕ) (bytes front : List ℕ) → length bytes ≡ 64 → length front ≡ 8 → at ≤ 56 → count ≤ 8
     → take (at + count) (put_mid at (at + 8 - at) bytes (put_chunk 0 (mid_of at (at + 8 - at) bytes) front)) ≡ take at bytes ++ take count front
 stored at count bytes front long eight room few =

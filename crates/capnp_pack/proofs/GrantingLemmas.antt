@@ -1,4 +1,4 @@
--- What a packer hands on to a sink that grants its text.
+-- What a packer hands on to a sink that grants its encoding.
 use Rattle.std.proofs.Common.{◌≡◌, ℕ, ◌+◌, ◌<◌, ◌≤◌, List, [], ◌∷◌, ◌++◌, length, take, drop, sym, ap, ◌∙◌, subst, arith, length-append, get_or}
 use Rattle.std.specs.List.{concat, flat_map, AllByRecursion}
 use Rattle.std.proofs.lemmas.List.{length-take-le}
@@ -30,7 +30,8 @@ run_granted before after count words end used more flat os Flushed run own all p
     let (done, left) = flush (bytes + more) (subst before same granted) in
     (done, subst (λ k. after (k + more)) (run_flat count words flat os run own all) left)
 
--- a buffer of 64 bytes with a word that goes as it is: what was granted for its group is granted for what it holds with the count and the words
+-- a buffer of 64 bytes, and a word that is stored as it is: what was granted for its group is
+-- granted for what the buffer has with the count and the words
 pub literal_granted : (grants : ℕ → Type 0) (word : List ℕ) (os : List (List ℕ)) (count more start end : ℕ) (made : Group) (old new : List ℕ)
     → IsWord word → AllByRecursion IsWord os → tag_of word ≡ 255 → length old ≡ 64 → length new ≡ 64 → start ≤ 54 → end < 64
     → take end new ≡ take start old ++ 255 ∷ word → IsGroupOf word os count made → grants (start + (length (group_encoding made) + more))
@@ -48,7 +49,8 @@ literal_granted grants word os count more start end made old new is all full old
     let both : start + (length (group_encoding own) + more) ≡ end + (1 + (length (concat further) + more)) = omega (arith, head, text, begun, ended) in
     (run.0, run.1, subst grants (ap (λ g. start + (length (group_encoding g) + more)) (sym same) ∙ both) granted)
 
--- what is granted for the text of words is granted for what a buffer of 64 bytes holds once it took some of them, and the rest
+-- what is granted for the encoding of words is granted for what a buffer of 64 bytes has once it
+-- took some of them, and for the rest
 pub granted_taken : (grants : ℕ → Type 0) (words : List (List ℕ)) (n used end more : ℕ) (old new whole : List ℕ) → ((i : ℕ) → i < length words → length (get_or words i []) ≡ 8)
     → length old ≡ 64 → length new ≡ 64 → used ≤ 64 → end ≤ 64 → ((text : List ℕ) × PacksTo words text (drop n words) × (take end new ≡ take used old ++ text))
     → PacksWords words whole → grants (used + (length whole + more)) → GrantsTo grants (drop n words) end more
@@ -61,7 +63,7 @@ granted_taken grants words n used end more old new whole each old_long new_long 
     omega (arith, ap length is, length-append (take used old) text, begun, ended, ap length both, length-append text rest) in
     (rest, left, subst grants same granted)
 
--- it is once all that it holds is handed on
+-- it is granted once all that the buffer has is handed on
 pub granted_flushed : (before after : ℕ → Type 0) (words : List (List ℕ)) (used more : ℕ) (Flushed : Type 0) → GrantsTo before words used more
     → ((n : ℕ) → before (used + n) → Flushed × after n) → Flushed × GrantsTo after words 0 more
 granted_flushed before after words used more Flushed (rest, packs, granted) flush =
@@ -109,7 +111,7 @@ pub granted_on : (before after : ℕ → Type 0) (left slice : List (List ℕ)) 
     → GrantsTo after slice end more
 granted_on before after left slice n used end more is (rest, packs, granted) step = subst (λ l. GrantsTo after l end more) (sym is) (step rest more packs granted)
 
--- at last what the buffer holds is granted
+-- at last what the buffer has is granted
 pub granted_last : (grants : ℕ → Type 0) (left : List (List ℕ)) (used more : ℕ) → left ≡ [] → GrantsTo grants left used more → grants (used + more)
 granted_last grants left used more none (rest, packs, granted) =
     let empty : rest ≡ [] = PacksWords-once [] rest [] (subst (λ l. PacksWords l rest) none packs) PacksWords-none in

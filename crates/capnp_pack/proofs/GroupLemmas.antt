@@ -1,4 +1,4 @@
--- A group at the front is a part of each request that it fits into.
+-- A group at the front is a part of the result of each request that it fits into.
 use Rattle.std.proofs.Common.{◌≡◌, ℕ, zero, suc, ◌+◌, ◌-◌, ◌*◌, ◌%◌, ◌<◌, ◌≤◌, Option, Some, None, IfSome, List, [], ◌∷◌, ◌++◌, length}
 use Rattle.std.proofs.Common.{take, replicate, refl, sym, ap, ◌∙◌, subst, arith, append_assoc, length-append}
 use Rattle.std.proofs.lemmas.List.{length-take-le, replicate-append-replicate}
@@ -14,7 +14,7 @@ use Rattle.capnp_pack.proofs.ProgressLemmas.{group_taken}
 use Rattle.capnp_pack.specs.UnpackingLaws.{group_len, same_group}
 use Rattle.capnp_pack.specs.RefusingLaws.{fault_later, fault_after}
 
--- a group at the front returns a part of each request that it fits into
+-- a group at the front is a part of the result of each request that it fits into
 pub group_takes : (n tag : ℕ) (bytes raw left : List ℕ) → GroupAt tag bytes raw left → length bytes ≤ n → ReturnsPart Unpacks MeetsFault n bytes (tag ∷ raw) left
 group_takes n tag bytes raw left at fits =
     let g = at.0 in
@@ -61,7 +61,7 @@ zeros_at more count raw left bytes fits long filled at =
     let words : count ≡ 8 * suc more = omega arith in
     (zeros more, fits, filled ∙ ap (λ k. replicate k 0) words ∙ sym (concat-zeros (suc more)), ap (λ l. 0 ∷ l) at)
 
--- the group after a tag, as a result
+-- the group after a tag, as a part of a request
 pub ReturnsPart-group : (n tag : ℕ) (bytes : List ℕ) (old mid new : Option (List ℕ)) → length bytes ≤ n →
     IfKnown old mid (λ raw left. raw ≡ tag ∷ left) → IfKnown mid new (GroupAt tag bytes) → IfKnown old new (ReturnsPart Unpacks MeetsFault n bytes)
 ReturnsPart-group n tag bytes old mid new fits tagged_by at =

@@ -28,7 +28,7 @@ Hands-join appends old s mid t new x y z p q = record {
 pub Hands-none : (appends : Appending) (old text new x : List ℕ) → new ≡ old ++ text → Hands appends old text new x x
 Hands-none appends old text new x e = record { parts = []; handed = []; declared = refl; added = sym (append-nil x); kept = sym e }
 
--- nothing, of what the buffer holds
+-- nothing of what the buffer has
 pub Hands-same : (appends : Appending) (old : List ℕ) (a : Option (List ℕ)) → IfKnown a a (Hands appends old [] old)
 Hands-same appends old None = tt
 Hands-same appends old (Some x) = Hands-none appends old [] old x (sym (append-nil old))
@@ -55,12 +55,12 @@ IfKnown-literal appends count old pushed left flat words a b c push none all flu
     let chunk : Hands appends left (concat words) [] y z = Hands-one appends left (concat words) flat y z (ap (λ l. l ++ concat words) none ∙ concat_is words ∙ sym all) q in
     subst (λ l. Hands appends old (count ∷ concat words) l x z) (sym none) (Hands-join appends old (count ∷ []) left (concat words) [] x y z first chunk)) flushed added
 
--- what a sink rejects
+-- with which kinds a sink fails
 pub declines_any : (F : Type 0) (refuses : Declining) (part : List ℕ) (kind : ErrorKind) → F ⊎ refuses part kind → F ⊎ DeclinesAny refuses kind
 declines_any F refuses part kind (inl failed) = inl failed
 declines_any F refuses part kind (inr refused) = inr (part, refused)
 
--- of a chunk of whole words
+-- for a chunk of whole words
 declines : (F : Type 0) (refuses : Declining) (chunk : List ℕ) (kind : ErrorKind) → IsWholeWords chunk → F ⊎ DeclinesAny refuses kind → F ⊎ DeclinesPacked refuses chunk kind
 declines F refuses chunk kind whole (inl failed) = inl failed
 declines F refuses chunk kind whole (inr refused) = inr (inr (λ part. part whole, refused))

@@ -18,7 +18,7 @@ use Rattle.capnp_pack.proofs.PackerGroups.{IsGroupOf-literal}
 use Rattle.capnp_pack.specs.PackedWords.{PacksWords, PacksTo, HandsTo, RestAfter}
 use Rattle.capnp_pack.proofs.PackerLemmas.{PacksWords-more, PacksWords-none, PacksWords-some, Packs-words}
 
--- a front of a longer text
+-- a front of longer bytes
 parts_longer : (appends : Appending) (leaves : Leaving) (text more left : List ℕ) → LeavesParts appends leaves text left → LeavesParts appends leaves (text ++ more) left
 parts_longer appends leaves text more left (parts, joined, stopped) = (
   parts ++ more ∷ [],
@@ -56,7 +56,7 @@ left_after_handed appends leaves old text new more whole a b c is =
 
 -- A literal run
 
--- the buffer with its count isn't handed on
+-- handing on the buffer with its count fails
 pub left_count : (appends : Appending) (leaves : Leaving) (count : ℕ) (old pushed : List ℕ) (others : List (List ℕ)) (a b : Option (List ℕ))
     → IsRun HasFewZeros others count → pushed ≡ old ++ count ∷ []
     → (text : List ℕ) × (text ≡ pushed) × IfKnown a b (Adds (LeavesParts appends leaves text))
@@ -66,7 +66,7 @@ left_count appends leaves count old pushed others a b run push (text, is, left) 
     let whole : old ++ count ∷ words ≡ text ++ words = sym (append_assoc old (count ∷ []) words) ∙ ap (λ l. l ++ words) (sym (is ∙ push)) in
     (old ++ count ∷ words, (count, run, refl), left_longer appends leaves text words (old ++ count ∷ words) a b whole left)
 
--- its words aren't, after the buffer
+-- handing on its words fails, after the buffer
 pub left_words : (appends : Appending) (leaves : Leaving) (count : ℕ) (old pushed flat : List ℕ) (others : List (List ℕ)) (a b c : Option (List ℕ))
     → IsRun HasFewZeros others count → pushed ≡ old ++ count ∷ [] → flat ≡ flat_map (λ x. x) (take count others)
     → IfKnown a b (Hands appends pushed [] []) → IfKnown b c (Adds (leaves flat))
@@ -83,7 +83,7 @@ left_words appends leaves count old pushed flat others a b c run push all handed
 
 -- A group
 
--- it is one of words that go as they are
+-- it is a group of words that are stored as they are
 pub left_literal : (appends : Appending) (leaves : Leaving) (word : List ℕ) (os : List (List ℕ)) (old roomy filled : List ℕ) (a b c : Option (List ℕ))
     → IsWord word → AllByRecursion IsWord os → tag_of word ≡ 255 → filled ≡ roomy ++ 255 ∷ word → IfKnown a b (Hands appends old [] roomy)
     → (text : List ℕ) × LiteralAfter filled os text × IfKnown b c (Adds (LeavesParts appends leaves text))
@@ -103,7 +103,7 @@ left_literal appends leaves word os old roomy filled a b c is all full fill room
 
 -- Words
 
--- the buffer with what it took of them isn't handed on
+-- handing on the buffer with what it took of them fails
 pub left_buffer : (appends : Appending) (leaves : Leaving) (words : List (List ℕ)) (n : ℕ) (old buffer : List ℕ) (a b : Option (List ℕ))
     → ((i : ℕ) → i < length words → length (get_or words i []) ≡ 8) → ((text : List ℕ) × PacksTo words text (drop n words) × (buffer ≡ old ++ text))
     → (s : List ℕ) × (s ≡ buffer) × IfKnown a b (Adds (LeavesParts appends leaves s))
@@ -113,7 +113,7 @@ left_buffer appends leaves words n old buffer a b declared (text, to, is) (s, sa
     let whole : old ++ (text ++ rest) ≡ s ++ rest = sym (append_assoc old text rest) ∙ ap (λ l. l ++ rest) (sym (same ∙ is)) in
     (old ++ (text ++ rest), (text ++ rest, to rest packs, refl), left_longer appends leaves s rest (old ++ (text ++ rest)) a b whole left)
 
--- nor the group after them
+-- or handing on the group after them
 pub left_group : (appends : Appending) (leaves : Leaving) (words : List (List ℕ)) (n : ℕ) (w : List ℕ) (os : List (List ℕ)) (old buffer : List ℕ) (a b : Option (List ℕ))
     → ((i : ℕ) → i < length words → length (get_or words i []) ≡ 8) → drop n words ≡ w ∷ os → ((text : List ℕ) × PacksTo words text (drop n words) × (buffer ≡ old ++ text))
     → (s : List ℕ) × GroupAfter buffer w os s × IfKnown a b (Adds (LeavesParts appends leaves s))
@@ -129,13 +129,13 @@ left_group appends leaves words n w os old buffer a b declared front (text, to, 
 
 -- A chunk
 
--- some parts of its text
+-- some parts of its encoding
 packed_left : (appends : Appending) (leaves : Leaving) (chunk text : List ℕ) (a b : Option (List ℕ)) → Packs chunk text
     → IfKnown a b (Adds (LeavesParts appends leaves text)) → IfKnown a b (Adds (LeavesPacked appends leaves chunk))
 packed_left appends leaves chunk text a b packed = IfKnown-weaker a b (λ x y (left, (parts, joined, stopped), added).
     (left, inr (parts, subst (Packs chunk) (sym joined) packed, stopped), added))
 
--- the rest isn't handed on
+-- handing on the rest fails
 pub left_rest : (appends : Appending) (leaves : Leaving) (chunk : List ℕ) (words left : List (List ℕ)) (buffer : List ℕ) (a b c : Option (List ℕ))
     → concat words ≡ chunk → HandsTo appends words left [] buffer a b
     → (s : List ℕ) × RestAfter buffer left s × IfKnown b c (Adds (LeavesParts appends leaves s)) → IfKnown a c (Adds (LeavesPacked appends leaves chunk))
@@ -145,7 +145,7 @@ left_rest appends leaves chunk words left buffer a b c whole (text, to, handed) 
     (left_after_handed appends leaves [] text buffer rest (text ++ rest) a b c refl handed
     (subst (λ l. IfKnown b c (Adds (LeavesParts appends leaves l))) spelled stopped))
 
--- the last bytes aren't
+-- handing on the last bytes fails
 pub left_last : (appends : Appending) (leaves : Leaving) (chunk : List ℕ) (words left : List (List ℕ)) (buffer : List ℕ) (a b c : Option (List ℕ))
     → concat words ≡ chunk → left ≡ [] → HandsTo appends words left [] buffer a b
     → (s : List ℕ) × (s ≡ buffer) × IfKnown b c (Adds (LeavesParts appends leaves s)) → IfKnown a c (Adds (LeavesPacked appends leaves chunk))

@@ -20,7 +20,7 @@ use Rattle.capnp_pack.proofs.PlaceLemmas.{IsPlace, later, lane_at, padded, padde
 use Rattle.std.proofs.lemmas.List.{take-take}
 use Rattle.capnp_pack.proofs.LaneLemmas.{marks_lanes}
 
--- the places from i on of the bits that are set
+-- the indices from i on of the bits that are set
 abbrev pub marks : ℕ → ℕ → ℕ → List ℕ
 marks zero i tag = []
 marks (suc n) i tag = (if tag % 2 == 1 then i ∷ [] else []) ++ marks n (suc i) (tag / 2)

@@ -15,7 +15,7 @@ use Rattle.capnp_pack.specs.PackedSource.{Unpacks}
 use Rattle.capnp_pack.specs.RefusingLaws.{unpacking}
 use Rattle.capnp_pack.proofs.PackedFrameLemmas.{packed_requests}
 
--- the engine over a packed source, in packed encodings
+-- the readers over a packed source, in packed encodings
 pub found_packed : (rule : Padding) (r : Result (Option (List (List ℕ))) Error) (old new : Option (List ℕ))
     → IfOk r (λ found. IfSome found (λ segments. IfKnown old new (MessageStands rule Unpacks segments)))
     → IfOk r (λ found. IfSome found (λ segments. IfKnown old new (PackedStands rule segments)))
@@ -46,7 +46,7 @@ any_packed text segments frame = record {
   spelled = frame.spelled;
 }
 
--- no packed encoding begins a different one
+-- no packed encoding is the start of a different one
 pub packed_frames_part : (rule also : Padding) (text other rest left : List ℕ) (segments others : List (List ℕ))
     → IsPackedFrame rule text segments → IsPackedFrame also other others → text ++ rest ≡ other ++ left
     → (text ≡ other) × (segments ≡ others) × (rest ≡ left)

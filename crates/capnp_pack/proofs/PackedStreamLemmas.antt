@@ -1,4 +1,4 @@
--- The engine's readers over a packed source, in packed encodings.
+-- The readers of `capnp_frame` over a packed source, in packed encodings.
 use Rattle.std.proofs.Common.{◌≡◌, ◌⊎◌, ℕ, ◌+◌, ◌*◌, ◌≤◌, ap, Option, Result, IfErr, List, length}
 use Rattle.capnp_frame.specs.declared.error.Error.{Error}
 use Rattle.capnp_frame.specs.declared.error.ErrorKind.TheVariants.{DeviceFailed, OutOfMemory}
@@ -11,7 +11,7 @@ use Rattle.capnp_pack.specs.PackedSource.{Unpacks, RefusesChunk}
 use Rattle.capnp_pack.specs.PackedStreams.{packed_rules}
 use Rattle.capnp_pack.proofs.MessageLemmas.{found_packed, accepted_packed}
 
--- what unpacks a source, `following` it
+-- what unpacks a source: what is seen of it is what is seen of that source
 abbrev pub unpacked : {S T : Type 0} → (T → S) → Ghosts S → (T → T → Type 0) → Ghosts T
 unpacked following source same = record {
   unread = λ t. source.unread (following t);

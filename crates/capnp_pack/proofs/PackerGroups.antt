@@ -1,4 +1,4 @@
--- The group that a packer makes of a word and those after it: there is one, and one alone.
+-- The group that a packer makes of a word and those after it: there is exactly one.
 use Rattle.std.proofs.Common.{◌≡◌, ℕ, zero, suc, ◌+◌, ◌<◌, ◌≤◌, ◌⊎◌, inl, inr, List, [], ◌∷◌, length, take, drop, replicate, refl, sym, ap, ◌∙◌, subst, arith}
 use Rattle.std.proofs.lemmas.Bool.{cases_lt}
 use Rattle.std.specs.List.{AllByRecursion}
@@ -54,7 +54,7 @@ IsGroupOf-some w os is all = elim (kinds (tag_of w) (omega (arith, tag_below w, 
   ]
 ]
 
--- the tag of a group's text
+-- the tag of a group's encoding
 abbrev group_tag : Group → ℕ
 group_tag (tagged t w) = t
 group_tag (zeros more) = 0

@@ -1,4 +1,4 @@
--- The text that a packer makes of some words: there is one, and one alone.
+-- The encoding that a packer makes of some words: there is exactly one.
 use Rattle.std.proofs.Common.{◌≡◌, ℕ, zero, suc, ◌/◌, ◌%◌, ◌≤◌, List, [], ◌∷◌, ◌++◌, length, drop, replicate, refl, sym, ap, ◌∙◌, subst, arith, length-append}
 use Rattle.std.specs.List.{concat, AllByRecursion}
 use Rattle.std.specs.Simd.{first_chunks}
@@ -63,7 +63,7 @@ made_of g left is longest = record {
   longest = subst (IsLongest g) (sym (drop_at (others g) left _ refl)) longest;
 }
 
--- and one alone
+-- and only one
 groups_once : (gs hs : List Group) → AllByRecursion IsGroup gs → AllByRecursion IsGroup hs → AreLongest gs → AreLongest hs → words_of_groups gs ≡ words_of_groups hs → gs ≡ hs
 groups_once [] [] p q r s e = refl
 groups_once [] (h ∷ hs) p q r s e = let parts : [] ≡ first_word h ∷ others h ++ words_of_groups hs = e ∙ ap (λ l. l ++ words_of_groups hs) (group_parts h) in cc
@@ -107,7 +107,7 @@ pub PacksWords-once : (words : List (List ℕ)) (text other : List ℕ) → Pack
 PacksWords-once words text other p q =
     p.spelled ∙ ap text_of (groups_once p.groups q.groups p.each q.each p.longest q.longest (p.unpacked ∙ sym q.unpacked)) ∙ sym q.spelled
 
--- a chunk's text is that of its words
+-- a chunk's encoding is that of its words
 pub Packs-of-words : (chunk text : List ℕ) (words : List (List ℕ)) → concat words ≡ chunk → AllByRecursion IsWord words → Packs chunk text → PacksWords words text
 Packs-of-words chunk text words whole all packs =
     let (own, made) = PacksWords-some words all in

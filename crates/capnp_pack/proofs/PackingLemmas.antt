@@ -21,7 +21,7 @@ nonzero_all [] e = refl
 nonzero_all (zero ∷ w) e = absurd (omega (arith, zeros_cons 0 w))
 nonzero_all (suc b ∷ w) e = nonzero_suc b w ∙ ap (λ l. suc b ∷ l) (nonzero_all w (sym (zeros_suc b w) ∙ e))
 
--- bytes that the buffer takes, after those that it held or handed on
+-- bytes that the buffer takes, after those that it had or handed on
 pub buffered_after : (appends : Appending) (old held roomy text new : List ℕ) (a b : Option (List ℕ)) → new ≡ roomy ++ text → IfKnown a b (Hands appends old held roomy)
     → IfKnown a b (Hands appends old (held ++ text) new)
 buffered_after appends old held roomy text new a b e handed = IfKnown-weaker a b (λ x y p. Hands-join appends old held roomy text new x y y p (Hands-none appends roomy text new y e)) handed
@@ -55,7 +55,7 @@ ends_tagged word os tag filled is tagged_by some low = (
 pub filled_by : (word : List ℕ) (tag : ℕ) (roomy filled : List ℕ) → tag ≡ tag_of word → filled ≡ roomy ++ tag ∷ nonzero word → filled ≡ roomy ++ tag_of word ∷ nonzero word
 filled_by word tag roomy filled tagged_by fill = fill ∙ ap (λ k. roomy ++ k ∷ nonzero word) tagged_by
 
--- the tag of a word that goes as it is, and the word
+-- the tag of a word that is stored as it is, and the word
 pub literal_front : (word : List ℕ) (tag : ℕ) (roomy filled : List ℕ) → IsWord word → tag ≡ tag_of word → tag ≡ 255
     → filled ≡ roomy ++ tag ∷ nonzero word → filled ≡ roomy ++ 255 ∷ word
 literal_front word tag roomy filled is tagged_by full fill =

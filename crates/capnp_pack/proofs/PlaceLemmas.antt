@@ -19,7 +19,7 @@ use Rattle.capnp_pack.specs.Steps.{MarkedAt}
 use Rattle.capnp_pack.proofs.WordLemmas.{byte_joins}
 use Rattle.capnp_pack.proofs.UnpackedLemmas.{bit_here}
 
--- for each of n bits its place among those that are set, from `rank` on, or 128
+-- for each of n bits its index among those that are set, counted from `rank`, or 128
 abbrev pub places : ℕ → ℕ → ℕ → List ℕ
 places zero rank tag = []
 places (suc n) rank tag = (if tag % 2 == 1 then rank else 128) ∷ places n (rank + tag % 2) (tag / 2)
@@ -119,7 +119,7 @@ spread_word tag text word low long is =
     subst (λ w. MarkedAt tag w text (drop (ones tag) text)) (sym (is ∙ front))
     (subst (λ k. MarkedAt tag (swz_l w8 16 (padded text) 0 (places 8 0 tag)) text (drop k text)) none (spread 8 0 tag 0 text (omega arith) (omega arith) long low))
 
--- and from a text that has the marked bytes, and no others, in common with that one
+-- and from bytes that have the marked bytes, and no others, in common with these
 pub spread_front : (tag used : ℕ) (text front word : List ℕ) → used ≤ length front → take used front ≡ take used text →
     MarkedAt tag word front (drop used front) → MarkedAt tag word text (drop used text)
 spread_front tag used text front word within same at =

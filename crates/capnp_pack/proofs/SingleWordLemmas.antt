@@ -11,7 +11,7 @@ use Rattle.capnp_pack.specs.Steps.{MarkedAt, GroupFollowing, Unpacked}
 use Rattle.capnp_pack.proofs.UnpackedLemmas.{group_unpacked, tagged_after, zero_after_single_word, unpacked_more}
 use Rattle.capnp_pack.proofs.WordGroups.{literal_found}
 
--- a word of which all is marked, and no word after it
+-- a word whose bytes are all marked, and no word after it
 literal_after_single_word : (following word buffer : List ℕ) → 9 ≤ length following → get_or following 8 0 ≡ 0 → IsWord word → 8 ≤ length buffer →
     take 8 buffer ≡ word → MarkedAt 255 word following (drop 8 following) → GroupFollowing 255 following buffer 9 8
 literal_after_single_word following word buffer long none is room same at =
@@ -54,7 +54,7 @@ single_word_unpacked (suc t) used shown following word buffer low zeros full tag
         (group_unpacked (suc t) (ones (suc t)) 8 shown following buffer e
         (tagged_after (suc t) (ones (suc t)) following word buffer (omega arith) other is (omega (arith, ap length e)) room same at))
 
--- groups that are unpacked of what is left, into what is left of a buffer
+-- groups that are unpacked from the bytes that are left, into what is left of a buffer
 pub unpacked_on : (used filled more count : ℕ) (shown buffer part : List ℕ) → length part ≡ length buffer - filled → Unpacked shown buffer used filled →
     Unpacked (take (length shown - used) (drop used shown)) part more count →
     (length (put_mid filled (length buffer - filled) buffer part) ≡ length buffer) × Unpacked shown (put_mid filled (length buffer - filled) buffer part) (used + more) (filled + count)

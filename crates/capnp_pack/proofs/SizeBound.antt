@@ -31,7 +31,8 @@ tagged_len t w is longest =
     positive zero some = absurd (some refl)
     positive (suc n) some = omega arith
 
--- one more than its words would be, for two words, and two for a first literal one
+-- for n words, twice the length is at most 17 * n + 3, and at most 17 * n where the first word has
+-- two zero bytes
 bound : (gs : List Group) → AllByRecursion IsGroup gs → AreLongest gs → (2 * length (text_of gs) ≤ 17 * length (words_of_groups gs) + 3) ×
     (IfFirst (words_of_groups gs) (λ w. 2 ≤ zero_bytes w) → 2 * length (text_of gs) ≤ 17 * length (words_of_groups gs))
 bound [] each longest = (omega arith, λ first. omega arith)

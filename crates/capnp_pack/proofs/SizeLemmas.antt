@@ -5,7 +5,7 @@ use Rattle.std.proofs.lemmas.Bool.Decides.{nat_tests}
 use lib.Count.{ones, ones-le}
 use Rattle.capnp_pack.specs.declared.sizes.TheConstants.{GROUP_BYTES}
 
--- a tag, as many bytes as it marks, and after the tags 0 and 255 a count
+-- a tag, the bytes that it marks, and after the tags 0 and 255 a count
 abbrev group_bytes : ℕ → ℕ
 group_bytes tag = if tag == 0 then 2 else (if tag == 255 then 10 else 1 + ones tag)
 

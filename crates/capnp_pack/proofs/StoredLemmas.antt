@@ -34,7 +34,7 @@ stored_given gives a xs ys old mid new plain within fits front given = IfKnown-j
     joins : (x y z : List ℕ) → x ≡ take a xs ++ y → gives y (length ys) ys z → x ≡ put_mid a (length xs - a) xs ys ++ z
     joins x y z p q = p ∙ ap (λ l. take a xs ++ l) ((plain y (length ys) ys z).1 q).0 ∙ sym (append_assoc (take a xs) ys z) ∙ ap (λ l. l ++ z) (sym (stored_whole a xs ys within fits))
 
--- where the request is rejected, the bytes are cut
+-- where the request fails, the bytes are cut
 pub stored_short : (F : Type 0) (refuses : Refusing) (a : ℕ) (xs ys : List ℕ) (old mid : Option (List ℕ)) (kind : ErrorKind) →
     ((raw : List ℕ) (n : ℕ) (kind : ErrorKind) → RunsShort raw n kind ↔ refuses raw n kind) → a ≤ length xs → length ys ≡ length xs - a →
     IfKnown old mid (λ raw left. raw ≡ take a xs ++ left) → F ⊎ IsRefused refuses (length ys) mid kind → F ⊎ IsRefused RunsShort (length (put_mid a (length xs - a) xs ys)) old kind

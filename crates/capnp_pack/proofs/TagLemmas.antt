@@ -1,4 +1,4 @@
--- The tag that marks just the bytes that aren't zero.
+-- The tag that marks exactly the bytes that aren't zero.
 use Rattle.std.proofs.Common.{◌≡◌, ℕ, zero, suc, ◌+◌, ◌*◌, ◌/◌, ◌%◌, ◌<◌, List, [], ◌∷◌, ◌++◌, length, replicate, refl, sym, ap, ◌∙◌, subst, arith, cond}
 use Rattle.std.specs.Prelude.{◌==◌, if◌then◌else◌, not}
 use Rattle.std.proofs.Math.Dec.{eqb-suc-zero}
@@ -90,7 +90,7 @@ tag_step (suc zero) zero u m low p q = let none : ◌<◌ 0 0 = q.0 in absurd (o
 tag_step (suc zero) (suc b) u m low p q = (bit_suc b, p, q.1)
 tag_step (suc (suc r)) b u m low p q = absurd (omega arith)
 
--- a tag that marks just the bytes that aren't zero
+-- a tag that marks exactly the bytes that aren't zero
 pub tag_once : (w : List ℕ) (t : ℕ) → t < top w → AreZero (unmarked t w) → ArePositive (marked t w) → tag_of w ≡ t
 tag_once [] t low p q = omega arith
 tag_once (b ∷ w) t low p q =

@@ -1,4 +1,4 @@
--- What is unpacked of a text that is shown.
+-- What is unpacked from the bytes that are shown.
 use Rattle.std.proofs.Common.{◌≡◌, ℕ, zero, suc, ◌+◌, ◌-◌, ◌*◌, ◌%◌, ◌<◌, ◌≤◌, Option, Some, None, IfSome, List, [], ◌∷◌, ◌++◌}
 use Rattle.std.proofs.Common.{length, take, drop, get_or, replicate, refl, sym, ap, ◌∙◌, subst, arith, append_assoc, length-append}
 use Rattle.std.proofs.Common.{length-drop, drop-cons, add-one}
@@ -20,7 +20,7 @@ use Rattle.capnp_pack.proofs.WordLemmas.{clear_byte, set_byte, full_word}
 use Rattle.capnp_frame.proofs.SourceLemmas.{put_mid_front}
 use Rattle.capnp_pack.proofs.WordGroups.{tagged_found, literal_found}
 
--- a byte by its bit, in a text from `used` on
+-- a byte by its bit, in the bytes from `used` on
 pub bit_here : (bits used byte : ℕ) (text : List ℕ) → (bits % 2 ≡ 0 → byte ≡ 0) →
     (bits % 2 ≡ 1 → (used < length text) × (byte ≡ get_or text used 0)) → MarkedAt bits (byte ∷ []) (drop used text) (drop (used + bits % 2) text)
 bit_here bits used byte text clear set = by_bit (bits % 2) refl
@@ -98,7 +98,7 @@ zeros_are : (w : List ℕ) → AreZero w → w ≡ replicate (length w) 0
 zeros_are [] all = refl
 zeros_are (b ∷ w) all = ap (λ k. k ∷ w) all.0 ∙ ap (λ l. 0 ∷ l) (zeros_are w all.1)
 
--- a zero word alone, filled as one of which nothing is marked
+-- a zero word alone, filled as a word of which nothing is marked
 pub zero_after_single_word : (tag used : ℕ) (following word buffer : List ℕ) → tag ≡ 0 → get_or following 0 0 ≡ 0 → IsWord word → 9 ≤ length following →
     8 ≤ length buffer → take 8 buffer ≡ word → used ≤ 8 → MarkedAt tag word following (drop used following) → GroupFollowing tag following buffer (used + 1) 8
 zero_after_single_word tag used following word buffer none count is long room same few at =
@@ -181,7 +181,7 @@ unpacked_more used filled more count shown rest buffer part e fits p q =
       };
     }
 
--- groups at the front return a part of each request that they fit into
+-- groups at the front are a part of the result of each request that they fit into
 
 group_first : (g : Group) (n : ℕ) (left : List ℕ) → IsGroup g → length (concat (group_words g)) ≤ n → ReturnsPart Unpacks MeetsFault n (concat (group_words g)) (group_encoding g ++ left) left
 group_first (tagged tag word) n left is fits = group_takes n tag _ (marked tag word ++ left) left (tagged tag word, is, refl, refl) fits

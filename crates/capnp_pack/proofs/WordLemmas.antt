@@ -10,7 +10,7 @@ use Rattle.capnp_pack.specs.Group.{IsWord, AreZero, marked, unmarked}
 use Rattle.capnp_pack.specs.Steps.{MarkedAt, marked_count, Lacks}
 use Rattle.capnp_pack.proofs.AllLemmas.{AllByRecursion-append}
 
--- Of the bytes of a word under a tag these are known, and the others are under these bits.
+-- Of the bytes of a word under a tag these are known, and the others are given by these bits.
 pub record MarksTo (tag bits : ℕ) (front raw left : List ℕ) : Type 0 where
   pub joins : (others after : List ℕ) → MarkedAt bits others left after → MarkedAt tag (front ++ others) raw after
   pub counts : (n : ℕ) → marked_count tag (length front + n) + length left ≡ length raw + marked_count bits n
@@ -106,7 +106,7 @@ marks_some (suc n) tag some low = by_bit (tag % 2) refl (λ more. marks_some n (
     by_bit (suc zero) e more = let one : length (one_at 1 tag 0) ≡ 1 = ap (λ k. length {A = ℕ} (if k == 1 then 0 ∷ [] else [])) e in omega (arith, rest)
     by_bit (suc (suc bit)) e more = absurd (omega arith)
 
--- all bytes of a word are marked by 255
+-- 255 marks all bytes of a word
 pub full_word : (w : List ℕ) → IsWord w → (marked 255 w ≡ w) × AreZero (unmarked 255 w)
 full_word (a ∷ b ∷ c ∷ d ∷ e ∷ f ∷ g ∷ h ∷ []) is = (refl, tt)
 full_word (a ∷ b ∷ c ∷ d ∷ e ∷ f ∷ g ∷ h ∷ i ∷ w) is = absurd (omega arith)

@@ -1,4 +1,5 @@
--- What the private functions of a packer keep of their sink, and those of an unpacker of their source.
+-- What the private functions of a packer keep of their sink, and those of an unpacker of their
+-- source.
 use Rattle.std.specs.Prelude.{◌≡◌, ℕ, List, [], Option, Some, Result, IfOk, OnErr, IfErr, IfSome, IfNone}
 use Rattle.capnp_frame.specs.declared.error.Error.{Error}
 use Rattle.capnp_frame.specs.declared.error.ErrorKind.{ErrorKind}
@@ -10,34 +11,37 @@ use Rattle.capnp_frame.specs.Sink.{Adds, DeclinesAny, Grows}
 use Rattle.capnp_frame.specs.Source.{IfKnown, Fails}
 use Rattle.capnp_pack.specs.Steps.{LeavesParts}
 
--- of a text that this holds of, a front is handed on, and of the next part what a call that fails leaves
+-- of some bytes of which `stops` holds, the first parts are handed on, and of the next part what
+-- the sink leaves of it
 abbrev pub LeavesOf : {S : Type 0} → Sink S → S → S → (List ℕ → Type 0) → Type 0
 LeavesOf sink old new stops = (text : List ℕ) × stops text
     × IfKnown (sink.written old) (sink.written new) (Adds (LeavesParts sink.appends sink.leaves text))
 
--- A call that hands bytes on to a sink. `sink` is what is seen of the sink (the members of the trait Write), `old` and `new`
--- are the sink before the call and after it. `stops` holds of the text that is to be handed on, and `hands` of what is
--- returned.
+-- A call that hands bytes on to a sink. `sink` is what is seen of the sink (the members of the
+-- trait Write), `old` and `new` are the sink before the call and after it. `stops` holds of the
+-- bytes that are to be handed on, and `hands` of what is returned.
 pub record HandsOn {S X : Type 0} (sink : Sink S) (old new : S) (stops : List ℕ → Type 0) (hands : X → Type 0) (result : Result X Error) : Type 0 where
   pub handed : IfOk result hands
-  -- where the call fails, no more than a front is handed on, and nothing after a hole
+  -- where the call fails, only the start of these bytes is handed on, without a gap
   pub left : OnErr result (LeavesOf sink old new stops)
-  -- the call fails with the device's failure, or as the sink rejects some chunk
+  -- the call fails with the device's failure, or with a kind of the sink's for some chunk
   pub refused : FailsOr result (DeclinesAny sink.refuses)
-  -- the device is blamed only where it failed
+  -- `DeviceFailed` is returned only where the device failed
   pub failed : IfErr result (λ error. error.kind ≡ DeviceFailed → Fails (sink.failures old) (sink.failures new))
   -- what was written before stays at the front
   pub grows : Grows sink.written sink.failures sink.same old new
 
--- A call that takes bytes of a source. `source` is what is seen of the source (the members of the trait Read), `finds` holds
--- of what is returned, and `refuses` of the kinds that the call may fail with beside the device's.
+-- A call that takes bytes from a source. `source` is what is seen of the source (the members of the
+-- trait Read), `finds` holds of what is returned, and `refuses` of the kinds that the call may fail
+-- with beside the device's.
 pub record TakesFrom {S X : Type 0} (source : Source S) (old new : S) (finds : X → Type 0) (refuses : ErrorKind → Type 0)
     (result : Result X Error) : Type 0 where
   pub found : IfOk result finds
   pub refused : FailsOr result refuses
   pub asked : Asked source.unread source.failures source.same old new result
 
--- What a call takes that returns none exactly at the end, where only the device's failure comes.
+-- A call that takes what comes next from a source and returns None exactly at the end, where it
+-- fails only with the device's failure.
 pub record TakesNext {S X : Type 0} (source : Source S) (old new : S) (finds : X → Type 0) (refuses : ErrorKind → Type 0)
     (result : Result (Option X) Error) : Type 0 where
   pub found : IfOk result (λ found. IfSome found finds)

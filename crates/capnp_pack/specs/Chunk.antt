@@ -9,7 +9,7 @@ text_of groups = flat_map group_encoding groups
 abbrev pub words_of_groups : List Group → List (List ℕ)
 words_of_groups groups = flat_map group_words groups
 
--- The text is the texts of some groups joined, and the bytes are their words joined.
+-- `text` is the encodings of some groups, joined, and `bytes` are their words, joined.
 pub record IsChunk (text bytes : List ℕ) : Type 0 where
   pub groups : List Group
   pub each : AllByRecursion IsGroup groups

@@ -1,4 +1,4 @@
--- The chunk that a packer makes: what of the encoding document's "Packing" is left to it is settled here.
+-- The chunk that a packer makes: it settles what the encoding document's "Packing" leaves open.
 use Rattle.std.specs.Prelude.{◌≡◌, ◌≢◌, ℕ, ◌<◌, ◌≤◌, List, [], ◌∷◌, length, ⊤}
 use Rattle.std.specs.List.{concat, AllByRecursion}
 use Rattle.capnp_pack.specs.Group.{Group, tagged, zeros, literal, IsGroup, zero_word, zero_bytes, marked}
@@ -9,7 +9,7 @@ abbrev pub IfFirst : List (List ℕ) → (List ℕ → Type 0) → Type 0
 IfFirst [] P = ⊤
 IfFirst (word ∷ words) P = P word
 
--- The group of a packer where these words follow it.
+-- A packer makes this group where these words follow it.
 abbrev pub IsLongest : Group → List (List ℕ) → Type 0
 -- no marked byte is zero
 IsLongest (tagged tag word) next = AllByRecursion (λ byte. 0 < byte) (marked tag word)
@@ -24,7 +24,7 @@ abbrev pub AreLongest : List Group → Type 0
 AreLongest [] = ⊤
 AreLongest (group ∷ groups) = IsLongest group (words_of_groups groups) × AreLongest groups
 
--- The text is the one that a packer makes of the bytes.
+-- `text` is what a packer makes of `bytes`.
 pub record Packs (bytes text : List ℕ) : Type 0 where
   pub groups : List Group
   pub each : AllByRecursion IsGroup groups

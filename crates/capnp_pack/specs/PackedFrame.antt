@@ -9,8 +9,8 @@ use Rattle.capnp_frame.specs.Sink.{AppendsAll}
 use Rattle.capnp_pack.specs.Chunk.{IsChunk}
 use Rattle.capnp_pack.specs.Packed.{Packs}
 
--- The text is three chunks joined: of the table's first word, of its other words, of all segments joined. The table's
--- padding is one that the rule takes.
+-- `text` is three chunks, joined: of the table's first word, of its other words, and of all
+-- segments joined. The rule accepts the table's padding.
 pub record IsPackedFrame (rule : Padding) (text : List ℕ) (segments : List (List ℕ)) : Type 0 where
   pub first : List ℕ
   pub others : List ℕ
@@ -32,7 +32,8 @@ table_first segments = take 8 (zero_padded_table (lengths segments))
 abbrev pub table_others : List (List ℕ) → List ℕ
 table_others segments = drop 8 (zero_padded_table (lengths segments))
 
--- The text that is written: what a packer makes of the first word of this table, of its other words, and of each segment.
+-- The encoding that is written: what a packer makes of the first word of this table, of its other
+-- words, and of each segment.
 pub record IsPackedEncoding (text : List ℕ) (segments : List (List ℕ)) : Type 0 where
   pub first_text : List ℕ
   pub others_text : List ℕ

@@ -1,4 +1,4 @@
--- What a packed chunk adds to a sink, and by which kinds it may be rejected.
+-- What a packed chunk adds to a sink, and with which kinds it may fail.
 use Rattle.std.specs.Prelude.{◌≡◌, ℕ, ◌⊎◌, List, []}
 use Rattle.std.specs.List.{concat}
 use Rattle.capnp_frame.specs.declared.error.ErrorKind.TheVariants.{NotWholeWords}
@@ -7,7 +7,7 @@ use Rattle.capnp_frame.specs.Refusals.{Unless}
 use Rattle.capnp_frame.specs.Sink.{Appending, Leaving, Declining, DeclinesAny, AppendsAll, LeavesSome}
 use Rattle.capnp_pack.specs.Packed.{Packs}
 
--- what the sink adds for the parts of the packed encoding, however it is cut
+-- what the sink adds for the parts of the packed encoding, however that is cut into parts
 abbrev pub AppendsPacked : Appending → Appending
 AppendsPacked appends chunk text = (parts : List (List ℕ)) × Packs chunk (concat parts) × AppendsAll appends parts text
 
@@ -15,6 +15,6 @@ AppendsPacked appends chunk text = (parts : List (List ℕ)) × Packs chunk (con
 abbrev pub LeavesPacked : Appending → Leaving → Leaving
 LeavesPacked appends leaves chunk text = (text ≡ []) ⊎ ((parts : List (List ℕ)) × Packs chunk (concat parts) × LeavesSome appends leaves parts text)
 
--- a part of a word, and else as the sink rejects
+-- it isn't whole words, or the sink fails for some chunk
 abbrev pub DeclinesPacked : Declining → Declining
 DeclinesPacked refuses chunk kind = Unless (IsWholeWords chunk → ⊥) (kind ≡ NotWholeWords) (DeclinesAny refuses kind)

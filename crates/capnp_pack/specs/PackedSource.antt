@@ -1,4 +1,4 @@
--- Which packed request is given, and which is rejected and by which kind.
+-- Which packed requests are given, and which ones fail and with which kind.
 use Rattle.std.specs.Prelude.{◌≡◌, ◌≢◌, ℕ, ◌+◌, ◌-◌, ◌%◌, ◌<◌, ◌≤◌, ◌⊎◌, List, [], ◌∷◌, ◌++◌, length, Option, Result, IfErr}
 use Rattle.std.specs.List.{concat, AllByRecursion}
 use Rattle.capnp_frame.specs.declared.error.Error.{Error}
@@ -13,7 +13,7 @@ use Rattle.capnp_pack.specs.Chunk.{IsChunk, text_of, words_of_groups}
 abbrev pub Unpacks : Giving
 Unpacks raw n bytes rest = (text : List ℕ) × IsChunk text bytes × (raw ≡ text ++ rest) × (length bytes ≡ n)
 
--- A group's text is its head, and after the count of a literal group its run.
+-- A group's encoding is its head and, after the count of a literal group, its run.
 abbrev pub head_encoding : Group → List ℕ
 head_encoding (tagged tag word) = tag ∷ marked tag word
 head_encoding (zeros further) = 0 ∷ further ∷ []
@@ -28,7 +28,7 @@ run_encoding (literal word further) = concat further
 abbrev pub group_size : Group → ℕ
 group_size group = length (concat (group_words group))
 
--- The end is in a group's head, or before it: a marked byte, a count or the group is missing.
+-- A group is cut in its head, or missing: a marked byte, a count or the group isn't there.
 pub record IsHeadCut (left : List ℕ) : Type 0 where
   pub group : Group
   pub is : IsGroup group
@@ -41,7 +41,7 @@ pub record IsHeadAt (group : Group) (left following : List ℕ) : Type 0 where
   pub is : IsGroup group
   pub spelled : left ≡ head_encoding group ++ following
 
--- its count is larger than what is still asked
+-- its count is larger than what is still asked for
 pub record Overruns (n : ℕ) (left : List ℕ) : Type 0 where
   pub group : Group
   pub following : List ℕ
@@ -56,13 +56,13 @@ pub record IsRunCut (n : ℕ) (left : List ℕ) : Type 0 where
   pub fits : group_size group ≤ n
   pub short : length following < length (run_encoding group)
 
--- no group can be taken here, where n bytes are still asked
+-- no group can be taken here, where n bytes are still asked for
 abbrev pub IsGroupFault : List ℕ → ℕ → ErrorKind → Type 0
 IsGroupFault left n kind = (IsHeadCut left × (kind ≡ PrematureEndOfPackedInput))
     ⊎ (Overruns n left × (kind ≡ PackedInputDidNotEndCleanlyOnASegmentBoundary))
     ⊎ (IsRunCut n left × (kind ≡ FailedToFillTheWholeBuffer))
 
--- The first fault: the groups before it are whole, and have fewer bytes than are asked.
+-- The first fault: the groups before it are whole, and have fewer bytes than are asked for.
 pub record MeetsFault (raw : List ℕ) (n : ℕ) (kind : ErrorKind) : Type 0 where
   pub groups : List Group
   pub each : AllByRecursion IsGroup groups
@@ -71,8 +71,8 @@ pub record MeetsFault (raw : List ℕ) (n : ℕ) (kind : ErrorKind) : Type 0 whe
   pub fewer : length (concat (words_of_groups groups)) < n
   pub fault : IsGroupFault left (n - length (concat (words_of_groups groups))) kind
 
--- Where a count is larger than what is still asked of n bytes, the groups before it and the head of its group are consumed,
--- and no more.
+-- Where a count is larger than what is still asked for of n bytes, only the groups before it and
+-- the head of its group are consumed.
 pub record LeavesOverrun (n : ℕ) (raw left : List ℕ) : Type 0 where
   pub groups : List Group
   pub each : AllByRecursion IsGroup groups
@@ -82,11 +82,11 @@ pub record LeavesOverrun (n : ℕ) (raw left : List ℕ) : Type 0 where
   pub long : n < length (concat (words_of_groups groups)) + group_size group
   pub spelled : raw ≡ text_of groups ++ (head_encoding group ++ left)
 
--- where a call fails by such a count, this holds of what was unread before it and after it
+-- where a call fails by such a count, `leaves` relates what was unread before it and after it
 abbrev pub Overran : {X : Type 0} → Result X Error → Option (List ℕ) → Option (List ℕ) → (List ℕ → List ℕ → Type 0) → Type 0
 Overran result old new leaves = IfErr result (λ error. error.kind ≡ PackedInputDidNotEndCleanlyOnASegmentBoundary → IfKnown old new leaves)
 
--- a packed request is rejected: the lines of the table of a chunk (docs/FORMAT.md, "Packed requests")
+-- a packed request fails: the lines of the table of a chunk (docs/FORMAT.md, "Packed requests")
 abbrev pub RefusesChunk : Refusing
 RefusesChunk raw n kind =
     Unless (n % 8 ≢ 0) (kind ≡ NotWholeWords) (

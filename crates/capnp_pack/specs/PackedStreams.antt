@@ -4,6 +4,6 @@ use Rattle.capnp_frame.specs.Streams.{StreamRules, framed_rules}
 use Rattle.capnp_pack.specs.PackedFrame.{PackedStands}
 use Rattle.capnp_pack.specs.PackedSource.{Unpacks, RefusesChunk}
 
--- Packed messages, their padding by the rule: each request is a packed chunk.
+-- Packed messages, whose padding the rule accepts: each request is a packed chunk.
 abbrev pub packed_rules : Padding → StreamRules
 packed_rules rule = record (framed_rules rule Unpacks RefusesChunk) { stands = PackedStands rule }

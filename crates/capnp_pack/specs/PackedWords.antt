@@ -8,7 +8,7 @@ use Rattle.capnp_frame.specs.Source.{IfKnown}
 use Rattle.capnp_pack.specs.Packed.{AreLongest}
 use Rattle.capnp_pack.specs.Steps.{Hands}
 
--- the text is the one that a packer makes of the words
+-- `text` is what a packer makes of the words
 pub record PacksWords (words : List (List ℕ)) (text : List ℕ) : Type 0 where
   pub groups : List Group
   pub each : AllByRecursion IsGroup groups
@@ -16,19 +16,21 @@ pub record PacksWords (words : List (List ℕ)) (text : List ℕ) : Type 0 where
   pub spelled : text ≡ text_of groups
   pub unpacked : words_of_groups groups ≡ words
 
--- the text is the front of the packed words, up to where these are left
+-- `text` is what a packer makes of the words before `left`
 abbrev pub PacksTo : List (List ℕ) → List ℕ → List (List ℕ) → Type 0
 PacksTo words text left = (more : List ℕ) → PacksWords left more → PacksWords words (text ++ more)
 
--- the packed words, up to where the others are left, are handed on after what a buffer held, but for what it keeps
+-- what a packer makes of the words before `left` is handed on after the buffer's bytes `old`,
+-- except for `new`, which the buffer keeps
 abbrev pub HandsTo : Appending → List (List ℕ) → List (List ℕ) → List ℕ → List ℕ → Option (List ℕ) → Option (List ℕ) → Type 0
 HandsTo appends words left old new before after = (text : List ℕ) × PacksTo words text left
     × IfKnown before after (Hands appends old text new)
 
--- what a buffer holds, and after it the packed words
+-- the bytes of a buffer, followed by what a packer makes of the words
 abbrev pub RestAfter : List ℕ → List (List ℕ) → List ℕ → Type 0
 RestAfter buffer words text = (rest : List ℕ) × PacksWords words rest × (text ≡ buffer ++ rest)
 
--- what a buffer holds, the packed words and a given number of bytes more are granted
+-- the sink grants the bytes of a buffer, what a packer makes of the words, and a given number of
+-- bytes more
 abbrev pub GrantsTo : (ℕ → Type 0) → List (List ℕ) → ℕ → ℕ → Type 0
 GrantsTo grants words used more = (rest : List ℕ) × PacksWords words rest × grants (used + (length rest + more))

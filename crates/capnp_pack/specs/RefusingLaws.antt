@@ -1,4 +1,4 @@
--- The laws of the packed errors, and with them those of a packed source.
+-- The laws of the errors of packed requests, and with them those of a packed source.
 use Rattle.std.proofs.Common.{◌≡◌, ℕ, ◌+◌, ◌-◌, ◌<◌, ◌≤◌, inl, inr, List, [], ◌∷◌, ◌++◌, length, refl, sym, ap, ◌∙◌, subst, arith, length-append, append_assoc}
 use Rattle.std.proofs.lemmas.List.{append-nil}
 use Rattle.std.proofs.lemmas.List.Folds.{concat-append}
@@ -22,7 +22,7 @@ record SameHead (g h : Group) (x y : List ℕ) : Type 0 where
   pub size : group_size g ≡ group_size h
   pub run : length (run_encoding g) ≡ length (run_encoding h)
 
--- no head begins another
+-- no head is the start of another
 same_head : (g h : Group) (x y : List ℕ) → IsGroup g → IsGroup h → head_encoding g ++ x ≡ head_encoding h ++ y → SameHead g h x y
 same_head (tagged t w) (tagged u v) x y p q e =
     let tags : t ≡ u = cc in
@@ -45,7 +45,7 @@ same_head (zeros m) (literal v hs) x y p q e = let tags : ◌≡◌ {A = ℕ} 0 
 same_head (literal w fs) (tagged u v) x y p q e = let tags : 255 ≡ u = cc in absurd (omega (arith, q.1))
 same_head (literal w fs) (zeros n) x y p q e = let tags : ◌≡◌ {A = ℕ} 255 0 = cc in absurd (omega arith)
 
--- where a head is cut none is
+-- where a head is cut, no head is there
 cut_head : (left following : List ℕ) (g : Group) → IsHeadCut left → IsHeadAt g left following → ⊥
 cut_head left following g cut at =
     let same = same_head g cut.group (following ++ cut.missing) [] at.is cut.is
@@ -55,7 +55,7 @@ cut_head left following g cut at =
 same_at : (left x y : List ℕ) (g h : Group) → IsHeadAt g left x → IsHeadAt h left y → SameHead g h x y
 same_at left x y g h p q = same_head g h x y p.is q.is (sym p.spelled ∙ q.spelled)
 
--- a place has one fault
+-- at most one fault is at a place
 IsGroupFault-once : (left : List ℕ) (n : ℕ) (kind other : ErrorKind) → IsGroupFault left n kind → IsGroupFault left n other → kind ≡ other
 IsGroupFault-once left n kind other (inl p) (inl q) = p.1 ∙ sym q.1
 IsGroupFault-once left n kind other (inl p) (inr (inl q)) = absurd (cut_head left q.0.following q.0.group p.0 q.0.head)
@@ -71,7 +71,7 @@ IsGroupFault-once left n kind other (inr (inr p)) (inr (inl q)) =
     let same = same_at left p.0.following q.0.following p.0.group q.0.group p.0.head q.0.head in
     absurd (omega (arith, q.0.long, p.0.fits, same.size))
 
--- where a whole group is and fits there is no fault
+-- where a whole group is and fits, there is no fault
 no_fault : (g : Group) (left rest : List ℕ) (n : ℕ) (kind : ErrorKind) → IsGroup g → left ≡ group_encoding g ++ rest → group_size g ≤ n → IsGroupFault left n kind → ⊥
 no_fault g left rest n kind is e fits fault = elim fault [
   | inl p ↦ cut_head left (run_encoding g ++ rest) g p.0 at
@@ -115,7 +115,7 @@ fault_after g rest n kind is fits p = after p.groups p.each p.spelled p.fewer p.
         let len : n - length (concat (words_of_groups (h ∷ hs))) ≡ (n - group_size g) - length (concat (words_of_groups hs)) = omega (arith, size, sizes) in
         record { groups = hs; each = each.1; left = p.left; spelled = same.1; fewer = omega (arith, size, sizes, fewer); fault = subst (λ k. IsGroupFault p.left k kind) len fault }
 
--- a chunk that is whole has no fault
+-- a whole chunk has no fault
 fault_apart : (gs : List Group) (raw rest : List ℕ) (n : ℕ) (kind : ErrorKind) → AllByRecursion IsGroup gs → raw ≡ text_of gs ++ rest →
     length (concat (words_of_groups gs)) ≡ n → MeetsFault raw n kind → ⊥
 fault_apart [] raw rest n kind each e len p = absurd (omega (arith, p.fewer))
@@ -124,7 +124,7 @@ fault_apart (g ∷ gs) raw rest n kind each e len p =
     fault_apart gs (text_of gs ++ rest) rest (n - group_size g) kind each.1 refl (omega (arith, size))
     (fault_after g (text_of gs ++ rest) n kind each.0 (omega (arith, size)) (subst (λ l. MeetsFault l n kind) (e ∙ append_assoc (group_encoding g) (text_of gs) rest) p))
 
--- the first fault is one
+-- there is at most one first fault
 fault_once : (gs : List Group) (raw left : List ℕ) (n : ℕ) (kind other : ErrorKind) → AllByRecursion IsGroup gs → raw ≡ text_of gs ++ left →
     length (concat (words_of_groups gs)) < n → IsGroupFault left (n - length (concat (words_of_groups gs))) kind → MeetsFault raw n other → kind ≡ other
 fault_once [] raw left n kind other each e fewer fault q = first q.groups q.each q.spelled q.fewer q.fault

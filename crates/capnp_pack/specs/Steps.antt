@@ -12,11 +12,11 @@ use Rattle.capnp_pack.specs.PackedSource.{Unpacks, MeetsFault, head_encoding, gr
 
 -- Reading
 
--- a group of this tag and these bytes is at the front, of which the tag is taken
+-- a group of this tag and these bytes is at the front, and its tag has been read
 abbrev pub GroupAt : ℕ → List ℕ → List ℕ → List ℕ → Type 0
 GroupAt tag bytes raw left = (group : Group) × IsGroup group × (bytes ≡ concat (group_words group)) × (tag ∷ raw ≡ group_encoding group ++ left)
 
--- the first fault, where the tag of the first group is taken
+-- the first fault, where the tag of the first group has been read
 abbrev pub FaultAfter : ℕ → Refusing
 FaultAfter tag raw n kind = MeetsFault (tag ∷ raw) n kind
 
@@ -24,7 +24,7 @@ FaultAfter tag raw n kind = MeetsFault (tag ∷ raw) n kind
 abbrev pub MarkedAt : ℕ → List ℕ → List ℕ → List ℕ → Type 0
 MarkedAt tag word raw left = (raw ≡ marked tag word ++ left) × AreZero (unmarked tag word)
 
--- A given number of bytes of a text, at most a word, fill a word under a tag.
+-- The first `used` bytes, at most eight, are the bytes of a word that a tag marks.
 pub record TakesMarked (tag : ℕ) (text word : List ℕ) (used : ℕ) : Type 0 where
   pub used_within : used ≤ 8
   pub marked : MarkedAt tag word text (drop used text)
@@ -33,7 +33,7 @@ pub record TakesMarked (tag : ℕ) (text word : List ℕ) (used : ℕ) : Type 0 
 abbrev pub marked_count : ℕ → ℕ → ℕ
 marked_count tag n = length (marked tag (replicate n 0))
 
--- fewer bytes than these are unread
+-- fewer bytes than n are unread
 abbrev pub Lacks : ℕ → Option (List ℕ) → ErrorKind → Type 0
 Lacks n unread kind = IfSome unread (λ raw. length raw < n) × (kind ≡ PrematureEndOfPackedInput)
 
@@ -41,13 +41,13 @@ Lacks n unread kind = IfSome unread (λ raw. length raw < n) × (kind ≡ Premat
 abbrev pub RunAt : List ℕ → List ℕ → List ℕ → Type 0
 RunAt run raw left = (further : ℕ) × (further < 256) × (length run ≡ 8 * further) × (raw ≡ further ∷ run ++ left)
 
--- the count is missing, or larger than what is asked, or its words are cut
+-- the count is missing, or larger than what is asked for, or its words are cut
 abbrev pub RefusesRun : Refusing
 RefusesRun raw n kind = ((raw ≡ []) × (kind ≡ PrematureEndOfPackedInput))
     ⊎ ((further : ℕ) × (left : List ℕ) × (further < 256) × (raw ≡ further ∷ left)
     × (((n < 8 * further) × (kind ≡ PackedInputDidNotEndCleanlyOnASegmentBoundary)) ⊎ ((8 * further ≤ n) × RunsShort left (8 * further) kind)))
 
--- A given number of bytes after a tag end its group, which fills a given number of bytes of a buffer.
+-- The first `used` bytes after a tag complete its group, which fills `filled` bytes of a buffer.
 pub record GroupFollowing (tag : ℕ) (following buffer : List ℕ) (used filled : ℕ) : Type 0 where
   pub used_within : used ≤ length following
   pub some : 0 < filled
@@ -55,7 +55,7 @@ pub record GroupFollowing (tag : ℕ) (following buffer : List ℕ) (used filled
   pub whole : filled % 8 ≡ 0
   pub group : GroupAt tag (take filled buffer) following (drop used following)
 
--- A given number of bytes of a text are groups, which fill a given number of bytes of a buffer.
+-- The first `used` bytes are groups, which fill `filled` bytes of a buffer.
 pub record Unpacked (text buffer : List ℕ) (used filled : ℕ) : Type 0 where
   pub used_within : used ≤ length text
   pub some : 0 < filled → 0 < used
@@ -63,21 +63,21 @@ pub record Unpacked (text buffer : List ℕ) (used filled : ℕ) : Type 0 where
   pub whole : filled % 8 ≡ 0
   pub chunk : IsChunk (take used text) (take filled buffer)
 
--- whole groups, whose words have a given number of bytes, are taken from the front
+-- whole groups, whose words have this many bytes, are taken from the front
 abbrev pub HasProgress : ℕ → List ℕ → List ℕ → Type 0
 HasProgress count raw left = (groups : List Group) × AllByRecursion IsGroup groups × (raw ≡ text_of groups ++ left)
     × (length (concat (words_of_groups groups)) ≡ count)
 
--- the head of a group is at the front, of which the tag is taken, and its words have more than n bytes
+-- the head of a group is at the front, its tag has been read, and its words have more than n bytes
 abbrev pub HeadOver : ℕ → ℕ → List ℕ → List ℕ → Type 0
 HeadOver tag n raw left = (group : Group) × IsGroup group × (n < group_size group) × (tag ∷ raw ≡ head_encoding group ++ left)
 
--- a count of words is at the front that have more than n bytes
+-- at the front is a count of words that have more than n bytes
 abbrev pub CountOver : ℕ → List ℕ → List ℕ → Type 0
 CountOver n raw left = (further : ℕ) × (further < 256) × (n < 8 * further) × (raw ≡ further ∷ left)
 
--- A given number of bytes at the front of a buffer are the words of groups, a part of each result that they
--- fit into, and something was unread before them.
+-- The first `count` bytes of a buffer are the words of groups, a part of the result of each request
+-- that they fit into, and something was unread before them.
 abbrev pub TakesGroups : Option (List ℕ) → Option (List ℕ) → List ℕ → ℕ → Type 0
 TakesGroups old new buffer count = (0 < count) × (count ≤ length buffer) × (count % 8 ≡ 0)
     × IfSome old (λ raw. raw ≡ [] → ⊥)
@@ -100,26 +100,27 @@ tag_of (byte ∷ bytes) = (if byte == 0 then 0 else 1) + 2 * tag_of bytes
 abbrev pub nonzero : List ℕ → List ℕ
 nonzero word = filter (λ byte. not (byte == 0)) word
 
--- P holds of a given number of words at the front, and of no more of them, or they are 255.
+-- P holds of this many words at the front, and not of the next one, or they are 255.
 pub record IsRun (P : List ℕ → Type 0) (words : List (List ℕ)) (count : ℕ) : Type 0 where
   pub most : count ≤ 255
   pub within : count ≤ length words
   pub each : AllByRecursion P (take count words)
   pub ends : count < 255 → IfFirst (drop count words) (λ word. P word → ⊥)
 
--- The group that a packer makes of a word and a given number of those after it.
+-- The group that a packer makes of a word and this many of the words after it.
 pub record IsGroupOf (word : List ℕ) (others : List (List ℕ)) (count : ℕ) (group : Group) : Type 0 where
   pub within : count ≤ length others
   pub is : IsGroup group
   pub words : group_words group ≡ word ∷ take count others
   pub longest : IsLongest group (drop count others)
 
--- A buffer held a word's tag and its bytes that aren't zero, at the end; now it holds the group of the word there.
+-- A buffer ended with a word's tag and its nonzero bytes; now it ends with the group of the word.
 abbrev pub EndsGroup : List ℕ → List (List ℕ) → ℕ → List ℕ → List ℕ → Type 0
 EndsGroup word others count old new = (group : Group) × IsGroupOf word others count group
     × ((front : List ℕ) → old ≡ front ++ tag_of word ∷ nonzero word → new ≡ front ++ group_encoding group)
 
--- Of a buffer's bytes and a text after them, some parts are handed on, and the buffer keeps the rest.
+-- Of a buffer's bytes and the bytes `text` after them, some parts are handed on, and the buffer
+-- keeps the rest.
 pub record Hands (appends : Appending) (old text new before after : List ℕ) : Type 0 where
   pub parts : List (List ℕ)
   pub handed : List ℕ
@@ -127,15 +128,15 @@ pub record Hands (appends : Appending) (old text new before after : List ℕ) : 
   pub added : after ≡ before ++ handed
   pub kept : old ++ text ≡ concat parts ++ new
 
--- Of a text, cut into parts however, the first ones are added, and of the next one nothing, or what a call that fails
--- leaves of it.
+-- Some bytes are cut into parts in any way. The first parts are added, and of the next one nothing,
+-- or what a call that fails leaves of it.
 abbrev pub LeavesParts : Appending → Leaving → List ℕ → List ℕ → Type 0
 LeavesParts appends leaves text left = (parts : List (List ℕ)) × (concat parts ≡ text) × LeavesSome appends leaves parts left
 
--- what a buffer holds, and after it the count of a literal run and its words
+-- the bytes of a buffer, followed by the count of a literal run and its words
 abbrev pub LiteralAfter : List ℕ → List (List ℕ) → List ℕ → Type 0
 LiteralAfter buffer others text = (count : ℕ) × IsRun HasFewZeros others count × (text ≡ buffer ++ count ∷ concat (take count others))
 
--- what a buffer holds, and after it the group of a word and some of those after it
+-- the bytes of a buffer, followed by the group of a word and some of the words after it
 abbrev pub GroupAfter : List ℕ → List ℕ → List (List ℕ) → List ℕ → Type 0
 GroupAfter buffer word others text = (count : ℕ) × (group : Group) × IsGroupOf word others count group × (text ≡ buffer ++ group_encoding group)

@@ -87,7 +87,7 @@ byte_step true true (inr w) b c m n u v x y more p q e = absurd (true_false w.0)
 byte_step false false (inl w) b c m n u v x y more p q e = absurd (true_false (sym w.0))
 byte_step false false (inr w) b c m n u v x y more p q e = absurd (true_false (sym w.1))
 
--- a tag and its bytes say the word
+-- a tag and its bytes determine the word
 pub same_word : (w v : List ℕ) (tag : ℕ) (x y : List ℕ) → length w ≡ length v → AreZero (unmarked tag w) → AreZero (unmarked tag v) → marked tag w ++ x ≡ marked tag v ++ y → (w ≡ v) × (x ≡ y)
 same_word [] [] tag x y len p q e = (refl, e)
 same_word [] (c ∷ v) tag x y len p q e = absurd (omega arith)
@@ -97,7 +97,7 @@ same_word (b ∷ w) (c ∷ v) tag x y len p q e =
     (unmarked (tag / 2) w) (unmarked (tag / 2) v) x y (same_word w v (tag / 2) x y (omega arith)) p q e in
     (ap (λ k. k ∷ w) step.0 ∙ ap (λ l. c ∷ l) step.1.0, step.1.1)
 
--- no group's text begins another's
+-- no group's encoding is the start of another's
 pub same_group : (g h : Group) (x y : List ℕ) → IsGroup g → IsGroup h → group_encoding g ++ x ≡ group_encoding h ++ y → (concat (group_words g) ≡ concat (group_words h)) × (x ≡ y)
 same_group (tagged t w) (tagged u v) x y p q e =
     let tags : t ≡ u = cc in
@@ -121,7 +121,7 @@ same_group (zeros m) (literal v hs) x y p q e = let tags : ◌≡◌ {A = ℕ} 0
 same_group (literal w fs) (tagged u v) x y p q e = let tags : 255 ≡ u = cc in absurd (omega (arith, q.1))
 same_group (literal w fs) (zeros n) x y p q e = let tags : ◌≡◌ {A = ℕ} 255 0 = cc in absurd (omega arith)
 
--- no chunk of a given number of words begins another
+-- no chunk of this many words is the start of another
 same_chunk : (gs hs : List Group) (x y : List ℕ) → AllByRecursion IsGroup gs → AllByRecursion IsGroup hs → text_of gs ++ x ≡ text_of hs ++ y →
     length (concat (words_of_groups gs)) ≡ length (concat (words_of_groups hs)) → (concat (words_of_groups gs) ≡ concat (words_of_groups hs)) × (x ≡ y)
 same_chunk [] [] x y p q e len = (refl, e)

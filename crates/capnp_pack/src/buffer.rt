@@ -1,7 +1,7 @@
 //! Packed bytes on their way to a sink.
 //!
-//! They are collected in 64 bytes, the first of which are used. A group adds at most 10 of them: a
-//! tag, a word and a count.
+//! They are collected in a buffer of 64 bytes, of which the first ones are used. A group adds at
+//! most 10 bytes: a tag, a word and a count.
 ghost use Rattle.std.specs.Prelude.{◌≡◌, ℕ, ◌+◌, ◌<◌, ◌≤◌, [], ◌∷◌, ◌++◌, IsOk, length, take, count_ones};
 ghost use Rattle.capnp_frame.specs.Source.{IfKnown};
 ghost use Rattle.capnp_pack.specs.Calls.{HandsOn};
@@ -12,7 +12,7 @@ use capnp_frame::Result;
 use capnp_frame::io::Write;
 use std::simd::prelude::*;
 
-// Hands on the used bytes.
+// Hands the used bytes to the sink.
 #[inline(always)]
 pub(crate) fn flush<W: Write>(sink: &mut W, bytes: &[u8; 64], used: usize) -> Result<()>
     requires { used ≤ 64 }
@@ -28,7 +28,7 @@ pub(crate) fn flush<W: Write>(sink: &mut W, bytes: &[u8; 64], used: usize) -> Re
     sink.write_all(&bytes[..used])
 }
 
-// Adds a byte, and returns how many are then used.
+// Adds a byte, and returns how many bytes are then used.
 #[inline(always)]
 pub(crate) fn push(bytes: &mut [u8; 64], used: usize, byte: u8) -> usize
     requires { used < 64 }

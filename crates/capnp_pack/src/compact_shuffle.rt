@@ -1,5 +1,5 @@
 //! Which bytes of a word a tag marks.
-// Row t lists the places of the bytes that the tag t marks, and is then filled up with 128.
+// Row t lists the indices of the bytes of a word that the tag t marks, and is filled up with 128.
 #[rattlefmt::skip]
 pub(crate) static COMPACT_SHUFFLE: [[u8; 16]; 256] = [
     [128, 128, 128, 128, 128, 128, 128, 128, 128, 128, 128, 128, 128, 128, 128, 128],

@@ -45,8 +45,8 @@ pub(crate) fn copy_bytes(count: usize, text: &[u8], buffer: &mut [u8])
     }
 }
 
-// Copies a given number of bytes by their first ones and their last ones, each half of them or
-// more.
+// Copies a given number of bytes by two moves, of their first and of their last bytes, each of at
+// least half of them.
 #[inline(always)]
 fn copy_ends<const N: usize>(count: usize, text: &[u8], buffer: &mut [u8])
     requires part { N ≤ count }

@@ -1,7 +1,7 @@
 //! Reading a chunk group by group.
 //!
-//! What is shown whole is unpacked from there. A group that the source cuts is read byte by byte,
-//! so no more than its own bytes are consumed, wherever the cut is.
+//! Groups that the source shows whole are unpacked from what it shows. A group that the source cuts
+//! is read byte by byte, so no more than its own bytes are consumed, wherever the cut is.
 ghost use Rattle.std.specs.Prelude.{◌≡◌, ◌<◌, ◌≤◌, ◌%◌, [], ◌∷◌, ◌++◌, length, take, Option, Some, IfOk, IfErr, IfSome, ◌⊎◌, ◌↔◌};
 ghost use Rattle.capnp_frame.specs.declared.error.ErrorKind.{ErrorKind};
 ghost use Rattle.capnp_frame.specs.Message.{IsWholeWords};
@@ -17,7 +17,7 @@ use crate::unpack::unpack_shown;
 use capnp_frame::io::{BufRead, Read};
 use capnp_frame::{Error, ErrorKind, Result};
 
-// Unpacks a chunk of the buffer's length, or returns 0 at the end.
+// Unpacks a chunk of the buffer's length, or returns 0 at the end of the source.
 pub(crate) fn read_chunk<R: BufRead>(source: &mut R, buffer: &mut [u8]) -> Result<usize>
     requires { IsWholeWords buffer.old }
     ensures whole { IfOk result (λ count. (count ≡ 0) ⊎ (count ≡ length buffer.new)) }
@@ -48,7 +48,7 @@ pub(crate) fn read_chunk<R: BufRead>(source: &mut R, buffer: &mut [u8]) -> Resul
 }
 
 // Unpacks the groups that the source shows whole into the front of the buffer, or the next group
-// where none is, and returns how many bytes they have; `None` at the end.
+// where it shows none whole, and returns how many bytes they have; `None` at the end.
 fn read_groups<R: BufRead>(source: &mut R, buffer: &mut [u8]) -> Result<Option<usize>>
     requires { 8 ≤ length buffer.old }
     ensures takes { TakesNext R.Read source.old source.new
@@ -85,7 +85,7 @@ fn read_group<R: BufRead>(source: &mut R, buffer: &mut [u8]) -> Result<Option<us
     Ok(Some(count))
 }
 
-// Unpacks a group of zero words, whose tag is taken.
+// Unpacks a group of zero words, whose tag has been read.
 fn read_zeros<R: BufRead>(source: &mut R, buffer: &mut [u8]) -> Result<usize>
     requires room { 8 ≤ length buffer.old }
     ensures within { IfOk result (λ count. (0 < count) × (count ≤ length buffer.new)
@@ -107,7 +107,7 @@ fn read_zeros<R: BufRead>(source: &mut R, buffer: &mut [u8]) -> Result<usize>
     Ok(count)
 }
 
-// Unpacks another group, whose tag is taken.
+// Unpacks any other group, whose tag has been read.
 fn read_words<R: BufRead>(source: &mut R, tag: u8, buffer: &mut [u8]) -> Result<usize>
     requires tag { 0 < tag }
     requires room { 8 ≤ length buffer.old }

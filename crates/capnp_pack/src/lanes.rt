@@ -28,7 +28,7 @@ pub(crate) fn unpack_word(tag: u8, text: &[u8], word: &mut [u8]) -> usize
     tag.count_ones() as usize
 }
 
-// Fills a word so where fewer bytes may be shown, but all that the tag marks.
+// Does the same where fewer than eight bytes may be shown, but all that the tag marks.
 #[inline(always)]
 pub(crate) fn unpack_short_word(tag: u8, text: &[u8], word: &mut [u8]) -> usize
     requires long { count_ones tag ≤ length text.now }

@@ -16,20 +16,20 @@ ghost use Rattle.capnp_pack.specs.PackedSink.{AppendsPacked, LeavesPacked};
 use capnp_frame::io::Write;
 use capnp_frame::serialize::Padding;
 
-/// A packed request has one result at most, and leaves one rest.
+/// A packed request has at most one result, and leaves the same bytes unread.
 pub fn packed_request_has_one_result()
     ensures { (raw bytes rest others left : List ℕ) (n : ℕ) →
         Unpacks raw n bytes rest → Unpacks raw n others left → (bytes ≡ others) × (rest ≡ left) }
 {}
 
-/// The three requests of a packed source take just a packed encoding of the message.
+/// The three requests for a message take exactly a packed encoding of it from a packed source.
 pub fn packed_requests_take_a_packed_frame()
     ensures { (rule : Padding) (segments : List (List ℕ)) (raw rest : List ℕ) →
         MessageStands rule Unpacks segments raw rest ↔ PackedStands rule segments raw rest }
 {}
 
-/// No packed encoding of a message begins a different one, by either rule of padding, and each is the
-/// text of one message alone. So joined texts can be taken apart in one way only.
+/// No packed encoding of a message is the start of a different one, by either rule of padding, and
+/// each encodes only one message. So joined encodings can be taken apart in only one way.
 pub fn packed_frames_part_in_one_way()
     ensures { (rule also : Padding) (text other rest left : List ℕ)
         (segments others : List (List ℕ)) →
@@ -43,15 +43,15 @@ pub fn packed_encoding_is_a_packed_frame()
         HasTable (lengths segments) → IsPackedEncoding text segments → IsPackedFrame rule text segments }
 {}
 
-/// By the rule of zero padding the table that a packed encoding holds is the one that is written. Its
-/// chunks may still be packed in more ways than the one that a writer takes.
+/// By the rule of zero padding, the table in a packed encoding is the one that is written. Its
+/// chunks may still be packed in other ways than a writer packs them.
 pub fn zero_padding_leaves_one_table()
     ensures { (text : List ℕ) (segments : List (List ℕ)) →
         (frame : IsPackedFrame Padding.Zero text segments) →
         frame.first ++ frame.others ≡ zero_padded_table (lengths segments) }
 {}
 
-/// Each message of whole words has the packed encoding that is written.
+/// Each message of whole words has a packed encoding that a writer writes.
 pub fn message_has_a_packed_encoding()
     ensures { (segments : List (List ℕ)) → AllByRecursion IsWholeWords segments →
         (text : List ℕ) × IsPackedEncoding text segments }
@@ -67,8 +67,8 @@ pub fn packed_encoding_is_one()
     ensures { (bytes text other : List ℕ) → Packs bytes text → Packs bytes other → text ≡ other }
 {}
 
-/// A request for as many bytes as were packed gives these, whatever follows, and takes their text
-/// alone.
+/// A request for as many bytes as were packed returns these bytes, whatever follows, and takes only
+/// their packed encoding.
 pub fn packed_encoding_unpacks()
     ensures given { (bytes text rest : List ℕ) → Packs bytes text →
         Unpacks (text ++ rest) (length bytes) bytes rest }
@@ -82,21 +82,21 @@ pub fn packed_encoding_is_short()
         length text ≤ 8 * n + (n + 3) / 2 }
 {}
 
-/// A plain sink that is written packed gets just the packed encoding of each chunk.
+/// What a plain sink gets of a chunk that is written packed is exactly the packed encoding.
 pub fn plain_sink_gets_the_packed_encoding()
     ensures { (chunk text : List ℕ) → AppendsPacked AppendsSame chunk text ↔ Packs chunk text }
 {}
 
-/// A plain sink that keeps at most a front of a chunk where a call fails, keeps a front of the
-/// packed encoding of what was to be written.
+/// If a plain sink keeps at most the start of a chunk in a call that fails, it keeps the start of
+/// the packed encoding where writing packed words fails.
 pub fn what_is_left_of_packed_words_is_a_front<W: Write>()
     ensures { ((chunk text : List ℕ) → W.leaves chunk text → LeavesFront chunk text) →
         (chunk text packed : List ℕ) → LeavesPacked AppendsSame W.leaves chunk text →
         Packs chunk packed → IsFront text packed }
 {}
 
-/// A plain sink gets the packed encoding of a message whose chunks are handed to it one after another,
-/// as `write_segments` does.
+/// A plain sink gets the packed encoding of a message, if its chunks are handed on one after
+/// another, as `write_segments` does.
 pub fn plain_sink_gets_the_packed_message()
     ensures { (segments : List (List ℕ)) (text : List ℕ) →
         AppendsAll (AppendsPacked AppendsSame) (chunks segments) text ↔ IsPackedEncoding text segments }

@@ -1,8 +1,8 @@
 //! Packing of Cap'n Proto messages.
 //!
-//! Packing leaves out zero bytes. A packed encoding is groups, one after another: `specs/Group.antt`
-//! and `specs/Chunk.antt` say so in the words of the [encoding document], "Packing", and
-//! `specs/Packed.antt` says which of the texts of some words is the one that is written.
+//! Packing leaves out zero bytes. A packed encoding is a sequence of groups: `specs/Group.antt` and
+//! `specs/Chunk.antt` define it in the words of the [encoding document], "Packing", and
+//! `specs/Packed.antt` defines which of the encodings of some words is the one that is written.
 //!
 //! [encoding document]: https://capnproto.org/encoding.html#packing
 #![tactic(auto)]

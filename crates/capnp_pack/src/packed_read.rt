@@ -1,4 +1,4 @@
-//! Words that a source holds packed.
+//! A source of words that are packed in another source.
 ghost use Rattle.std.specs.Prelude.{◌≡◌, ◌<◌, ◌≤◌, ◌↔◌, ◌⊎◌, Some, [], IfOk, IfErr, IfSome, OnOk, length, take, refl};
 ghost use Rattle.std.specs.Result.{IsErrAnd};
 ghost use Rattle.std.proofs.Common.{◌∙◌};
@@ -12,16 +12,16 @@ use crate::group::read_chunk;
 use capnp_frame::io::{BufRead, Read};
 use capnp_frame::{Error, ErrorKind, Result};
 
-/// A source of the words that another source holds packed.
+/// A source of the words that are packed in another source.
 ///
 /// Each request is a chunk by itself: it takes groups from the front until it has its words, and
 /// consumes just these.
 ///
 /// Fails with `NotWholeWords` for a request that isn't whole words, with nothing read. Else the
-/// first of these on the way decides, however the source cuts its bytes:
-/// `PrematureEndOfPackedInput` where a byte of a group, or a later group of the chunk, is missing;
-/// `FailedToFillTheWholeBuffer` where the words of a literal run are cut; and
-/// `PackedInputDidNotEndCleanlyOnASegmentBoundary` where a run goes past the end of the chunk.
+/// first of these faults decides, however the source cuts its bytes: `PrematureEndOfPackedInput`
+/// where a byte of a group, or a later group of the chunk, is missing; `FailedToFillTheWholeBuffer`
+/// where the words of a literal run are cut; and `PackedInputDidNotEndCleanlyOnASegmentBoundary`
+/// where a run goes past the end of the chunk.
 ///
 /// ```
 /// let mut source = [0x51, 8, 3, 2].as_slice();
@@ -59,7 +59,7 @@ impl<'a, R: BufRead> Read for PackedRead<'a, R> {
 
     fn read(&mut self, buffer: &mut [u8]) -> Result<usize>
         ensures within { IfOk result (λ count. count ≤ length buffer.new) }
-        // All of a chunk is returned, or none of it.
+        // Either the whole chunk is returned, or none of it.
         ensures whole { IfOk result (λ count. (count ≡ 0) ⊎ (count ≡ length buffer.new)) }
         ensures taken { IfOk result (λ count.
             IfKnown (R.unread self.old.source.now) (R.unread self.new.source.now)
@@ -70,7 +70,7 @@ impl<'a, R: BufRead> Read for PackedRead<'a, R> {
             IsRefused RefusesChunk (length buffer.new) (R.unread self.old.source.now)
             ErrorKind.FailedToFillTheWholeBuffer) }
 
-        // An error.
+        // With which kinds it fails.
         ensures failed { IfErr result (λ error. error.kind ≡ ErrorKind.DeviceFailed →
             Fails (R.failures self.old.source.now) (R.failures self.new.source.now)) }
         ensures refused { IfErr result (λ error. (error.kind ≡ ErrorKind.DeviceFailed)
@@ -78,12 +78,12 @@ impl<'a, R: BufRead> Read for PackedRead<'a, R> {
         ensures at_end { IfErr result (λ error. R.unread self.old.source.now ≡ Some [] →
             IsWholeWords buffer.new → error.kind ≡ ErrorKind.DeviceFailed) }
         ensures plain { IfErr result (λ error. IsPlain Unpacks → error.kind ≡ ErrorKind.DeviceFailed) }
-        // A part of a word fails, and the source and the buffer are as they were.
+        // A request that isn't whole words fails, and leaves the source and the buffer as they
+        // were.
         ensures part { (IsWholeWords buffer.old → ⊥) →
             IsErrAnd result (λ error. error.kind ≡ ErrorKind.NotWholeWords)
             × (self.new.source.now ≡ self.old.source.now) × (buffer.new ≡ buffer.old) }
-        // Where a run goes past the end, the groups before it and its head are consumed, and no
-        // more.
+        // Where a run goes past the end, only the groups before it and its head are consumed.
         ensures overrun { Overran result (R.unread self.old.source.now) (R.unread self.new.source.now)
             (LeavesOverrun (length buffer.new)) }
 
@@ -103,7 +103,7 @@ impl<'a, R: BufRead> Read for PackedRead<'a, R> {
             (IfKnown (R.unread self.old.source.now) (R.unread self.new.source.now)
             (λ raw rest. Unpacks raw (length buffer.new) buffer.new rest)) }
 
-        // An error.
+        // With which kinds it fails.
         ensures failed { IfErr result (λ error. error.kind ≡ ErrorKind.DeviceFailed →
             Fails (R.failures self.old.source.now) (R.failures self.new.source.now)) }
         ensures refused { IfErr result (λ error. (error.kind ≡ ErrorKind.DeviceFailed)
@@ -111,12 +111,12 @@ impl<'a, R: BufRead> Read for PackedRead<'a, R> {
         ensures plain { IfErr result (λ error. IsPlain Unpacks →
             (error.kind ≡ ErrorKind.DeviceFailed)
             ⊎ (error.kind ≡ ErrorKind.FailedToFillTheWholeBuffer)) }
-        // A part of a word fails, and the source and the buffer are as they were.
+        // A request that isn't whole words fails, and leaves the source and the buffer as they
+        // were.
         ensures part { (IsWholeWords buffer.old → ⊥) →
             IsErrAnd result (λ error. error.kind ≡ ErrorKind.NotWholeWords)
             × (self.new.source.now ≡ self.old.source.now) × (buffer.new ≡ buffer.old) }
-        // Where a run goes past the end, the groups before it and its head are consumed, and no
-        // more.
+        // Where a run goes past the end, only the groups before it and its head are consumed.
         ensures overrun { Overran result (R.unread self.old.source.now) (R.unread self.new.source.now)
             (LeavesOverrun (length buffer.new)) }
 

@@ -1,4 +1,4 @@
-//! Words into a sink, packed.
+//! A sink that packs words.
 ghost use Rattle.std.specs.Prelude.{◌≡◌, ◌≢◌, ℕ, ◌+◌, ◌*◌, ◌<◌, ◌≤◌, ◌⊎◌, List, [], ◌∷◌, ◌++◌, IfOk, IfErr, OnOk, OnErr, IsOk, IsOkAnd, length, take, drop, refl};
 ghost use Rattle.std.specs.List.{concat};
 ghost use Rattle.std.specs.Result.{IsErrAnd};
@@ -21,10 +21,10 @@ use crate::sizes::group_bytes;
 use capnp_frame::io::Write;
 use capnp_frame::{Error, ErrorKind, Result};
 
-/// A sink that takes words and hands them on packed.
+/// A sink of words, which hands them on packed to another sink.
 ///
 /// Each chunk is packed by itself, and handed on in parts. A chunk that isn't whole words fails
-/// with `NotWholeWords`, and nothing is written.
+/// with `NotWholeWords`, and nothing is written of it.
 ///
 /// ```
 /// let mut text = Vec::new(alloc);
@@ -67,7 +67,7 @@ impl<'a, W: Write> Write for PackedWrite<'a, W> {
         ensures added { OnOk result (IfKnown (W.written self.old.sink.now) (W.written self.new.sink.now)
             (Adds (AppendsPacked W.appends chunk.now))) }
         ensures granted { (more : ℕ) → ⊥ → IsOk result × ⊥ }
-        // No more than a front of the packed encoding is written, and nothing after a hole.
+        // Where it fails, only the start of the packed encoding is written, without a gap.
         ensures left { OnErr result (IfKnown (W.written self.old.sink.now) (W.written self.new.sink.now)
             (Adds (LeavesPacked W.appends W.leaves chunk.now))) }
         ensures failed { IfErr result (λ error. error.kind ≡ ErrorKind.DeviceFailed →
@@ -77,11 +77,11 @@ impl<'a, W: Write> Write for PackedWrite<'a, W> {
         ensures grows { Grows (λ packed. W.written packed.sink.now) (λ packed. W.failures packed.sink.now)
             (λ old new. (new.sink.ghost_name ≡ old.sink.ghost_name) × W.same old.sink.now new.sink.now)
             self.old self.new }
-        // A part of a word fails, and the sink is as it was.
+        // A chunk that isn't whole words fails, and leaves the sink as it was.
         ensures part { (IsWholeWords chunk.now → ⊥) →
             IsErrAnd result (λ error. error.kind ≡ ErrorKind.NotWholeWords)
             × (self.new.sink.now ≡ self.old.sink.now) }
-        // Where the sink grants the packed encoding, it is written.
+        // Where the sink grants the packed encoding, the call succeeds.
         ensures packed_granted { (text : List ℕ) (more : ℕ) → Packs chunk.now text →
             W.grants self.old.sink.now (length text + more) →
             IsOk result × W.grants self.new.sink.now more }
@@ -108,7 +108,7 @@ struct Packed {
     used: usize,
 }
 
-// Hands on the words of a chunk, packed.
+// Packs the words of a chunk, and hands them on.
 fn pack<W: Write>(sink: &mut W, chunk: &[u8]) -> Result<()>
     requires { IsWholeWords chunk.now }
     ensures writes { WritesTo W.Write sink.old sink.new (AppendsPacked W.appends chunk.now)
@@ -128,7 +128,8 @@ fn pack<W: Write>(sink: &mut W, chunk: &[u8]) -> Result<()>
     flush(sink, &bytes, used)
 }
 
-// Packs groups that need only the buffer, then a literal one where it has room, or hands it on.
+// Packs groups that fit the buffer, and then a literal group where the buffer has room, or else
+// hands the buffer on.
 #[inline(always)]
 fn pack_next<W: Write>(
     sink: &mut W,
@@ -170,7 +171,7 @@ fn pack_next<W: Write>(
     })
 }
 
-// Packs groups that need only the buffer, while it has room: up to a word that goes as it is.
+// Packs groups that fit the buffer, while it has room, up to a word that is stored as it is.
 #[inline(always)]
 fn pack_buffered(bytes: &mut [u8; 64], used: usize, words: &[[u8; 8]]) -> Packed
     requires { used ≤ 64 }
@@ -180,7 +181,7 @@ fn pack_buffered(bytes: &mut [u8; 64], used: usize, words: &[[u8; 8]]) -> Packed
     ensures few { result.used ≤ used + 10 * result.words }
     ensures packed { (text : List ℕ) × PacksTo words.now text (drop result.words words.now)
         × (take result.used bytes.new ≡ take used bytes.old ++ text) }
-    // Where room is left, the next word goes as it is.
+    // Where room is left, the next word is stored as it is.
     ensures literal { result.used ≤ 54 →
         IfFirst (drop result.words words.now) (λ word. tag_of word ≡ 255) }
 {
@@ -200,7 +201,7 @@ fn pack_buffered(bytes: &mut [u8; 64], used: usize, words: &[[u8; 8]]) -> Packed
     }
 }
 
-// Packs such groups, but not the last word.
+// Packs such groups, except for the last word.
 // Speed: one test tells that a word is left and that another follows (workloads `convert`, `log`).
 #[inline(always)]
 fn pack_stretch(bytes: &mut [u8; 64], used: usize, words: &[[u8; 8]]) -> Packed
@@ -239,7 +240,7 @@ fn pack_stretch(bytes: &mut [u8; 64], used: usize, words: &[[u8; 8]]) -> Packed
     }
 }
 
-// Packs a word that goes as it is, and hands on those after it that do.
+// Packs a word that is stored as it is, and hands on the words after it that are, too.
 #[inline(always)]
 fn pack_literal<W: Write>(
     sink: &mut W,
@@ -269,7 +270,7 @@ fn pack_literal<W: Write>(
     })
 }
 
-// Hands on the words after one that go as they are.
+// Hands on the words after one, which are stored as they are.
 #[inline(always)]
 fn pack_run<W: Write>(
     sink: &mut W,

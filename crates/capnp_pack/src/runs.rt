@@ -46,8 +46,8 @@ pub(crate) fn literal_run(words: &[[u8; 8]]) -> usize
     let most = words.len().min(255);
     let mut count = 0;
     while count < most && zeros(&words[count]) <= 1 {
-        // Speed: eights are looked for where two words go as they are, and then once in eight
-        // words (`capnp_ls pack` of short runs without a zero byte).
+        // Speed: eight words at once are looked at where two words are stored as they are, and then
+        // once in eight words (`capnp_ls pack` of short runs without a zero byte).
         if count % 8 == 1 {
             count += full_eights(&words[count..most]).max(1);
         } else {
@@ -57,7 +57,7 @@ pub(crate) fn literal_run(words: &[[u8; 8]]) -> usize
     count
 }
 
-// How many words with no zero byte are at the front, in eights.
+// How many words with no zero byte are at the front, counted eight at a time.
 #[inline(always)]
 fn full_eights(words: &[[u8; 8]]) -> usize
     ensures within { result ≤ length words.now }

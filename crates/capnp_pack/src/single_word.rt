@@ -1,7 +1,7 @@
 //! Unpacking groups of one word, one after another.
 //!
-//! Where the longest text of one such group is shown, and a word of the buffer is left, no other
-//! test of room is needed, and one look-up by the tag says where the next group begins.
+//! Where as many bytes are shown as such a group can have, and a word of the buffer is left, no
+//! other test of room is needed, and one look-up by the tag says where the next group begins.
 //! Speed: words of every kind may alternate, as in small records (`capnp_ls unpack`).
 ghost use Rattle.std.specs.Prelude.{◌≡◌, ◌<◌, ◌≤◌, length, IfSome};
 ghost use Rattle.capnp_pack.specs.Steps.{Unpacked};
@@ -10,13 +10,13 @@ use crate::lanes::unpack_word;
 use crate::sizes::group_bytes;
 use crate::unpack::Progress;
 
-// The longest text of a group of one word: a tag, a word and a count.
+// The most bytes that a group of one word can have: a tag, a word and a count.
 pub(crate) const REACH: usize = 10;
 
 // Fills the front of a buffer with the groups of one word at the front of what is shown.
 //
-// It ends at a run, and where a group or its word might not fit. None of its groups takes a branch
-// of its own.
+// It ends at a run, and where a group or its word might not fit. No group takes a branch of its
+// own.
 #[inline(always)]
 pub(crate) fn unpack_single_words(shown: &[u8], buffer: &mut [u8]) -> Progress
     ensures { Unpacked shown.now buffer.new result.used result.filled }
@@ -55,8 +55,8 @@ fn unpack_single_word(shown: &[u8], buffer: &mut [u8]) -> Option<usize>
     Some(used)
 }
 
-// 0 where the group counts further words: its tag is 0 or 255, and its last byte isn't zero.
-// Speed: a sum, so that none of these groups takes a branch of its own.
+// 0 where the group counts further words: its tag is 0 or 255, and its last byte isn't zero. Speed:
+// a sum, so that none of these groups takes a branch of its own.
 #[inline(always)]
 fn single_word_mark(tag: u8, last: u8) -> usize
     ensures zero { tag ≡ 0 → 0 < result → last ≡ 0 }

@@ -1,9 +1,9 @@
-//! How long the texts of groups are.
+//! How many bytes groups have.
 ghost use Rattle.std.specs.Prelude.{◌≡◌, ◌+◌, ◌<◌, ◌≤◌};
 ghost use Rattle.std.specs.Int.RustNames.{count_ones};
 
-// How many bytes a group of this tag and of one word has: its tag, what that marks, and the count
-// after tags 0 and 255.
+// How many bytes a group of this tag and of one word has: the tag, the bytes that it marks, and the
+// count after tags 0 and 255.
 #[inline(always)]
 pub(crate) fn group_bytes(tag: u8) -> usize
     ensures few { (1 ≤ result) × (result ≤ 10) }

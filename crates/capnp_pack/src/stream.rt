@@ -1,4 +1,4 @@
-//! Packed messages, read by the engine of `capnp_frame` over `PackedRead`.
+//! Packed messages, read by the readers of `capnp_frame` over `PackedRead`.
 ghost use Rattle.capnp_frame.specs.Streams.{ReadsStream};
 ghost use Rattle.capnp_pack.specs.PackedStreams.{packed_rules};
 
@@ -19,8 +19,8 @@ use std::alloc::Global;
 
 /// Reads the next packed message of a source, or returns `None` where nothing is unread.
 ///
-/// Just the message's packed bytes are consumed, however the source cuts them. It takes memory as
-/// `try_read_segments` does, and fails as that does over the packed source, whose errors are those
+/// Only the message's packed bytes are consumed, however the source cuts them. Memory is taken as
+/// by `try_read_segments`, and it fails as that does over the packed source, whose errors are those
 /// of `PackedRead`.
 pub fn try_read_packed_segments<R: BufRead>(
     alloc: Global,

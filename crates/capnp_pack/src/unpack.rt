@@ -1,7 +1,7 @@
-//! Unpacking what a source shows, with no further look at the source.
+//! Unpacking the bytes that a source shows, without asking the source again.
 //!
-//! Only whole groups that fit the buffer are taken. Any other is left to `group.rt`, which reads it
-//! through the source.
+//! Only whole groups that fit the buffer are unpacked. Any other is left to `group.rt`, which reads
+//! it through the source.
 ghost use Rattle.std.specs.Prelude.{◌≡◌, ◌<◌, ◌≤◌, ◌+◌, ◌*◌, length, take, replicate, IfSome};
 ghost use Rattle.capnp_pack.specs.Steps.{GroupFollowing, Unpacked};
 
@@ -10,7 +10,7 @@ use crate::lanes::unpack_short_word;
 use crate::single_word::{REACH, unpack_single_words};
 use crate::sizes::group_bytes;
 
-// How many bytes of a text are taken, and how many bytes of words they fill.
+// How many packed bytes are taken, and how many bytes of words they fill.
 #[derive(Clone, Copy)]
 pub(crate) struct Progress {
     pub used: usize,
@@ -42,8 +42,8 @@ fn shows_a_group(shown: &[u8]) -> bool {
     }
 }
 
-// Unpacks groups where many bytes are shown: groups of one word, runs between them, and at last
-// short groups.
+// Unpacks groups where many bytes are shown: groups of one word, runs between them, and short
+// groups at the end.
 fn unpack_groups(shown: &[u8], buffer: &mut [u8]) -> Progress
     ensures { Unpacked shown.now buffer.new result.used result.filled }
 {
@@ -86,8 +86,8 @@ fn unpack_short_groups(shown: &[u8], buffer: &mut [u8]) -> Progress
     Progress { used, filled }
 }
 
-// Fills the front of a buffer with the first group, where that isn't a literal one, which is never
-// short.
+// Fills the front of a buffer with the first group, if it isn't a literal one: a literal group is
+// never short.
 #[inline(always)]
 fn unpack_short_group(shown: &[u8], buffer: &mut [u8]) -> Option<Progress>
     requires { 8 ≤ length buffer.old }
@@ -119,7 +119,7 @@ fn unpack_short_after(tag: u8, following: &[u8], buffer: &mut [u8]) -> Option<Pr
     Some(Progress { used, filled: 8 })
 }
 
-// Fills the front of a buffer with the first group, where that is a run.
+// Fills the front of a buffer with the first group, if it is a run.
 #[inline(always)]
 fn unpack_run(shown: &[u8], buffer: &mut [u8]) -> Option<Progress>
     requires { 8 ≤ length buffer.old }

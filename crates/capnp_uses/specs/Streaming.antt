@@ -37,7 +37,7 @@ pub record SkipsMessage {S : Type 0} (source : Ghosts S) (old new : S) (format :
   pub exact : IfSome (source.unread old) (λ raw. (kind : ErrorKind) (left : List ℕ) → RefusesNext Zero format limit kind raw left
       → IsErrAnd result (λ error. (error.kind ≡ DeviceFailed) ⊎ (error.kind ≡ OutOfMemory) ⊎ (error.kind ≡ kind)))
   pub kinds : IfErr result (λ error. IsReaderKind Zero (refuses_of format) error.kind)
-  -- the device is blamed only where it failed
+  -- `DeviceFailed` is returned only where the device failed
   pub failed : IfErr result (λ error. error.kind ≡ DeviceFailed → Fails (source.failures old) (source.failures new))
   -- the source moves on, or stays
   pub advances : Advances source.unread source.failures source.same old new

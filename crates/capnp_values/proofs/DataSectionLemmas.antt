@@ -163,7 +163,7 @@ low_stays number start width bits =
     let low : number % 2 ^ start < 2 ^ start = let positive = pow_pos start in omega arith in
     rw (turned number start width bits) (mod_low (number / 2 ^ (start + width) * 2 ^ width + bits) start (number % 2 ^ start) low)
 
--- bits below some are bits of what is below these
+-- bits within the lowest ones of a number are bits of these
 cut : (number start at wide : ℕ) → at + wide ≤ start → number / 2 ^ at % 2 ^ wide ≡ number % 2 ^ start % 2 ^ (wide + at) / 2 ^ at
 cut number start at wide before =
     let split : start ≡ (start - (wide + at)) + (wide + at) = omega arith in

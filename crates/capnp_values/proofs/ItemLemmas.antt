@@ -70,7 +70,7 @@ items_few h r vs c res words was m =
       omega (arith, ap (λ (w : TreeWords). w.output) a.3, output_small c (length vs) a.0 s),
     )
 
--- the first of them is rejected
+-- the first of them fails
 pub first_refused : {V : Type 0} (h : V → Trees → Type 0) (r : V → ErrorKind → Type 0) (v : V) (vs : List V) (c : Bool) (returned : Result PartWords Error) (error : Error) → returned ≡ Err error
     → LacksWords (h v) (r v) false error.kind → ((words : PartWords) → HasPart (h v) c words → returned ≡ Ok words)
     → ((k : ErrorKind) → LacksWords (h v) (r v) false k → IsErrAnd returned (λ e. e.kind ≡ k)) → MeasuresItems h r (v ∷ vs) c (Err error)

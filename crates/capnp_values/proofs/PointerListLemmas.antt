@@ -78,7 +78,7 @@ list_measured h r vs c returned words few was m =
       ];
     }
 
--- it is rejected: for its length, or for one of the values
+-- it fails: by its length, or by one of the values
 pub list_too_long : {V : Type 0} (h : V → Trees → Type 0) (r : V → ErrorKind → Type 0) (vs : List V) (c : Bool) (error : Error) → 2 ^ 29 ≤ length vs
     → error.kind ≡ AllocationTooLarge (min (length vs) (2 ^ 32 - 1)) → Measures (λ t. IsPointerList h vs t) (λ k. RefusesPointerList h r vs k) c (Err error)
 list_too_long h r vs c error many is = record {

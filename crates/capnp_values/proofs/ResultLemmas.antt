@@ -18,7 +18,7 @@ err_kind {X = X} r error kind is e = subst (λ (a : Result X Error). IsErrAnd a 
 pub same_parts : (r : Result PartWords Error) (x y : PartWords) → r ≡ Ok x → r ≡ Ok y → x ≡ y
 same_parts r x y a b = cc
 
--- the first value of a row is rejected, or the row after it
+-- the first value of a row fails, or the row after it
 pub refused_first : (h : Trees → Type 0) (r rr : ErrorKind → Type 0) (c : Bool) (returned : Result PartWords Error) (error : Error) (kind : ErrorKind) → returned ≡ Err error
     → ((words : PartWords) → HasPart h c words → returned ≡ Ok words) → ((k : ErrorKind) → LacksWords h r false k → IsErrAnd returned (λ e. e.kind ≡ k)) → RefusesRow h r rr kind
     → error.kind ≡ kind

@@ -1,4 +1,5 @@
--- Values that are made when they are asked for: what holds of them by what is told of them, and the other way round.
+-- Values that are made only when they are needed: their trees are those that the source declares,
+-- and the other way round.
 use Rattle.std.proofs.Common.{◌≡◌, ℕ, Bool, List, inl, inr, sym, subst, get_or}
 use Rattle.capnp_frame.specs.declared.error.ErrorKind.{ErrorKind}
 use Rattle.capnp_wire.specs.Tree.{Trees}
@@ -37,7 +38,7 @@ pub row_declared : {a b : Trees → Type 0} {r s : ErrorKind → Type 0} → IsA
     → IsRowWritten b c slot n next old new free
 row_declared m c slot n next old new free w = record { words_are = λ t is. w.words_are t (m.trees_are t is); next_is = λ t is. w.next_is t (m.trees_are t is) }
 
--- a value that is in a slice tells itself
+-- the trees of a value in a slice are its own
 pub itself : {V : Type 0} (h : V → Trees → Type 0) (r : V → ErrorKind → Type 0) (value : V) → IsAsDeclared (h value) (λ t. h value t) (r value) (λ k. r value k)
 itself h r value = record { trees_are = λ t is. is; trees_declared = λ t is. is; reasons_are = λ k is. is; reasons_declared = λ k is. is }
 

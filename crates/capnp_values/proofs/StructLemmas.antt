@@ -44,7 +44,7 @@ pub kept_fewer : (c : Bool) (words : List ℕ) → length (kept_words c words) �
 kept_fewer true words = length-cut words
 kept_fewer false words = omega arith
 
--- a struct that is formed
+-- a struct in the form that is written
 pub struct_output : (c : Bool) (words : List ℕ) (children : Trees) → output c (tree (struct words) children none) ≡ tree (struct (kept_words c words)) (kept_row c children) none
 struct_output true words children = refl
 struct_output false words children = refl
@@ -95,7 +95,7 @@ struct_measured c words size hs rs returned extent as_is output_words settled wa
       ];
     }
 
--- it is rejected: a pointer can't tell its size, or its row is
+-- it fails: a pointer can't say its size, or its row fails
 pub struct_too_large : (c : Bool) (words : List ℕ) (size : ℕ) (hs : Trees → Type 0) (rs : ErrorKind → Type 0) (error : Error) → (2 ^ 16 ≤ length words ⊎ 2 ^ 16 ≤ size)
     → error.kind ≡ AllocationTooLarge (2 ^ 16) → Measures (λ t. IsStruct words size hs t) (λ k. RefusesStruct (length words) size rs k) c (Err error)
 struct_too_large c words size hs rs error many is = record {
@@ -119,7 +119,7 @@ struct_refused c words size hs rs returned error was refused found exact few_wor
   ];
 }
 
--- a pointer can't tell a size that is rejected
+-- a pointer can't say a size for which it fails
 pub not_fitting : (a b size : ℕ) (fits : Bool) → (IsTrue fits ↔ ((a < 2 ^ 16) × (b < 2 ^ 16))) → fits ≡ false → b ≡ min size (2 ^ 16) → (2 ^ 16 ≤ a ⊎ 2 ^ 16 ≤ size)
 not_fitting a b size fits told unfit b_is = elim (cases_lt a (2 ^ 16)) [
   | inl few ↦ (elim (cases_lt size (2 ^ 16)) [

@@ -84,7 +84,7 @@ total_front c row rest children whole rooms =
     let t : output c children ≡ before (output c row) (output c rest) = ap (output c) whole ∙ output_before c row rest in
     ap total_words t ∙ total-before (output c row) (output c rest) ∙ ap (λ (n : ℕ). n + total_words (output c rest)) (sym (row_total c row rooms))
 
--- a list that is formed
+-- a list in the form that is written
 take_even : (d : ℕ) (rows : List (List ℕ)) → AreEven d rows → map (take d) rows ≡ rows
 take_even d [] even = refl
 take_even d (row ∷ rows) even =

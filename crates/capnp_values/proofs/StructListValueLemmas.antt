@@ -20,7 +20,7 @@ use Rattle.capnp_values.proofs.ItemLemmas.{same_tree_words}
 use Rattle.capnp_values.proofs.StructListLemmas.{rows_settled, structs_total}
 use Rattle.capnp_values.proofs.StructRowLemmas.{pointers_within}
 
--- what can be told of it
+-- what can be declared of it
 pub told : (n d p x y : ℕ) → x ≡ d → y ≡ min p (2 ^ 16) → x < 2 ^ 16 → y < 2 ^ 16 → n < 2 ^ 29 → n * (x + y) < 2 ^ 29 → AreDeclared n d p
 told n d p x y x_is y_is a b few small =
     let y_there : y ≡ p = omega (arith, y_is, b) in
@@ -120,7 +120,7 @@ list_measured w h r c d p s vs reach returned as_is output_words t was m as_is_s
       ];
     }
 
--- it is rejected: for its size, or for one of its rows
+-- it fails: by its size, or by one of its rows
 too_wide : (d p : ℕ) → (2 ^ 16 ≤ d ⊎ 2 ^ 16 ≤ p) → d < 2 ^ 16 → p < 2 ^ 16 → ⊥
 too_wide d p (inl many) a b = omega (arith, many, a)
 too_wide d p (inr many) a b = omega (arith, many, b)
@@ -136,7 +136,7 @@ same_kind n d p k l (inr (inr m)) (inl (b, y)) = absurd (too_wide d p b m.0 m.1)
 same_kind n d p k l (inr (inr m)) (inr (inl q)) = absurd (omega (arith, m.2, q.2))
 same_kind n d p k l (inr (inr m)) (inr (inr q)) = m.4 ∙ sym q.4
 
--- as it is told of at most 2 ^ 16 pointers
+-- at most 2 ^ 16 pointers are declared of it
 pub declared_many : (n d p x y : ℕ) (k : ErrorKind) → x ≡ d → y ≡ min p (2 ^ 16) → TooManyStructs n x y k → TooManyStructs n d p k
 declared_many n d p x y k x_is y_is (inl (inl many, is)) = inl (inl (omega (arith, many, x_is)), is)
 declared_many n d p x y k x_is y_is (inl (inr many, is)) = inl (inr (omega (arith, many, y_is)), is)

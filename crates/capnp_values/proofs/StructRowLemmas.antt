@@ -77,7 +77,7 @@ writing_begins w h c d m e p items start begin block r begin_is f = record {
   left = λ children is. record { rest = children; rest_is = is; fills = refl; totals = refl };
 }
 
--- where an element is
+-- where an element is in the block
 spread : (n i w : ℕ) → i < n → i * w + w ≤ n * w
 spread n i w within =
     let area : w * (i + 1) ≤ w * n = mul-le-mul_left w (omega (arith, within)) in

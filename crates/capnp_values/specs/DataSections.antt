@@ -2,11 +2,11 @@
 use Rattle.std.specs.Prelude.{ℕ, ◌+◌, ◌*◌, ◌/◌, ◌%◌, ◌^◌, List, length}
 use Rattle.capnp_wire.specs.Pointer.{digits, number_of}
 
--- a number with other bits, as many as a width says, from one of its bits on
+-- a number with other bits from this bit on, `width` of them
 unfoldable pub with_bits : ℕ → ℕ → ℕ → ℕ → ℕ
 with_bits number start width bits = number % 2 ^ start + 2 ^ start * (bits + 2 ^ width * (number / 2 ^ (start + width)))
 
--- Data words with other bits in a field of a given width, at an offset in units of that width. The section is one number, the lowest
--- word first, as a field of it is read.
+-- Data words with other bits in a field of a given width, at an offset in units of that width. The
+-- section is one number, the lowest word first, as when a field of it is read.
 unfoldable pub with_field : List ℕ → ℕ → ℕ → ℕ → List ℕ
 with_field words width offset bits = digits (2 ^ 64) (length words) (with_bits (number_of (2 ^ 64) words) (width * offset) width bits)

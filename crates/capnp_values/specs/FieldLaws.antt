@@ -1,4 +1,4 @@
--- Rows are settled (src/fields/).
+-- The trees of rows have room, and are as many as the row's size says (src/fields/).
 use Rattle.std.specs.Prelude.{◌≡◌, ℕ, ◌+◌, refl}
 use Rattle.std.proofs.Common.{arith, sym, subst}
 use Rattle.capnp_wire.specs.Tree.{Trees, none}

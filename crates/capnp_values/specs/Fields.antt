@@ -8,7 +8,7 @@ use Rattle.capnp_wire.specs.Block.{fill}
 use Rattle.capnp_wire.specs.Values.{HasWords, LacksWords}
 use Rattle.capnp_values.specs.declared.fields.Extent.{Extent}
 
--- a value is this tree, which has room, in fewer than 2 ^ 29 words as it is
+-- a value is this tree, which has room, and has fewer than 2 ^ 29 words as it is
 pub record IsPart (has_tree : Trees → Type 0) (form : Form) (children : Trees) : Type 0 where
   pub tree_is : has_tree (tree form children none)
   pub rooms : AllHaveRoom (tree form children none)
@@ -23,13 +23,14 @@ pub record IsRow (has_tree has_trees : Trees → Type 0) (trees : Trees) : Type 
   pub part : IsPart has_tree form children
   pub others : has_trees rest
 
--- its first value, or the first one after that, has no tree, or one of too many words as it is
+-- its first value, or the first of the others that fails, has no tree, or one of too many words as
+-- it is
 abbrev pub RefusesRow : (Trees → Type 0) → (ErrorKind → Type 0) → (ErrorKind → Type 0) → ErrorKind → Type 0
 RefusesRow has_tree refuses refuses_rest kind =
     LacksWords has_tree refuses false kind
     ⊎ ((words : ℕ) × HasWords has_tree false words × refuses_rest kind)
 
--- a row of a given number of trees
+-- a row of this many trees
 pub record IsSettled (size : ℕ) (trees : Trees) : Type 0 where
   pub many : count trees ≡ size
   pub rooms : AllHaveRoom trees
@@ -53,7 +54,7 @@ extent_of canonical trees = record {
   as_is = total_words trees;
 }
 
--- the trees of a row, and how far it reaches
+-- the trees of a row, and its extent
 abbrev pub HasExtent : (Trees → Type 0) → Bool → Extent → Type 0
 HasExtent has_trees canonical extent = (trees : Trees) × has_trees trees × (extent ≡ extent_of canonical trees)
 
@@ -68,8 +69,8 @@ pub record CanWriteRow (has_trees : Trees → Type 0) (canonical : Bool) (n next
   pub some : n ≤ count trees
   pub fits : next + total_words (first n (output canonical trees)) ≤ room
 
--- the first n pointers of a row are in the slots of a block from one on, and what they lead to from a word on, up to the first
--- free one
+-- the first n pointers of a row are in the slots of a block from this one on, and what they lead to
+-- is in its words from `next` on, up to the first free one
 pub record IsRowWritten (has_trees : Trees → Type 0) (canonical : Bool) (slot n next : ℕ) (old new : List ℕ) (free : ℕ) : Type 0 where
   pub words_are : (trees : Trees) → has_trees trees → new ≡ fill (run slot n) next (first n (output canonical trees)) old
   pub next_is : (trees : Trees) → has_trees trees → free ≡ next + total_words (first n (output canonical trees))

@@ -8,12 +8,12 @@ use Rattle.capnp_wire.specs.Layout.{run, output}
 use Rattle.capnp_wire.specs.Block.{fill}
 use Rattle.capnp_values.specs.Fields.{IsRow, RefusesRow}
 
--- values in order are these trees, each with room and in fewer than 2 ^ 29 words as it is
+-- values in order have these trees, each with room and of fewer than 2 ^ 29 words as it is
 abbrev pub AreItems : {V : Type 0} → (V → Trees → Type 0) → List V → Trees → Type 0
 AreItems has_tree [] trees = trees ≡ none
 AreItems has_tree (value ∷ values) trees = IsRow (has_tree value) (λ t. AreItems has_tree values t) trees
 
--- the first of them that is rejected, is for this reason
+-- the first value that fails, fails with this kind
 abbrev pub RefusesItems : {V : Type 0} → (V → Trees → Type 0) → (V → ErrorKind → Type 0) → List V → ErrorKind → Type 0
 RefusesItems has_tree refuses [] kind = ⊥
 RefusesItems has_tree refuses (value ∷ values) kind =
@@ -25,7 +25,8 @@ pub record HasRoomForItems (has_trees : Trees → Type 0) (canonical : Bool) (ne
   pub trees_are : has_trees trees
   pub fits : next + total_words (output canonical trees) ≤ room
 
--- n pointers are in a block from a word on, and what they lead to after the last of them, up to the first free word
+-- n pointers are in a block from this word on, and what they lead to is after the last of them, up
+-- to the first free word
 pub record AreItemsWritten (has_trees : Trees → Type 0) (canonical : Bool) (slot n : ℕ) (old new : List ℕ) (free : ℕ) : Type 0 where
   pub words_are : (trees : Trees) → has_trees trees → new ≡ fill (run slot n) (slot + n) (output canonical trees) old
   pub next_is : (trees : Trees) → has_trees trees → free ≡ slot + n + total_words (output canonical trees)
@@ -37,7 +38,7 @@ pub record IsPointerList {V : Type 0} (has_tree : V → Trees → Type 0) (value
   pub few : length values < 2 ^ 29
   pub whole : trees ≡ tree pointers children none
 
--- a pointer can't tell that many, or one of the values is rejected
+-- a pointer can't say that there are this many values, or one of the values fails
 abbrev pub RefusesPointerList : {V : Type 0} → (V → Trees → Type 0) → (V → ErrorKind → Type 0) → List V → ErrorKind → Type 0
 RefusesPointerList has_tree refuses values kind =
     ((2 ^ 29 ≤ length values) × (kind ≡ AllocationTooLarge (min (length values) (2 ^ 32 - 1))))

@@ -7,11 +7,11 @@ use Rattle.capnp_wire.specs.Tree.{Trees, total_words}
 use Rattle.capnp_wire.specs.Layout.{output, AllHaveRoom}
 use Rattle.capnp_values.specs.declared.measured.TreeWords.{TreeWords}
 
--- the words of some trees, as they are and as they are formed
+-- the words of some trees, as they are and in the form that is written
 abbrev pub tree_words : Bool → Trees → TreeWords
 tree_words canonical trees = record { as_is = total_words trees; output = total_words (output canonical trees) }
 
--- what is measured of trees that have room, however many words they are, or why there are none
+-- what is measured of trees that have room, however many words they have, or why there are none
 pub record Measures (has_trees : Trees → Type 0) (refuses : ErrorKind → Type 0) (canonical : Bool) (result : Result TreeWords Error) : Type 0 where
   pub returned : MatchResult result (λ words. (trees : Trees) × has_trees trees × AllHaveRoom trees × (words ≡ tree_words canonical trees)) (λ error. refuses error.kind)
   pub found : (trees : Trees) → has_trees trees → result ≡ Ok (tree_words canonical trees)

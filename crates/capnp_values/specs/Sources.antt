@@ -1,8 +1,8 @@
--- Values that are made when they are asked for (src/sources.rt).
+-- Values that are made only when they are needed (src/sources.rt).
 use Rattle.capnp_frame.specs.declared.error.ErrorKind.{ErrorKind}
 use Rattle.capnp_wire.specs.Tree.{Trees}
 
--- a value has the trees that are told of it, and is rejected for the reasons that are told
+-- a value has the trees that its source declares, and fails with the kinds that its source declares
 pub record IsAsDeclared (has_tree told : Trees → Type 0) (refuses declared_reason : ErrorKind → Type 0) : Type 0 where
   pub trees_are : (trees : Trees) → told trees → has_tree trees
   pub trees_declared : (trees : Trees) → has_tree trees → told trees

@@ -4,14 +4,14 @@ use Rattle.capnp_wire.specs.Tree.{Trees}
 use Rattle.capnp_values.specs.Fields.{CanWriteRow}
 use Rattle.capnp_values.specs.StructLists.{HasRoomForRows}
 
--- how many structs of d data words and p pointers can be told
+-- a pointer and a tag can say that there are n structs of d data words and p pointers
 pub record AreDeclared (n d p : ℕ) : Type 0 where
   pub few_words : d < 2 ^ 16
   pub few_pointers : p < 2 ^ 16
   pub few : n < 2 ^ 29
   pub small : n * (d + p) < 2 ^ 29
 
--- what each keeps of them
+-- and each of them keeps e data words and m pointers
 pub record IsDeclared (n d p e m : ℕ) : Type 0 where
   pub words_within : e ≤ d
   pub pointers_within : m ≤ p
@@ -24,7 +24,8 @@ pub record ListPlace {V : Type 0} (words : V → List ℕ) (has_trees : V → Tr
   pub begin_within : next + 1 + length values * (e + m) ≤ room
   pub rows : HasRoomForRows words has_trees canonical e m d p values (next + 1 + length values * (e + m)) room
 
--- an element of d data words and m pointers has room in a block, from a word on, and what it leads to from another one on
+-- an element of d data words and m pointers has room in a block from this word on, and what it
+-- leads to from another one on
 pub record ElementPlace (has_trees : Trees → Type 0) (canonical : Bool) (d m at next room : ℕ) : Type 0 where
   pub can : CanWriteRow has_trees canonical m next room
   pub before_it : at + d + m ≤ next

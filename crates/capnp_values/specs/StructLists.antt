@@ -25,7 +25,7 @@ abbrev pub AreRows : {V : Type 0} → (V → Trees → Type 0) → List V → Tr
 AreRows has_trees [] trees = trees ≡ none
 AreRows has_trees (value ∷ values) trees = IsRowInFront (has_trees value) (λ t. AreRows has_trees values t) trees
 
--- the first of the rows that is rejected, is for this reason
+-- the first of the rows that fails, fails with this kind
 abbrev pub RefusesRows : {V : Type 0} → (V → Trees → Type 0) → (V → ErrorKind → Type 0) → List V → ErrorKind → Type 0
 RefusesRows has_trees refuses [] kind = ⊥
 RefusesRows has_trees refuses (value ∷ values) kind =
@@ -41,21 +41,21 @@ pub record IsStructList {V : Type 0} (words : V → List ℕ) (has_trees : V →
   pub small : length values * (d + p) < 2 ^ 29
   pub whole : trees ≡ tree (structs d p (map words values)) children none
 
--- a pointer and a tag can't tell this many structs of d data words and p pointers
+-- a pointer and a tag can't say that there are this many structs of d data words and p pointers
 abbrev pub TooManyStructs : ℕ → ℕ → ℕ → ErrorKind → Type 0
 TooManyStructs n d p kind =
     ((2 ^ 16 ≤ d ⊎ 2 ^ 16 ≤ p) × (kind ≡ AllocationTooLarge (2 ^ 16)))
     ⊎ ((d < 2 ^ 16) × (p < 2 ^ 16) × (2 ^ 29 ≤ n) × (kind ≡ AllocationTooLarge (min n (2 ^ 32 - 1))))
     ⊎ ((d < 2 ^ 16) × (p < 2 ^ 16) × (n < 2 ^ 29) × (2 ^ 29 ≤ n * (d + p)) × (kind ≡ AllocationTooLarge (min (n * (d + p)) (2 ^ 32 - 1))))
 
--- these are too many, or one of their rows is rejected
+-- there are too many of them, or one of their rows fails
 abbrev pub RefusesStructList : {V : Type 0} → (V → Trees → Type 0) → (V → ErrorKind → Type 0) → ℕ → ℕ → List V → ErrorKind → Type 0
 RefusesStructList has_trees refuses d p values kind =
     TooManyStructs (length values) d p kind
     ⊎ ((d < 2 ^ 16) × (p < 2 ^ 16) × (length values < 2 ^ 29) × (length values * (d + p) < 2 ^ 29) × RefusesRows has_trees refuses values kind)
 
--- The data words and the pointers that each element keeps: in canonical form what the largest of them needs. And the trees that
--- the first m of each p pointers lead to.
+-- The data words and the pointers that each element keeps: in canonical form as much as the largest
+-- of them needs. And the trees that the first m of each p pointers lead to.
 abbrev pub element_data : Bool → ℕ → List (List ℕ) → ℕ
 element_data true d rows = least_data rows
 element_data false d rows = d
@@ -75,7 +75,7 @@ reach_of canonical d p rows children = record {
   as_is = total_words children;
 }
 
--- how far some structs reach, and one more, of which d data words are kept
+-- the extent of some structs, and of one more, of which d data words are kept
 abbrev pub reached : Reach → ℕ → Extent → Reach
 reached reach d extent = record {
   data_words = max reach.data_words d;
@@ -88,7 +88,7 @@ reached reach d extent = record {
 abbrev pub AreEven : ℕ → List (List ℕ) → Type 0
 AreEven d rows = All (λ row. (length row ≡ d) × All (λ w. w < 2 ^ 64) row) rows
 
--- what is measured of some structs: how far they reach, or why one of them is rejected
+-- what is measured of some structs: their extent, or why one of them fails
 pub record ReachesRows {V : Type 0} (words : V → List ℕ) (has_trees : V → Trees → Type 0) (refuses : V → ErrorKind → Type 0) (canonical : Bool) (d p : ℕ) (values : List V) (result : Result Reach Error) : Type 0 where
   pub returned : MatchResult result
       (λ reach. AreEven d (map words values) × ((children : Trees) × AreRows has_trees values children × (reach ≡ reach_of canonical d p (map words values) children)))
@@ -96,13 +96,15 @@ pub record ReachesRows {V : Type 0} (words : V → List ℕ) (has_trees : V → 
   pub found : (children : Trees) → AreRows has_trees values children → result ≡ Ok (reach_of canonical d p (map words values) children)
   pub exact : (kind : ErrorKind) → RefusesRows has_trees refuses values kind → IsErrAnd result (λ error. error.kind ≡ kind)
 
--- rows from a word of a block on, each before its p pointers, and what these lead to from another word on
+-- rows from this word of a block on, each in front of its p pointers, and what these lead to from
+-- another word on
 abbrev pub fill_rows : ℕ → ℕ → List (List ℕ) → ℕ → Trees → List ℕ → List ℕ
 fill_rows p at [] next children block = block
 fill_rows p at (row ∷ rows) next children block =
     fill_rows p (at + length row + p) rows (next + total_words (first p children)) (following p children) (fill (run (at + length row) p) next (first p children) (put at row block))
 
--- of each of some structs d words and m pointers are kept, and what these lead to has room in a block, from a word on
+-- d words and m pointers are kept of each of some structs, and what these lead to has room in a
+-- block from this word on
 pub record HasRoomForRows {V : Type 0} (words : V → List ℕ) (has_trees : V → Trees → Type 0) (canonical : Bool) (d m most p : ℕ) (values : List V) (next room : ℕ) : Type 0 where
   pub children : Trees
   pub children_is : AreRows has_trees values children
@@ -112,8 +114,8 @@ pub record HasRoomForRows {V : Type 0} (words : V → List ℕ) (has_trees : V �
   pub pointers_are : m ≡ element_pointers canonical p (map words values) children
   pub fits : next + total_words (shown canonical m p (map words values) children) ≤ room
 
--- the elements of a list are in a block from a word on, and what their pointers lead to from another one on, up to the first
--- free word
+-- the elements of a list are in a block from this word on, and what their pointers lead to from
+-- another one on, up to the first free word
 pub record AreRowsWritten {V : Type 0} (words : V → List ℕ) (has_trees : V → Trees → Type 0) (canonical : Bool) (d m p : ℕ) (values : List V) (at next : ℕ) (old new : List ℕ) (free : ℕ) : Type 0 where
   pub words_are : (children : Trees) → AreRows has_trees values children
       → new ≡ fill_rows m at (map (take d) (map words values)) next (shown canonical m p (map words values) children) old

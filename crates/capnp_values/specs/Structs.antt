@@ -6,7 +6,7 @@ use Rattle.capnp_frame.specs.declared.error.ErrorKind.TheVariants.{AllocationToo
 use Rattle.capnp_wire.specs.Tree.{struct, Trees, none, tree}
 use Rattle.capnp_wire.specs.Trim.{cut_zeros}
 
--- data words, and a row of a given number of pointers
+-- data words, and a row of this many pointers
 pub record IsStruct (words : List ℕ) (size : ℕ) (has_trees : Trees → Type 0) (trees : Trees) : Type 0 where
   pub children : Trees
   pub children_is : has_trees children
@@ -14,7 +14,7 @@ pub record IsStruct (words : List ℕ) (size : ℕ) (has_trees : Trees → Type 
   pub few_pointers : size < 2 ^ 16
   pub whole : trees ≡ tree (struct words) children none
 
--- a pointer can't tell a given number of words or pointers, or the row is rejected
+-- a pointer can't say that there are this many words or pointers, or the row fails
 abbrev pub RefusesStruct : ℕ → ℕ → (ErrorKind → Type 0) → ErrorKind → Type 0
 RefusesStruct words size refuses kind =
     ((2 ^ 16 ≤ words ⊎ 2 ^ 16 ≤ size) × (kind ≡ AllocationTooLarge (2 ^ 16)))

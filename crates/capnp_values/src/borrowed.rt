@@ -6,7 +6,7 @@ mod row;
 use capnp_frame::Result;
 use capnp_wire::traits::{Copied, PartWords, SetterInput};
 
-/// A value that is borrowed, so it can be set more than once, or be a part of more than one value.
+/// A borrowed value, which can be set more than once, or be a part of more than one value.
 #[derive(Clone, Copy)]
 pub struct Borrowed<'a, V> {
     /// The value.
@@ -14,7 +14,7 @@ pub struct Borrowed<'a, V> {
 }
 
 impl<'a, V> Borrowed<'a, V> {
-    /// A value that is borrowed.
+    /// Borrows a value.
     pub fn new(value: &'a V) -> Borrowed<'a, V>
         ensures { result.value.now ≡ value.now }
     {
@@ -22,7 +22,7 @@ impl<'a, V> Borrowed<'a, V> {
     }
 }
 
-// What the value is.
+// The tree of the value.
 impl<'a, T, V: SetterInput<T>> SetterInput<T> for Borrowed<'a, V> {
     ghost has_tree = { λ value trees. V.has_tree value.value.now trees };
 

@@ -8,7 +8,7 @@ use crate::struct_value::StructValue;
 use capnp_wire::primitive_element::PrimitiveElement;
 
 impl<const D: usize, F> StructValue<D, F> {
-    /// The struct with another number in a field of its data section, at an offset in units of the
+    /// The struct with this number in a field of its data section, at an offset in units of the
     /// field's own width.
     #[inline(always)]
     pub fn with_data_field<T: PrimitiveElement>(self, offset: u32, value: T) -> StructValue<D, F>
@@ -22,8 +22,8 @@ impl<const D: usize, F> StructValue<D, F> {
         StructValue { words, fields }
     }
 
-    /// The struct with another number in a field that has a default, at an offset in units of the
-    /// field's own width. The data section gets the bits in which the number differs from the
+    /// The struct with this number in a field that has a default, at an offset in units of the
+    /// field's own width. The data section gets the bits of the number XORed with those of the
     /// default.
     #[tactic(auto, using(std::proofs::lemmas::Nat::xor_lt))]
     #[inline(always)]
@@ -45,7 +45,7 @@ impl<const D: usize, F> StructValue<D, F> {
     }
 }
 
-/// Puts bits into a field of a width, which lies within one word.
+/// Puts bits into a field of this width, which lies within one word.
 /// Speed: inlined, it is a few instructions where the offset is known.
 #[inline(always)]
 pub fn put_field(words: &mut [u64], width: u64, offset: u32, bits: u64)
@@ -63,7 +63,7 @@ pub fn put_field(words: &mut [u64], width: u64, offset: u32, bits: u64)
     }
 }
 
-// A word with other bits, from one of its bits on.
+// A word with some of its bits replaced, from this bit on.
 #[inline(always)]
 fn put_bits(word: u64, start: u64, width: u64, bits: u64) -> u64
     requires some { 0 < width }

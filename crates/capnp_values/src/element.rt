@@ -1,13 +1,13 @@
 //! Structs as elements of lists.
 ghost use Rattle.std.specs.Prelude.{◌≡◌, ℕ, ◌^◌, ◌<◌, List, All, length};
 
-/// A struct that can be an element of a list: its data words, beside its row of
+/// A struct that can be an element of a list: its data words, in addition to its row of
 /// [`Fields`](crate::fields::Fields).
 pub trait Element {
-    /// How many data words it has.
+    /// How many data words each has, for contracts.
     ghost data_words: { ℕ };
 
-    /// The words of its data section.
+    /// The words of its data section, for contracts.
     ghost words: { Self → List ℕ };
 
     /// How many data words each has.

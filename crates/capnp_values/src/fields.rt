@@ -14,16 +14,16 @@ use capnp_frame::Result;
 pub use field::Field;
 pub use no_fields::NoFields;
 
-/// The extent of a row: its pointers, and the words that they lead to.
+/// The extent of a row: how many pointers it keeps, and how many words they lead to.
 #[derive(Clone, Copy)]
 pub struct Extent {
-    /// How many pointers it keeps.
+    /// The number of pointers.
     pub pointers: u32,
 
-    /// The words of all that these lead to.
+    /// The number of words of all that these lead to.
     pub words: u64,
 
-    /// The words of all that these lead to, with each value as it is.
+    /// The number of words of all that these lead to, with each value as it is.
     pub as_is: u64,
 }
 
@@ -32,13 +32,13 @@ pub trait Fields {
     /// How many there are.
     ghost size: { ℕ };
 
-    /// The values are these trees, in order.
+    /// The trees of the values, in order.
     ghost has_trees: { Self → Trees → Type 0 };
 
-    /// One of the values has no tree, or a tree of 2^29 words or more.
+    /// With which errors the row fails: a value has no tree, or a tree of 2^29 words or more.
     ghost refuses: { Self → ErrorKind → Type 0 };
 
-    /// How many fields there are, where a struct may have that many.
+    /// The number of fields; 2^16, more than a struct may have, where there are more than that.
     fn count() -> u32
         ensures { result ≡ min size (2 ^ 16) };
 
@@ -55,7 +55,7 @@ pub trait Fields {
         ensures exact { (kind : ErrorKind) → refuses self.now kind →
             IsErrAnd result (λ error. error.kind ≡ kind) };
 
-    /// The words of all that the row's pointers lead to, as they are.
+    /// The number of words of all that the row's pointers lead to, with each value as it is.
     ///
     /// Fails with a kind that `refuses` names.
     fn as_is(&self) -> Result<u64>
@@ -78,8 +78,8 @@ pub trait Fields {
             result ≡ count (kept_row canonical trees) }
         ensures bound { result ≤ size };
 
-    /// Writes the first pointers of the row into a block, from a slot on, and what they lead to
-    /// into its words from `next` on, which are zero. Returns the first word after that.
+    /// Writes the first pointers of the row into a block, from this slot on, and what they lead to
+    /// into the words from `next` on, which are zero. Returns the first word after that.
     fn write(
         &self,
         canonical: bool,

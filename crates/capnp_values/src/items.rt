@@ -1,4 +1,4 @@
-//! Values of one type, one after the other: their words, and how they are written.
+//! Values of one type, one after the other: how many words they have, and how they are written.
 ghost use Rattle.std.specs.Prelude.{◌≡◌, ◌+◌, ◌<◌, ◌≤◌, ◌^◌, false, length};
 ghost use Rattle.capnp_wire.specs.Pointer.{words_of};
 ghost use Rattle.capnp_wire.specs.Values.{IsFreeFrom};
@@ -11,9 +11,9 @@ use capnp_frame::Result;
 use capnp_wire::pointer_word::put_word;
 use capnp_wire::traits::SetterInput;
 
-/// The words of all these values as they are, and the same or those of the canonical form.
+/// The number of words of all these values, as they are and in the form that is written.
 ///
-/// Fails as the first of them that fails as it is.
+/// Fails as the first of them does that fails as it is.
 pub(crate) fn measure_items<T, S: ValueSource<T>>(items: &S, canonical: bool) -> Result<TreeWords>
     requires { length (S.items items.now) < 2 ^ 29 }
     ensures { Measures (AreItems (S.has_tree items.now) (S.items items.now))
@@ -37,7 +37,7 @@ pub(crate) fn measure_items<T, S: ValueSource<T>>(items: &S, canonical: bool) ->
     Ok(words)
 }
 
-// The words of all these values, of which no canonical form is made.
+// The number of words of all these values, of which no canonical form is written.
 // Speed: one sum serves for both numbers, and stays in a register (`tools/time-building`).
 fn as_is_items<T, S: ValueSource<T>>(items: &S) -> Result<TreeWords>
     requires { length (S.items items.now) < 2 ^ 29 }
@@ -57,8 +57,8 @@ fn as_is_items<T, S: ValueSource<T>>(items: &S) -> Result<TreeWords>
     })
 }
 
-/// Writes the pointers to some values into a block, from a word of it on, and after these pointers,
-/// where the block is zero, the values. Returns the first word after them.
+/// Writes the pointers to some values into a block, from this word on, and the values after these
+/// pointers, where the block is zero. Returns the first word after the values.
 pub(crate) fn write_items<T, S: ValueSource<T>>(
     items: &S,
     canonical: bool,

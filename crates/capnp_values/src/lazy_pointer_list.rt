@@ -1,4 +1,4 @@
-//! Lists of pointers whose values are made when they are asked for.
+//! Lists of pointers whose values are made only when they are needed.
 ghost use Rattle.std.specs.Prelude.{◌≡◌};
 
 use crate::items::write_items;
@@ -11,8 +11,8 @@ use capnp_wire::pointer_word::list_word;
 use capnp_wire::traits::{Copied, PartWords, SetterInput};
 use std::marker::PhantomData;
 
-/// A list whose elements are pointers, each set to a value that is made when it is asked for
-/// (encoding document, "Lists"), so that no two of the values need be in memory at a time.
+/// A list whose elements are pointers, each set to a value that is made only when it is needed
+/// (encoding document, "Lists"), so no two of the values need be in memory at once.
 #[derive(Drop)]
 pub struct LazyPointerList<T, S> {
     /// What makes the values.
@@ -34,8 +34,7 @@ impl<T, S> LazyPointerList<T, S> {
     }
 }
 
-// The trees that the source tells of its values, in order. It fails as a list of these values in
-// memory does.
+// The trees of the source's values, in order. It fails as a list of these values in memory does.
 impl<T, S: ValueSource<T>> SetterInput<Owned<T>> for LazyPointerList<T, S> {
     ghost use Rattle.capnp_wire.specs.Tree.{count};
     ghost use Rattle.capnp_values.specs.Lists.{IsPointerList, RefusesPointerList};

@@ -1,4 +1,4 @@
-//! Lists of structs whose elements are made when they are asked for.
+//! Lists of structs whose elements are made only when they are needed.
 ghost use Rattle.std.specs.Prelude.{◌≡◌};
 
 use crate::element::Element;
@@ -10,8 +10,8 @@ use capnp_frame::Result;
 use capnp_wire::struct_list::Owned;
 use capnp_wire::traits::{Copied, PartWords, SetterInput};
 
-/// A list whose elements are structs of one size, each made when it is asked for (encoding
-/// document, "Lists"), so that no two of them need be in memory at a time.
+/// A list whose elements are structs of one size, each made only when it is needed (encoding
+/// document, "Lists"), so no two of them need be in memory at once.
 #[derive(Drop)]
 pub struct LazyStructList<S> {
     /// What makes the structs.
@@ -27,8 +27,8 @@ impl<S> LazyStructList<S> {
     }
 }
 
-// The data words that the source tells of each struct, with the trees of its fields, row by row. It
-// fails as a list of these structs in memory does.
+// The data words of the source's structs, with the trees of their fields, row by row. It fails as a
+// list of these structs in memory does.
 impl<S: StructSource> SetterInput<Owned> for LazyStructList<S> {
     ghost use Rattle.capnp_wire.specs.Tree.{count};
     ghost use Rattle.capnp_values.specs.StructLists.{IsStructList, RefusesStructList};

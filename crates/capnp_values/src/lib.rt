@@ -1,9 +1,9 @@
-//! Values that are composed: structs of data words and of further values.
+//! Composed values: structs of data words and of further values.
 //!
 //! A [`StructValue`] has the words of a struct's data section, and [`Fields`] for its pointer
 //! section ([encoding document], "Structs"). Each is a
 //! [`SetterInput`](capnp_wire::traits::SetterInput), so the root of a message can be set to it as
-//! to any other value. A value borrows what it holds, and takes no memory.
+//! to any other value. A value borrows its parts, and takes no memory.
 //!
 //! [encoding document]: https://capnproto.org/encoding.html
 #![tactic(auto)]

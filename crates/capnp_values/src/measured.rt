@@ -6,18 +6,18 @@ ghost use Rattle.capnp_wire.specs.Values.{too_large};
 use capnp_frame::{Error, ErrorKind, Result};
 use capnp_wire::traits::PartWords;
 
-/// The words of some trees, as they are and in the form that is made.
+/// How many words some trees have, as they are and in the form that is written.
 #[derive(Clone, Copy)]
 pub struct TreeWords {
     /// As they are.
     pub as_is: u64,
 
-    /// In the form that is made.
+    /// In the form that is written.
     pub output: u64,
 }
 
-/// Words that a block may have. Fails for 2^29 and more with `AllocationTooLarge`, in canonical
-/// form with `CanonicalTooLarge`.
+/// Returns a number of words that a block may have. Fails for 2^29 and more with
+/// `AllocationTooLarge`, in canonical form with `CanonicalTooLarge`.
 pub(crate) fn checked_word_count(words: u64, canonical: bool) -> Result<u32>
     ensures { MatchResult result (λ number. (number ≡ words) × (number < 2 ^ 29))
         (λ error. (2 ^ 29 ≤ words) × (error.kind ≡ too_large canonical words)) }
@@ -31,8 +31,8 @@ pub(crate) fn checked_word_count(words: u64, canonical: bool) -> Result<u32>
     Err(allocation_too_large(words))
 }
 
-/// The words that a part of a value may have. Fails with `AllocationTooLarge` where there are 2^29
-/// and more as it is.
+/// Returns the numbers of words of a part of a value. Fails with `AllocationTooLarge` where it has
+/// 2^29 words or more as it is.
 pub(crate) fn checked_part_words(words: TreeWords) -> Result<PartWords>
     requires { words.output ≤ words.as_is }
     ensures { MatchResult result
@@ -47,8 +47,8 @@ pub(crate) fn checked_part_words(words: TreeWords) -> Result<PartWords>
     })
 }
 
-/// The error for too many words or elements for a pointer, which it tells as far as 32 bits hold
-/// them.
+/// The error for more words or elements than a pointer can say, with their number as far as it fits
+/// 32 bits.
 pub(crate) fn allocation_too_large(number: u64) -> Error
     ensures { result.kind ≡ AllocationTooLarge (min number (2 ^ 32 - 1)) }
 {

@@ -63,7 +63,7 @@ impl<'a, N: PrimitiveElement + Copy> SetterInput<Owned<N>> for NumberList<'a, N>
     }
 }
 
-// The words of this many elements.
+// The number of words of a list of this many elements.
 fn words_of_list<N: PrimitiveElement>(count: u32) -> u32
     requires few { count < 2 ^ 29 }
     ensures words { result ≡ words_for count (width N.code) }
@@ -85,7 +85,7 @@ fn numbers_fit<N: PrimitiveElement + Copy>(items: &[N])
     }
 }
 
-// Puts numbers into a block of just their words.
+// Puts numbers into a block of exactly their words.
 fn put_numbers<N: PrimitiveElement + Copy>(items: &[N], block: &mut [u8])
     requires few { length items.now < 2 ^ 29 }
     requires fit { All (λ bits. bits < 2 ^ width N.code) (map N.bits_of items.now) }
@@ -99,7 +99,7 @@ fn put_numbers<N: PrimitiveElement + Copy>(items: &[N], block: &mut [u8])
     }
     let each = 64 / size.bits() as usize;
     let full = items.len() / each;
-    // Speed: full words have a loop of their own, of as many numbers each, which the compiler
+    // Speed: full words have a loop of their own, each of as many numbers, which the compiler
     // unrolls (lists of ten numbers).
     for index in 0..full {
         let first = index * each;
@@ -126,7 +126,7 @@ fn word_of_numbers<N: PrimitiveElement + Copy>(items: &[N]) -> u64
     word
 }
 
-// The bits of one number, and above them those of the others.
+// The bits of one number, below those of the others.
 fn in_front(bits: u64, others: u64, each: u64) -> u64
     requires each { each < 65 }
     requires room { bits + 2 ^ each * others < 2 ^ 64 }

@@ -12,8 +12,8 @@ use capnp_wire::pointer_word::list_word;
 use capnp_wire::traits::{Copied, PartWords, SetterInput};
 use std::marker::PhantomData;
 
-/// A list whose elements are pointers, each set to a value (encoding document, "Lists"): of texts,
-/// say.
+/// A list whose elements are pointers, each set to a value (encoding document, "Lists"), for
+/// example of texts.
 #[derive(Drop)]
 pub struct PointerList<'a, T, V> {
     /// What they are set to.
@@ -35,8 +35,8 @@ impl<'a, T, V> PointerList<'a, T, V> {
     }
 }
 
-// The values' trees, in order. 2^29 of them and more fail with `AllocationTooLarge`, and a value
-// fails as it is.
+// The values' trees, in order. 2^29 values and more fail with `AllocationTooLarge`, and a value
+// that fails as it is fails here, too.
 impl<'a, T, V: SetterInput<T>> SetterInput<Owned<T>> for PointerList<'a, T, V> {
     ghost use Rattle.capnp_wire.specs.Tree.{count};
     ghost use Rattle.capnp_values.specs.Lists.{IsPointerList, RefusesPointerList};
@@ -72,7 +72,7 @@ impl<'a, T, V: SetterInput<T>> SetterInput<Owned<T>> for PointerList<'a, T, V> {
     }
 }
 
-/// The words of a list of pointers to some values.
+/// The number of words of a list of pointers to some values.
 pub(crate) fn measure_list<T, S: ValueSource<T>>(items: &S, canonical: bool) -> Result<TreeWords>
     ensures { Measures (IsPointerList (S.has_tree items.now) (S.items items.now))
         (RefusesPointerList (S.has_tree items.now) (S.refuses items.now) (S.items items.now))

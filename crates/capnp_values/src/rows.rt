@@ -1,4 +1,4 @@
-//! The elements of lists of structs: how far they reach, and what is written of them.
+//! The elements of lists of structs: their extent, and what is written of them.
 ghost use Rattle.std.specs.Prelude.{◌≡◌, ℕ, ◌+◌, ◌*◌, ◌<◌, ◌≤◌, ◌^◌, [], false, map, length, take};
 ghost use Rattle.capnp_wire.specs.Pointer.{words_of};
 ghost use Rattle.capnp_wire.specs.Tree.{Trees, none};
@@ -14,8 +14,8 @@ use crate::sections::{kept_data, used, write_sections};
 use crate::sources::StructSource;
 use capnp_frame::Result;
 
-/// The extent of the elements of a list: the data words and the pointers that each keeps, and the
-/// words of all that they lead to.
+/// The extent of the elements of a list: the data words and the pointers that each keeps, and how
+/// many words all of these pointers lead to.
 #[derive(Clone, Copy)]
 pub struct Reach {
     /// The data words of each.
@@ -24,15 +24,15 @@ pub struct Reach {
     /// The pointers of each.
     pub pointers: u32,
 
-    /// The words of all that the pointers lead to.
+    /// The number of words of all that the pointers lead to.
     pub words: u64,
 
-    /// The same words as they are.
+    /// The same number, with each value as it is.
     pub as_is: u64,
 }
 
-/// What each element of a list keeps: all that it has, or in canonical form what the largest of
-/// them needs.
+/// What each element of a list keeps: all that it has, or in canonical form as much as the largest
+/// of them needs.
 #[derive(Clone, Copy)]
 pub struct KeptWords {
     /// Its data words.
@@ -44,7 +44,7 @@ pub struct KeptWords {
 
 /// The extent of some structs, as they are or in canonical form.
 ///
-/// Fails as the first of them that fails as it is.
+/// Fails as the first of them does that fails as it is.
 pub(crate) fn measure_rows<S: StructSource>(items: &S, canonical: bool) -> Result<Reach>
     requires words { S.Value.data_words < 2 ^ 16 }
     requires pointers { S.Value.size < 2 ^ 16 }
@@ -66,7 +66,7 @@ pub(crate) fn measure_rows<S: StructSource>(items: &S, canonical: bool) -> Resul
     Ok(reach)
 }
 
-// The extent of some structs as they are, of which each keeps all that it has.
+// The extent of some structs as they are, each of which keeps all that it has.
 // Speed: one sum serves for both numbers, and stays in a register (`tools/time-building`).
 fn as_is_rows<S: StructSource>(items: &S) -> Result<Reach>
     requires words { S.Value.data_words < 2 ^ 16 }
@@ -92,7 +92,7 @@ fn as_is_rows<S: StructSource>(items: &S) -> Result<Reach>
     })
 }
 
-// What the elements keep in any case: all that they have, or in canonical form nothing.
+// What the elements keep at least: all that they have, or in canonical form nothing.
 fn least_reach(data_words: usize, pointers: u32, canonical: bool) -> Reach
     ensures { result ≡ reach_of canonical data_words pointers [] none }
 {
@@ -112,7 +112,7 @@ fn least_reach(data_words: usize, pointers: u32, canonical: bool) -> Reach
     }
 }
 
-// The extent with one more struct, of which this many data words are kept.
+// The extent with one more struct, which keeps this many data words.
 fn with_row(reach: Reach, data_words: usize, extent: Extent) -> Reach
     requires words { reach.words + extent.words < 2 ^ 64 }
     requires as_is { reach.as_is + extent.as_is < 2 ^ 64 }
@@ -158,8 +158,8 @@ pub(crate) fn kept_by_each<S: StructSource>(items: &S, canonical: bool) -> KeptW
 }
 
 /// Writes some structs into a block from the word `first` on: the data words and the pointers that
-/// each keeps, one struct after the other. After the last of them, where the block is zero, it
-/// writes what they lead to. Returns the first word after that.
+/// each keeps, one struct after the other. What they lead to is written after the last of them,
+/// where the block is zero. Returns the first word after that.
 pub(crate) fn write_rows<S: StructSource>(
     items: &S,
     canonical: bool,

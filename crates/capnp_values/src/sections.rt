@@ -11,7 +11,7 @@ ghost use Rattle.capnp_values.specs.Structs.{kept_words};
 use crate::fields::Fields;
 use capnp_wire::pointer_word;
 
-/// Whether a pointer can tell this many data words, and this many pointers.
+/// Whether a pointer can say that there are this many data words, and this many pointers.
 pub(crate) fn fits(words: &[u64], fields: u32) -> bool
     ensures { IsTrue result ↔ ((length words.now < 2 ^ 16) × (fields < 2 ^ 16)) }
 {
@@ -23,7 +23,7 @@ pub fn words_fit(words: &[u64])
     ensures { All (λ word. word < 2 ^ 64) words.now }
 {}
 
-/// How many of these words there are up to the last one that isn't zero.
+/// How many of these words are left without the zeros at their end.
 pub(crate) fn used(words: &[u64]) -> usize
     ensures { result ≡ length (cut_zeros words.now) }
 {
@@ -45,7 +45,7 @@ pub(crate) fn kept_data(words: &[u64], canonical: bool) -> usize
     if canonical { used(words) } else { words.len() }
 }
 
-/// Puts words into a block of just these.
+/// Puts words into a block of exactly these words.
 pub fn put_words(words: &[u64], block: &mut [u8])
     requires { length block.old ≡ 8 * length words.now }
     ensures { words_of block.new ≡ words.now }

@@ -1,4 +1,4 @@
-//! Where the elements of lists come from, each made when it is asked for.
+//! Sources of the elements of lists, which make each of them only when it is needed.
 ghost use Rattle.std.specs.Prelude.{◌≡◌, ℕ, ◌<◌, List, length, get_or};
 ghost use Rattle.capnp_frame.specs.declared.error.ErrorKind.{ErrorKind};
 ghost use Rattle.capnp_wire.specs.Tree.{Trees};
@@ -10,7 +10,7 @@ use crate::element::Element;
 use crate::fields::Fields;
 use capnp_wire::traits::SetterInput;
 
-/// Values in order, each made when it is asked for: once to be measured, and once more to be
+/// Values in order, each made only when it is needed: once to be measured, and once more to be
 /// written.
 pub trait ValueSource<T> {
     /// Identifies a value: its index, or what it is made of.
@@ -22,10 +22,10 @@ pub trait ValueSource<T> {
     /// What identifies each of the values, in order.
     ghost items: { Self → List Self.Item };
 
-    /// The value of an item is this tree.
+    /// The value of an item has this tree.
     ghost has_tree: { Self → Self.Item → Trees → Type 0 };
 
-    /// The value of an item has no tree, and this is the error.
+    /// With which errors an item's value fails, which then has no tree.
     ghost refuses: { Self → Self.Item → ErrorKind → Type 0 };
 
     /// How many values there are.
@@ -40,8 +40,8 @@ pub trait ValueSource<T> {
             (Self.Value.refuses result) (refuses self.now item) };
 }
 
-/// Structs of one size in order, each made when it is asked for: once to be measured, and once more
-/// to be written.
+/// Structs of one size in order, each made only when it is needed: once to be measured, and once
+/// more to be written.
 pub trait StructSource {
     /// Identifies a struct: its index, or what it is made of.
     type Item;
@@ -58,7 +58,7 @@ pub trait StructSource {
     /// The fields of an item's struct are these trees, in order.
     ghost has_trees: { Self → Self.Item → Trees → Type 0 };
 
-    /// A field of an item's struct has no tree, and this is the error.
+    /// With which errors an item's struct fails: a field of it has no tree.
     ghost refuses: { Self → Self.Item → ErrorKind → Type 0 };
 
     /// How many structs there are.
@@ -78,7 +78,7 @@ pub trait StructSource {
         has_trees source item trees → IsSettled Self.Value.size trees };
 }
 
-// The values of a slice are their own items.
+// Each value of a slice is its own item.
 impl<'a, T, V: SetterInput<T>> ValueSource<T> for &'a [V] {
     type Item = V;
 
@@ -100,7 +100,7 @@ impl<'a, T, V: SetterInput<T>> ValueSource<T> for &'a [V] {
     }
 }
 
-// The structs of a slice are their own items.
+// Each struct of a slice is its own item.
 impl<'a, E: Fields + Element> StructSource for &'a [E] {
     type Item = E;
 

@@ -9,8 +9,7 @@ use capnp_frame::Result;
 use capnp_wire::struct_list::Owned;
 use capnp_wire::traits::{Copied, PartWords, SetterInput};
 
-/// A list whose elements are structs of one size, which follow one another (encoding document,
-/// "Lists").
+/// A list whose elements are consecutive structs of one size (encoding document, "Lists").
 #[derive(Drop)]
 pub struct StructList<'a, E> {
     /// The elements.
@@ -28,7 +27,7 @@ impl<'a, E> StructList<'a, E> {
 
 // The data words of each element, with the trees of their fields, row by row. 2^16 data words or
 // fields and more, and 2^29 elements or words of elements and more, fail with `AllocationTooLarge`;
-// a field fails as it is.
+// a field that fails as it is fails here, too.
 impl<'a, E: Fields + Element> SetterInput<Owned> for StructList<'a, E> {
     ghost use Rattle.capnp_wire.specs.Tree.{count};
     ghost use Rattle.capnp_values.specs.StructLists.{IsStructList, RefusesStructList};

@@ -17,7 +17,7 @@ pub struct StructValue<const D: usize, F> {
     /// The words of its data section.
     pub words: [u64; D],
 
-    /// What the pointers of its pointer section are set to.
+    /// The values that the pointers of its pointer section are set to.
     pub fields: F,
 }
 
@@ -32,7 +32,7 @@ impl<const D: usize, F> StructValue<D, F> {
 }
 
 // The data words, with the trees of the fields. 2^16 data words or fields and more fail with
-// `AllocationTooLarge`; a field fails as it is.
+// `AllocationTooLarge`; a field that fails as it is fails here, too.
 impl<const D: usize, F: Fields> SetterInput<Owned> for StructValue<D, F> {
     ghost use Rattle.std.specs.Prelude.{length};
     ghost use Rattle.capnp_wire.specs.Tree.{count};
@@ -83,7 +83,7 @@ impl<const D: usize, F: Fields> SetterInput<Owned> for StructValue<D, F> {
     }
 }
 
-// The words of a struct of these data words and fields.
+// The number of words of a struct of these data words and fields.
 fn measure_struct<F: Fields>(words: &[u64], fields: &F, canonical: bool) -> Result<TreeWords>
     ensures { Measures (IsStruct words.now F.size (F.has_trees fields.now))
         (RefusesStruct (length words.now) F.size (F.refuses fields.now)) canonical result }
@@ -100,7 +100,7 @@ fn measure_struct<F: Fields>(words: &[u64], fields: &F, canonical: bool) -> Resu
     Ok(TreeWords { as_is, output })
 }
 
-// The fields alone.
+// Only its fields.
 impl<const D: usize, F: Fields> Fields for StructValue<D, F> {
     ghost size = { F.size };
 

@@ -1,4 +1,4 @@
-//! Lists of the structs of any source, with the tag before them (encoding document, "Lists").
+//! Lists of the structs of any source, with the tag in front of them (encoding document, "Lists").
 ghost use Rattle.std.specs.Prelude.{◌≡◌, ◌+◌, ◌-◌, ◌*◌, ◌^◌, ◌<◌, ◌≤◌, ◌∷◌, [], length, MatchResult};
 ghost use Rattle.capnp_wire.specs.Pointer.{words_of};
 ghost use Rattle.capnp_wire.specs.Tree.{Trees, total_words};
@@ -19,7 +19,7 @@ use capnp_frame::{Error, ErrorKind, Result};
 use capnp_wire::pointer_word::{list_word, put_word, struct_word};
 use capnp_wire::traits::Copied;
 
-/// The words of a list of some structs.
+/// The number of words of a list of some structs.
 pub(crate) fn measure_list<S: StructSource>(items: &S, canonical: bool) -> Result<TreeWords>
     ensures { Measures (IsStructList (S.words items.now) (S.has_trees items.now)
         S.Value.data_words S.Value.size (S.items items.now))
@@ -34,8 +34,8 @@ pub(crate) fn measure_list<S: StructSource>(items: &S, canonical: bool) -> Resul
     Ok(with_tag(count, data_words, pointers, reach))
 }
 
-// Fails with `AllocationTooLarge` where a pointer and a tag can't tell this many structs of this
-// size.
+// Fails with `AllocationTooLarge` where a pointer and a tag can't say that there are this many
+// structs of this size.
 fn elements_fit(count: usize, data_words: usize, pointers: u32) -> Result<()>
     ensures { MatchResult result
         (λ _. (data_words < 2 ^ 16) × (pointers < 2 ^ 16) × (count < 2 ^ 29)
@@ -55,7 +55,7 @@ fn elements_fit(count: usize, data_words: usize, pointers: u32) -> Result<()>
     Ok(())
 }
 
-// The words of a tag, of the elements, and of all that these lead to.
+// The number of words of the tag, of the elements, and of all that these lead to.
 fn with_tag(count: usize, data_words: usize, pointers: u32, reach: Reach) -> TreeWords
     requires told { AreDeclared count data_words pointers }
     requires kept { IsDeclared count data_words pointers reach.data_words reach.pointers }

@@ -1,4 +1,4 @@
--- Pointers, where they lead, and when they are rejected.
+-- Pointers, where they lead, and when they are invalid.
 pub mod FaultLemmas
 pub mod RefusalLemmas
 pub mod LandingLemmas

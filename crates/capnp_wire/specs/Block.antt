@@ -11,16 +11,16 @@ use Rattle.capnp_wire.specs.Pointer.{number_of, words_from}
 abbrev pub numbers_of : List Word → List ℕ
 numbers_of words = map (λ word. number_of 256 (bytes_of word)) words
 
--- some words in the place of others, from a word of the block on
+-- words of the block from this one on are replaced
 abbrev pub put : ℕ → List ℕ → List ℕ → List ℕ
 put at words block = take at block ++ (words ++ drop (at + length words) block)
 
--- the data of rows, each before its p pointers
+-- the data of rows, each in front of its p pointers
 abbrev pub put_rows : ℕ → ℕ → List (List ℕ) → List ℕ → List ℕ
 put_rows at p [] block = block
 put_rows at p (row ∷ rows) block = put_rows (at + length row + p) p rows (put at row block)
 
--- pointers in their slots, and what they lead to, the one after the other from a word on
+-- pointers in their slots, and what they lead to one after the other from a word on
 abbrev pub fill : List ℕ → ℕ → Trees → List ℕ → List ℕ
 fill slots next none block = block
 fill [] next (tree form children rest) block = block
@@ -28,12 +28,13 @@ fill (slot ∷ slots) next (tree form children rest) block =
     fill slots (next + object_size form (count children) + total_words children) rest
     (put slot (pointer form (count children) (next - (slot + 1)) ∷ []) (put next (body (tree form children none)) block))
 
--- slots of an object that begins at a word of the block
+-- the slots of an object that begins at a word of the block
 abbrev pub moved : ℕ → List ℕ → List ℕ
 moved base [] = []
 moved base (slot ∷ slots) = (base + slot) ∷ moved base slots
 
--- the most words that one of n stretches of k words needs, without zeros at its end; they begin every step words
+-- the most words that one of n parts of k words needs without the zeros at its end; a part begins
+-- every `step` words
 abbrev pub most_used : List ℕ → ℕ → ℕ → ℕ → ℕ → ℕ
 most_used words start k step zero = 0
 most_used words start k step (suc n) = max (length (cut_zeros (words_from words start k))) (most_used words (start + step) k step n)

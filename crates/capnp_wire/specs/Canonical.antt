@@ -14,7 +14,8 @@ Padded segment start (numbers c values) =
     words_from segment start (words_for (length values) (width c)) ≡ digits (2 ^ 64) (words_for (length values) (width c)) (number_of (2 ^ width c) values)
 Padded segment start form = Unit {0}
 
--- Of the trees at places, the first at next: each pointer word is that of a layout, and so leads to the next free word.
+-- The trees at places, the first one's body at `next`: each pointer word is that of a layout, and
+-- so leads to the next free word.
 abbrev pub IsInPreorder : List ℕ → List Place → ℕ → Trees → Type 0
 IsInPreorder segment places next none = Unit {0}
 IsInPreorder segment [] next (tree form children rest) = Unit {0}
@@ -33,7 +34,7 @@ abbrev pub IsCanonical : List (List ℕ) → Type 0
 IsCanonical m =
     (segment : List ℕ) × (m ≡ segment ∷ []) × (form : Form) × (children : Trees) × (traversed : ℕ) × Root m form children traversed × IsCanon segment form children
 
--- of a message of one segment whose root is read, the tests say whether it is canonical
+-- for a message of one segment whose root can be read, the tests decide whether it is canonical
 abbrev pub TestsAreExact : Type 0
 TestsAreExact =
     (segment : List ℕ) (form : Form) (children : Trees) (traversed : ℕ) → All (λ w. w < 2 ^ 64) segment → Root (segment ∷ []) form children traversed

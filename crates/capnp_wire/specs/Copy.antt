@@ -1,5 +1,5 @@
--- Objects that are copied, as they are or in canonical form (src/layout/copy.rt and pending.rt, copy_rows.rt, row_pair.rt
--- beside it).
+-- Objects that are copied, as they are or in canonical form (src/layout/copy.rt, and pending.rt,
+-- copy_rows.rt and row_pair.rt beside it).
 use Rattle.std.specs.Prelude.{◌≡◌, ◌≢◌, ℕ, ◌+◌, ◌-◌, ◌*◌, ◌/◌, ◌<◌, ◌≤◌, ◌^◌, ◌==◌, if◌then◌else◌, Bool, true, List, [], ◌∷◌, length, Some, slice_get}
 use Rattle.capnp_wire.specs.Pointer.{words_of, words_from}
 use Rattle.capnp_wire.specs.Element.{code_of}
@@ -33,21 +33,21 @@ pub record CanCopy (m : List (List ℕ)) (at : List Place) (nesting : ℕ) (cano
   pub rooms : AllHaveRoom trees
   pub fits : next + total_words (output canonical trees) ≤ room
 
--- the words that n structs of this size need, which are from a word on
+-- the size that n consecutive structs of this size need, the first of them at a word
 abbrev pub least_size : List ℕ → ℕ → StructSize → ℕ → StructSize
 least_size words start size n = record {
   data_words = most_used words start size.data_words (size.data_words + size.pointers) n;
   pointers = most_used words (start + size.data_words) size.pointers (size.data_words + size.pointers) n;
 }
 
--- what an object is once it is copied
+-- the body of an object's copy
 abbrev pub output_body_of : Bool → List ℕ → ℕ → Body → Body
 output_body_of true words start (Struct size) = Struct (least_size words start size 1)
 output_body_of true words start (Structs elements following) =
     Structs (record { size = least_size words (start + 1) elements.size elements.count; count = elements.count }) following
 output_body_of canonical words start there = there
 
--- the pointer word to it
+-- the pointer word to a body
 abbrev pub pointer_of_body : Body → ℕ → ℕ
 pointer_of_body (Struct size) offset =
     struct_pointer (if size.data_words + size.pointers == 0 then minus_one else offset) size.data_words size.pointers
@@ -56,7 +56,8 @@ pointer_of_body (Pointers n) offset = list_pointer offset 6 n
 pointer_of_body (Structs elements following) offset =
     list_pointer offset 7 (elements.count * (elements.size.data_words + elements.size.pointers))
 
--- a copy's own words but for its pointers, put into a block; pointers have to be put into it yet
+-- a copy's own words except for its pointers, put into a block; the pointers are still to be put
+-- into it
 abbrev pub put_own : List ℕ → ℕ → Body → Body → ℕ → List ℕ → List ℕ
 put_own words start (Struct from) (Struct size) next block = put next (words_from words start size.data_words) block
 put_own words start (Numbers size n) copied next block = put next (own (numbers (code_of size) (numerals words start (code_of size) n)) []) block
@@ -78,7 +79,7 @@ abbrev pub element_count : Body → ℕ
 element_count (Structs elements following) = elements.count
 element_count copied = 0
 
--- the same kind of object, with no more words in each row
+-- the same kind of object, whose rows have no more words
 abbrev pub IsNarrower : Body → Body → Type 0
 IsNarrower (Struct from) (Struct size) = (size.data_words ≤ from.data_words) × (size.pointers ≤ from.pointers)
 IsNarrower (Structs from following) (Structs elements words) =
@@ -87,7 +88,8 @@ IsNarrower (Numbers from n) (Numbers size count) = (size ≡ from) × (count ≡
 IsNarrower (Pointers n) (Pointers count) = count ≡ n
 IsNarrower from copied = ⊥
 
--- what is copied of some trees: the body of them, from a word of a block on, the pointer to it, and the first free word after it
+-- what is copied of some trees: their body, from a word of a block on, the pointer to it, and the
+-- first free word after it
 pub record IsCopied (trees : Trees) (gap next : ℕ) (old new : List ℕ) (copied : Copied) : Type 0 where
   pub words_are : new ≡ put next (body trees) old
   pub pointer_is : copied.pointer ≡ pointer_to trees gap
@@ -97,8 +99,8 @@ pub record IsCopied (trees : Trees) (gap next : ℕ) (old new : List ℕ) (copie
 pub record Copies (m : List (List ℕ)) (place : Place) (canonical : Bool) (gap next : ℕ) (old new : List ℕ) (copied : Copied) : Type 0 where
   pub is : (trees : Trees) (traversed : ℕ) → At m (place ∷ []) trees traversed → IsCopied (output canonical trees) gap next old new copied
 
--- what some pointers lead to is copied, from a word of a block up to the first free one, and the pointers to that are in
--- these slots
+-- what some pointers lead to is copied, from a word of a block up to the first free one, and the
+-- pointers to the copies are in these slots
 pub record CopiesAll (m : List (List ℕ)) (at : List Place) (canonical : Bool) (slots : List ℕ) (next : ℕ) (old new : List ℕ) (free : ℕ) : Type 0 where
   pub words_are : (trees : Trees) (traversed : ℕ) → At m at trees traversed → new ≡ fill slots next (output canonical trees) old
   pub next_is : (trees : Trees) (traversed : ℕ) → At m at trees traversed → free ≡ next + total_words (output canonical trees)
@@ -110,15 +112,15 @@ pub record CanCopyRows (m : List (List ℕ)) (words : List ℕ) (rows : RowPair)
   pub as_many : length (places_in rows.from) ≡ length (places_in rows.to)
   pub before : end_of rows.to ≤ next
 
--- Rows are those of pointers at some places of a segment and of some slots, which end before a word: what these lead to can
--- be copied by the rows, and is copied so.
+-- The rows pair pointers at some places of a segment with some slots, which end before a word: what
+-- the pointers lead to can be copied by the rows, and then is copied.
 pub record ArePaired (rows : RowPair) (at : List Place) (segment : ℕ) (slots : List ℕ) (end : ℕ) : Type 0 where
   pub can : (m : List (List ℕ)) (words : List ℕ) (nesting : ℕ) (canonical : Bool) (next room : ℕ) → CanCopy m at nesting canonical next room
       → (at ≢ [] → slice_get m segment ≡ Some words) → end ≤ next → CanCopyRows m words rows nesting canonical next room
   pub copied : (m : List (List ℕ)) (canonical : Bool) (next : ℕ) (old new : List ℕ) (free : ℕ)
       → CopiesAll m (places_in rows.from) canonical (slots_in rows.to) next old new free → CopiesAll m at canonical slots next old new free
 
--- the first of the pointers that are left is taken, and its slot
+-- the first of the pointers that are left is taken, with its slot
 pub record TakesPair (old new : RowPair) (place : Place) (slot : ℕ) : Type 0 where
   pub from : Takes old.from new.from place
   pub slots_are : slots_in old.to ≡ slot ∷ slots_in new.to
@@ -128,7 +130,7 @@ pub record TakesPair (old new : RowPair) (place : Place) (slot : ℕ) : Type 0 w
   pub in_segment : place.segment ≡ old.from.next.segment
   pub same_segment : new.from.next.segment ≡ old.from.next.segment
 
--- some pointer that can be copied leads to an object
+-- some pointer that can be copied leads to this object
 pub record IsCopyable (object : Object) (canonical : Bool) (next room : ℕ) : Type 0 where
   pub m : List (List ℕ)
   pub place : Place
@@ -136,14 +138,15 @@ pub record IsCopyable (object : Object) (canonical : Bool) (next room : ℕ) : T
   pub can : CanCopy m (place ∷ []) nesting canonical next room
   pub is : IsObject m place object
 
--- A copy is begun: what the object's own pointers lead to can be copied yet, and then the copy is one.
+-- A copy is in progress: what the object's own pointers lead to can still be copied, and then the
+-- copy is complete.
 pub record Begins (m : List (List ℕ)) (place : Place) (at : List Place) (slots : List ℕ) (nesting : ℕ) (canonical : Bool) (gap next following : ℕ)
     (old mid : List ℕ) (pointer : ℕ) : Type 0 where
   pub there : CanCopy m at (nesting - 1) canonical following (length mid)
   pub ends : (new : List ℕ) (free : ℕ) → CopiesAll m at canonical slots following mid new free
       → Copies m place canonical gap next old new (record { pointer = pointer; next = free })
 
--- The copy of an object is begun, and its pointers are left.
+-- The copy of an object is in progress, and its pointers are left.
 pub record BeginsObject (m : List (List ℕ)) (place : Place) (nesting : ℕ) (canonical : Bool) (gap next : ℕ) (old mid : List ℕ) (begun : PendingCopy) : Type 0 where
   pub begins : Begins m place (kept_in begun.object.start begun.object.body (row_size begun.body).pointers) (slots_of next begun.body) nesting canonical gap next
       (next + words_in begun.body) old mid begun.pointer
@@ -153,14 +156,15 @@ pub record BeginsObject (m : List (List ℕ)) (place : Place) (nesting : ℕ) (c
   pub elements : words_in begun.object.body ≤ room_of begun.object.body
   pub deep : 0 < nesting
 
--- The copy of an object is begun whose pointers are one after the other, as their copies do.
+-- The copy of an object whose pointers are consecutive, in the object and in the copy, is in
+-- progress.
 pub record BeginsRun (m : List (List ℕ)) (place : Place) (words : List ℕ) (nesting : ℕ) (canonical : Bool) (gap next : ℕ) (old mid : List ℕ) (left : PendingPointers) : Type 0 where
   pub begins : Begins m place (places left.first.segment left.first.word left.count) (run left.slot left.count) nesting canonical gap next left.next old mid left.pointer
   pub content : slice_get m left.first.segment ≡ Some words
   pub bound : left.first.word + left.count < 2 ^ 61
   pub before : left.slot + left.count ≤ left.next
 
--- a struct is copied, or its copy is begun
+-- a struct is copied, or its copy is in progress
 abbrev pub BeginsStruct : List (List ℕ) → Place → List ℕ → ℕ → Bool → ℕ → ℕ → List ℕ → List ℕ → StructCopy → Type 0
 BeginsStruct m place words nesting canonical gap next old new (Whole copied) = Copies m place canonical gap next old new copied
 BeginsStruct m place words nesting canonical gap next old new (Pending left) = BeginsRun m place words nesting canonical gap next old new left

@@ -7,7 +7,7 @@ use Rattle.capnp_wire.specs.declared.layout.element.ElementSize.TheVariants.{Voi
 abbrev pub width : ℕ → ℕ
 width code = slice_index (0 ∷ 1 ∷ 8 ∷ 16 ∷ 32 ∷ 64 ∷ 64 ∷ []) code
 
--- the words of n elements of some bits each
+-- the words of n elements of this many bits each
 abbrev pub words_for : ℕ → ℕ → ℕ
 words_for n bits = (n * bits + 63) / 64
 

@@ -1,6 +1,6 @@
 -- Where no object is, and which error says so. The cases are in the order in which they are tested:
--- the pointer's own word, a capability, landing pads, the nesting depth left, bounds and a list's tag. A case holds only where
--- those before it don't.
+-- the pointer's own word, a capability, landing pads, the nesting depth left, bounds and a list's
+-- tag. A case holds only where those before it don't.
 use Rattle.std.specs.Prelude.{◌≡◌, ℕ, ◌+◌, ◌-◌, ◌*◌, ◌<◌, ◌≤◌, List, [], ◌∷◌, length, Some, None, Option, slice_get}
 use Rattle.capnp_frame.specs.declared.error.ErrorKind.{ErrorKind}
 use Rattle.capnp_frame.specs.declared.error.ErrorKind.TheVariants.{PointerOutOfBounds, InvalidSegmentId, NestingLimitExceeded, ReadLimitExceeded, CapabilityRefused, WrongPointerKind}
@@ -39,7 +39,8 @@ pub data BadLandingPad (m : List (List ℕ)) (word : ℕ) : ErrorKind → Type 0
       → word_at m (landing_pad_tag word) ≡ Some tag → IsFar inner 0 → slice_get m (landing_pad_segment inner) ≡ Some words → pointer_kind tag ≡ 3
       → BadLandingPad m word CapabilityRefused
 
--- no object is at a word of its segment, as its pointer says
+-- no object is at a word of its segment, by its pointer: it lies outside, or its list's tag is
+-- wrong
 pub data RejectsSize (words : List ℕ) (start pointer : ℕ) : ErrorKind → Type 0 where
   struct_outside : pointer_kind pointer ≡ 0 → length words < start + data_words pointer + pointer_words pointer
       → RejectsSize words start pointer PointerOutOfBounds
@@ -55,7 +56,7 @@ pub data RejectsSize (words : List ℕ) (start pointer : ℕ) : ErrorKind → Ty
       → list_count pointer < offset tag * (data_words tag + pointer_words tag)
       → RejectsSize words start pointer PointerOutOfBounds
 
--- the pointer at a place, at the nesting depth left, is rejected
+-- the pointer at a place is invalid, at this nesting depth left
 pub data Fault (m : List (List ℕ)) (place : Place) (nesting : ℕ) : ErrorKind → Type 0 where
   no_word : {kind : ErrorKind} → NoWord m place kind → Fault m place nesting kind
   capability : {word : ℕ} → word_at m place ≡ Some word → pointer_kind word ≡ 3 → Fault m place nesting CapabilityRefused
@@ -68,7 +69,7 @@ pub data Fault (m : List (List ℕ)) (place : Place) (nesting : ℕ) : ErrorKind
       → IsStart landing.origin landing.tag start → slice_get m landing.segment ≡ Some words
       → RejectsSize words start landing.tag kind → Fault m place nesting kind
 
--- A walk over the trees at places, in preorder, stops: at what it meets first.
+-- A walk over the trees at places, in preorder, stops at the first error that it meets.
 pub data StopsWalk (m : List (List ℕ)) : List Place → ℕ → Option ℕ → ErrorKind → Type 0 where
   at_pointer : {place : Place} {others : List Place} {nesting : ℕ} {limit : Option ℕ} {kind : ErrorKind}
       → Fault m place nesting kind → StopsWalk m (place ∷ others) nesting limit kind

@@ -19,7 +19,7 @@ pub record HasWideLandingPad (m : List (List ℕ)) (word first tag : ℕ) : Type
   pub first_there : word_at m (landing_pad word) ≡ Some first
   pub tag_there : word_at m (landing_pad_tag word) ≡ Some tag
 
--- a pointer leads there, by way of its landing pads
+-- a pointer leads there, through its landing pads
 pub record IsLanding (m : List (List ℕ)) (place : Place) (read : ReadLanding) : Type 0 where
   pub landing : Target
   pub lands : Lands m place landing
@@ -32,7 +32,7 @@ pub record IsLanding (m : List (List ℕ)) (place : Place) (read : ReadLanding) 
   pub few_landing_pads : landing.landing_pads ≤ 2
   pub small : landing.tag < 2 ^ 64
 
--- the object that is at a place
+-- the object at a place
 abbrev pub shape_of : List ℕ → Place → Body → Shape
 shape_of words start (Struct size) = struct_shape words start size.data_words size.pointers
 shape_of words start (Numbers elements count) = numbers_shape words start (code_of elements) count
@@ -40,7 +40,7 @@ shape_of words start (Pointers count) = pointers_shape start count
 shape_of words start (Structs elements following) =
     structs_shape words start elements.size.data_words elements.size.pointers elements.count following
 
--- the words that it takes up, and those of them that its elements need
+-- the words that it takes up, and how many of them its elements need
 abbrev pub room_of : Body → ℕ
 room_of (Struct size) = size.data_words + size.pointers
 room_of (Numbers elements count) = words_for count (width (code_of elements))
@@ -53,7 +53,7 @@ words_in (Numbers elements count) = words_for count (width (code_of elements))
 words_in (Pointers count) = count
 words_in (Structs elements following) = 1 + elements.count * (elements.size.data_words + elements.size.pointers)
 
--- what it counts against the traversal limit, without landing pads
+-- the words that it counts against the traversal limit, without landing pads
 abbrev pub traversed_of : Body → ℕ
 traversed_of (Struct size) = size.data_words + size.pointers
 traversed_of (Numbers elements count) = if code_of elements == 0 then count else words_for count (width (code_of elements))
@@ -74,7 +74,7 @@ pub record IsObject (m : List (List ℕ)) (place : Place) (read : ReadObject) : 
   pub traversed : traversed_of read.body ≤ read.traversed
   pub has_room : let shape = shape_of (words_of read.segment.now) read.start read.body in HasRoom shape.form (length shape.children)
 
--- a word is no struct or list pointer, and how that is rejected
+-- a word is no struct or list pointer, and this is the error
 abbrev pub NotLocal : ℕ → ErrorKind → Type 0
 NotLocal word kind =
     ((pointer_kind word ≡ 2) × (kind ≡ PointerOutOfBounds)) ⊎ ((pointer_kind word ≡ 3) × (kind ≡ CapabilityRefused))

@@ -17,7 +17,7 @@ list_pointer offset code count = 1 + 4 * offset + 2 ^ 32 * code + 2 ^ 35 * count
 abbrev pub far_pointer : ℕ → ℕ → ℕ
 far_pointer segment position = 2 + 8 * position + 2 ^ 32 * segment
 
--- the offset -1
+-- the offset -1, in 30 bits
 abbrev pub minus_one : ℕ
 minus_one = 2 ^ 30 - 1
 
@@ -44,7 +44,7 @@ slots (struct words) n = run (length words) n
 slots (structs d p rows) n = row_run 1 d p rows
 slots form n = run 0 n
 
--- the pointer words in these slots, where the first of the objects begins at next
+-- the pointer words in these slots, where the first of the objects begins at `next`
 abbrev pub pointers_to : List ℕ → ℕ → Trees → List ℕ
 pointers_to slots next none = []
 pointers_to [] next (tree form children rest) = []
@@ -64,7 +64,7 @@ own (numbers code values) links = digits (2 ^ 64) (words_for (length values) (wi
 own pointers links = links
 own (structs d p rows) links = struct_pointer (length rows) d p ∷ woven p rows links
 
--- trees in preorder: the words of each, then those of the trees that it holds
+-- trees in preorder: the words of each, then those of the trees below it
 abbrev pub body : Trees → List ℕ
 body none = []
 body (tree form children rest) =
@@ -108,7 +108,8 @@ Reaches null n offset = ⊤
 Reaches (struct words) n offset = 0 < length words + n → offset < 2 ^ 29
 Reaches form n offset = offset < 2 ^ 29
 
--- the offsets of all pointers have room, where the first ones are in these slots and the first object begins at next
+-- the offsets of all pointers have room, where the first ones are in these slots and the first
+-- object begins at `next`
 abbrev pub AllReach : List ℕ → ℕ → Trees → Type 0
 AllReach places next none = ⊤
 AllReach [] next (tree form children rest) = ⊤
@@ -116,17 +117,17 @@ AllReach (slot ∷ others) next (tree form children rest) =
     Reaches form (count children) (next - (slot + 1)) × AllReach (slots form (count children)) (object_size form (count children)) children
     × AllReach others (next + object_size form (count children) + total_words children) rest
 
--- the places of slots of an object in a segment
+-- the places of an object's slots in a segment
 abbrev pub placed : ℕ → ℕ → List ℕ → List Place
 placed segment start [] = []
 placed segment start (slot ∷ slots) = record { segment = segment; word = start + slot } ∷ placed segment start slots
 
--- the body of some trees is from a word on
+-- the words from `start` on are the body of these trees
 pub record Laid (words : List ℕ) (start : ℕ) (trees : Trees) : Type 0 where
   pub within : start + total_words trees ≤ length words
   pub words_are : words_from words start (total_words trees) ≡ body trees
 
--- every word is one
+-- every word is below 2 ^ 64
 abbrev pub AllWords : List (List ℕ) → Type 0
 AllWords m = All (λ words. All (λ w. w < 2 ^ 64) words) m
 

@@ -14,7 +14,8 @@ use Rattle.capnp_wire.specs.declared.layout.place.Place.{Place}
 use Rattle.capnp_wire.specs.declared.layout.pointer.Elements.{Elements}
 use Rattle.capnp_wire.specs.declared.struct_list.reader.Reader.{Reader as StructListReader}
 
--- the tree of a list of a form whose pointers are read, within the nesting depth left and its limit
+-- the tree of a list of this form whose pointers are read, within the nesting depth left and the
+-- list's limit
 pub record IsListTree (form : Form) (list : PointerList) (trees : Trees) : Type 0 where
   pub children : Trees
   pub traversed : ℕ
@@ -27,12 +28,12 @@ pub record IsListTree (form : Form) (list : PointerList) (trees : Trees) : Type 
 abbrev pub StopsInList : PointerList → ErrorKind → Type 0
 StopsInList list kind = StopsWalk list.message list.children list.nesting list.limit kind
 
--- pointers that are one after the other from a place on
+-- consecutive pointers from a place on
 abbrev pub pointers_along : List (List ℕ) → Place → ℕ → ℕ → Option ℕ → PointerList
 pointers_along m first n nesting limit =
     record { message = m; children = places first.segment first.word n; nesting = nesting; limit = limit }
 
--- structs that do so, and the pointers of them all
+-- consecutive structs, and the pointers of them all
 abbrev pub structs_along : List ℕ → Place → Elements → Form
 structs_along words first elements =
     let size = elements.size in structs size.data_words size.pointers (rows_from words first.word size.data_words size.pointers elements.count)
@@ -50,12 +51,13 @@ pointers_of_structs m first elements nesting limit =
 abbrev pub pointers_in : StructList → PointerList
 pointers_in list = record { message = list.message; children = list.children; nesting = list.nesting; limit = list.limit }
 
--- the list of structs of a reader, also where it has no element to tell the words of data of each
+-- the list of structs of a reader, also where it has no element that would say how many words of
+-- data each has
 abbrev pub structs_of : {S : Type 0} {ghosts : Ghosts S} → (S → List (List ℕ)) → StructListReader S ghosts → Form
 structs_of segments reader =
     let list = struct_list_of segments reader in structs reader.elements.size.data_words list.pointer_words list.rows
 
--- a list of numbers of a code, and how more of them than a list may have are rejected
+-- the tree of a list of numbers of this code, and the error of more numbers than a list may have
 abbrev pub IsNumbersTree : ℕ → List ℕ → Trees → Type 0
 IsNumbersTree code values trees = (length values < 2 ^ 29) × (trees ≡ tree (numbers code values) none none)
 

@@ -1,4 +1,5 @@
--- What the views of lists of structs and of lists of pointers show (src/struct_list, any_pointer_list).
+-- What the views of lists of structs and of lists of pointers show (src/struct_list,
+-- src/any_pointer_list).
 use Rattle.std.specs.Prelude.{◌≡◌, ℕ, ◌+◌, ◌-◌, ◌*◌, ⊤, List, [], Option, take, drop, slice_get, slice_index_or}
 use Rattle.capnp_frame.specs.declared.error.ErrorKind.{ErrorKind}
 use Rattle.capnp_frame.specs.declared.error.ErrorKind.TheVariants.{WrongPointerKind}
@@ -15,9 +16,9 @@ use Rattle.capnp_wire.specs.declared.layout.object.Object.{Object as ReadObject}
 use Rattle.capnp_wire.specs.declared.struct_list.reader.Reader.{Reader as StructListReader}
 use Rattle.capnp_wire.specs.declared.any_pointer_list.reader.Reader.{Reader as PointerListReader}
 
--- A list of structs that is read: the message, the data words of each element, how many pointers each has, the places of
--- the pointers of all in the order of the elements, how many objects may follow one another from these on, and the limit of
--- words that are read.
+-- A list of structs that is read: the message, the data words of each element, how many pointers
+-- each has, the places of the pointers of all in the order of the elements, how many objects may
+-- follow one another from these on, and the limit of words that are read.
 pub record StructList : Type 0 where
   pub message : List (List ℕ)
   pub rows : List (List ℕ)
@@ -26,7 +27,7 @@ pub record StructList : Type 0 where
   pub nesting : ℕ
   pub limit : Option ℕ
 
--- no elements from null, those of a list of structs
+-- no elements for null, those of a list of structs
 abbrev pub HasRows : Form → ℕ → List (List ℕ) → Type 0
 HasRows null p rows = rows ≡ []
 HasRows (structs d q there) p rows = (p ≡ q) × (rows ≡ there)
@@ -50,15 +51,15 @@ element_of list index = record {
   limit = list.limit;
 }
 
--- a list of pointers that is read: the message, where they are, how many objects may follow one another from these on, and
--- the limit of words that are read
+-- A list of pointers that is read: the message, the places of the pointers, how many objects may
+-- follow one another from these on, and the limit of words that are read.
 pub record PointerList : Type 0 where
   pub message : List (List ℕ)
   pub children : List Place
   pub nesting : ℕ
   pub limit : Option ℕ
 
--- forms that views of lists of structs and of pointers take
+-- the forms that views of lists of structs, and of pointers, accept
 abbrev pub TakesStructs : Form → Type 0
 TakesStructs null = ⊤
 TakesStructs (structs d p rows) = ⊤
@@ -69,7 +70,7 @@ TakesPointers null = ⊤
 TakesPointers pointers = ⊤
 TakesPointers _ = ⊥
 
--- a list of pointers: none from null, those that are there, with one less of nesting depth left
+-- a list of pointers: none for null, those that are there, with one less of nesting depth left
 pub record IsPointerList (pointer : Pointer) (list : PointerList) : Type 0 where
   pub same_message : list.message ≡ pointer.message
   pub shown : Shows pointer (λ shape. TakesPointers shape.form × (list.children ≡ shape.children) × Within pointer.limit shape.traversed)
@@ -99,7 +100,7 @@ struct_list_of segments reader =
       limit = limit_of reader.limiter;
     }
 
--- no structs, as null has them, and those that are in an object, after some words of it
+-- no structs, as for null, and those in an object, after some of its words
 abbrev pub no_structs : Pointer → StructList
 no_structs pointer = record {
   message = pointer.message;

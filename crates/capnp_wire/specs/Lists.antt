@@ -1,4 +1,4 @@
--- What iterators over lists that are read give (src/list_iter.rt).
+-- What iterators over lists that are read return (src/list_iter.rt).
 use Rattle.std.specs.Prelude.{◌≡◌, ℕ, ◌-◌, ◌<◌, ◌≤◌, List, Option, None, MatchOption, IsSomeAnd, map}
 use Rattle.std.specs.List.{range_with_len}
 use Rattle.std.specs.Iterator.{YieldsFirstBy}
@@ -14,11 +14,11 @@ abbrev pub elements_left : {L E : Type 0} → (L → ℕ) → (L → ℕ → E) 
 elements_left size element elements =
     map (element elements.list.now) (range_with_len elements.index (size elements.list.now - elements.index))
 
--- of a list of this size the element of an index is found where there is one
+-- the element at an index is found, where a list of this size has one there
 abbrev pub FindsElement : {A : Type 0} → ℕ → ℕ → (A → Type 0) → Option A → Type 0
 FindsElement size index element result = MatchOption result (size ≤ index) (λ item. (index < size) × element item)
 
--- the pointer of the next index is read, and what is given is a view of what it leads to
+-- the pointer at the next index is read, and a view of what it leads to is returned
 abbrev pub YieldsView : {L P E T V : Type 0} → (P → E) → (ListIter L → List E) → (P → V → Type 0) → ViewIter L T → Option V → ViewIter L T → Type 0
 YieldsView {P = P} seen left shows old result new =
     (pointer : Option P) × YieldsFirstBy seen left old.pointers pointer new.pointers

@@ -1,5 +1,5 @@
--- Structs and lists of numbers or pointers as objects, and the pointer to a struct of no words (src/layout/number_list.rt,
--- src/layout/pointer_run.rt, src/layout/fast_path.rt).
+-- Structs and lists of numbers or pointers as objects, and the pointer to a struct of no words
+-- (src/layout/number_list.rt, src/layout/pointer_run.rt, src/layout/fast_path.rt).
 use Rattle.std.specs.Prelude.{◌≡◌, ◌⊎◌, ℕ, ◌+◌, ◌<◌, List, length}
 use Rattle.capnp_wire.specs.Pointer.{words_from}
 use Rattle.capnp_wire.specs.Trim.{cut_zeros}
@@ -37,14 +37,15 @@ pointers_of list = record {
   traversed = list.count;
 }
 
--- the pointer to a struct of no words that begins where the pointer does
+-- the pointer to a struct of no words that begins at the pointer itself
 abbrev pub empty_struct : ℕ
 empty_struct = struct_pointer minus_one 0 0
 
--- a pointer that is null, or leads to such a struct, which may be entered at this nesting depth left
+-- a pointer that is null, or leads to such a struct, which may be entered at this nesting depth
+-- left
 abbrev pub IsNullOrEmptyStruct : ℕ → ℕ → Type 0
 IsNullOrEmptyStruct pointer nesting = (pointer ≡ 0) ⊎ ((pointer ≡ empty_struct) × (0 < nesting))
 
--- a given number of pointers are null, from a word on
+-- this many pointers are null, from a word on
 abbrev pub AreNull : List ℕ → ℕ → ℕ → Type 0
 AreNull words start n = length (cut_zeros (words_from words start n)) ≡ 0

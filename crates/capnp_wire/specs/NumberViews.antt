@@ -8,7 +8,7 @@ use Rattle.capnp_wire.specs.declared.primitive_element.PrimitiveElement.{Ghosts}
 use Rattle.capnp_wire.specs.declared.primitive_list.reader.Reader.{Reader}
 use Rattle.capnp_wire.specs.declared.any_object.numbers.Numbers.{Numbers}
 
--- a list of numbers: empty from null, the bits of each element of a list of this code
+-- a list of numbers: empty for null, the bits of each element of a list of this code
 abbrev pub IsNumbers : ℕ → Form → List ℕ → Type 0
 IsNumbers wanted null values = values ≡ []
 IsNumbers wanted (numbers code there) values = (code ≡ wanted) × (values ≡ there)

@@ -1,18 +1,18 @@
--- What a pointer word stands for. A message is a list of segments, each a list of words.
+-- What a pointer word stands for. A message is a list of segments, each of them a list of words.
 use Rattle.std.specs.Prelude.{◌≡◌, ℕ, zero, suc, ◌+◌, ◌*◌, ◌/◌, ◌^◌, ◌<◌, ◌≤◌, ◌==◌, if◌then◌else◌, List, [], ◌∷◌, ◌++◌, length, map, Option, Some, slice_get, option_and_then}
 use Rattle.capnp_wire.specs.Pointer.{digits, number_of, words_of, words_from, pointer_kind, offset, data_words, pointer_words, code, list_count, has_wide_landing_pad, landing_pad_position, landing_pad_segment}
 use Rattle.capnp_wire.specs.Element.{width, words_for}
 use Rattle.capnp_wire.specs.Tree.{Form, null, struct, numbers, pointers, structs}
 use Rattle.capnp_wire.specs.declared.layout.place.Place.{Place}
 
--- the message that segments of bytes show: their whole words
+-- the message in segments of bytes: their whole words
 abbrev pub message_of : List (List ℕ) → List (List ℕ)
 message_of segments = map words_of segments
 
 abbrev pub word_at : List (List ℕ) → Place → Option ℕ
 word_at m place = option_and_then (λ words. slice_get words place.word) (slice_get m place.segment)
 
--- n places, one after the other
+-- n consecutive places
 abbrev pub places : ℕ → ℕ → ℕ → List Place
 places segment start zero = []
 places segment start (suc n) = record { segment = segment; word = start } ∷ places segment (start + 1) n
@@ -31,13 +31,13 @@ pub record IsFar (word width : ℕ) : Type 0 where
 
 -- where an object begins in its segment
 pub data Origin : Type 0 where
-  -- as its tag says, which counts from after this word
+  -- where its tag says, with an offset that counts from after this word
   following : ℕ → Origin
   -- at this word, whatever its tag says
   exactly : ℕ → Origin
 
--- Where a pointer leads: an object's segment, where it begins there, its tag, which is the struct or list pointer that gives its
--- shape, and how many words of landing pads there are on the way.
+-- Where a pointer leads: an object's segment, where it begins there, its tag, which is the struct
+-- or list pointer that gives its shape, and how many words of landing pads are on the way.
 pub record Target : Type 0 where
   pub segment : ℕ
   pub origin : Origin
@@ -67,7 +67,7 @@ pub record Shape : Type 0 where
   pub children : List Place
   pub traversed : ℕ
 
--- the data of n structs that are one after the other from a word on, and the places of their pointers
+-- the data of n consecutive structs from a word on, and the places of their pointers
 abbrev pub rows_from : List ℕ → ℕ → ℕ → ℕ → ℕ → List (List ℕ)
 rows_from words start d p zero = []
 rows_from words start d p (suc n) = words_from words start d ∷ rows_from words (start + d + p) d p n
@@ -102,7 +102,7 @@ structs_shape words start d p n size = record {
   traversed = 1 + size + (if d + p == 0 then n else 0);
 }
 
--- the object that is at a place among the words of its segment, as its pointer says
+-- the object at a place among the words of its segment, by its pointer
 pub data ShapeStands (words : List ℕ) (start : Place) (pointer : ℕ) : Shape → Type 0 where
   a_struct : pointer_kind pointer ≡ 0 → start.word + data_words pointer + pointer_words pointer ≤ length words
       → ShapeStands words start pointer (struct_shape words start (data_words pointer) (pointer_words pointer))

@@ -11,11 +11,11 @@ use Rattle.capnp_wire.specs.NumberViews.{sized_numbers_of}
 use Rattle.capnp_wire.specs.declared.any_object.reader.Reader.{Reader}
 use Rattle.capnp_wire.specs.declared.any_object.reader.Reader.TheVariants.{Null, Struct, Structs, Pointers, Numbers}
 
--- null, and every object, is taken
+-- it accepts null, and every object
 abbrev pub TakesAll : Form → Type 0
 TakesAll form = ⊤
 
--- the kind of object that a view is of, and what it holds beside its pointers
+-- the kind of object that a view is of, and what the object has beside its pointers
 abbrev pub ShowsForm : {S : Type 0} {ghosts : Ghosts S} → (S → List (List ℕ)) → Reader S ghosts → Form → Type 0
 ShowsForm segments Null form = form ≡ null
 ShowsForm segments (Struct view) form = form ≡ struct (struct_of segments view).words
@@ -24,7 +24,8 @@ ShowsForm segments (Structs view) form =
 ShowsForm segments (Pointers view) form = form ≡ pointers
 ShowsForm segments (Numbers list) form = form ≡ numbers (code_of list.size) (sized_numbers_of list)
 
--- the view of that kind shows what the pointer leads to, as it does where it is asked for itself
+-- the view of this kind shows what the pointer leads to, as it does where one asks for this kind
+-- alone
 abbrev pub ShowsKind : {S : Type 0} {ghosts : Ghosts S} → (S → List (List ℕ)) → Pointer → Reader S ghosts → Type 0
 ShowsKind segments pointer Null = Denotes pointer nothing
 ShowsKind segments pointer (Struct view) = IsStruct pointer (struct_of segments view)

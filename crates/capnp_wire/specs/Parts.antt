@@ -1,9 +1,10 @@
--- The data words of structs that are numbers of a list (src/any_struct/part.rt). Encoding document, "Lists".
+-- The data words of structs that are elements of a list of numbers (src/any_struct/part.rt).
+-- Encoding document, "Lists".
 use Rattle.std.specs.Prelude.{ℕ, ◌*◌, ◌/◌, ◌%◌, ◌^◌, List, map, Option, Some, None}
 use Rattle.capnp_wire.specs.Element.{code_of, width}
 use Rattle.capnp_wire.specs.declared.any_struct.part.WordPart.{WordPart}
 
--- a word as it is, or the number that is one of its parts
+-- a word, or the number that is one of its parts
 abbrev pub own_part : Option WordPart → ℕ → ℕ
 own_part None word = word
 own_part (Some part) word = word / 2 ^ (width (code_of part.size) * part.index % 64) % 2 ^ width (code_of part.size)

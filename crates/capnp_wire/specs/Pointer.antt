@@ -1,5 +1,5 @@
 -- Words, and the fields of a pointer word (src/layout/pointer.rt). A word is a number below 2 ^ 64.
--- Fields are lowest bits first, as the encoding document draws them.
+-- Fields are given from the lowest bits on, as in the encoding document's drawings.
 use Rattle.std.specs.Prelude.{ℕ, zero, suc, ◌+◌, ◌*◌, ◌/◌, ◌%◌, ◌^◌, List, [], ◌∷◌, length, map, take, drop}
 use Rattle.std.specs.Simd.{first_chunks}
 
@@ -36,7 +36,7 @@ data_words word = word / 2 ^ 32 % 2 ^ 16
 abbrev pub pointer_words : ℕ → ℕ
 pointer_words word = word / 2 ^ 48
 
--- of a list pointer: what its elements are, how many they are (for code 7: how many words)
+-- of a list pointer: the code of its elements, and how many there are (for code 7: how many words)
 abbrev pub code : ℕ → ℕ
 code word = word / 2 ^ 32 % 8
 

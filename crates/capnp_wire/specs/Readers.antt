@@ -17,7 +17,7 @@ use Rattle.capnp_wire.specs.declared.any_pointer.reader.Reader.{Reader}
 use Rattle.capnp_wire.specs.declared.read_limiter.ReadLimiter.{ReadLimiter}
 use Rattle.capnp_wire.specs.declared.any_struct.reader.StructReader.{StructReader}
 
--- a limit below 0 counts as 0
+-- a nesting limit below 0 counts as 0
 abbrev pub nesting_of : ℤ → ℕ
 nesting_of (pos nesting) = nesting
 nesting_of (negsuc n) = 0
@@ -27,7 +27,7 @@ abbrev pub limit_of : Option (Bor ReadLimiter) → Option ℕ
 limit_of None = None
 limit_of (Some limiter) = limiter.now.limit
 
--- the pointer of a reader, over what its segments are
+-- the pointer of a reader, in the message that its segments are
 abbrev pub pointer_of : {S : Type 0} → (S → List (List ℕ)) → Reader S → Pointer
 pointer_of segments reader = record {
   message = message_of (segments reader.segments.now);
@@ -36,7 +36,7 @@ pointer_of segments reader = record {
   limit = limit_of reader.limiter;
 }
 
--- where the root is; without a first segment it is nowhere, and is null
+-- the place of the root; where there is no first segment it has none, and is null
 abbrev pub root_place : List (List ℕ) → Option Place
 root_place [] = None
 root_place (segment ∷ segments) = Some root
@@ -59,7 +59,7 @@ struct_of segments reader = record {
   limit = limit_of reader.limiter;
 }
 
--- an object that the pointer leads to, whose words counted are within the limit
+-- an object that the pointer leads to, whose words are within the traversal limit
 pub record IsEntered (pointer : Pointer) (object : ReadObject) : Type 0 where
   pub place : Place
   pub stands : pointer.place ≡ Some place
@@ -67,6 +67,6 @@ pub record IsEntered (pointer : Pointer) (object : ReadObject) : Type 0 where
   pub nesting : 0 < pointer.nesting
   pub within : Within pointer.limit object.traversed
 
--- what it is
+-- its form
 abbrev pub form_of : ReadObject → Form
 form_of object = (shape_of (words_of object.segment.now) object.start object.body).form

@@ -1,4 +1,5 @@
--- The pointers of an object, in rows: a given number in each, after the data of the row (src/layout/pointer_slots.rt).
+-- The pointers of an object, in rows: each row has the same number of pointers, after its data
+-- (src/layout/pointer_slots.rt).
 use Rattle.std.specs.Prelude.{◌≡◌, ℕ, zero, suc, ◌+◌, ◌*◌, List, [], ◌∷◌, ◌++◌}
 use Rattle.capnp_wire.specs.Object.{places, row_places}
 use Rattle.capnp_wire.specs.Layout.{run}
@@ -42,7 +43,7 @@ abbrev pub kept_in : Place → Body → ℕ → List Place
 kept_in start body q =
     kept_places start.segment (first_row body start.word) (row_size body).data_words (row_size body).pointers q (row_count body)
 
--- where the pointers of an object are in a block, if it begins at a word of it
+-- where the pointers of an object are in a block, if it begins at this word of the block
 abbrev pub slots_of : ℕ → Body → List ℕ
 slots_of start body = row_slots (first_row body start) (row_size body).data_words (row_size body).pointers (row_count body)
 

@@ -29,8 +29,8 @@ IsFarAt segment place = (word : ℕ) × (word_at (segment ∷ []) place ≡ Some
 abbrev pub LeadsTo : ℕ → ℕ → ℕ → Type 0
 LeadsTo pointer word next = (offset pointer ≡ next - (word + 1)) × (next - (word + 1) < 2 ^ 29)
 
--- A pointer at a word leads to the next free word; to an object of no words by the offset -1, where that is
--- a struct; and to elements that take up all words that it counts.
+-- A pointer at a word leads to the next free word; the offset to a struct of no words is -1; the
+-- pointer to a list of structs counts exactly the words of its elements.
 abbrev pub IsNext : ℕ → ℕ → ℕ → Form → ℕ → Type 0
 IsNext pointer word next null n = Unit {0}
 IsNext pointer word next (struct words) n =
@@ -38,7 +38,7 @@ IsNext pointer word next (struct words) n =
 IsNext pointer word next (structs d p rows) n = LeadsTo pointer word next × (list_count pointer ≡ length rows * (d + p))
 IsNext pointer word next form n = LeadsTo pointer word next
 
--- the object that is read is next: its pointer leads to the next free word
+-- the same for an object that is read: its pointer leads to the next free word
 abbrev pub NextOf : ℕ → ℕ → ℕ → Body → Type 0
 NextOf pointer word next (Struct size) =
     (size.data_words + size.pointers ≡ 0 → offset pointer ≡ minus_one)
@@ -58,7 +58,7 @@ abbrev pub links_at : List ℕ → List Place → List ℕ
 links_at segment [] = []
 links_at segment (place ∷ places) = slice_index_or segment place.word 0 ∷ links_at segment places
 
--- elements have no words of data, or one of them ends with a word that is not zero
+-- elements have no words of data, or the last word of data of one of them is not zero
 abbrev pub NeedData : ℕ → List (List ℕ) → Type 0
 NeedData d rows = (d ≡ 0) ⊎ ((i : ℕ) × (row : List ℕ) × (slice_get rows i ≡ Some row) × EndsFull row)
 
@@ -66,14 +66,14 @@ NeedData d rows = (d ≡ 0) ⊎ ((i : ℕ) × (row : List ℕ) × (slice_get row
 abbrev pub NeedPointers : ℕ → ℕ → List ℕ → Type 0
 NeedPointers p n links = (p ≡ 0) ⊎ ((i : ℕ) × (i < n) × (slice_index_or links (i * p + p - 1) 0 ≢ 0))
 
--- the sizes are trimmed, where these are the object's pointer words
+-- the sizes have no trailing zero words, where these are the object's pointer words
 abbrev pub IsTruncated : Form → List ℕ → Type 0
 IsTruncated (struct words) links = EndsFull words × EndsFull links
 IsTruncated (structs d p rows) links = NeedData d rows × NeedPointers p (length rows) links
 IsTruncated form links = Unit {0}
 
--- The object to which the pointer at a place leads is as the canonical form has it, where this is the next
--- free word.
+-- The object to which the pointer at a place leads is as the canonical form has it, where this is
+-- the next free word.
 pub record IsLaidOut (segment : List ℕ) (place : Place) (next : ℕ) (shape : Shape) : Type 0 where
   pub pointer : ℕ
   pub there : word_at (segment ∷ []) place ≡ Some pointer
@@ -81,8 +81,8 @@ pub record IsLaidOut (segment : List ℕ) (place : Place) (next : ℕ) (shape : 
   pub padded : Padded segment next shape.form
   pub truncated : IsTruncated shape.form (links_at segment shape.children)
 
--- Trees that are at places within the nesting depth left, with the words traversed, all as the canonical form has them, the
--- first at the next free word, up to the one after them.
+-- Trees at places, within the nesting depth left, with the words traversed: all are as the
+-- canonical form has them, from the next free word up to the one after them.
 pub record Passes (segment : List ℕ) (places : List Place) (nesting traversed next after : ℕ) : Type 0 where
   pub trees : Trees
   pub stand : At (segment ∷ []) places trees traversed
@@ -92,7 +92,7 @@ pub record Passes (segment : List ℕ) (places : List Place) (nesting traversed 
   pub after_is : after ≡ next + total_words trees
   pub room : after ≤ length segment
 
--- An object is met that may be entered, and that no far pointer leads to.
+-- An object is met that may be entered, and no far pointer leads to it.
 pub record MeetsObject (segment : List ℕ) (place : Place) (nesting : ℕ) (limit : Option ℕ) (shape : Shape) : Type 0 where
   pub object : PointsTo (segment ∷ []) place shape
   pub some : is_null shape.form ≡ false
@@ -100,19 +100,20 @@ pub record MeetsObject (segment : List ℕ) (place : Place) (nesting : ℕ) (lim
   pub deep : 0 < nesting
   pub within : Within limit shape.traversed
 
--- What a walk over the trees at some places finds that passes there: trees within the nesting depth left and the limit.
+-- What a walk over the trees at some places finds where it passes: trees within the nesting depth
+-- left and the limit.
 pub record PassesAt (segment : List ℕ) (places : List Place) (nesting : ℕ) (limit left : Option ℕ) (next after : ℕ) : Type 0 where
   pub traversed : ℕ
   pub passes : Passes segment places nesting traversed next after
   pub within : Within limit traversed
   pub left_is : left ≡ less limit traversed
 
--- where a walk ends early: it is rejected, or what it met is not canonical
+-- why a walk ends early: an error, or an object that is not canonical
 pub data Ending : Type 0 where
   refused : ErrorKind → Ending
   not_canonical : Ending
 
--- A walk over the trees at places, in preorder, ends early: at what it meets first.
+-- A walk over the trees at places, in preorder, ends early, at the first thing that it meets.
 pub data Ends (segment : List ℕ) : List Place → ℕ → Option ℕ → ℕ → Ending → Type 0 where
   far : {place : Place} {others : List Place} {nesting : ℕ} {limit : Option ℕ} {next : ℕ} → IsFarAt segment place
       → Ends segment (place ∷ others) nesting limit next not_canonical
@@ -134,7 +135,8 @@ pub data Ends (segment : List ℕ) : List Place → ℕ → Option ℕ → ℕ �
       → Ends segment others nesting (less limit traversed) after ending
       → Ends segment (place ∷ others) nesting limit next ending
 
--- An object is met that is as the canonical form has it; these of its pointers are to be tested yet.
+-- An object is met that is as the canonical form has it; these are its pointers, which are still to
+-- be tested.
 pub record MeetsPointers (segment : List ℕ) (place : Place) (nesting : ℕ) (limit left : Option ℕ) (next after : ℕ) (pointers : PointerSlots) : Type 0 where
   pub shape : Shape
   pub meets : MeetsObject segment place nesting limit shape
@@ -146,7 +148,7 @@ pub record MeetsPointers (segment : List ℕ) (place : Place) (nesting : ℕ) (l
   pub after_is : after ≡ next + object_size shape.form (length shape.children)
   pub room : after ≤ length segment
 
--- what is met at a place: null, an object that is not canonical by itself, or one that is
+-- what is met at a place: null, an object that alone is not canonical, or one that is
 abbrev pub IsMet : List ℕ → Place → ℕ → Option ℕ → Option ℕ → ℕ → ℕ → Met → Type 0
 IsMet segment place nesting limit left next after Null =
     (word_at (segment ∷ []) place ≡ Some 0) × (left ≡ limit) × (after ≡ next)
@@ -154,7 +156,7 @@ IsMet segment place nesting limit left next after NotCanonical = Ends segment (p
 IsMet segment place nesting limit left next after (Pointers pointers) =
     MeetsPointers segment place nesting limit left next after pointers
 
--- what a test of the object that the pointer at a word leads to finds, by itself
+-- what a test finds of the object alone that the pointer at a word leads to
 abbrev pub MeetsAt : List ℕ → ℕ → ℕ → CanonicalWalk → CanonicalWalk → Result Met Error → Type 0
 MeetsAt segment word nesting old new result = let place : Place = record { segment = 0; word = word } in
     IfOk result (λ met. IsMet segment place nesting old.walk.left new.walk.left old.next new.next met)
@@ -164,8 +166,8 @@ abbrev pub FailsAt : List ℕ → ℕ → ℕ → CanonicalWalk → Result Met E
 FailsAt segment word nesting old result = let place : Place = record { segment = 0; word = word } in
     IfErr result (λ error. Ends segment (place ∷ []) nesting old.walk.left old.next (refused error.kind))
 
--- Whether a message is canonical is not said: it has no first segment, or the walk over its one segment is
--- rejected. A message of more segments is not canonical, whatever they hold.
+-- Why it cannot be decided whether a message is canonical: it has no first segment, or the walk
+-- over its one segment fails. A message of more segments is not canonical, whatever is in them.
 pub data RejectsCanonicity (m : List (List ℕ)) (nesting : ℕ) (limit : Option ℕ) : ErrorKind → Type 0 where
   no_first_segment : m ≡ [] → RejectsCanonicity m nesting limit (InvalidSegmentId 0)
   on_the_walk : {segment : List ℕ} {kind : ErrorKind} → m ≡ segment ∷ []

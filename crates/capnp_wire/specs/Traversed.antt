@@ -1,4 +1,5 @@
--- What a walk over trees may still count against the traversal limit, and the words that it has counted (src/layout/walk.rt).
+-- What a walk over trees may still count against the traversal limit, and the words that it has
+-- counted (src/layout/walk.rt).
 use Rattle.std.specs.Prelude.{◌≡◌, Bool, ℕ, ◌+◌, ◌-◌, ◌^◌, ◌<◌, ◌≤◌, List, [], ◌∷◌, ◌++◌, slice_get, Option, Some, None, IfSome, if◌then◌else◌}
 use Rattle.capnp_wire.specs.Pointer.{words_of}
 use Rattle.capnp_wire.specs.Tree.{Trees, depth, total_words}
@@ -25,27 +26,29 @@ less (Some most) traversed = Some (most - traversed)
 abbrev pub Exceeds : Option ℕ → ℕ → Type 0
 Exceeds limit traversed = (most : ℕ) × (limit ≡ Some most) × (most < traversed)
 
--- the words that a walk has met, where they fit 64 bits
+-- the words that a walk has counted, where they fit 64 bits
 abbrev pub counted : Walk → Option ℕ
 counted walk = if walk.overflowed then None else Some walk.words
 
--- a number of words, which is not kept where it does not fit 64 bits
+-- a count of words, which is lost where it does not fit 64 bits
 abbrev pub Counts : Option ℕ → ℕ → Type 0
 Counts None words = 2 ^ 64 ≤ words
 Counts (Some kept) words = kept ≡ words
 
--- a given number of words more have been counted
+-- this many more words have been counted
 abbrev pub CountsMore : Option ℕ → Option ℕ → ℕ → Type 0
 CountsMore kept kept_then more = (words : ℕ) → Counts kept words → Counts kept_then (words + more)
 
--- trees are at places, no deeper than the nesting depth left, with the words traversed and with a given number of words
+-- trees are at places, no deeper than the nesting depth left; this many words are traversed, and
+-- the trees have this many words
 pub record TreesAt (m : List (List ℕ)) (at : List Place) (nesting traversed words : ℕ) : Type 0 where
   pub trees : Trees
   pub stand : At m at trees traversed
   pub shallow : depth trees ≤ nesting
   pub words_are : total_words trees ≡ words
 
--- the same, where every field has room, with a given number of words as they are, or in canonical form
+-- the same, where every field has room, and the trees have this many words as they are or in
+-- canonical form
 pub record TreesWithRoom (m : List (List ℕ)) (at : List Place) (nesting traversed : ℕ) (canonical : Bool) (words : ℕ) : Type 0 where
   pub trees : Trees
   pub stand : At m at trees traversed
@@ -53,7 +56,8 @@ pub record TreesWithRoom (m : List (List ℕ)) (at : List Place) (nesting traver
   pub rooms : AllHaveRoom trees
   pub words_are : total_words (output canonical trees) ≡ words
 
--- What a walk over the trees at some places finds: they are there, within the nesting depth left and the limit.
+-- What a walk over the trees at some places finds: trees, within the nesting depth left and the
+-- limit.
 pub record WalkedAll (m : List (List ℕ)) (canonical : Bool) (at : List Place) (nesting : ℕ) (limit left words_before words_now : Option ℕ) : Type 0 where
   pub traversed : ℕ
   pub words : ℕ
@@ -74,15 +78,15 @@ pub record EntersObject (m : List (List ℕ)) (canonical : Bool) (place : Place)
   pub left_is : left ≡ less limit object.traversed
   pub counted : CountsMore words_before words_now (words_in (output_body_of canonical (words_of object.segment.now) object.start.word object.body))
 
--- A walk has entered the object at a place, and nothing below it yet: pointers that are one after the other.
+-- A walk has entered the object at a place, and nothing below it yet: its pointers are consecutive.
 pub record EntersRun (m : List (List ℕ)) (canonical : Bool) (place : Place) (children : PointerRun) (nesting : ℕ) (limit left words_before words_now : Option ℕ) : Type 0 where
   pub object : Object
   pub enters : EntersObject m canonical place object nesting limit left words_before words_now
   pub children_are : places children.first.segment children.first.word children.count ≡ (shape_of (words_of object.segment.now) object.start object.body).children
   pub content : slice_get m children.first.segment ≡ Some (words_of children.segment.now)
 
--- What a walk over the pointers at some places finds up to an object that holds others, with `rest` after it: all in
--- front of it, and then its own words alone.
+-- What a walk over the pointers at some places finds, up to an object that has others below it,
+-- with `rest` after it: everything before that object, and then its own words alone.
 pub record WalkedTo (m : List (List ℕ)) (canonical : Bool) (at rest : List Place) (children : PointerRun) (nesting : ℕ) (limit left words_before words_now : Option ℕ) : Type 0 where
   pub front : List Place
   pub place : Place

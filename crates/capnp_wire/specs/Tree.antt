@@ -2,7 +2,7 @@
 use Rattle.std.specs.Prelude.{ℕ, ◌+◌, ◌*◌, max, Bool, true, false, if◌then◌else◌, List, length}
 use Rattle.capnp_wire.specs.Element.{width, words_for}
 
--- what an object holds beside the trees of its pointers; a null pointer holds nothing
+-- what an object has beside the trees of its pointers; null has nothing
 pub data Form : Type 0 where
   null : Form
   -- its data words
@@ -14,8 +14,8 @@ pub data Form : Type 0 where
   -- a list of structs: words of data and of pointers of each, and the data of each
   structs : ℕ → ℕ → List (List ℕ) → Form
 
--- Trees, one after the other: the form of the first, the trees that it holds, the trees after it.
--- A list of structs holds the trees of its elements in order.
+-- Trees, one after the other: the form of the first, the trees below it, the trees after it. Below
+-- a list of structs are the trees of its elements in order.
 pub data Trees : Type 0 where
   none : Trees
   tree : Form → Trees → Trees → Trees
@@ -28,12 +28,12 @@ abbrev pub is_null : Form → Bool
 is_null null = true
 is_null _ = false
 
--- the longest chain of objects, each held by the one before
+-- the longest chain of objects, each of which leads to the next
 abbrev pub depth : Trees → ℕ
 depth none = 0
 depth (tree form children rest) = max (if is_null form then 0 else depth children + 1) (depth rest)
 
--- the words of an object that holds n pointers: of a list of structs its tag and its elements
+-- the words of an object that has n pointers; for a list of structs, of its tag and its elements
 abbrev pub object_size : Form → ℕ → ℕ
 object_size null n = 0
 object_size (struct words) n = length words + n

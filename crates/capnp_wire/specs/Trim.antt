@@ -2,7 +2,7 @@
 use Rattle.std.specs.Prelude.{ℕ, zero, suc, max, List, [], ◌∷◌, length, map, take}
 use Rattle.capnp_wire.specs.Tree.{Form, null, struct, structs, Trees, none, tree, count}
 
--- the first n trees, what is after them, and trees before others
+-- the first n trees, the trees after these, and trees in front of others
 abbrev pub first : ℕ → Trees → Trees
 first zero trees = none
 first (suc n) none = none
@@ -17,7 +17,7 @@ abbrev pub before : Trees → Trees → Trees
 before none others = others
 before (tree form children rest) others = tree form children (before rest others)
 
--- Without zeros at the end; without null pointers at the end. What is after is cut already.
+-- Words without the zeros at their end, trees without the nulls at their end, built from the end.
 abbrev pub keep_word : List ℕ → ℕ → List ℕ
 keep_word (next ∷ rest) word = word ∷ next ∷ rest
 keep_word [] zero = []
@@ -36,7 +36,7 @@ abbrev pub cut_nulls : Trees → Trees
 cut_nulls none = none
 cut_nulls (tree form children rest) = keep_tree (cut_nulls rest) form children
 
--- the words of data, and of pointers, that keep every element of a list of structs
+-- the most words of data, and the most pointers, that an element of a list of structs needs
 abbrev pub least_data : List (List ℕ) → ℕ
 least_data [] = 0
 least_data (row ∷ rows) = max (length (cut_zeros row)) (least_data rows)
@@ -50,7 +50,7 @@ abbrev pub narrowed : ℕ → ℕ → List (List ℕ) → Trees → Trees
 narrowed n p [] children = none
 narrowed n p (row ∷ rows) children = before (first n (first p children)) (narrowed n p rows (following p children))
 
--- what is left of a form, and of the trees that it holds, where the latter are trimmed already
+-- what is left of a form, and of the trees below it, where the latter are trimmed already
 abbrev pub trim_form : Form → Trees → Form
 trim_form (struct words) children = struct (cut_zeros words)
 trim_form (structs d p rows) children = let n = least_data rows in structs n (least_pointers p rows children) (map (take n) rows)
@@ -61,7 +61,7 @@ trim_children (struct words) children = cut_nulls children
 trim_children (structs d p rows) children = narrowed (least_pointers p rows children) p rows children
 trim_children form children = children
 
--- at every nesting depth
+-- trees trimmed at every depth
 abbrev pub trim : Trees → Trees
 trim none = none
 trim (tree form children rest) = let inner = trim children in tree (trim_form form inner) (trim_children form inner) (trim rest)

@@ -40,7 +40,7 @@ rows_of segments (NumbersAsStructs rows) = number_rows_of segments rows
 abbrev pub upgraded_structs_of : {S : Type 0} {ghosts : SegmentGhosts S} → (S → List (List ℕ)) → StructListReader S ghosts → StructList
 upgraded_structs_of segments list = rows_of segments list.rows
 
--- the first fields of structs that are one after the other
+-- the first fields of consecutive structs
 abbrev pub fields_of : {T : Type 0} {ghosts : ElementGhosts T} → ℕ → FirstFields T ghosts → List ℕ
 fields_of code list =
     first_fields code (rows_from (words_of list.segment.now) list.first list.size.data_words list.size.pointers list.count)
@@ -52,7 +52,7 @@ values_of code (OfStructs list) = fields_of code list
 abbrev pub upgraded_numbers_of : {T : Type 0} {ghosts : ElementGhosts T} → ℕ → NumberListReader T ghosts → List ℕ
 upgraded_numbers_of code list = values_of code list.numbers
 
--- n places, each a step after the one before
+-- n places, each `step` words after the one before
 abbrev pub stepped_places : ℕ → ℕ → ℕ → ℕ → List Place
 stepped_places segment word step zero = []
 stepped_places segment word step (suc n) = record { segment = segment; word = word } ∷ stepped_places segment (word + step) step n
@@ -65,7 +65,7 @@ upgraded_pointers_of segments list = record {
   limit = limit_of list.limiter;
 }
 
--- pointers that are a step after one another, below the pointer that led to them
+-- pointers at this distance from one another, below the pointer that led to them
 abbrev pub pointers_from : Pointer → Place → ℕ → ℕ → PointerList
 pointers_from pointer first step n = record {
   message = pointer.message;

@@ -1,6 +1,7 @@
--- What views show of lists whose elements were numbers or pointers before they became structs, or the other way round
--- (src/upgraded). Encoding document, "Lists": a list of elements that are no bits may be read as a list of structs whose first field
--- they are, and a list of structs as a list of such first fields.
+-- What views show of lists whose elements were numbers or pointers before they became structs, or
+-- the other way round (src/upgraded). Encoding document, "Lists": a list whose elements are not
+-- bits may be read as a list of structs that have the elements as their first fields, and a list of
+-- structs as a list of its first fields.
 use Rattle.std.specs.Prelude.{◌≡◌, ◌≢◌, ℕ, zero, suc, ◌-◌, ◌*◌, ◌%◌, ◌^◌, ◌<◌, ◌≤◌, ⊤, List, [], ◌∷◌, ◌++◌, length, map, take, drop, replicate, slice_index}
 use Rattle.capnp_frame.specs.declared.error.ErrorKind.{ErrorKind}
 use Rattle.capnp_frame.specs.declared.error.ErrorKind.TheVariants.{WrongPointerKind}
@@ -12,13 +13,15 @@ use Rattle.capnp_wire.specs.ListViews.{StructList, PointerList}
 use Rattle.capnp_wire.specs.declared.layout.place.Place.{Place}
 use Rattle.capnp_wire.specs.declared.layout.pointer.Elements.{Elements}
 
--- the data words of a struct that was a number: that word alone, or none where an element is nothing
+-- the data words of a struct that was a number: the number's word alone, or none where an element
+-- has no bits
 abbrev pub number_row : ℕ → ℕ → List ℕ
 number_row zero value = []
 number_row (suc code) value = value ∷ []
 
--- Structs by the data words of each, and the pointers of each. None from null; those of a list of structs; numbers, each in the low
--- bits of one data word; pointers, n of them, each the one of a struct.
+-- Structs: the data words of each, and how many pointers each has. None for null; those of a list
+-- of structs; numbers, each in the low bits of one data word; pointers, each as the one pointer of
+-- a struct.
 abbrev pub ReadsAsRows : Form → ℕ → ℕ → List (List ℕ) → Type 0
 ReadsAsRows null n p rows = rows ≡ []
 ReadsAsRows (structs d q there) n p rows = (p ≡ q) × (rows ≡ there)
@@ -26,7 +29,7 @@ ReadsAsRows (numbers code values) n p rows = (code ≢ 1) × (p ≡ 0) × (rows 
 ReadsAsRows pointers n p rows = (p ≡ 1) × (rows ≡ replicate n [])
 ReadsAsRows _ n p rows = ⊥
 
--- forms that are read as structs, and how the others are rejected: structs and bits
+-- the forms that are read as structs, and the errors of the others: structs and bits
 abbrev pub TakesRows : Form → Type 0
 TakesRows null = ⊤
 TakesRows (structs d p rows) = ⊤
@@ -45,11 +48,12 @@ pub record IsUpgradedStructs (pointer : Pointer) (list : StructList) : Type 0 wh
   pub nesting_below : list.nesting ≡ pointer.nesting - 1
   pub same_limit : list.limit ≡ pointer.limit
 
--- structs of no data words, each with some pointers
+-- structs of no data words, each with this many pointers
 abbrev pub elements_without_data : ℕ → ℕ → Elements
 elements_without_data p n = record { size = record { data_words = 0; pointers = p }; count = n }
 
--- elements of some code are the first fields of structs of d data words: no bits, and within these words
+-- elements of this code can be the first fields of structs of d data words: they are not bits, and
+-- fit these words
 pub record IsFirstField (code d : ℕ) : Type 0 where
   pub no_bits : code ≢ 1
   pub inside : width code ≤ 64 * d
@@ -58,7 +62,7 @@ pub record IsFirstField (code d : ℕ) : Type 0 where
 abbrev pub first_fields : ℕ → List (List ℕ) → List ℕ
 first_fields code rows = map (λ row. slice_index row 0 % 2 ^ width code) rows
 
--- Numbers of a code: none from null, those of a list of this code, the first fields of structs.
+-- Numbers of a code: none for null, those of a list of this code, the first fields of structs.
 abbrev pub ReadsAsNumbers : ℕ → Form → List ℕ → Type 0
 ReadsAsNumbers wanted null values = values ≡ []
 ReadsAsNumbers wanted (numbers code there) values = (code ≡ wanted) × (values ≡ there)
@@ -79,7 +83,7 @@ abbrev pub first_pointers : ℕ → ℕ → List Place → List Place
 first_pointers p zero children = []
 first_pointers p (suc n) children = take 1 children ++ first_pointers p n (drop p children)
 
--- Pointers: none from null, those of a list of pointers, the first ones of structs.
+-- Pointers: none for null, those of a list of pointers, the first ones of structs.
 abbrev pub ReadsAsPointers : Form → List Place → List Place → Type 0
 ReadsAsPointers null children places = places ≡ []
 ReadsAsPointers pointers children places = places ≡ children

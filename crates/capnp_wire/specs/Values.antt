@@ -26,12 +26,13 @@ pub record TreeAt (m : List (List ℕ)) (place : Place) (nesting : ℕ) (limit :
   pub shallow : depth trees ≤ nesting
   pub within : Within limit traversed
 
--- how a tree is rejected that has a given number of words
+-- the error for a tree that has this many words
 abbrev pub too_large : Bool → ℕ → ErrorKind
 too_large true words = CanonicalTooLarge
 too_large false words = AllocationTooLarge (min words (2 ^ 32 - 1))
 
--- the words of its body, as it is or in canonical form, where these are fewer than 2 ^ 29
+-- the words of the body of the tree at a place, as it is or in canonical form, where these are
+-- fewer than 2 ^ 29
 pub record Measured (m : List (List ℕ)) (place : Place) (nesting : ℕ) (limit : Option ℕ) (canonical : Bool) (words : ℕ) : Type 0 where
   pub trees : Trees
   pub tree_is : TreeAt m place nesting limit trees
@@ -39,14 +40,14 @@ pub record Measured (m : List (List ℕ)) (place : Place) (nesting : ℕ) (limit
   pub words_are : words ≡ total_words (output canonical trees)
   pub few : words < 2 ^ 29
 
--- it is rejected: where a walk over it stops, or for its words
+-- measuring it fails: a walk over it stops, or it has too many words
 abbrev pub RejectsTreeSize : List (List ℕ) → Place → ℕ → Option ℕ → Bool → ErrorKind → Type 0
 RejectsTreeSize m place nesting limit canonical kind =
     StopsWalk m (place ∷ []) nesting limit kind
     ⊎ ((trees : Trees) × TreeAt m place nesting limit trees × (2 ^ 29 ≤ total_words (output canonical trees))
     × (kind ≡ too_large canonical (total_words (output canonical trees))))
 
--- What is measured of a value, by the trees that it may be; it is one tree, or none.
+-- The words of a value, by the trees that it may be; it is one tree, or none.
 pub record HasWords (has_tree : Trees → Type 0) (canonical : Bool) (words : ℕ) : Type 0 where
   pub trees : Trees
   pub tree_is : has_tree trees
@@ -59,7 +60,8 @@ abbrev pub starts_with_null : Trees → Bool
 starts_with_null none = false
 starts_with_null (tree form children rest) = is_null form
 
--- What is measured of a part of another value: the words of its tree as it is, fewer than 2 ^ 29, and as it is formed.
+-- The words of a value as a part of another one: of its tree as it is, fewer than 2 ^ 29, and of
+-- its tree in the form that is written.
 pub record HasPart (has_tree : Trees → Type 0) (canonical : Bool) (words : PartWords) : Type 0 where
   pub trees : Trees
   pub tree_is : has_tree trees
@@ -68,7 +70,7 @@ pub record HasPart (has_tree : Trees → Type 0) (canonical : Bool) (words : Par
   pub output_is : words.output ≡ total_words (output canonical trees)
   pub few : words.as_is < 2 ^ 29
 
--- its tree has room in a block of a given number of words, from a word on
+-- its tree has room in a block of this many words, from a word on
 pub record HasRoomAt (has_tree : Trees → Type 0) (canonical : Bool) (next room : ℕ) : Type 0 where
   pub trees : Trees
   pub tree_is : has_tree trees
@@ -119,11 +121,11 @@ fields_at m words start size nesting limit = record {
   limit = limit;
 }
 
--- where it has pointers, that segment is one of the message's
+-- where it has pointers, the segment is one of the message's
 abbrev pub HoldsPointers : List (List ℕ) → List ℕ → Place → StructSize → Type 0
 HoldsPointers m words start size = 0 < size.pointers → slice_get m start.segment ≡ Some words
 
--- bytes, and how more of them than a list may have are rejected
+-- the tree of a list of bytes, and the error of more bytes than a list may have
 abbrev pub IsBytes : List ℕ → Trees → Type 0
 IsBytes bytes trees = (length bytes < 2 ^ 29) × (trees ≡ tree (numbers 2 bytes) none none)
 
@@ -143,7 +145,7 @@ pub record IsCanonicalForm (pointer : Pointer) (words : List ℕ) : Type 0 where
   pub few : total_words (trim trees) < 2 ^ 29
   pub words_are : words ≡ canon trees
 
--- text, with the zero byte at its end
+-- the tree of a `Text`, with the zero byte at its end
 abbrev pub IsTextTree : List ℕ → Trees → Type 0
 IsTextTree bytes trees = IsBytes (bytes ++ 0 ∷ []) trees
 

@@ -10,8 +10,9 @@ use Rattle.capnp_wire.specs.Faults.{Fault, StopsWalk}
 use Rattle.capnp_wire.specs.Traversed.{TreesAt, Within}
 use Rattle.capnp_wire.specs.declared.layout.place.Place.{Place}
 
--- A pointer that is read: the message, where its word is (one past the end of a struct is nowhere,
--- and is null), how many objects may follow one another from it on, and the limit of words that are read.
+-- A pointer that is read: the message, its place (a pointer past the end of a struct has none, and
+-- is null), how many objects may follow one another from it on, and the limit of words that are
+-- read.
 pub record Pointer : Type 0 where
   pub message : List (List ℕ)
   pub place : Option Place
@@ -24,19 +25,19 @@ pub data Denotes (pointer : Pointer) : Shape → Type 0 where
   at_place : {place : Place} {shape : Shape} → pointer.place ≡ Some place → PointsTo pointer.message place shape
       → (is_null shape.form ≡ false → 0 < pointer.nesting) → Denotes pointer shape
 
--- a pointer stands for some shape of which a fact holds
+-- a pointer stands for a shape of which `fact` holds
 abbrev pub Shows : Pointer → (Shape → Type 0) → Type 0
 Shows pointer fact = (shape : Shape) × Denotes pointer shape × fact shape
 
--- no object is where a pointer leads, whatever is still read
+-- a pointer leads to no object: this is the error, whatever has been read
 abbrev pub IsInvalidPointer : Pointer → ErrorKind → Type 0
 IsInvalidPointer pointer kind = (place : Place) × (pointer.place ≡ Some place) × Fault pointer.message place pointer.nesting kind
 
--- the words of what is there are counted against the traversal limit, and may be past the limit
+-- the words of what is there count against the traversal limit, and may be past it
 abbrev pub MeetsLimit : Pointer → ErrorKind → Type 0
 MeetsLimit pointer kind = Shows pointer (λ shape. 0 < shape.traversed) × (pointer.limit ≢ None) × (kind ≡ ReadLimitExceeded)
 
--- no view is had of a pointer: no object is there, or the traversal limit is met
+-- what a pointer leads to can't be read: no object is there, or the traversal limit is met
 abbrev pub RejectsReading : Pointer → ErrorKind → Type 0
 RejectsReading pointer kind = IsInvalidPointer pointer kind ⊎ MeetsLimit pointer kind
 
@@ -47,17 +48,19 @@ Accepts pointer takes = Shows pointer (λ shape. takes shape.form)
 abbrev pub Declines : Pointer → (Form → ErrorKind → Type 0) → ErrorKind → Type 0
 Declines pointer declines kind = Shows pointer (λ shape. declines shape.form kind)
 
--- a view is rejected: none is had there, or it declines what is there
+-- a view fails: nothing can be read there, or it declines what is there
 abbrev pub Refuses : Pointer → (Form → ErrorKind → Type 0) → ErrorKind → Type 0
 Refuses pointer declines kind = RejectsReading pointer kind ⊎ Declines pointer declines kind
 
--- a view is had: of the form of what is there a fact holds, and the words counted are within the limit
+-- a view is returned: `fact` holds of the form of what is there, and the words counted are within
+-- the limit
 abbrev pub Reads : Pointer → (Form → Type 0) → Type 0
 Reads pointer fact = Shows pointer (λ shape. fact shape.form × Within pointer.limit shape.traversed)
 
--- What each view that is asked of a pointer keeps: it shows what is there, or it is rejected for a stated
--- cause. Without a limit it is had of what it accepts, and no limit is met. Where no object is, that is the
--- error; where one is that it declines, that is, or the limit.
+-- What each view of a pointer keeps. The view shows what is there, or the call fails with a stated
+-- error. Without a limit there is a view of whatever it accepts, and no error of the limit. Where
+-- no object is there, the pointer's error is returned, unless the view accepts the pointer itself;
+-- where an object is there that the view declines, its error is, or that of the limit.
 pub record IsViewOf {V : Type 0} (pointer : Pointer) (shows : V → Type 0) (accepts : Type 0)
     (refuses declines : ErrorKind → Type 0) (result : Result V Error) : Type 0 where
   pub returned : MatchResult result shows (λ error. refuses error.kind)
@@ -67,19 +70,19 @@ pub record IsViewOf {V : Type 0} (pointer : Pointer) (shows : V → Type 0) (acc
   pub declined : (kind : ErrorKind) → declines kind
       → IsErrAnd result (λ error. (error.kind ≡ kind) ⊎ MeetsLimit pointer error.kind)
 
--- data: empty from null, the bytes of a list of code 2
+-- data: empty for null, the bytes of a list of code 2
 abbrev pub IsData : Form → List ℕ → Type 0
 IsData null bytes = bytes ≡ []
 IsData (numbers code values) bytes = (code ≡ 2) × (bytes ≡ values)
 IsData _ bytes = ⊥
 
--- text: empty from null, else the bytes before the zero at the end of a list of code 2
+-- text: empty for null, else the bytes in front of the zero byte at the end of a list of code 2
 abbrev pub IsText : Form → List ℕ → Type 0
 IsText null bytes = bytes ≡ []
 IsText (numbers code values) bytes = (code ≡ 2) × (values ≡ bytes ++ 0 ∷ [])
 IsText _ bytes = ⊥
 
--- a list of words: empty from null, the numbers of a list of code 5
+-- a list of words: empty for null, the numbers of a list of code 5
 abbrev pub IsWords : Form → List ℕ → Type 0
 IsWords null words = words ≡ []
 IsWords (numbers code values) words = (code ≡ 5) × (words ≡ values)
@@ -94,13 +97,13 @@ pub record Struct : Type 0 where
   pub nesting : ℕ
   pub limit : Option ℕ
 
--- no data from null, the data words of a struct
+-- no data for null, the data words of a struct
 abbrev pub HasData : Form → List ℕ → Type 0
 HasData null words = words ≡ []
 HasData (struct data_words) words = words ≡ data_words
 HasData _ words = ⊥
 
--- a struct: no fields from null, its fields, with one less of nesting depth left
+-- a struct: no fields for null, its fields, with one less of nesting depth left
 pub record IsStruct (pointer : Pointer) (fields : Struct) : Type 0 where
   pub same_message : fields.message ≡ pointer.message
   pub shown : Shows pointer (λ shape. HasData shape.form fields.words × (fields.children ≡ shape.children)
@@ -113,7 +116,7 @@ abbrev pub pointer_in : Struct → ℕ → Pointer
 pointer_in fields index =
     record { message = fields.message; place = slice_get fields.children index; nesting = fields.nesting; limit = fields.limit }
 
--- forms that a view of a list of numbers of some code takes
+-- the forms that a view of a list of numbers of this code accepts
 abbrev pub TakesNumbers : ℕ → Form → Type 0
 TakesNumbers wanted null = ⊤
 TakesNumbers wanted (numbers code values) = code ≡ wanted
@@ -136,18 +139,20 @@ DeclinesNumbers wanted form kind = (TakesNumbers wanted form → ⊥) × (kind �
 abbrev pub DeclinesStruct : Form → ErrorKind → Type 0
 DeclinesStruct form kind = (TakesStruct form → ⊥) × (kind ≡ WrongPointerKind)
 
--- 22 for no list of bytes, 23 for one that does not end with a zero
+-- `WrongPointerKind` for what is no list of bytes, `TextNotTerminated` for a list of bytes without
+-- a zero byte at its end
 abbrev pub DeclinesText : Form → ErrorKind → Type 0
 DeclinesText form kind =
     ((TakesNumbers 2 form → ⊥) × (kind ≡ WrongPointerKind))
     ⊎ (TakesNumbers 2 form × (TakesText form → ⊥) × (kind ≡ TextNotTerminated))
 
--- where all the trees of a pointer are within the nesting depth left and its limit, their words
+-- the words of all the trees that a pointer leads to, where these are within the nesting depth left
+-- and the limit
 abbrev pub Measures : Pointer → ℕ → Type 0
 Measures pointer words = MatchOption pointer.place (words ≡ 0)
     (λ place. (traversed : ℕ) × TreesAt pointer.message (place ∷ []) pointer.nesting traversed words × Within pointer.limit traversed)
 
--- they are rejected: where a walk over them stops, or, once it is done, where there are 2 ^ 64 words
+-- measuring them fails: a walk over them stops, or, once it is done, there are 2 ^ 64 words or more
 abbrev pub RejectsMeasuring : Pointer → ErrorKind → Type 0
 RejectsMeasuring pointer kind = (place : Place) × (pointer.place ≡ Some place)
     × (StopsWalk pointer.message (place ∷ []) pointer.nesting pointer.limit kind

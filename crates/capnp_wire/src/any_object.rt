@@ -1,9 +1,9 @@
 //! Whatever a pointer leads to, for authors of views of their own (encoding document, "Structs" and
 //! "Lists").
 //!
-//! The other views accept only what is written of their own type. A view that accepts several kinds
-//! of objects asks for an [`any_object::Reader`](Reader), which enters what the pointer leads to
-//! once, and picks the kinds that it accepts; for any other it returns an error of its own.
+//! The other views accept only objects of their own type. A view that accepts several kinds of
+//! objects asks for an [`any_object::Reader`](Reader), which reads what the pointer leads to once,
+//! and picks the kinds that it accepts; for any other kind it returns an error of its own.
 mod numbers;
 mod reader;
 

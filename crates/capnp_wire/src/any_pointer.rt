@@ -60,7 +60,7 @@ impl<'a, S: ReaderSegments> SetterInput<Owned> for Reader<'a, S> {
 }
 
 /// Writes the tree that a pointer leads to into a block of bytes or of words, from the word `next`
-/// on. The pointer to it is the word before `following`.
+/// on. The pointer to the tree is to be put into the word before `following`.
 #[inline(always)]
 pub(crate) fn write_into<S: ReaderSegments, T: BlockItem>(
     reader: &Reader<'_, S>,

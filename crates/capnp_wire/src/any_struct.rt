@@ -25,7 +25,7 @@ const ALONE: Place = Place {
     word: 0,
 };
 
-// The value is the tree of the struct, within the nesting depth and the traversal limit.
+// The value is the tree of the struct, within the nesting depth left and the traversal limit.
 impl<'a, S: ReaderSegments> SetterInput<Owned> for StructReader<'a, S> {
     ghost use Rattle.capnp_wire.specs.Readers.{struct_of};
     ghost use Rattle.capnp_wire.specs.Values.{IsTreeOf, StopsInside};

@@ -1,4 +1,4 @@
-//! Where messages are while they are read.
+//! Where the segments of messages are while they are read.
 mod reader_arena;
 
 pub use reader_arena::ReaderArena;

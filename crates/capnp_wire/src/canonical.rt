@@ -17,9 +17,9 @@ use capnp_frame::message::ReaderSegments;
 use capnp_frame::{Result, Word, word};
 use std::alloc::Global;
 
-/// The words of the canonical form of what a pointer leads to, with the root pointer.
+/// The number of words of the canonical form of what a pointer leads to, with the root pointer.
 ///
-/// Fails where a walk over the tree stops: as a view of one of its objects does, or with
+/// Fails where a walk over the tree stops: with the error of a view of one of its objects, or with
 /// `ReadLimitExceeded` where they have more words than the traversal limit. Above 2^29 words it
 /// fails with `CanonicalTooLarge`.
 #[inline(always)]
@@ -63,8 +63,8 @@ pub fn canonical_bytes<S: ReaderSegments>(
     Ok(bytes)
 }
 
-/// Writes the canonical form of what a pointer leads to into zeros of just its words, as many as
-/// `canonical_size` returns.
+/// Writes the canonical form of what a pointer leads to into zeros of exactly its length: as many
+/// words as `canonical_size` returns.
 pub fn write_form<S: ReaderSegments>(reader: &any_pointer::Reader<'_, S>, bytes: &mut [u8])
     requires words { (following : ℕ)
         × HasWords (LeadsToTree (pointer_of S.segments reader.now)) true following
@@ -101,7 +101,7 @@ pub fn canonical_words<S: ReaderSegments>(
     Ok(words)
 }
 
-// Writes the canonical form of what a pointer leads to into just its words.
+// Writes the canonical form of what a pointer leads to into a slice of exactly its words.
 fn write_words<S: ReaderSegments>(reader: &any_pointer::Reader<'_, S>, words: &mut [Word])
     requires { (following : ℕ) × HasWords (LeadsToTree (pointer_of S.segments reader.now)) true following
         × (length words.old ≡ following + 1) }

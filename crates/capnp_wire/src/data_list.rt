@@ -1,8 +1,8 @@
-//! Lists of data.
+//! Lists of `Data`.
 use crate::{data, list_list};
 
-/// A list of data in a message.
+/// A list of `Data` in a message.
 pub type Reader<'a, S> = list_list::Reader<'a, S, data::Reader<'a>>;
 
-/// A list of data, as a type of a schema.
+/// A list of `Data`, as a type of a schema.
 pub type Owned = list_list::Owned<data::Owned>;

@@ -13,7 +13,8 @@ ghost use Rattle.capnp_wire.specs.Views.{Pointer};
 ghost use Rattle.capnp_wire.specs.Values.{IsCanonicalForm};
 ghost use Rattle.capnp_wire.specs.declared.layout.place.Place.{Place};
 
-/// At most one tree is at each of some places, and the words that are counted there are the same.
+/// At most one tree is at each of some places, and the words counted for these trees are
+/// determined.
 pub fn one_tree_at_a_place()
     ensures { (m : List (List ℕ)) (places : List Place) (some others : Trees) (x y : ℕ) →
         At m places some x → At m places others y → (some ≡ others) × (x ≡ y) }
@@ -25,26 +26,26 @@ pub fn one_object_at_a_place()
         PointsTo m place some → PointsTo m place other → some ≡ other }
 {}
 
-/// Where an object leads back to itself there is no tree.
+/// Where an object leads back to itself, there is no tree.
 pub fn cycle_has_no_tree()
     ensures { (m : List (List ℕ)) (place : Place) (form : Form) (children : Trees) (traversed : ℕ) →
         Below m place place → At m (place ∷ []) (tree form children none) traversed → ⊥ }
 {}
 
-/// Where a pointer is rejected there is no object within the nesting depth.
+/// Where a pointer is invalid, there is no object within the nesting depth left.
 pub fn refused_has_no_object()
     ensures { (m : List (List ℕ)) (place : Place) (nesting : ℕ) (kind : ErrorKind) (shape : Shape) →
         Fault m place nesting kind → PointsTo m place shape →
         (is_null shape.form ≡ false → 0 < nesting) → ⊥ }
 {}
 
-/// At most one error is at a place, by its nesting depth.
+/// A pointer at a place fails with at most one error, at each nesting depth left.
 pub fn one_refusal_at_a_place()
     ensures { (m : List (List ℕ)) (place : Place) (nesting : ℕ) (kind other : ErrorKind) →
         Fault m place nesting kind → Fault m place nesting other → kind ≡ other }
 {}
 
-/// Where a walk stops there are no trees within its nesting depth and its limit.
+/// Where a walk stops, there are no trees within its nesting depth and its limit.
 pub fn stopped_walk_has_no_trees()
     ensures { (m : List (List ℕ)) (places : List Place) (nesting traversed : ℕ) (limit : Option ℕ)
         (kind : ErrorKind) (trees : Trees) →
@@ -52,7 +53,7 @@ pub fn stopped_walk_has_no_trees()
         Within limit traversed → ⊥ }
 {}
 
-/// At most one error stops a walk.
+/// A walk stops with at most one error.
 pub fn one_refusal_stops_a_walk()
     ensures { (m : List (List ℕ)) (places : List Place) (nesting : ℕ) (limit : Option ℕ)
         (kind other : ErrorKind) →
@@ -68,7 +69,8 @@ pub fn root_of_a_layout()
         × At (layout (tree form children none) ∷ []) (root ∷ []) (tree form children none) traversed }
 {}
 
-/// Where a body is this many words after its pointer, in any segment, there is its tree.
+/// Where a tree's body is this many words after its pointer, in any segment, the pointer leads to
+/// the tree.
 pub fn tree_after_its_pointer()
     ensures { (m : List (List ℕ)) (segment word offset : ℕ) (words : List ℕ)
         (form : Form) (children : Trees) →
@@ -80,7 +82,7 @@ pub fn tree_after_its_pointer()
         × At m (record { segment = segment; word = word } ∷ []) (tree form children none) traversed }
 {}
 
-/// Where a body follows its landing pad, a far pointer to the landing pad leads to its tree.
+/// Where a tree's body follows its landing pad, a far pointer to the landing pad leads to the tree.
 pub fn tree_after_its_landing_pad()
     ensures { (m : List (List ℕ)) (place : Place) (segment landing_pad : ℕ) (words : List ℕ)
         (form : Form) (children : Trees) →
@@ -100,7 +102,7 @@ pub fn root_of_a_canonical_form()
         × At (canon (tree form children none) ∷ []) (root ∷ []) (trim (tree form children none)) traversed }
 {}
 
-/// Canonical forms of different trees differ.
+/// Trees that differ, once trimmed, have different canonical forms.
 pub fn canonical_forms_differ()
     ensures { (f g : Form) (h k : Trees) → AllHaveRoom (tree f h none) →
         total_words (trim (tree f h none)) < 2 ^ 29 → AllHaveRoom (tree g k none) →
@@ -115,7 +117,7 @@ pub fn trees_have_room()
         AllWords m → At m places trees traversed → AllHaveRoom trees }
 {}
 
-/// The canonical forms of two pointers are equal exactly where their trees are equal, trimmed.
+/// The canonical forms of two pointers are equal exactly where their trees are equal once trimmed.
 pub fn equal_forms_are_of_equal_trees()
     ensures { (pointer other : Pointer) (words others : List ℕ)
         (form : IsCanonicalForm pointer words) (other_form : IsCanonicalForm other others) →
@@ -128,7 +130,8 @@ pub fn a_canonical_form_is_canonical()
         IsCanonical (words ∷ []) }
 {}
 
-/// What a walk tests of a message of one segment whose root is read says whether it is canonical.
+/// For a message of one segment whose root can be read, the tests of a walk decide whether it is
+/// canonical.
 pub fn tests_are_exact()
     ensures { TestsAreExact }
 {}

@@ -1,4 +1,5 @@
-//! The wire layout: pointer words, the objects that they lead to, and what a walk over these costs.
+//! The wire layout: pointer words, the objects that they lead to, and the words that a walk over
+//! these counts.
 pub(crate) mod block;
 pub(crate) mod body_word;
 pub(crate) mod canonical;

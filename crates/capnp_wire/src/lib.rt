@@ -2,8 +2,9 @@
 //!
 //! A [`ReaderArena`](arena::ReaderArena) holds the segments. From its root pointer on,
 //! [`any_pointer::Reader`] gives views of what pointers lead to: text, data, lists of numbers and
-//! structs, which borrow from the segments and take no memory. Whatever the segments hold, a call
-//! returns a view of what is there by the [encoding document], or an error that says what is wrong.
+//! structs, which borrow from the segments and take no memory. Whatever bytes the segments have, a
+//! call returns a view of what is there by the [encoding document], or an error that says what is
+//! wrong.
 //!
 //! [encoding document]: https://capnproto.org/encoding.html
 #![tactic(auto)]

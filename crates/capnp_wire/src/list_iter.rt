@@ -1,4 +1,4 @@
-//! Lists that are read element by element, and iterators over them.
+//! Lists whose elements are read by index, and iterators over them.
 ghost use Rattle.std.specs.Prelude.{◌≡◌, ℕ, ◌<◌};
 ghost use Rattle.std.specs.Iterator.{YieldsFirstBy, item_count};
 ghost use Rattle.capnp_wire.specs.Lists.{FindsElement, elements_left, IsIterator};
@@ -14,22 +14,22 @@ pub trait IndexMove {
     /// What a contract sees of what an element is read as.
     ghost seen: { Self.Item → Element };
 
-    /// The number of elements.
+    /// The number of elements, for contracts.
     ghost size: { Self → ℕ };
 
-    /// The element of an index below the number of elements.
+    /// The element at an index below the number of elements.
     ghost element: { Self → ℕ → Element };
 
     /// The number of elements.
     fn len(&self) -> u32
         ensures { result ≡ size self.now };
 
-    /// The element of this index.
+    /// The element at this index.
     fn index_move(&self, index: u32) -> Self::Item
         requires { index < size self.now }
         ensures { seen result ≡ element self.now index };
 
-    /// The element of this index, or `None` where there are no more elements than it.
+    /// The element at this index, or `None` where the list ends before it.
     fn try_index_move(&self, index: u32) -> Option<Self::Item>
         ensures { FindsElement (size self.now) index
             (λ item. seen item ≡ element self.now index) result }

@@ -1,5 +1,5 @@
-//! Lists of pointers to views of one type: lists of lists, and of text and data, whose modules name
-//! theirs.
+//! Lists of pointers to views of one type: lists of lists, and of text and data, which have modules
+//! of their own.
 mod reader;
 pub(crate) mod view_iter;
 
@@ -12,7 +12,7 @@ pub use reader::Reader;
 use std::marker::PhantomData;
 pub use view_iter::ViewIter;
 
-/// A list of pointers to what one type of a schema shows, as a type of a schema.
+/// A list of pointers to objects of one type of a schema, as a type of a schema.
 pub struct Owned<T> {
     element: PhantomData<T>,
 }
@@ -21,7 +21,7 @@ impl<'a, S: ReaderSegments + 'a, T: traits::Owned<'a, S>> traits::Owned<'a, S> f
     type Reader = Reader<'a, S, T::Reader>;
 }
 
-// The value is the list of its pointers, with all below them, whatever the elements are.
+// The value is the list of the pointers, with all below them, whatever the elements are.
 impl<'a, S: ReaderSegments + 'a, T: traits::Owned<'a, S>> SetterInput<Owned<T>>
     for Reader<'a, S, T::Reader> {
     ghost use Rattle.capnp_wire.specs.ListViews.{pointer_list_of};

@@ -1,4 +1,4 @@
-//! What views read of the objects that they enter.
+//! What views read of objects.
 ghost use Rattle.std.specs.Prelude.{◌≡◌, ◌+◌, ◌*◌, ◌/◌, ◌≤◌, length, MatchResult};
 ghost use Rattle.capnp_frame.specs.declared.error.ErrorKind.{ErrorKind};
 ghost use Rattle.capnp_wire.specs.Pointer.{words_of};
@@ -21,8 +21,8 @@ pub(crate) fn wrong_kind() -> Error
 }
 
 /// Returns its argument.
-/// Speed: a value that is put together anew keeps the fast path's result in registers, where the
-/// one that `enter` returns by memory would not (`tools/time-reading`).
+/// Speed: a value that is built anew keeps the fast path's result in registers, where the one that
+/// `enter` returns in memory would not (`tools/time-reading`).
 #[inline(always)]
 pub(crate) fn by_value<T>(entered: Result<T>) -> Result<T>
     ensures { result ≡ entered }
@@ -46,7 +46,7 @@ impl<'a> Object<'a> {
         }
     }
 
-    /// The elements of a list of numbers of a size, by its words.
+    /// The elements of a list of numbers of this size, as its words.
     pub(crate) fn numbers(&self, size: ElementSize) -> Result<EnteredNumbers<'a>>
         requires { self.now.start.word + room_of self.now.body ≤ length self.now.segment.now / 8 }
         ensures { let code = code_of size in MatchResult result
@@ -81,7 +81,7 @@ fn bytes_at(segment: &[u8], start: usize, count: u32) -> &[u8]
     &segment[begin..begin + count as usize]
 }
 
-/// The bytes of the words of a list of numbers, which begins at a word of a segment.
+/// The bytes of the words of a list of numbers that begins at a word of a segment.
 pub(crate) fn words_at(segment: &[u8], start: usize, size: ElementSize, count: u32) -> &[u8]
     requires { start + words_for count (width (code_of size)) ≤ length segment.now / 8 }
     ensures elements { elements (words_of result.now) 0 (code_of size) count

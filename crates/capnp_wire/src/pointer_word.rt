@@ -1,5 +1,5 @@
-//! Pointer words, made from what they say, read and moved (encoding document, "Structs", "Lists"
-//! and "Inter-Segment Pointers").
+//! Pointer words: made, read and moved (encoding document, "Structs", "Lists" and "Inter-Segment
+//! Pointers").
 ghost use Rattle.std.specs.Prelude.{◌≡◌, ◌<◌, ◌^◌, ℕ, [], ◌∷◌, length, MatchOption};
 ghost use Rattle.capnp_frame.specs.Words.{bytes_of};
 ghost use Rattle.capnp_wire.specs.Pointer.{number_of, pointer_kind, words_of};
@@ -14,7 +14,7 @@ pub use crate::layout::pointer::{LocalShape, StructSize};
 use capnp_frame::{Word, word};
 
 /// The pointer to a struct that begins this many words after it, or the tag of a list of that many
-/// structs. An offset of 2^30 - 1 is read as -1, that of a struct of no words.
+/// structs. An offset of 2^30 - 1 is read as -1, the offset of a struct of no words.
 #[inline(always)]
 pub fn struct_word(offset: u64, data_words: u16, pointers: u16) -> u64
     requires { offset < 2 ^ 30 }
@@ -23,8 +23,8 @@ pub fn struct_word(offset: u64, data_words: u16, pointers: u16) -> u64
     4 * offset + (1 << 32) * data_words as u64 + (1 << 48) * pointers as u64
 }
 
-/// The pointer to a list that begins this many words after it, by the code of its elements and how
-/// many they are; for a list of structs the count is that of their words.
+/// The pointer to a list that begins this many words after it, with the code and the number of its
+/// elements; for a list of structs, with the number of their words.
 #[inline(always)]
 pub fn list_word(offset: u64, code: u64, count: u64) -> u64
     requires offset { offset < 2 ^ 30 }
@@ -35,7 +35,8 @@ pub fn list_word(offset: u64, code: u64, count: u64) -> u64
     1 + 4 * offset + (1 << 32) * code + (1 << 35) * count
 }
 
-/// The far pointer to a landing pad of one word, which comes after this many words of a segment.
+/// The far pointer to a landing pad of one word, which is at this position of the segment, in
+/// words.
 pub fn far_word(segment: u32, position: u32) -> u64
     requires { position < 2 ^ 29 }
     ensures { result ≡ far_pointer segment position }
@@ -54,7 +55,7 @@ pub fn local_shape(word: u64) -> Option<LocalShape>
     }
 }
 
-/// The pointer that says as a tag does, to an object this many words further. Null and the pointer
+/// A pointer to an object this many words further, otherwise as the tag says. Null and the pointer
 /// to a struct of no words, whose offset is -1, stay as they are.
 pub fn moved(tag: u64, offset: u32) -> u64
     requires local { offset < 2 ^ 29 }
@@ -68,7 +69,7 @@ pub fn moved(tag: u64, offset: u32) -> u64
     tag + 4 * offset as u64
 }
 
-/// Puts a word into a block of words, in the place of another.
+/// Replaces a word of a block of words.
 #[inline(always)]
 pub fn put_word(block: &mut [u8], at: usize, word: u64)
     requires { at < length (words_of block.old) }
@@ -78,7 +79,7 @@ pub fn put_word(block: &mut [u8], at: usize, word: u64)
     block::put_word(block, at, word);
 }
 
-/// The word of a number.
+/// The word whose bytes are this number, little endian.
 pub fn word_of(number: u64) -> Word
     ensures { number_of 256 (bytes_of result) ≡ number }
 {

@@ -1,4 +1,4 @@
-//! Numbers and bools, as the data sections of structs and lists hold them (encoding document,
+//! Numbers and bools, as they are in the data sections of structs and in lists (encoding document,
 //! "Structs" and "Lists").
 ghost use Rattle.std.specs.Prelude.{◌≡◌, ◌^◌, ◌<◌, ℕ};
 ghost use Rattle.capnp_wire.specs.Element.{code_of, width};
@@ -11,13 +11,13 @@ use std::num::{
     f32_from_bits_with_nan, f32_to_bits_with_nan, f64_from_bits_with_nan, f64_to_bits_with_nan,
 };
 
-/// A number or a bool, by its size and by what its bits say. Other crates have no types of their
-/// own for it: an enum is read as `u16`.
+/// A number or a bool, with its size and the meaning of its bits. Other crates can't implement it
+/// for types of their own: an enum is read as `u16`.
 pub trait PrimitiveElement: Sized {
-    /// The code of lists of them.
+    /// The element code of lists of them.
     ghost code: { ℕ };
 
-    /// What this many bits say, as many as the code says.
+    /// The value of these bits, as many as elements of this code have.
     ghost value_of: { ℕ → Self };
 
     /// The bits of a value, as a number.
@@ -38,7 +38,7 @@ pub trait PrimitiveElement: Sized {
         ensures few { result < 2 ^ width code };
 }
 
-// Nothing, which has no bits.
+// `()` is `Void`, which has no bits.
 impl PrimitiveElement for () {
     ghost code = { 0 };
 
@@ -80,7 +80,7 @@ impl PrimitiveElement for bool {
     }
 }
 
-// The formats binary32 and binary64. All patterns of a NaN are read as one NaN.
+// The formats binary32 and binary64. All bit patterns of a NaN are read as one NaN.
 impl PrimitiveElement for f32 {
     ghost use Rattle.std.specs.Prelude.{to_bits, from_bits};
     ghost use Rattle.std.specs.Float.{binary32};

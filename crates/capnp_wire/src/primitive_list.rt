@@ -19,7 +19,7 @@ impl<'a, S: ReaderSegments, T: PrimitiveElement + 'a> traits::Owned<'a, S> for O
     type Reader = Reader<'a, T>;
 }
 
-// The value is the list of its numbers.
+// The value is the list of the numbers.
 impl<'a, T: PrimitiveElement> SetterInput<Owned<T>> for Reader<'a, T> {
     ghost use Rattle.capnp_wire.specs.NumberViews.{numbers_of};
     ghost use Rattle.capnp_wire.specs.ListValues.{IsNumbersTree, TooManyNumbers};

@@ -7,7 +7,7 @@ ghost use Rattle.capnp_wire.specs.Readers.{limit_of};
 use capnp_frame::{Error, ErrorKind, Result};
 use std::cell::Cell;
 
-/// How many words of a message views have read, and the most that they may.
+/// How many words of a message views have read, and the most that they may read.
 #[derive(Drop)]
 pub struct ReadLimiter {
     pub(crate) limit: Option<usize>,
@@ -26,7 +26,7 @@ impl ReadLimiter {
     }
 }
 
-/// The most words that may be read; none over a builder, whose readers have no limiter.
+/// The most words that may be read; `None` for the readers of a builder, which have no limiter.
 pub(crate) fn limit_in_words(limiter: Option<&ReadLimiter>) -> Option<usize>
     ensures { result ≡ limit_of limiter.entry }
 {

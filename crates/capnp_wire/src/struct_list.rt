@@ -16,7 +16,7 @@ impl<'a, S: ReaderSegments + 'a> traits::Owned<'a, S> for Owned {
     type Reader = Reader<'a, S>;
 }
 
-// The value is the list of its structs, with all below them within the nesting depth and the
+// The value is the list of the structs, with all below them, within the nesting depth left and the
 // traversal limit.
 impl<'a, S: ReaderSegments> SetterInput<Owned> for Reader<'a, S> {
     ghost use Rattle.capnp_wire.specs.ListViews.{struct_list_of};

@@ -1,4 +1,4 @@
-//! Text.
+//! `Text`.
 mod reader;
 
 use crate::layout::copy::Copied;
@@ -8,7 +8,7 @@ use capnp_frame::Result;
 use capnp_frame::message::ReaderSegments;
 pub use reader::Reader;
 
-/// Text, as a type of a schema.
+/// `Text`, as a type of a schema.
 pub struct Owned;
 
 impl<'a, S: ReaderSegments> traits::Owned<'a, S> for Owned {

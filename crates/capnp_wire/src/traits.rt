@@ -17,7 +17,7 @@ pub use crate::list_iter::{IndexMove, ListIter};
 use capnp_frame::Result;
 use capnp_frame::message::ReaderSegments;
 
-/// A type of views on what a pointer leads to.
+/// A type of views of what a pointer leads to.
 pub trait FromPointerReader<'a, S: ReaderSegments>: Sized {
     /// The view shows what the pointer leads to.
     ghost shows: { Pointer → Self → Type 0 };
@@ -25,10 +25,10 @@ pub trait FromPointerReader<'a, S: ReaderSegments>: Sized {
     /// There is a view of what the pointer leads to.
     ghost accepts: { Pointer → Type 0 };
 
-    /// There is no view, or it may not be read, and this is the error.
+    /// With which errors a view fails: there is none, or it may not be read.
     ghost refuses: { Pointer → ErrorKind → Type 0 };
 
-    /// An object is there that is no such view, and this is the error.
+    /// With which error a view fails where an object is there that it does not accept.
     ghost declines: { Pointer → ErrorKind → Type 0 };
 
     /// The view of what a pointer leads to. Fails with a kind that `refuses` names.
@@ -38,31 +38,31 @@ pub trait FromPointerReader<'a, S: ReaderSegments>: Sized {
             result };
 }
 
-/// A type of a schema.
+/// A type of a schema, with its view.
 pub trait Owned<'a, S: ReaderSegments> {
     /// Its view.
     type Reader: FromPointerReader<'a, S>;
 }
 
-/// The words of a value that is a part of another one, after its pointer.
+/// How many words a value has as a part of another one, without the pointer to it.
 #[derive(Clone, Copy)]
 pub struct PartWords {
-    /// Of the value as it is.
+    /// As it is.
     pub as_is: u32,
 
-    /// Of the value in the form that is made.
+    /// In the form that is written.
     pub output: u32,
 }
 
-/// A value that a pointer can be set to, of a type of a schema.
+/// A value of a type of a schema, to which a pointer can be set.
 pub trait SetterInput<T> {
     /// The tree that the value is.
     ghost has_tree: { Self → Trees → Type 0 };
 
-    /// The value has no tree, or may not be read, and this is the error.
+    /// With which errors the value fails: it has no tree, or the tree may not be read.
     ghost refuses: { Self → ErrorKind → Type 0 };
 
-    /// The words of the value after its pointer, as it is or in canonical form.
+    /// The number of words of the value, without the pointer to it, as it is or in canonical form.
     ///
     /// Fails with a kind that `refuses` names, and for 2^29 words and more with
     /// `AllocationTooLarge`, or in canonical form with `CanonicalTooLarge`.
@@ -75,10 +75,9 @@ pub trait SetterInput<T> {
             LacksWords (has_tree self.now) (refuses self.now) canonical kind →
             IsErrAnd result (λ error. error.kind ≡ kind) };
 
-    /// The words of the value as a part of another one.
+    /// The number of words of the value as a part of another one.
     ///
-    /// Fails as `measure` does for the value as it is, even where its canonical form is
-    /// smaller.
+    /// Fails as `measure` does for the value as it is, even where its canonical form is smaller.
     fn measure_part(&self, canonical: bool) -> Result<PartWords>
         ensures returned { MatchResult result (λ words. HasPart (has_tree self.now) canonical words)
             (λ error. LacksWords (has_tree self.now) (refuses self.now) false error.kind) }
@@ -103,8 +102,9 @@ pub trait SetterInput<T> {
     fn is_null(&self) -> bool
         ensures { (trees : Trees) → has_tree self.now trees → result ≡ starts_with_null trees };
 
-    /// Writes the value into a block that is zero from the word `next` on. The pointer to it is the
-    /// word before `following`. Returns that pointer, and the first word after the value.
+    /// Writes the value into a block that is zero from the word `next` on. The pointer to it is to
+    /// be put into the word before `following`. Returns that pointer, and the first word after the
+    /// value.
     fn write(&self, canonical: bool, block: &mut [u8], following: usize, next: usize) -> Copied
         requires value { HasRoomAt (has_tree self.now) canonical next (length (words_of block.old)) }
         requires free { IsFreeFrom next block.old }

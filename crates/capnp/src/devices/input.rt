@@ -1,4 +1,4 @@
-//! A device that is read, as standard input or a file, as a source.
+//! A device that is read, such as standard input or a file, as a source.
 ghost use Rattle.std.specs.Prelude.{◌≡◌, true, [], IsSome, IfOk, IfErr};
 ghost use Rattle.std.specs.Io.Buffered.{reader_remaining, reader_buffer};
 ghost use Rattle.std.specs.Io.KnownBytes.{Keeps};
@@ -13,16 +13,16 @@ use std::alloc::Global;
 use std::io;
 use std::io::BufReader;
 
-/// A device as a source, with a buffer before it.
+/// A device as a source, with a buffer.
 ///
-/// Contracts don't know in general what a device gives. Where they do, as of a slice or a cursor,
-/// each call returns just those bytes, and one that fails takes none. So what readers say of unread
-/// bytes holds of an `Input` that `of_known` makes.
+/// In general, contracts don't know which bytes a device gives. Where they do, as for a slice or a
+/// cursor, each call returns exactly those bytes, and one that fails takes none. So what the
+/// contracts of readers say of unread bytes holds of an `Input` that `of_known` makes.
 #[derive(Drop)]
 pub struct Input<R: io::Read> {
     buffered: BufReader<Retried<R>>,
     failures: Failures,
-    // For the prover: whether the bytes that come are its unread bytes.
+    // For the prover: whether the unread bytes are known.
     known: bool,
     ghost comes: { known ≡ true → IsSome (reader_remaining (λ retried. R.remaining retried.device) buffered) },
 }
@@ -30,7 +30,7 @@ pub struct Input<R: io::Read> {
 impl<R: io::Read + Drop> Input<R> {
     ghost use Rattle.capnp.specs.Devices.{read_ahead, coming, unread_of};
 
-    /// The device, with nothing read, and of which no contract knows what it gives. Fails with
+    /// The device, of which nothing has been read, and whose bytes no contract knows. Fails with
     /// `OutOfMemory` alone, for the buffer.
     pub fn new(alloc: Global, device: R) -> Result<Input<R>>
         ensures coming { IfOk result (λ input. Keeps (R.remaining device) (coming R.remaining input)) }
@@ -46,8 +46,8 @@ impl<R: io::Read + Drop> Input<R> {
         })
     }
 
-    /// The device, with nothing read, whose bytes are known. Fails with `OutOfMemory` alone, for
-    /// the buffer.
+    /// The device, of which nothing has been read, and whose bytes are known. Fails with
+    /// `OutOfMemory` alone, for the buffer.
     pub fn of_known(alloc: Global, device: R) -> Result<Input<R>>
         requires { IsSome (R.remaining device) }
         ensures unread { IfOk result (λ input. unread_of R.remaining input ≡ R.remaining device) }
@@ -71,7 +71,7 @@ impl<R: io::Read + Drop> Input<R> {
     }
 }
 
-// The device, with an empty buffer before it.
+// The device, with an empty buffer.
 fn buffered<R: io::Read + Drop>(alloc: Global, device: R) -> Result<BufReader<Retried<R>>>
     ensures remaining { IfOk result (λ buffered. Keeps (R.remaining device)
         (reader_remaining (λ retried. R.remaining retried.device) buffered)) }

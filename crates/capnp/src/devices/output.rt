@@ -1,4 +1,4 @@
-//! A device that is written, as standard output or a file, as a sink.
+//! A device that is written, such as standard output or a file, as a sink.
 ghost use Rattle.std.specs.Prelude.{◌≡◌, ◌≤◌, [], IfOk, IfErr, OnOk, OnErr, IsOk, ⊤};
 ghost use Rattle.std.specs.Io.Buffered.{writer_capacity};
 ghost use Rattle.std.specs.Io.KnownBytes.{Keeps};
@@ -13,7 +13,7 @@ use std::alloc::Global;
 use std::io;
 use std::io::BufWriter;
 
-/// A device as a sink, with a buffer before it, which `flush` empties.
+/// A device as a sink, with a buffer, which `flush` empties.
 #[derive(Drop)]
 pub struct Output<W: io::Write + Drop> {
     buffered: BufWriter<Retried<W>>,
@@ -21,8 +21,8 @@ pub struct Output<W: io::Write + Drop> {
 }
 
 impl<W: io::Write + Drop> Output<W> {
-    /// The device, with nothing written, and a buffer of `capacity` bytes. With no capacity each
-    /// chunk goes straight to the device, and no memory is taken.
+    /// The device, to which nothing has been written, and a buffer of `capacity` bytes. With a
+    /// capacity of 0 each chunk goes straight to the device, and no memory is taken.
     ///
     /// Fails with `OutOfMemory` alone, for the buffer.
     pub fn new(alloc: Global, capacity: usize, device: W) -> Result<Output<W>>
@@ -50,7 +50,7 @@ impl<W: io::Write + Drop> Output<W> {
         self.failures.count
     }
 
-    /// Hands what is pending to the device. Fails with `DeviceFailed` alone.
+    /// Hands the bytes in the buffer to the device. Fails with `DeviceFailed` alone.
     pub fn flush(&mut self) -> Result<()>
         ensures flushed { OnOk result (pending self.new ≡ []) }
         ensures kept { Keeps (taken_so_far W.contents self.old) (taken_so_far W.contents self.new) }
@@ -81,7 +81,7 @@ impl<W: io::Write + Drop> Write for Output<W> {
 
     ghost same = { λ _ _. ⊤ };
 
-    // `write_all` of std says nothing of what a call leaves that fails.
+    // The contract of std's `write_all` doesn't say what a call leaves that fails.
     fn write_all(&mut self, chunk: &[u8]) -> Result<()> {
         let mut done = 0;
         while done < chunk.len() {

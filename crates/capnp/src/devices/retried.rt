@@ -10,8 +10,8 @@ use std::io::{ErrorKind, Read, Write};
 /// How often a call is tried at most.
 const MOST_TRIES: u64 = 1 << 32;
 
-/// A device whose interrupted calls are tried again. One that never gets through fails with
-/// `TimedOut`.
+/// A device whose interrupted calls are tried again. A call that is interrupted every time fails
+/// with `TimedOut`.
 #[derive(Drop)]
 pub struct Retried<D> {
     device: D,

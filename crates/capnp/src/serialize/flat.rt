@@ -41,7 +41,7 @@ pub fn read_message_from_flat_slice_lenient<'a>(
     take_message(alloc, slice, Padding::Any, options)
 }
 
-// The message at the front of a slice, its padding by the rule.
+// The message at the front of a slice, with a padding that the rule accepts.
 fn take_message<'a>(
     alloc: Global,
     slice: &mut &'a [u8],
@@ -92,7 +92,7 @@ pub fn read_message_from_flat_slice_no_alloc_lenient<'a>(
     take_message_no_alloc(slice, Padding::Any, options)
 }
 
-// The message at the front of a slice, its padding by the rule.
+// The message at the front of a slice, with a padding that the rule accepts.
 fn take_message_no_alloc<'a>(
     slice: &mut &'a [u8],
     padding: Padding,

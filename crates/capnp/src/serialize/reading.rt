@@ -1,4 +1,4 @@
-//! The readers of messages from a source, of both rules of padding.
+//! The readers of messages from a source, for both rules of padding.
 ghost use Rattle.std.specs.Prelude.{◌≡◌, length, IfSome, IfOk};
 ghost use Rattle.capnp_frame.specs.Streams.{message_in, next_in, framed_rules, ReadsStream, ReadsStreamInto};
 ghost use Rattle.capnp_frame.specs.Frame.{IsFrame};
@@ -15,7 +15,7 @@ use capnp_frame::{Error, ErrorKind, Result};
 use capnp_message::Reader;
 use std::alloc::Global;
 
-// Reads the next message of a source, its padding by the rule, or none where nothing is unread.
+// Reads the next message of a source by this rule of padding, or none where nothing is unread.
 pub(crate) fn try_read_message<R: Read>(
     alloc: Global,
     source: &mut R,
@@ -37,7 +37,7 @@ pub(crate) fn try_read_message<R: Read>(
     }
 }
 
-// Reads the next message of a source, its padding by the rule, and fails where nothing is unread.
+// Reads the next message of a source by this rule of padding, and fails where nothing is unread.
 pub(crate) fn read_message<R: Read>(
     alloc: Global,
     source: &mut R,

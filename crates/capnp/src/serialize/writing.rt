@@ -11,12 +11,13 @@ use capnp_frame::message::{BuiltMessage, ReaderSegments};
 use capnp_frame::serialize::{segments_to_words, serialized_size_in_words, write_segments};
 use std::alloc::Global;
 
-/// Writes a message that is built, by a `Builder` or in an orphanage (`capnp_orphans`), each segment
-/// up to its last used word. A builder must have a segment, which `is_empty` tells.
+/// Writes a message that is built, by a `Builder` or in an orphanage (`capnp_orphans`), each
+/// segment up to its last used word. A builder must have a segment; `is_empty` says whether it has
+/// none.
 ///
 /// Fails with `InvalidNumberOfSegments` for more than 511 segments, which no reader accepts; with
-/// `OutOfMemory`, from four segments on, for the table; both before anything is written; and as the
-/// sink does.
+/// `OutOfMemory` from four segments on, where there is no memory for the table; both before
+/// anything is written; and as the sink does.
 pub fn write_message<W: Write, M: BuiltMessage>(
     alloc: Global,
     sink: &mut W,
@@ -54,7 +55,7 @@ pub fn write_message_segments<W: Write, S: ReaderSegments>(
     write_segments(alloc, sink, segments)
 }
 
-/// The framed encoding of a message, in bytes.
+/// Returns the framed encoding of a message, in bytes.
 ///
 /// Fails with `InvalidNumberOfSegments` exactly where there are more than 511 segments, before
 /// memory is taken, and else with `OutOfMemory` alone.
@@ -68,7 +69,7 @@ pub fn write_message_segments_to_words<S: ReaderSegments>(
     segments_to_words(alloc, segments)
 }
 
-/// The framed encoding of a message that is built, in bytes; the message has one segment at least.
+/// Returns the framed encoding, in bytes, of a message that is built, which must have a segment.
 ///
 /// Fails as `write_message_segments_to_words` does.
 pub fn write_message_to_words<M: BuiltMessage>(alloc: Global, message: &M) -> Result<Vec<u8>>
@@ -79,10 +80,10 @@ pub fn write_message_to_words<M: BuiltMessage>(alloc: Global, message: &M) -> Re
     write_message_segments_to_words(alloc, message)
 }
 
-/// How many words the framed encoding of a message that is built takes, with its table: an eighth of
-/// the bytes that `write_message` adds to a plain sink.
+/// Returns how many words the framed encoding of a message that is built has, with its table: an
+/// eighth of the bytes that `write_message` adds to a plain sink.
 ///
-/// Fails with `MessageSizeOverflow` exactly where this number passes `usize`.
+/// Fails with `MessageSizeOverflow` exactly where this number does not fit `usize`.
 pub fn compute_serialized_size_in_words<M: BuiltMessage>(message: &M) -> Result<usize>
     requires { M.has_segment message.now }
     ensures bytes { IfOk result (λ words. (text : List ℕ) →

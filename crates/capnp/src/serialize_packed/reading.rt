@@ -1,4 +1,4 @@
-//! The readers of packed messages from a source, of both rules of padding.
+//! The readers of packed messages from a source, for both rules of padding.
 ghost use Rattle.std.specs.Prelude.{◌≡◌, length, IfSome, IfOk};
 ghost use Rattle.capnp_frame.specs.Streams.{message_in, next_in, ReadsStream, ReadsStreamInto};
 ghost use Rattle.capnp_pack.specs.PackedFrame.{IsPackedFrame};
@@ -16,7 +16,7 @@ use capnp_pack::stream::{
 };
 use std::alloc::Global;
 
-// Reads the next packed message of a source, its padding by the rule, or none where nothing is
+// Reads the next packed message of a source by this rule of padding, or none where nothing is
 // unread.
 pub(crate) fn try_read_message<R: BufRead>(
     alloc: Global,
@@ -39,7 +39,7 @@ pub(crate) fn try_read_message<R: BufRead>(
     }
 }
 
-// Reads the next packed message, its padding by the rule, and fails where nothing is unread.
+// Reads the next packed message by this rule of padding, and fails where nothing is unread.
 pub(crate) fn read_message<R: BufRead>(
     alloc: Global,
     source: &mut R,

@@ -15,14 +15,14 @@ use std::alloc::Global;
 
 /// Reads the next packed message of a source, or returns `None` where nothing is unread.
 ///
-/// The message is returned exactly where the unread bytes begin with a packed encoding of it, and just
-/// that text is consumed. Memory is taken for the lengths of the segments, and for the segments
-/// once the limit of words is tested.
+/// The message is returned exactly where the unread bytes begin with a packed encoding of it, and
+/// only that encoding is consumed. Memory is taken for the lengths of the segments, and for the
+/// segments once the limit of words is tested.
 ///
 /// Fails as `try_read_packed_segments` of `capnp_pack` does: with `InvalidNumberOfSegments`,
-/// `MessageTooLarge` or `NonZeroPadding` for the table, with `PrematureEndOfPackedInput`,
-/// `FailedToFillTheWholeBuffer` or `PackedInputDidNotEndCleanlyOnASegmentBoundary` for what is
-/// packed, with `OutOfMemory`, and with `DeviceFailed`.
+/// `MessageTooLarge` or `NonZeroPadding` for the table; with `PrematureEndOfPackedInput`,
+/// `FailedToFillTheWholeBuffer` or `PackedInputDidNotEndCleanlyOnASegmentBoundary` for faults of
+/// the packed bytes; with `OutOfMemory`; and with `DeviceFailed`.
 ///
 /// ```
 /// let options = DEFAULT_READER_OPTIONS;
@@ -70,10 +70,10 @@ pub fn read_message<R: BufRead>(
 /// Reads the next packed message of a source into a caller-provided buffer, or returns `None` where
 /// nothing is unread.
 ///
-/// The buffer holds the table and the segments. No memory is taken.
+/// The buffer then holds the table and the segments. No memory is taken.
 ///
 /// Fails with `BufferNotLargeEnough` where the buffer is shorter than 8 bytes, than the table, or
-/// than both, and else as `try_read_message` does, but for `OutOfMemory`.
+/// than table and segments, and else as `try_read_message` does, but never with `OutOfMemory`.
 pub fn try_read_message_no_alloc<'b, R: BufRead>(
     source: &mut R,
     buffer: &'b mut [u8],

@@ -17,8 +17,8 @@ use std::{fs, io};
 
 /// The messages of a stream, in order, each as a result.
 ///
-/// It ends where nothing is unread, and after an error, since nothing says where a further message would
-/// begin. Of more than 2^64 - 1 messages it gives the first ones.
+/// It ends where nothing is unread, and after an error, since nothing says where a further message
+/// would begin. Of more than 2^64 - 1 messages it returns the first ones.
 ///
 /// ```
 /// let options = DEFAULT_READER_OPTIONS;
@@ -39,8 +39,8 @@ pub struct MessageStream<R> {
 }
 
 impl<R: BufRead> MessageStream<R> {
-    /// The messages of a source, as a slice or an `Input` over a device, in this format, their padding by
-    /// the rule. Nothing is read yet.
+    /// The messages of a source, such as a slice or an `Input` over a device, in this format and by
+    /// this rule of padding. Nothing is read yet.
     pub fn new(
         alloc: Global,
         format: Format,
@@ -65,7 +65,7 @@ impl<R: BufRead> MessageStream<R> {
 impl<R: BufRead + Drop> Iterator for MessageStream<R> {
     type Item = Result<Reader<OwnedSegments>>;
 
-    // Each is what the reader of the next message returns.
+    // Each item is what the reader of the next message returns.
     ghost next_gives = { GivesMessage R.Read (λ reader. reader.segments) (λ reader. reader.options) };
 
     ghost remaining = { λ stream. at_most stream.left };
@@ -97,10 +97,11 @@ impl<R: BufRead + Drop> Iterator for MessageStream<R> {
     }
 }
 
-/// The messages of the file of this path, in this format, their padding by the rule.
+/// The messages of the file at this path, in this format and by this rule of padding.
 ///
-/// Fails where the file can't be opened, with the system's reason, and with std's `OutOfMemory` for the
-/// buffer. The messages fail as those of `next_message` do; a read that fails is `DeviceFailed`.
+/// Fails with the system's error where the file can't be opened, and with std's `OutOfMemory` where
+/// there is no memory for the buffer. The messages fail as those of `next_message` do; a read that
+/// fails is `DeviceFailed`.
 pub fn open_file<R: Files + AllocGlobal, P: AsPath>(
     rt: &R,
     path: P,

@@ -14,8 +14,8 @@ use capnp_frame::{Error, ErrorKind, Result};
 use capnp_message::Reader;
 use std::alloc::Global;
 
-/// Reads the next message of a stream in this format, its padding by the rule, or returns `None` where
-/// nothing is unread.
+/// Reads the next message of a stream in this format, by this rule of padding, or returns `None`
+/// where nothing is unread.
 ///
 /// Fails as `try_read_message` of the format does, or its lenient form.
 pub fn next_message<R: BufRead>(
@@ -42,10 +42,11 @@ pub fn next_message<R: BufRead>(
     }
 }
 
-/// Whether a reader's error says that the stream ends within a message: one that is cut, or of which the
+/// Whether a reader's error says that the stream ends within a message: one that is cut, or whose
 /// rest is still to be written.
 ///
-/// So say `FailedToFillTheWholeBuffer` and, of packed messages, `PrematureEndOfPackedInput`.
+/// It returns true for `FailedToFillTheWholeBuffer` and, for packed messages,
+/// `PrematureEndOfPackedInput`.
 pub fn is_cut(error: &Error) -> bool
     ensures { IsTrue result ↔ IsCutKind error.now.kind }
 {
@@ -55,7 +56,7 @@ pub fn is_cut(error: &Error) -> bool
     )
 }
 
-/// What was read of a stream that lies in memory.
+/// What was read of a stream in memory.
 #[derive(Drop)]
 pub struct StreamRead {
     /// The messages, in order.
@@ -67,8 +68,8 @@ pub struct StreamRead {
 }
 
 impl StreamRead {
-    /// Whether the stream ends within a message, by `is_cut`. Cut to `end` it is the messages that were
-    /// read, and more can be appended.
+    /// Whether the stream ends within a message, by `is_cut`. Truncated to `end`, it is the
+    /// messages that were read, and more can be appended.
     pub fn is_cut(&self) -> bool
         ensures { TellsCut self.now.refusal result }
     {
@@ -79,10 +80,10 @@ impl StreamRead {
     }
 }
 
-/// Reads every message of a stream, one after another, up to its end or the first error, their padding
-/// by the rule.
+/// Reads every message of a stream, one after another, by this rule of padding, up to the end of
+/// the stream or the first error.
 ///
-/// Where memory lacks, `refusal` is `OutOfMemory`, and what was read before is there.
+/// Where memory is lacking, `refusal` is `OutOfMemory`, and what was read before is returned.
 pub fn every_message(
     alloc: Global,
     format: Format,
@@ -123,7 +124,7 @@ pub fn every_message(
     }
 }
 
-// Adds the next message to those before it, or tells that none is left.
+// Adds the next message to those before it, or returns that none is left.
 fn add_next(
     alloc: Global,
     format: Format,
@@ -141,7 +142,7 @@ fn add_next(
     ensures refused { IfErr result (λ error. (error.kind ≡ ErrorKind.OutOfMemory)
         ⊎ EndsBy padding format options.traversal_limit_in_words (Some error.kind) rest.old.now) }
     ensures kept { OnErr result (messages.new.items ≡ messages.old.items) }
-    // Readers of these options stay such readers.
+    // All readers keep having these options.
     ensures options { AllByRecursion (λ reader. reader.options ≡ options) messages.old.items →
         AllByRecursion (λ reader. reader.options ≡ options) messages.new.items }
 {

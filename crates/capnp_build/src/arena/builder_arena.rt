@@ -23,7 +23,7 @@ use capnp_wire::any_pointer;
 use std::alloc::Global;
 use std::marker::Model;
 
-/// The segments of a message, and where the tree at its root is.
+/// The segments of a message, and the location of the tree at its root.
 #[derive(Drop)]
 pub struct BuilderArena<A: Allocator> {
     pub(crate) segments: Segments<A>,
@@ -102,7 +102,7 @@ impl<A: Allocator> BuilderArena<A> {
         Ok(())
     }
 
-    /// The allocator, after each segment went back to it with its used words.
+    /// The allocator, to which each segment went back with its used words.
     pub fn into_allocator(self) -> A
         ensures { GivesBack A.Allocator (state_of self) result }
     {
@@ -124,7 +124,7 @@ impl<A: Allocator> BuilderArena<A> {
         }
     }
 
-    /// The words of the tree at the root, after its pointer; none where the root is null.
+    /// The bytes of the tree at the root, without the root pointer; none where the root is null.
     pub fn root_bytes(&self) -> &[u8]
         ensures form { ForRoot self.now.spaces (HoldsForm result.now) }
         ensures tree { HoldsTree self.now.spaces result.now }
@@ -144,7 +144,7 @@ impl<A: Allocator> BuilderArena<A> {
         )
     }
 
-    /// The root as a reading pointer, which borrows the segments as they are; null where there are
+    /// The root as a pointer to read, which borrows the segments as they are; null where there are
     /// none.
     pub fn get_root_as_reader(&self) -> any_pointer::Reader<'_, BuilderArena<A>>
         ensures { let segments = λ (arena : Built A). map used_of arena.spaces in
@@ -153,14 +153,14 @@ impl<A: Allocator> BuilderArena<A> {
         any_pointer::Reader::root_of(self)
     }
 
-    /// The used words of all segments.
+    /// The number of used words of all segments.
     pub fn size_in_words(&self) -> usize
         ensures { result ≡ size_in_words self.now.spaces }
     {
         self.segments.size_in_words()
     }
 
-    /// The used words can be written, once there is a segment.
+    /// A fact for callers: the used words can be written, once there is a segment.
     pub fn are_writable(&self)
         ensures { CanBeWritten self.now.spaces }
     {
@@ -168,11 +168,11 @@ impl<A: Allocator> BuilderArena<A> {
         self.segments.are_writable();
     }
 
-    /// There is a tree at the root.
+    /// A fact for callers: there is a tree at the root.
     pub fn root_stands(&self)
         ensures { 0 < length self.now.spaces → (form : Form) × (children : Trees) × (traversed : ℕ) × At (message self.now.spaces) (root ∷ []) (tree form children none) traversed }
     {
-        // For the prover: a look at a field brings in the invariant, which says this.
+        // For the prover: reading a field brings in the invariant, which says this.
         let location = self.location;
     }
 }
@@ -185,7 +185,7 @@ impl<A: Allocator> ReaderSegments for BuilderArena<A> {
     }
 }
 
-// This many bytes, from an index on.
+// This many bytes, from this index on.
 fn subslice(bytes: &[u8], from: usize, count: usize) -> &[u8]
     requires { from + count ≤ length bytes.now }
     ensures { result.now ≡ take count (drop from bytes.now) }

@@ -1,5 +1,5 @@
 //! Where the tree at the root of a message is.
-/// Where a tree is: the words of its body, and the pointer for a body that follows it at once.
+/// Where the body of a tree is, in words of a segment, and the pointer to it from just before it.
 #[derive(Clone, Copy)]
 pub struct RootLocation {
     pub segment: u32,

@@ -1,4 +1,4 @@
-//! Where the block of a value goes, and the pointer to it.
+//! Where the block of a value is placed, and the pointer to it.
 ghost use Rattle.std.specs.Prelude.{◌≡◌, ℕ, ◌+◌, ◌-◌, ◌*◌, ◌/◌, ◌^◌, ◌<◌, ◌≤◌, List, length, Some, None, IfOk, IfErr, OnErr};
 ghost use Rattle.capnp_frame.specs.declared.error.ErrorKind.TheVariants.{SegmentTaken};
 ghost use Rattle.capnp_build.specs.Out.{Out, HasLarge};
@@ -17,7 +17,7 @@ use capnp_frame::Result;
 use capnp_wire::traits::SetterInput;
 
 impl<A: Allocator> BuilderArena<A> {
-    // A segment with room for this many words, after the first one: an old one, or a new one.
+    // A segment with room for this many words, other than the first one: an old one, or a new one.
     pub(crate) fn find_room(&mut self, words: u32) -> Result<u32>
         requires there { 0 < length self.old.spaces }
         requires null { self.old.location ≡ None }
@@ -80,7 +80,7 @@ impl<A: Allocator> BuilderArena<A> {
         self.location = Some(location);
     }
 
-    // Places a value at the null root.
+    // Places a value, where the root is null.
     pub(crate) fn put<T, V: SetterInput<T>>(
         &mut self,
         canonical: bool,

@@ -42,10 +42,10 @@ impl<A: Allocator> BuilderArena<A> {
         self.initn_root::<K>(0)
     }
 
-    /// Tests that the object at the root can be viewed as this type. The root stays.
+    /// Tests that the object at the root can be viewed as this type. The root stays as it is.
     ///
     /// Fails as the allocator does to hand out the first segment, where there is none, and with a
-    /// kind that `declines` of the type names, where it doesn't take the object.
+    /// kind that `declines` of the type names, where the type doesn't accept the object.
     pub fn accept_root<K: OwnedBuilder>(&mut self) -> Result<()>
         ensures { LooksAtRoot A.Allocator K.OwnedBuilder self.old self.new result }
     {
@@ -54,7 +54,7 @@ impl<A: Allocator> BuilderArena<A> {
     }
 
     /// The object at the root, as a view that writes it. Fails as `accept_root` does, and the root
-    /// stays.
+    /// stays as it is.
     pub fn get_root<'a, K: OwnedBuilder>(&'a mut self) -> Result<View<'a, BuilderArena<A>, K>>
         ensures* rests { sem 𝓛 (RestsIfErr (the_row A.row A.Segment.row A.Allocator A.Segment.SegmentSpace) self.entry (λ view. view.message.ghost_name) result
             (λ last. IsLookedAt A.Allocator self.old last)) }

@@ -46,7 +46,7 @@ impl<A: Allocator> BuilderArena<A> {
         }
     }
 
-    // Puts a new object at the null root.
+    // Places a new object, where the root is null.
     fn put_new(&mut self, body: Body) -> Result<()>
         requires there { 0 < length self.old.spaces }
         requires null { self.old.location ≡ None }

@@ -1,4 +1,4 @@
-//! What is written into the object at the root.
+//! Writing into the object at the root.
 ghost use Rattle.std.specs.Prelude.{◌+◌, ◌*◌, ◌/◌, ◌<◌, length, Some};
 ghost use Rattle.capnp_build.specs.Written.{HasField, IsFieldSet, HasBytes, IsBytesSet, HasNumber, IsNumberSet};
 ghost use Rattle.capnp_wire.specs.Reached.{root};
@@ -20,7 +20,7 @@ impl<A: Allocator> BuilderArena<A> {
         }
     }
 
-    /// Sets a number of the list of words at the root.
+    /// Sets an element of the list of words at the root.
     pub fn set_number(&mut self, index: u32, number: u64)
         requires { HasNumber self.old.spaces index }
         ensures { WritesRoot (λ old new. IsNumberSet old new index number) self.old self.new }
@@ -32,7 +32,7 @@ impl<A: Allocator> BuilderArena<A> {
         }
     }
 
-    /// Writes bytes over those of the list of bytes at the root, from an index on.
+    /// Replaces bytes of the list of bytes at the root, from this index on.
     pub fn write_bytes(&mut self, index: u32, bytes: &[u8])
         requires { HasBytes self.old.spaces index (length bytes.now) }
         ensures { WritesRoot (λ old new. IsBytesSet old new index bytes.now) self.old self.new }

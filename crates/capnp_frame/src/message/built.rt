@@ -1,4 +1,4 @@
-//! Messages that are built, of whatever holds their segments.
+//! Messages that are built, whatever type holds their segments.
 ghost use Rattle.capnp_frame.specs.Writing.{IsWritable};
 
 use crate::message::segments::ReaderSegments;
@@ -10,8 +10,8 @@ pub trait BuiltMessage: ReaderSegments {
     /// It has a segment, so it can be written.
     ghost has_segment: { Self → Type 0 };
 
-    /// Each segment is of whole words, and there are as many segments, and words in each, as a
-    /// segment table can tell.
+    /// Each segment is of whole words, and a segment table can say how many segments there are, and
+    /// how many words are in each.
     fn can_be_written(&self)
         requires { has_segment self.now }
         ensures { IsWritable (Self.segments self.now) };

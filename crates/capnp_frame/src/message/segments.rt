@@ -51,7 +51,7 @@ impl<S: ReaderSegments> ReaderSegments for &S {
     }
 }
 
-/// Segments in any places, each a slice.
+/// The segments of a message, each a slice, wherever its bytes are.
 #[derive(Drop)]
 pub struct SegmentArray<'a> {
     segments: &'a [&'a [u8]],

@@ -13,8 +13,8 @@ use crate::serialize::segment_table_info::NoAllocSegmentTableInfo;
 /// Reads the next message of a source into a caller-provided buffer, which then begins with its
 /// framed encoding, and returns what its table says, or `None` where nothing is unread.
 ///
-/// The source is asked, and the buffer tested, as by `try_read_segments_into`, and it fails as that
-/// does. No memory is taken.
+/// It asks the source for the same chunks, tests the buffer in the same way, and fails as
+/// `try_read_segments_into` does. No memory is taken.
 pub fn try_read_framed_into<R: Read>(
     source: &mut R,
     buffer: &mut [u8],
@@ -24,7 +24,7 @@ pub fn try_read_framed_into<R: Read>(
         (framed_rules Padding.Zero R.gives R.refuses) options.traversal_limit_in_words
         (length buffer.old)
         (next_in (λ info. declared_segments info.segments_count buffer.new) result) }
-    // The text is the first bytes of the buffer, as a writer writes it.
+    // The buffer begins with the framed encoding that a writer writes.
     ensures text { IfOk result (λ found. IfSome found (λ info. HasFrame Padding.Zero buffer.new
         (declared_segments info.segments_count buffer.new)
         (drop (info.segment_table_length_bytes + info.total_segments_length_bytes) buffer.new))) }

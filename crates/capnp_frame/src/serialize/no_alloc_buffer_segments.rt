@@ -15,8 +15,8 @@ const KEPT_ENDS: usize = 8;
 
 /// A message's segments in a buffer that holds its table and after it the segments.
 ///
-/// No segment is copied and no memory is taken. Where the first eight segments end is kept. For a
-/// later one the table is read anew, from the ninth length on, each time.
+/// No segment is copied and no memory is taken. The ends of the first eight segments are kept. To
+/// find a later segment, the table is read again each time, from its ninth length on.
 #[derive(Drop)]
 pub struct NoAllocBufferSegments<T: AsBytes> {
     buffer: T,
@@ -204,7 +204,7 @@ fn place(bytes: &[u8], ends: &[usize; KEPT_ENDS], index: usize) -> (usize, usize
     (start, start + field_at(bytes, 4 * (index + 1)) as usize)
 }
 
-// Where a segment from the ninth on starts, by where the eighth one ends.
+// Where a segment from the ninth on begins, counted from where the eighth one ends.
 //
 // Speed: below 2^35 bytes each sum fits a `u32`, as the lengths do, so the loop adds a whole SIMD
 // register of them without widening (workload `far`).

@@ -70,7 +70,7 @@ impl OwnedSegments {
     ghost use Rattle.std.specs.Borrow.{sem};
     ghost use Rattle.capnp_frame.specs.Lending.{LendsBytes};
 
-    /// All segments, joined. What is written there is in the segments.
+    /// All segments, joined. What is written there changes the segments.
     pub fn as_bytes_mut(&mut self) -> &mut [u8]
         ensures* writes_back { sem 𝓛 (LendsBytes self.entry result) }
         ensures value { result.now ≡ concat self.old }

@@ -25,8 +25,8 @@ use crate::serialize::stream::{complete_table, read_chunk, read_first};
 /// Reads the next message of a source into a caller-provided buffer, or returns `None` where
 /// nothing is unread.
 ///
-/// The message is three chunks to the source, as for `try_read_segments`, and just these are
-/// consumed. No memory is taken.
+/// The source is asked for three chunks, as by `try_read_segments`, and only these are consumed. No
+/// memory is taken.
 ///
 /// Fails as the module `serialize` lists: with `BufferNotLargeEnough` where the buffer is shorter
 /// than 8 bytes, than the table, or than table and segments, which is tested before each chunk;

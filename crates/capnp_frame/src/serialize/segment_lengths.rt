@@ -9,7 +9,7 @@ use crate::serialize::owned_segments::OwnedSegments;
 use std::alloc::Global;
 use std::marker::Model;
 
-/// The lengths of segments in words, one pushed after the other, and what is made of them.
+/// Collects the lengths of segments, in words, in the order of the segments.
 #[derive(Drop)]
 pub struct SegmentLengthsBuilder {
     segment_indices: Vec<(usize, usize)>,
@@ -104,7 +104,7 @@ impl SegmentLengthsBuilder {
         self.segment_indices
     }
 
-    /// Segments of these lengths, of zeros.
+    /// Segments of these lengths, all zeros.
     ///
     /// Fails with `MessageSizeOverflow` exactly where the number of their bytes passes `usize`, and
     /// else with `OutOfMemory` alone.
@@ -119,7 +119,7 @@ impl SegmentLengthsBuilder {
         Ok(OwnedSegments::from_parts(self.to_segment_indices(), bytes))
     }
 
-    /// The parts of these lengths of `slice` after its first `table_len` bytes.
+    /// The segments of these lengths that follow the first `table_len` bytes of `slice`.
     pub fn into_slice_segments(self, slice: &[u8], table_len: usize) -> BufferSegments<&[u8]>
         requires { table_len + 8 * sum self ≤ length slice.now }
         ensures buffer { result.buffer.now ≡ slice.now }

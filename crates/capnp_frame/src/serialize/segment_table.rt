@@ -1,4 +1,5 @@
-//! The segment table at the front of a framed message: its fields, and the lengths that they tell.
+//! The segment table at the front of a framed message: its fields, and the lengths that they
+//! declare.
 ghost use Rattle.std.specs.Prelude.{◌≡◌, ◌+◌, ◌*◌, ◌<◌, ◌≤◌, ◌^◌, length, map, take, drop, sum, ℕ, OnOk, IfOk, IfErr, IfSome, IsSomeAnd};
 ghost use Rattle.capnp_frame.specs.SegmentTable.{field, table_size, KeepsPadding};
 ghost use Rattle.capnp_frame.specs.SegmentLengths.{range_len, AreRanges};
@@ -12,7 +13,7 @@ use crate::error::{Error, ErrorKind, Result};
 /// The limit keeps a hostile table from asking for much memory before any segment is there.
 pub const SEGMENTS_COUNT_LIMIT: usize = 512;
 
-/// The bytes of the longest table that is read.
+/// The length of the longest table that is read, in bytes.
 pub(crate) const LONGEST_TABLE: usize = 2048;
 
 /// What a reader accepts as the padding of a segment table: the four bytes after an even number of

@@ -24,8 +24,8 @@ pub struct NoAllocSegmentTableInfo {
     pub total_segments_length_bytes: usize,
 }
 
-/// Whether a buffer begins with a message of 1 to 511 segments whose table has these numbers, and
-/// any padding.
+/// Whether a buffer begins with a message of 1 to 511 segments, with any padding, whose table has
+/// these numbers.
 pub fn describes<T: AsBytes>(buffer: &T, info: &NoAllocSegmentTableInfo) -> bool
     ensures { IsTrue result ↔ IsDescribed (T.bytes buffer.now) info.now }
 {

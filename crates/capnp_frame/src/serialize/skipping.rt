@@ -16,7 +16,8 @@ use crate::serialize::segment_lengths::SegmentLengthsBuilder;
 use crate::serialize::segment_table::Padding;
 use crate::serialize::stream::read_table;
 
-// From this many bytes on segments are read in chunks of this length, past a source's own buffer.
+// Segments of this many bytes or more are read in chunks of this length, not through a source's own
+// buffer.
 const LONG: usize = 32768;
 
 /// Skips the next message of a source, and returns the lengths of its segments, or `None` where
@@ -103,7 +104,7 @@ fn skip_bytes<R: BufRead>(source: &mut R, count: usize) -> Result<()>
     skip_parts(source, count, &mut part)
 }
 
-// Skips bytes in parts that fill a buffer of its own, and the rest by what the source shows.
+// Skips bytes: whole chunks are read into `part`, and the rest is skipped as the source shows it.
 fn skip_parts<R: BufRead>(source: &mut R, count: usize, part: &mut [u8]) -> Result<()>
     requires { 0 < length part.old }
     ensures dropped { OnOk result (IfKnown (R.unread source.old) (R.unread source.new) (Drops count)) }
@@ -119,7 +120,7 @@ fn skip_parts<R: BufRead>(source: &mut R, count: usize, part: &mut [u8]) -> Resu
     skip_shown(source, left)
 }
 
-// Skips bytes by what the source shows, part after part.
+// Skips bytes as the source shows them, part after part.
 fn skip_shown<R: BufRead>(source: &mut R, count: usize) -> Result<()>
     ensures dropped { OnOk result (IfKnown (R.unread source.old) (R.unread source.new) (Drops count)) }
     ensures refused { FailsOr result (IsRefused R.refuses count (R.unread source.old)) }

@@ -30,9 +30,9 @@ const SHORT_TABLE: usize = 256;
 
 /// Reads the next message of a source, or returns `None` where nothing is unread.
 ///
-/// The message is three chunks to the source: the first word of its table, the table's other words,
-/// and all segments together; a chunk of no bytes is not asked for. Just these are consumed. Memory
-/// is taken for the lengths, and for the segments once the limit and the padding are tested.
+/// The source is asked for three chunks: the first word of the table, the table's other words, and
+/// all segments together. A chunk of no bytes is not asked for, and nothing else is consumed.
+/// Memory is taken for the lengths, and for the segments once the limit and the padding are tested.
 ///
 /// Fails as the module `serialize` lists: with `NonZeroPadding`, the table consumed, where the
 /// padding isn't zero.

@@ -32,7 +32,7 @@ pub fn write_segments<W: Write, S: ReaderSegments>(
     write_each(sink, segments)
 }
 
-/// The framed encoding of a message, in bytes.
+/// Returns the framed encoding of a message, in bytes.
 ///
 /// Fails with `InvalidNumberOfSegments`, of how many there are, for more than 511 segments, before
 /// memory is taken, and else with `OutOfMemory` alone.
@@ -47,9 +47,9 @@ pub fn segments_to_words<S: ReaderSegments>(alloc: Global, segments: &S) -> Resu
     Ok(text)
 }
 
-/// How many words a message takes with its table, which for no segments is one word.
+/// Returns how many words a message takes with its table; for no segments, one word.
 ///
-/// Fails exactly where this number passes `usize`, with `MessageSizeOverflow`.
+/// Fails with `MessageSizeOverflow` exactly where this number does not fit `usize`.
 pub fn serialized_size_in_words<S: ReaderSegments>(segments: &S) -> Result<usize>
     requires few { length (S.segments segments.now) < 2 ^ 32 }
     requires whole { AllByRecursion IsWholeWords (S.segments segments.now) }

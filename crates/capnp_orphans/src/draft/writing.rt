@@ -9,7 +9,7 @@ use capnp_frame::{Error, ErrorKind, Result};
 use capnp_values::words_fit;
 use capnp_wire::pointer_word::struct_word;
 
-// The data words, and then the pointers. 2^16 of either and more fail with `AllocationTooLarge`.
+// The data words, and then the pointers. 2^16 or more of either fail with `AllocationTooLarge`.
 impl<T, const D: usize, const P: usize> Object for StructDraft<T, D, P> {
     ghost use Rattle.std.specs.Prelude.{false};
     ghost use Rattle.capnp_orphans.specs.Held.{HoldsStruct, TakesStruct, ExceedsPointer};
@@ -55,7 +55,7 @@ pub(crate) fn draft_fits<T, const D: usize, const P: usize>(draft: &StructDraft<
     words_fit(&draft.words);
 }
 
-// The word of a struct that begins at this word, as an orphan.
+// The orphan's word for a struct that begins at this word of the segment.
 #[inline(always)]
 fn struct_orphan(start: u32, words: usize, pointers: usize) -> u64
     requires start { start < 2 ^ 29 }

@@ -22,7 +22,7 @@ pub fn try_read_packed_framed_into<R: BufRead>(
     ensures reads { ReadsStreamInto R.Read source.old source.new (packed_rules Padding.Zero)
         options.traversal_limit_in_words (length buffer.old)
         (next_in (λ info. declared_segments info.segments_count buffer.new) result) }
-    // The text is the first bytes of the buffer, as a writer writes it.
+    // The buffer begins with the framed encoding that a writer writes.
     ensures text { IfOk result (λ found. IfSome found (λ info. HasFrame Padding.Zero buffer.new
         (declared_segments info.segments_count buffer.new)
         (drop (info.segment_table_length_bytes + info.total_segments_length_bytes) buffer.new))) }

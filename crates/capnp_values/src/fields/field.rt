@@ -1,4 +1,4 @@
-//! A value before a row.
+//! A field in front of the other fields of a row.
 ghost use Rattle.std.specs.Prelude.{◌≡◌};
 ghost use Rattle.capnp_wire.specs.Tree.{Form, Trees, none, tree, total_words};
 ghost use Rattle.capnp_wire.specs.Layout.{output};
@@ -10,7 +10,7 @@ use capnp_wire::pointer_word::put_word;
 use capnp_wire::traits::{PartWords, SetterInput};
 use std::marker::PhantomData;
 
-/// A field that is set to a value of a type of a schema, before further fields.
+/// A field of a type of a schema that is set to a value, in front of further fields.
 #[derive(Drop)]
 pub struct Field<T, V, F> {
     /// What it is set to.
@@ -24,7 +24,7 @@ pub struct Field<T, V, F> {
 }
 
 impl<T, V, F> Field<T, V, F> {
-    /// A field that is set to a value, before the fields after it.
+    /// Sets a field to a value, in front of these fields.
     pub fn new(value: V, rest: F) -> Field<T, V, F>
         ensures value { result.value ≡ value }
         ensures rest { result.rest ≡ rest }
@@ -96,7 +96,7 @@ impl<T, V: SetterInput<T>, F: Fields> Fields for Field<T, V, F> {
     }
 }
 
-// The extent of a row with one more value before it, of these words.
+// The extent of a row with this value in front, which has these words.
 fn front<T, V: SetterInput<T>>(value: &V, canonical: bool, own: PartWords, rest: Extent) -> Extent
     requires { IsBounded rest }
     ensures { (form : Form) (children others : Trees) → IsPart (V.has_tree value.now) form children →
@@ -122,7 +122,7 @@ fn front<T, V: SetterInput<T>>(value: &V, canonical: bool, own: PartWords, rest:
     }
 }
 
-// Whether a value is left out of a row that keeps this many pointers after it.
+// Whether a value is left out in front of a row that keeps this many pointers.
 fn is_left_out<T, V: SetterInput<T>>(value: &V, canonical: bool, after: u32) -> bool
     ensures { (form : Form) (children : Trees) → IsPart (V.has_tree value.now) form children →
         result ≡ is_left_out canonical after form }

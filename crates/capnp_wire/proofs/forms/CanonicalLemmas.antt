@@ -103,13 +103,13 @@ unsaid_of_none m nesting limit kind none_there (no_first_segment e) = refl
 unsaid_of_none m nesting limit kind none_there (on_the_walk {segment = s} e ends) =
     let long : length (s ∷ []) ≡ 0 = ap (λ (l : List (List ℕ)). length l) (sym e ∙ none_there) in absurd (omega arith)
 
--- errors are in the message
+-- errors of the walk are errors of the message
 pub unsaid_stops : (m : List (List ℕ)) (nesting : ℕ) (limit : Option ℕ) (kind : ErrorKind) → RejectsCanonicity m nesting limit kind → StopsWalk m (root ∷ []) nesting limit kind
 unsaid_stops m nesting limit kind (no_first_segment e) = stops_at (no_word (no_segment (ap (λ (l : List (List ℕ)). slice_get l 0) e)))
 unsaid_stops m nesting limit kind (on_the_walk {segment = s} e ends) =
     subst (λ (x : List (List ℕ)). StopsWalk x (root ∷ []) nesting limit kind) (sym e) (ends_stops s (root ∷ []) nesting 1 limit kind ends)
 
--- what is handed on
+-- what is passed on
 pub said : (m : List (List ℕ)) (segment : List ℕ) (nesting : ℕ) (limit : Option ℕ) (r : Result Bool Error) → m ≡ segment ∷ [] → IfOk r (λ is. IsTrue is ↔ IsCanonical (segment ∷ []))
     → IfErr r (λ error. Ends segment (root ∷ []) nesting limit 1 (refused error.kind)) → MatchResult r (λ is. IsTrue is ↔ IsCanonical m) (λ error. RejectsCanonicity m nesting limit error.kind)
 said m segment nesting limit (Ok is) one ok err = subst (λ (x : List (List ℕ)). IsTrue is ↔ IsCanonical x) (sym one) ok

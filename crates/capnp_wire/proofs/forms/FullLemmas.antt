@@ -133,7 +133,7 @@ at_least (r ∷ rows) (suc i) row there = omega (arith, at_least rows i row ther
 row_wide : (d : ℕ) (rows : List (List ℕ)) (i : ℕ) (row : List ℕ) → AllOf d rows → slice_get rows i ≡ Some row → length row ≡ d
 row_wide d rows i row even there = subst (λ (r : List ℕ). length r ≡ d) (get_or_from_slice_get rows i row row there) (even i row (slice_get_within rows i row there))
 
--- and they need all their data words where these are none, or one of them ends full
+-- and they need all their data words where there are none, or the last one of a row is not zero
 pub rows_need_data : (d : ℕ) (rows : List (List ℕ)) → All (λ row. length row ≡ d) rows → (least_data rows ≡ d) ↔ ((d ≡ 0) ⊎ ((i : ℕ) × (row : List ℕ) × (slice_get rows i ≡ Some row) × EndsFull row))
 rows_need_data d rows even = (
   λ same. elim (widest rows) [

@@ -56,7 +56,7 @@ needed_in p k (row ∷ rows) children (suc i) some long less full =
     let rest = needed_in p k rows (following p children) i some s.others (omega arith) (λ last. full (sym (nth-following p children (i * p + k) (suc i * p + k) (omega arith)) ∙ last)) in
     omega arith
 
--- and all their pointers where these are none, or the last pointer of one of them is not null
+-- and all their pointers where there are none, or the last one of a row is not null
 pub rows_need_pointers : (p : ℕ) (rows : List (List ℕ)) (children : Trees) → count children ≡ length rows * p
     → (least_pointers p rows children ≡ p) ↔ ((p ≡ 0) ⊎ ((k : ℕ) × (p ≡ k + 1) × (i : ℕ) × (i < length rows) × (nth_form children (i * p + k) ≡ Some null → ⊥)))
 rows_need_pointers zero rows children long = (λ same. inl refl, λ c. omega (arith, least_pointers_within 0 rows children))

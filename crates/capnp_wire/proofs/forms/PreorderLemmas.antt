@@ -1,4 +1,4 @@
--- What a walk tests says that the words of a layout are, and the other way round.
+-- The tests of a walk hold exactly where the words are those of a layout.
 use Rattle.std.proofs.Common.{◌≡◌, ℕ, ◌+◌, ◌-◌, ◌*◌, ◌/◌, ◌^◌, ◌<◌, ◌≤◌, List, [], ◌∷◌, length, Some, slice_get, refl, sym, ◌∙◌, ap, subst, arith}
 use Rattle.std.proofs.lemmas.List.{nil_from_length}
 use Rattle.capnp_wire.specs.Pointer.{pointer_kind, offset}
@@ -29,7 +29,7 @@ pub at_parts : (m : List (List ℕ)) (place : Place) (others : List Place) (form
 at_parts m place others form children rest traversed (at {shape = s} {inside = i} {following = b} object inner after) =
     record { places = s.children; traversed = s.traversed; inside = i; following = b; object = object; inner = inner; after = after }
 
--- a near pointer that is not null, and where its object starts
+-- a pointer within its segment that is not null, and where its object starts
 pub record Local (segment : List ℕ) (word tag : ℕ) (form : Form) (children : List Place) : Type 0 where
   pub start : ℕ
   pub shape : Shape
@@ -102,7 +102,7 @@ empty_exactly : (segment : List ℕ) (next : ℕ) → next ≤ length segment �
 empty_exactly segment next within =
     record { children_is = refl; holds = λ links long linked. subst (λ (l : List ℕ). Holds segment next l) (sym (nil_from_length links long)) (holds_none segment next within) }
 
--- at the next free word, an object's pointers are where they belong, and then its own words do
+-- at the next free word, an object's pointers are where they belong, and then so are its own words
 pub preorder_object : (segment : List ℕ) (word next : ℕ) (form : Form) (children : List Place) (traversed : ℕ) → word < next → next ≤ length segment → HasRoom form (length children)
     → slice_get segment word ≡ Some (pointer form (length children) (next - (word + 1))) → Reaches form (length children) (next - (word + 1)) → Padded segment next form
     → PointsTo (segment ∷ []) (record { segment = 0; word = word }) (record { form = form; children = children; traversed = traversed }) → Exactly segment next form children (length children)

@@ -4,7 +4,7 @@ use Rattle.std.proofs.Math.Seq.{take-append_seam, drop-append_seam}
 use Rattle.std.proofs.Common.{◌≡◌, ℕ, ◌+◌, ◌-◌, ◌≤◌, List, [], ◌++◌, length, take, drop, refl, sym, ◌∙◌, ap, arith, append_assoc, length-append, length-take, length-drop}
 use Rattle.capnp_wire.specs.Block.{put}
 
--- a block in three parts, and another middle
+-- a block in three parts, with another middle part
 pub put_parts : (front middle rest words : List ℕ) (at : ℕ) → length front ≡ at → length words ≡ length middle
     → put at words (front ++ (middle ++ rest)) ≡ front ++ (words ++ rest)
 put_parts front middle rest words at here long =

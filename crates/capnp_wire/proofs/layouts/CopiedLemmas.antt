@@ -74,7 +74,7 @@ as_many start begin from copied q is =
     ∙ ap (λ (n : ℕ). n * q) (sym rows)
     ∙ sym (kept_many begin.segment (first_row copied begin.word) (row_size copied).data_words (row_size copied).pointers q (row_count copied))
 
--- null, and what no pointer that can be copied is
+-- null, and what no copyable pointer is
 null_output : (c : Bool) → output c (tree null none none) ≡ tree null none none
 null_output true = refl
 null_output false = refl
@@ -127,7 +127,7 @@ object_begins {m} {place} {words} {start} {from} {copied} {nesting} {c} {gap} {n
       };
     }
 
--- a struct's, and then what its pointers lead to, which are one after the other
+-- a struct's, and then what its pointers lead to, which are consecutive
 pub struct_begins : {m : List (List ℕ)} {place : Place} {found : LocalStruct} {size : StructSize} {nesting : ℕ} {c : Bool} {gap next following pointer : ℕ} {first : Place} {old mid : List ℕ}
     (can : CanCopy m (place ∷ []) nesting c next (length old)) → IsObject m place (local_struct_of found)
     → Struct size ≡ output_body_of c (words_of found.segment.now) found.start.word (Struct found.size) → size.pointers ≤ found.size.pointers
@@ -161,7 +161,7 @@ pub copyable : {m : List (List ℕ)} {place : Place} {object : ReadObject} {nest
     → IsCopyable object c next room
 copyable {m} {place} {object} {nesting} can is = record { m = m; place = place; nesting = nesting; can = can; is = is }
 
--- The pointers of a list of pointers are one after the other, as their copies do.
+-- The pointers of a list of pointers are consecutive, and so are their slots.
 pub record AreInRun (start : Place) (from copied : Body) (next n : ℕ) : Type 0 where
   pub places_are : kept_in start from (row_size copied).pointers ≡ places start.segment start.word n
   pub slots_are : slots_of next copied ≡ run next n

@@ -107,7 +107,8 @@ copies_both {m} {place} {others} {nesting} {c} {slot} {slots} {free} {room} {aft
       );
     }
 
--- How far the copying of what some pointers lead to has come: those that are left can be copied, and with them all is.
+-- How far the copying of what some pointers lead to has come: those that are left can be copied,
+-- and then all are copied.
 pub record Copying (m : List (List ℕ)) (words : List ℕ) (nesting : ℕ) (c : Bool) (whole : RowPair) (start : ℕ) (old : List ℕ) (rows : RowPair) (free : ℕ) (now : List ℕ) : Type 0 where
   pub can : CanCopyRows m words rows nesting c free (length now)
   pub long : length now ≡ length old

@@ -1,4 +1,4 @@
--- An object that is at the next free word is as a layout has it, where its pointers do.
+-- An object at the next free word is as a layout has it, where its pointers are.
 use Rattle.std.proofs.Common.{◌≡◌, ℕ, zero, suc, ◌+◌, ◌*◌, ◌^◌, ◌≤◌, List, [], ◌∷◌, ◌++◌, length, take, drop, Some, slice_get, refl, sym, ◌∙◌, ap, subst, arith, length-append, length-take}
 use Rattle.std.proofs.Common.{length-drop, append_assoc}
 use Rattle.std.proofs.lemmas.List.{take-append-drop, drop_at}
@@ -92,7 +92,7 @@ rows_linked segment base at start d p (suc n) links here room linked =
     holds_join segment at (at + d + p) (words_from segment at d ++ take p links) (woven p (rows_from segment (at + d + p) d p n) (drop p links))
     (omega (arith, length-append (words_from segment at d) (take p links))) front others
 
--- the pointers are where they belong, and then the object's own words do
+-- the pointers are where they belong, and then so are the object's own words
 pub record Exactly (segment : List ℕ) (next : ℕ) (form : Form) (children : List Place) (n : ℕ) : Type 0 where
   pub children_is : children ≡ placed 0 next (slots form n)
   pub holds : (links : List ℕ) → length links ≡ n → Linked segment next (slots form n) links → Holds segment next (own form links)

@@ -1,4 +1,4 @@
--- What is tested of an object by itself, and what that says of its tree.
+-- What is tested of an object alone, and what that says of its tree.
 use Rattle.std.proofs.Math.Nat.{mul-le-mul_left}
 use Rattle.std.proofs.Common.{◌≡◌, ◌⊎◌, inl, inr, ℕ, zero, suc, ◌+◌, ◌-◌, ◌*◌, ◌^◌, ◌<◌, ◌≤◌, false, List, [], ◌∷◌, length, Option, Some, slice_get, slice_index_or, refl, sym, ◌∙◌, ap, subst, arith}
 use Rattle.std.specs.Prelude.{All, ◌↔◌}
@@ -174,7 +174,7 @@ laid_room segment word nesting next limit shape meets l before within =
     let room = next_room segment n.start l.pointer word next n.shape n.stands before within n.target is in
     rw (n.form_is, n.children_is) at room
 
--- an object that passes, over what it holds
+-- an object that passes, with the trees below it
 pub passes_over : (segment : List ℕ) (word nesting next traversed after : ℕ) (limit : Option ℕ) (shape : Shape) → All (λ w. w < 2 ^ 64) segment → word < next → next ≤ length segment
     → MeetsObject segment (record { segment = 0; word = word }) nesting limit shape → IsLaidOut segment (record { segment = 0; word = word }) next shape
     → Passes segment shape.children (nesting - 1) traversed (next + object_size shape.form (length shape.children)) after

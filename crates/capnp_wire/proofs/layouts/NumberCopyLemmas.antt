@@ -22,7 +22,7 @@ pub number_list_opened : {m : List (List ℕ)} {place : Place} {nesting : ℕ} {
     → Opened m (words_of list.segment.now) list.start (Numbers list.size list.count) (Numbers list.size list.count) (nesting - 1) c next room can.trees
 number_list_opened {c = c} list can is = opened_here can is (list_output c (words_of list.segment.now) list.start.word (Numbers list.size list.count) tt)
 
--- it holds no pointers, so its own words are its copy
+-- it has no pointers, so its own words are its copy
 pub number_list_copied : {m : List (List ℕ)} {place : Place} {nesting : ℕ} {c : Bool} {gap next free pointer : ℕ} {old new : List ℕ}
     (list : NumberList) (can : CanCopy m (place ∷ []) nesting c next (length old))
     → IsObject m place (object_of list) → new ≡ put_own (words_of list.segment.now) list.start.word (Numbers list.size list.count) (Numbers list.size list.count) next old
@@ -38,7 +38,7 @@ pub pointer_list_opened : {m : List (List ℕ)} {place : Place} {nesting : ℕ} 
     → Opened m (words_of list.segment.now) list.first (Pointers list.count) (Pointers list.count) (nesting - 1) c next room can.trees
 pointer_list_opened {c = c} list can is = opened_here can is (list_output c (words_of list.segment.now) list.first.word (Pointers list.count) tt)
 
--- it has no other words, so its copy is begun before any is written
+-- it has no other words, so nothing is written when its copy begins
 pub pointer_list_begins : {m : List (List ℕ)} {place : Place} {nesting : ℕ} {c : Bool} {gap next following pointer : ℕ} {old : List ℕ}
     (list : PointerRun) (can : CanCopy m (place ∷ []) nesting c next (length old))
     → IsObject m place (pointers_of list) → pointer ≡ pointer_of_body (Pointers list.count) gap → following ≡ next + list.count → list.first.word + list.count < 2 ^ 61

@@ -30,7 +30,8 @@ use Rattle.capnp_wire.proofs.words.DigitLemmas.{length-digits}
 use Rattle.capnp_wire.proofs.layouts.BlockRowLemmas.{moved_run, moved_rows, put_short, put_rows_woven}
 use Rattle.capnp_wire.proofs.trees.PlacedLemmas.{no_trees}
 
--- what an object opens to: the places of the pointers that are copied, and what is left to be put into the block
+-- what an object opens to: the places of the pointers that are copied, and what is still to be put
+-- into the block
 pub record Opened (m : List (List ℕ)) (words : List ℕ) (start : Place) (from copied : Body) (nesting : ℕ) (c : Bool) (next room : ℕ) (trees : Trees) : Type 0 where
   pub kept : CanCopy m (kept_in start from (row_size copied).pointers) nesting c (next + words_in copied) room
   pub fills : (block : List ℕ) → length block ≡ room
@@ -177,8 +178,8 @@ numbers_open m words start n nesting size c next room trees children form_is all
       few_elements = omega arith;
     }
 
--- what structs open to that are one after the other from a word of a segment on: the pointers that are copied, in rows, and what
--- is left to be put into the block, after a tag
+-- what consecutive structs from a word of a segment on open to: the pointers that are copied, in
+-- rows, and what is still to be put into the block, after a tag
 pub record OpenedRows (m : List (List ℕ)) (words : List ℕ) (segment begin : ℕ) (from size : StructSize) (n nesting : ℕ) (c : Bool) (next room : ℕ) (trees : Trees) : Type 0 where
   pub kept : CanCopy m (kept_places segment begin from.data_words from.pointers size.pointers n) nesting c (next + (1 + n * (size.data_words + size.pointers))) room
   pub fills : (block : List ℕ) → length block ≡ room
@@ -243,7 +244,7 @@ rows_open m words segment begin d p e q n nesting c next room trees kept childre
       few_elements = subst (λ (k : ℕ). k < 2 ^ 30) rows_long few_rows;
     }
 
--- as a list of structs does, after its tag
+-- the same for a list of structs, after its tag
 pub structs_open : (m : List (List ℕ)) (words : List ℕ) (start : Place) (elements kept : Elements) (following words_kept nesting : ℕ) (c : Bool) (next room : ℕ) (trees : Trees)
     → kept.count ≡ elements.count
     → OpenedRows m words start.segment (start.word + 1) elements.size kept.size elements.count nesting c next room trees

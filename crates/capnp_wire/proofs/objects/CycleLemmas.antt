@@ -1,4 +1,4 @@
--- Where an object leads back to itself, no tree is.
+-- Where an object leads back to itself, there is no tree.
 use Rattle.std.proofs.Common.{◌≡◌, ℕ, ◌+◌, ◌<◌, ◌≤◌, List, [], ◌∷◌, subst, arith}
 use Rattle.capnp_wire.specs.Tree.{Form, Trees, none, tree}
 use Rattle.capnp_wire.specs.Reached.{At, nowhere, at, IsIn, here, there, Below, directly, further}
@@ -10,7 +10,7 @@ objects : Trees → ℕ
 objects none = 0
 objects (tree form children rest) = 1 + objects children + objects rest
 
--- a tree of its own at a place, that holds fewer than n pointers
+-- there is a tree at a place, with fewer than n pointers
 record Smaller (m : List (List ℕ)) (place : Place) (n : ℕ) : Type 0 where
   form : Form
   children : Trees

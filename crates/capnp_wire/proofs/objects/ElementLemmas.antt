@@ -32,7 +32,7 @@ elements_are_bytes bytes start n fits room =
     let front : take n part ≡ take n (drop (8 * start) bytes) = take-take n (8 * k) (drop (8 * start) bytes) (omega arith) in
     sym (ap (digits 256 n) whole ∙ back ∙ front)
 
--- some digits, each below the base, come back from their number
+-- some digits, each below the base, are those of their number
 pub low_digit : (base d x : ℕ) → d < base → (d + base * x) % base ≡ d
 low_digit base d x small = add-mul-mod_self_left d base x ∙ mod-eq_of_lt small
 
@@ -65,7 +65,7 @@ chunk_below (suc k) bytes fits (suc i) = chunk_below k (drop 8 bytes) (λ j. rw 
 pub words_below : (bytes : List ℕ) → ((i : ℕ) → slice_index_or bytes i 0 < 256) → (i : ℕ) → slice_index_or (words_of bytes) i 0 < 2 ^ 64
 words_below bytes fits i = chunk_below (length bytes / 8) bytes fits i
 
--- every word of some bytes is one
+-- every word of some bytes is below 2 ^ 64
 default_same : (xs : List ℕ) (k e : ℕ) → k < length xs → slice_index_or xs k e ≡ slice_index_or xs k 0
 default_same [] k e within = absurd (omega arith)
 default_same (x ∷ xs) zero e within = refl

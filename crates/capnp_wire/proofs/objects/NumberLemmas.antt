@@ -1,4 +1,4 @@
--- Numbers of one size that are one after the other: no one of them lies in two words.
+-- Consecutive numbers of one size: none of them lies in two words.
 use Rattle.std.proofs.lemmas.List.{take-take, take_all}
 use Rattle.std.proofs.Common.{◌≡◌, ℕ, ◌+◌, ◌*◌, ◌/◌, ◌%◌, ◌^◌, ◌<◌, ◌≤◌, List, length, take, drop, slice_index_or, sym, ◌∙◌, ap, arith}
 use Rattle.capnp_wire.specs.Pointer.{digits, number_of, words_of}
@@ -21,7 +21,7 @@ within_word TwoBytes i = omega arith
 within_word FourBytes i = omega arith
 within_word EightBytes i = omega arith
 
--- the elements of a list that is within a segment
+-- the elements of a list within a segment
 pub elements_within : (bytes : List ℕ) (start code n : ℕ) → start + words_for n (width code) ≤ length bytes / 8
     → elements (words_of (take (8 * words_for n (width code)) (drop (8 * start) bytes))) 0 code n ≡ elements (words_of bytes) start code n
 elements_within bytes start code n room =
@@ -40,7 +40,7 @@ elements_of_words bytes n small long =
     ∙ ap (λ (k : ℕ). digits (2 ^ 64) k (number_of (2 ^ 64) (words_of bytes))) (sym many)
     ∙ digits-number_of (2 ^ 64) (words_of bytes) small
 
--- an element is some of the bits of the word in which it is
+-- an element is some of the bits of the word that it is in
 pub element_read : (bytes : List ℕ) (size : ElementSize) (n i word value : ℕ) → All (λ w. w < 2 ^ 64) (words_of bytes) → length bytes ≡ 8 * words_for n (width (code_of size)) → i < n
     → word ≡ slice_index_or (words_of bytes) (width (code_of size) * i / 64) 0 → value ≡ word / 2 ^ (width (code_of size) * i % 64) % 2 ^ width (code_of size)
     → value ≡ slice_index_or (elements (words_of bytes) 0 (code_of size) n) i 0

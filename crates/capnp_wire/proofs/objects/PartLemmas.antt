@@ -1,4 +1,4 @@
--- Structs that are numbers of a list.
+-- Structs that are elements of a list of numbers.
 use Rattle.std.proofs.lemmas.List.{take_all, length-map, get_or_past}
 use Rattle.std.proofs.lemmas.List.Elements.{All-nil, All-cons}
 use Rattle.std.proofs.lemmas.Nat.{from_le_bytes-to_le_bytes_8}
@@ -20,12 +20,12 @@ use Rattle.capnp_wire.specs.declared.layout.element.ElementSize.{ElementSize}
 use Rattle.capnp_wire.specs.declared.layout.element.ElementSize.TheVariants.{Void, Bit, Byte, TwoBytes, FourBytes, EightBytes}
 use Rattle.capnp_wire.proofs.words.WordLemmas.{number_of_eight}
 
--- a struct has as many data words as are there
+-- a struct has as many data words as there are
 pub length-own_data : (part : Option WordPart) (words : List ℕ) → length (own_data part words) ≡ length words
 length-own_data None words = refl
 length-own_data (Some part) words = length-map words (own_part (Some part))
 
--- of a word that is zero each part is
+-- each part of a word that is zero is zero
 pub own_part_zero : (part : Option WordPart) → own_part part 0 ≡ 0
 own_part_zero None = refl
 own_part_zero (Some part) =
@@ -107,7 +107,7 @@ alone m words copied start there size part nesting limit word one none first lon
     ap (λ (row : List ℕ). fields row (places there.segment (there.word + size.data_words) size.pointers)) (copied_one ∙ sym own_is)
     ∙ ap (fields own) (no_places there.segment (there.word + size.data_words) start.segment (start.word + size.data_words) size.pointers none)
 
--- a struct that is no number is the struct where it is
+-- a struct that is no number is the struct at its place
 pub whole : (m : List (List ℕ)) (words : List ℕ) (start : Place) (size : StructSize) (part : Option WordPart) (nesting : ℕ) (limit : Option ℕ) → part ≡ None
     → fields_at m words start size nesting limit ≡ record {
       message = m;

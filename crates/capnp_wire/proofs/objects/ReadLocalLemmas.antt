@@ -1,4 +1,4 @@
--- An object that a near pointer leads to, in a message of one segment, and what is tested of it.
+-- An object in the segment of its pointer, in a message of one segment, and what is tested of it.
 use Rattle.std.proofs.Common.{◌≡◌, ◌≢◌, ℕ, ◌+◌, ◌*◌, ◌/◌, ◌^◌, ◌<◌, ◌≤◌, List, [], ◌∷◌, length, Some, slice_get, sym, ◌∙◌, ap, subst, arith}
 use Rattle.std.specs.Prelude.{◌↔◌}
 use Rattle.capnp_wire.specs.Pointer.{pointer_kind, offset, words_of}
@@ -19,7 +19,7 @@ use Rattle.capnp_wire.proofs.pointers.NextLemmas.{lead_start, next_room}
 use Rattle.capnp_wire.proofs.objects.OwnWordLemmas.{own_words_are}
 use Rattle.capnp_wire.proofs.forms.TruncatedLemmas.{length-subslice}
 
--- how a pointer leads that is no far pointer
+-- where a pointer leads that is no far pointer
 record LandsLocal (place : Place) (landing : Target) (word : ℕ) : Type 0 where
   is : landing ≡ record { segment = place.segment; origin = following place.word; tag = word; landing_pads = 0 }
   positive : 0 < word

@@ -1,4 +1,4 @@
--- The elements of a list of structs are one after the other.
+-- The elements of a list of structs are consecutive.
 use Rattle.std.proofs.Common.{◌≡◌, ℕ, zero, suc, ◌+◌, ◌*◌, ◌<◌, ◌≤◌, List, [], ◌++◌, length, take, drop, slice_index_or, sym, ◌∙◌, ap, arith}
 use Rattle.std.proofs.Math.Seq.{take-append_seam, drop-append-add}
 use Rattle.capnp_wire.specs.Pointer.{words_from}

@@ -29,7 +29,7 @@ empty_output : (c : Bool) → output c empty_tree ≡ empty_tree
 empty_output true = refl
 empty_output false = refl
 
--- it is where its pointer does
+-- such a struct is where its pointer is
 empty_struct_stands : {m : List (List ℕ)} {place : Place} {words : List ℕ} → slice_get m place.segment ≡ Some words → slice_get words place.word ≡ Some empty_struct
     → PointsTo m place empty_shape
 empty_struct_stands {m} {place} {words} there is =
@@ -69,7 +69,7 @@ empty_struct_copied {m} {place} {gap = gap} {next = next} {block = block} c ther
       };
 }
 
--- so it is with null
+-- the same holds of null
 pub null_or_empty_walked : {m : List (List ℕ)} {place : Place} {words : List ℕ} {pointer nesting : ℕ} {left counted_now : Option ℕ} (c : Bool) → slice_get m place.segment ≡ Some words
     → slice_get words place.word ≡ Some pointer → IsNullOrEmptyStruct pointer nesting → Walked m c place nesting left left counted_now counted_now
 null_or_empty_walked {m} {place} {words} {nesting = nesting} {left = left} {counted_now = now} c there is (inl zero_is) =

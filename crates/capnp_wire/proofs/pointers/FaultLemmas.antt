@@ -1,4 +1,4 @@
--- Where a pointer is rejected, no object is within the nesting depth left.
+-- Where a pointer is invalid, there is no object within the nesting depth left.
 use Rattle.std.proofs.Common.{◌≡◌, ℕ, ◌+◌, ◌*◌, ◌<◌, ◌≤◌, true, false, List, Some, None, slice_get, refl, sym, ◌∙◌, ap, subst, arith}
 use Rattle.capnp_frame.specs.declared.error.ErrorKind.{ErrorKind}
 use Rattle.capnp_wire.specs.Element.{width, words_for}
@@ -11,7 +11,7 @@ use Rattle.capnp_wire.specs.Faults.{struct_outside, list_outside, structs_outsid
 use Rattle.capnp_wire.specs.declared.layout.place.Place.{Place}
 use Rattle.capnp_wire.proofs.objects.ObjectLemmas.{same_word, one_landing, one_start, null_lands_nowhere}
 
--- a word is where none is missing
+-- a word is there where none is missing
 pub no_word_there : (m : List (List ℕ)) (place : Place) (kind : ErrorKind) → NoWord m place kind → word_at m place ≡ None
 no_word_there m place kind (no_segment e) = rw e refl
 no_word_there m place kind (past_segment {words = w} e f) = rw e f
@@ -100,7 +100,7 @@ bad_landing_pad_leads_nowhere m place word kind c e k (capability_tag {tag = a} 
 pub words_for_pointers : (n code : ℕ) → code ≡ 6 → words_for n (width code) ≡ n
 words_for_pointers n code six = let whole : words_for n 64 ≡ n = omega arith in ap (λ (c : ℕ). words_for n (width c)) six ∙ whole
 
--- what fits does not misfit
+-- a size that fits is not rejected
 fits_or_not : (words : List ℕ) (start : Place) (pointer : ℕ) (kind : ErrorKind) (s : Shape) → RejectsSize words start.word pointer kind → ShapeStands words start pointer s → ⊥
 fits_or_not words start pointer kind s (struct_outside k l) (a_struct j f) = omega arith
 fits_or_not words start pointer kind s (struct_outside k l) (some_numbers j _ _) = omega arith

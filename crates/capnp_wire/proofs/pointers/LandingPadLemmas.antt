@@ -1,4 +1,4 @@
--- Where pointers lead, by way of landing pads.
+-- Where pointers lead through landing pads.
 use Rattle.std.proofs.Common.{inl, inr, ◌≡◌, ℕ, ◌+◌, ◌*◌, ◌/◌, ◌^◌, ◌≤◌, Bool, true, false, not, if◌then◌else◌, List, Some, None, MatchOption, Option, slice_get, refl, sym, ◌∙◌, ap, subst, arith}
 use Rattle.std.proofs.Common.{Result, Ok, Err, IfOk, IfErr}
 use Rattle.std.specs.Result.{IsErrAnd}
@@ -28,7 +28,7 @@ abbrev pub LeadsTo : Option ℕ → ℕ → ℕ → Type 0
 LeadsTo found bits word =
     MatchOption found ((start : ℕ) → start + 2 ^ 30 * (bits / 2 ^ 29) ≡ word + 1 + bits → ⊥) (λ start. start + 2 ^ 30 * (bits / 2 ^ 29) ≡ word + 1 + bits)
 
--- what the caller has seen of a near pointer, and what is read of where it leads
+-- what the caller has seen of a pointer within its segment, and what is read of where it leads
 pub record Seen (from : Place) (landing_pads : ℕ) (local : LocalPointer) (bytes : List ℕ) (read : ReadLanding) : Type 0 where
   pub segment : read.segment.now ≡ bytes
   pub number : read.number ≡ from.segment
@@ -120,14 +120,14 @@ pub wide_refused : (m : List (List ℕ)) (word inner tag : ℕ) (words : List �
 wide_refused m word inner tag words kind wide e f is_far content (inl far) = subst (BadLandingPad m word) (sym far.1) (far_tag wide e f is_far content far.0)
 wide_refused m word inner tag words kind wide e f is_far content (inr other) = subst (BadLandingPad m word) (sym other.1) (capability_tag wide e f is_far content other.0)
 
--- a far pointer with a landing pad of one word, as it is read, is one
+-- a far pointer with a landing pad of one word, as it is read, is a far pointer
 pub is_far_word : (word : ℕ) (far : FarPointer) → IsFarPointer word far → far.is_wide ≡ false → IsFar word 0
 is_far_word word far far_is narrow = record { far = far_is.far_kind; wide = is_narrow word far far_is narrow }
 
 pub wide_far_word : (word : ℕ) (f : FarPointer) → IsFarPointer word f → f.is_wide ≡ true → IsFar word 1
 wide_far_word word f f_is wide = record { far = f_is.far_kind; wide = is_wide word f f_is wide }
 
--- where it leads by that landing pad
+-- where it leads through that landing pad
 pub narrow_landing : (segments : List (List ℕ)) (place : Place) (word : ℕ) (far : FarPointer) (bytes : List ℕ) (first : ℕ) (local : LocalPointer) (read : ReadLanding)
     → word_at (message_of segments) place ≡ Some word → IsFarPointer word far → far.is_wide ≡ false → slice_get segments far.landing_pad.segment ≡ Some bytes
     → slice_get (words_of bytes) far.landing_pad.word ≡ Some first → IsLocal first local → Seen far.landing_pad 1 local bytes read → IsLanding (message_of segments) place read
@@ -201,7 +201,7 @@ object_stands m place read start body traversed l e stands traversed_is =
     subst (λ (n : ℕ). PointsTo m place (record (shape_of words (record { segment = n; word = start }) body) { traversed = read.landing_pads + traversed })) l.number
     (subst (λ (x : ℕ). PointsTo m place (record (shape_of words here body) { traversed = x })) total object)
 
--- what is found, or rejected, by way of a landing pad of two words
+-- what is found, or which error is met, through a landing pad of two words
 pub wide_found : {m : List (List ℕ)} {far : FarPointer} {first tag : ℕ} (result : Result ReadLanding Error) → ((word : ℕ) → IsFarPointer word far → HasWideLandingPad m word first tag)
     → IfOk result (λ landing. (place : Place) (word : ℕ) → word_at m place ≡ Some word → HasWideLandingPad m word first tag → IsLanding m place landing)
     → IfOk result (λ landing. (place : Place) (word : ℕ) → word_at m place ≡ Some word → IsFarPointer word far → IsLanding m place landing)

@@ -1,4 +1,4 @@
--- Lists of numbers and structs, and that they are where near pointers lead to them.
+-- Lists of numbers and structs in the segments of their pointers: they are where the pointers lead.
 use Rattle.std.proofs.Common.{◌≡◌, Bool, true, false, if◌then◌else◌, ℕ, ◌+◌, ◌*◌, ◌/◌, ◌^◌, ◌<◌, ◌≤◌, List, All, length, Some, slice_get, Bor, Option, refl, ◌∙◌, ap, subst, arith}
 use Rattle.std.specs.Prelude.{⊤}
 use Rattle.capnp_wire.specs.Pointer.{words_of, offset, pointer_kind}
@@ -22,7 +22,7 @@ use Rattle.capnp_wire.proofs.pointers.LandingLemmas.{struct_stands, numbers_stan
 use Rattle.capnp_wire.proofs.trees.RoomLemmas.{stands_room}
 use Rattle.capnp_wire.proofs.walks.ProgressLemmas.{entered, walked_alone}
 
--- what a near pointer says is where it has room
+-- an object is where a pointer within its segment leads, where there is room for it
 local_stands : (m : List (List ℕ)) (place : Place) (pointer : ℕ) (segment : Bor (List ℕ)) (start : ℕ) (body : Body) (traversed : ℕ)
     → word_at m place ≡ Some pointer → 0 < pointer → pointer < 2 ^ 64 → pointer_kind pointer < 2 → slice_get m place.segment ≡ Some (words_of segment.now)
     → start + 2 ^ 30 * (offset pointer / 2 ^ 29) ≡ place.word + 1 + offset pointer

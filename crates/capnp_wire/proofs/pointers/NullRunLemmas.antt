@@ -1,4 +1,4 @@
--- Runs of null pointers: what holds no others is its own words alone.
+-- Runs of null pointers: an object without other pointers is its own words alone.
 use Rattle.std.proofs.Common.{◌≡◌, ◌⊎◌, inl, inr, ℕ, zero, suc, ◌+◌, ◌≤◌, Bool, true, false, List, [], ◌∷◌, ◌++◌, Option, Some, slice_get, slice_index_or, length, take, drop, refl, sym, ◌∙◌, ap, subst, arith}
 use Rattle.std.proofs.Common.{length-take, length-drop}
 use Rattle.std.proofs.lemmas.List.{append-nil, drop-drop}
@@ -116,7 +116,7 @@ nulls_filled words start (suc n) slot next block room are fits =
     ∙ put_both slot (0 ∷ []) rest block (omega (arith, long))
     ∙ ap (λ (l : List ℕ). put slot l block) (sym f.words_are)
 
--- Where the kept pointers of a struct are null, none of them are kept, or all of its data.
+-- Where the kept pointers of a struct are null, it keeps none of them, or keeps all of its data.
 none_or_whole : (c : Bool) (words : List ℕ) (start : ℕ) (from size : StructSize) → Struct size ≡ output_body_of c words start (Struct from)
     → AreNull words (start + from.data_words) size.pointers → (size.pointers ≡ 0) ⊎ (size.data_words ≡ from.data_words)
 none_or_whole false words start from size is are =

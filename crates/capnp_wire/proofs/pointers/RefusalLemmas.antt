@@ -1,4 +1,4 @@
--- At most one error is at a pointer.
+-- A pointer fails with at most one error.
 use Rattle.std.proofs.Common.{◌≡◌, ◌⊎◌, inl, inr, ℕ, ◌+◌, ◌<◌, ◌≤◌, List, length, Some, None, slice_get, refl, sym, ◌∙◌, subst, arith}
 use Rattle.capnp_frame.specs.declared.error.ErrorKind.{ErrorKind}
 use Rattle.capnp_frame.specs.declared.error.ErrorKind.TheVariants.{PointerOutOfBounds, InvalidSegmentId, NestingLimitExceeded, CapabilityRefused, WrongPointerKind}
@@ -23,7 +23,7 @@ one_odd_word word a b (inl p) (inr q) = absurd (omega (arith, p.0, q.0))
 one_odd_word word a b (inr p) (inl q) = absurd (omega (arith, p.0, q.0))
 one_odd_word word a b (inr p) (inr q) = p.1 ∙ sym q.1
 
--- how a landing pad of two words is rejected after its first word
+-- the error of a landing pad of two words after its first word
 data WideRefused (m : List (List ℕ)) (word inner : ℕ) : ErrorKind → Type 0 where
   without_tag : word_at m (landing_pad_tag word) ≡ None → WideRefused m word inner PointerOutOfBounds
   leads_no_further : {tag : ℕ} → word_at m (landing_pad_tag word) ≡ Some tag → (IsFar inner 0 → ⊥) → WideRefused m word inner PointerOutOfBounds
@@ -51,7 +51,7 @@ one_wide_refusal m word inner a b (by_tag e _ content _) (without_content f _ mi
 one_wide_refusal m word inner a b (by_tag {tag = v} e _ _ p) (by_tag {tag = w} f _ _ q) =
     let same : v ≡ w = same_word m (landing_pad_tag word) v w e f in one_odd_word w a b (subst (λ (t : ℕ). NotLocal t a) same p) q
 
--- how a landing pad is rejected, by its first word
+-- the error of a landing pad, by its first word
 data LandingPadRefused (m : List (List ℕ)) (word : ℕ) : ErrorKind → Type 0 where
   by_none : {kind : ErrorKind} → NoWord m (landing_pad word) kind → LandingPadRefused m word kind
   narrow : {tag : ℕ} {kind : ErrorKind} → has_wide_landing_pad word ≡ 0 → word_at m (landing_pad word) ≡ Some tag → NotLocal tag kind → LandingPadRefused m word kind
@@ -117,7 +117,7 @@ one_misfit words start pointer a b p q =
       ]
     ]
 
--- a pointer that leads nowhere, and how it is rejected
+-- a pointer that leads nowhere, and its error
 data LeadsNowhere (m : List (List ℕ)) (place : Place) : ErrorKind → Type 0 where
   by_no_word : {kind : ErrorKind} → NoWord m place kind → LeadsNowhere m place kind
   by_capability : {word : ℕ} → word_at m place ≡ Some word → pointer_kind word ≡ 3 → LeadsNowhere m place CapabilityRefused
@@ -140,7 +140,7 @@ one_way_nowhere m place a b (by_landing_pad {word = v} e k _) (by_capability {wo
 one_way_nowhere m place a b (by_landing_pad {word = v} e _ p) (by_landing_pad {word = w} f _ q) =
     let same : v ≡ w = same_word m place v w e f in one_bad_landing_pad m w a b (subst (λ (x : ℕ). BadLandingPad m x a) same p) q
 
--- how a landing is rejected
+-- the error of a landing
 data LandingRefused (m : List (List ℕ)) (landing : Target) (nesting : ℕ) : ErrorKind → Type 0 where
   deeper : nesting ≡ 0 → LandingRefused m landing nesting NestingLimitExceeded
   before_all : 0 < nesting → ((start : ℕ) → IsStart landing.origin landing.tag start → ⊥) → LandingRefused m landing nesting PointerOutOfBounds
@@ -162,7 +162,7 @@ one_landing_refusal m c nesting a b (by_misfit {words = v} {start = i} _ begins 
     let moved : RejectsSize w j c.tag a = subst (λ (x : ℕ). RejectsSize w x c.tag a) start (subst (λ (x : List ℕ). RejectsSize x i c.tag a) words p) in
     one_misfit w j c.tag a b moved q
 
--- a pointer is rejected on its way, or after it
+-- the error of a pointer on the way to its object, or at the object
 data FailsWithKind (m : List (List ℕ)) (place : Place) (nesting : ℕ) (kind : ErrorKind) : Type 0 where
   on_its_way : LeadsNowhere m place kind → FailsWithKind m place nesting kind
   after_it : {landing : Target} → Lands m place landing → LandingRefused m landing nesting kind → FailsWithKind m place nesting kind

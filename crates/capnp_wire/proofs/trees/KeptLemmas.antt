@@ -17,7 +17,7 @@ use Rattle.capnp_wire.proofs.trees.TrimLemmas.{RoomOne, each_room, room_each}
 use Rattle.capnp_wire.proofs.pointers.FaultLemmas.{not_null}
 use Rattle.capnp_wire.proofs.trees.FrontLemmas.{trim_first, trim_after, count_cut_trim}
 
--- trees that are at places, in two parts
+-- trees at places, in two parts
 pub record Halves (m : List (List ℕ)) (ps qs : List Place) (n : ℕ) (t : Trees) : Type 0 where
   pub one : ℕ
   pub two : ℕ
@@ -155,7 +155,7 @@ no_pointers_used : (words : List ℕ) (start step : ℕ) (rows : List (List ℕ)
 no_pointers_used words start step [] t = refl
 no_pointers_used words start step (row ∷ rows) t = ap (λ (k : ℕ). max 0 k) (no_pointers_used words (start + step) step rows t)
 
--- also where there are none, wherever they would be
+-- also where there are no trees, wherever they would be
 pub least_pointers_are : (m : List (List ℕ)) (words : List ℕ) (segment start d p : ℕ) (rows : List (List ℕ)) (t : Trees) (traversed : ℕ) → (0 < p → slice_get m segment ≡ Some words)
     → At m (row_places segment start d p (length rows)) t traversed → least_pointers p rows (trim t) ≡ most_used words (start + d) p (d + p) (length rows)
 least_pointers_are m words segment start d zero rows t traversed there stand = no_pointers_used words (start + d) (d + 0) rows (trim t)

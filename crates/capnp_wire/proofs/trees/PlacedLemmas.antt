@@ -1,4 +1,4 @@
--- A tree whose body is anywhere in a message is read back where its pointer is.
+-- A tree whose body is anywhere in a message is read back at the place of its pointer.
 use Rattle.std.proofs.Common.{◌≡◌, ℕ, zero, suc, ◌+◌, ◌-◌, ◌^◌, ◌<◌, ◌≤◌, ◌==◌, if◌then◌else◌, false, true, List, [], ◌∷◌, ◌++◌}
 use Rattle.std.proofs.Common.{length, take, drop, Some, slice_get, refl, sym, ◌∙◌, ap, subst, arith, length-take}
 use Rattle.std.proofs.lemmas.List.{take-append-drop}
@@ -11,7 +11,7 @@ use Rattle.capnp_wire.specs.declared.layout.place.Place.{Place}
 use Rattle.capnp_wire.proofs.words.SubsliceLemmas.{Holds}
 use Rattle.capnp_wire.proofs.layouts.LayoutLemmas.{stands, local_reaches, few_reach}
 
--- words that are at their place
+-- words at their place
 pub holds_there : (words : List ℕ) (start n : ℕ) (part : List ℕ) → start + n ≤ length words → words_from words start n ≡ part → Holds words start part
 holds_there words start n part room is = record {
   front = take start words;
@@ -21,7 +21,7 @@ holds_there words start n part room is = record {
   begins = omega (arith, room, length-take start words);
 }
 
--- the body is a given number of words after the pointer
+-- the body is this many words after the pointer
 pub local_tree : (m : List (List ℕ)) (k word offset : ℕ) (words : List ℕ) (form : Form) (children : Trees) → slice_get m k ≡ Some words → AllHaveRoom (tree form children none)
     → total_words (tree form children none) < 2 ^ 29 → offset < 2 ^ 29 → slice_get words word ≡ Some (pointer form (count children) offset) → Laid words (word + 1 + offset) (tree form children none)
     → (traversed : ℕ) × At m (record { segment = k; word = word } ∷ []) (tree form children none) traversed
@@ -39,7 +39,7 @@ local_tree m k word offset words form children there room small reach stand laid
     (omega arith, tt) (link, refl) whole in
     subst (λ (n : ℕ). (traversed : ℕ) × At m (record { segment = k; word = n } ∷ []) (tree form children none) traversed) first there_is
 
--- an object that is reached by way of a landing pad of one word
+-- an object that is reached through a landing pad of one word
 pub far_object : (m : List (List ℕ)) (place : Place) (word tag : ℕ) (shape : Shape) → word_at m place ≡ Some word → IsFar word 0 → word_at m (landing_pad word) ≡ Some tag → 0 < tag → pointer_kind tag < 2
     → PointsTo m (landing_pad word) shape → (traversed : ℕ) × PointsTo m place (record { form = shape.form; children = shape.children; traversed = traversed })
 far_object m place word tag shape here is_far following some is_local (is_null e) = let zero_tag : tag ≡ 0 = cc in absurd (omega (arith, zero_tag, some))

@@ -24,7 +24,7 @@ use Rattle.capnp_wire.proofs.trees.RoomLemmas.{length-rows_from, length-row_plac
 use Rattle.capnp_wire.proofs.trees.TrimLemmas.{count-trim, room_trim}
 use Rattle.capnp_wire.proofs.objects.OwnWordLemmas.{own_words_are}
 
--- the words of an object by itself: with those of what it holds they are the words of the whole
+-- the words of an object alone: with those of the trees below it they are the words of the whole
 pub record OwnOf (m : List (List ℕ)) (c : Bool) (shape : Shape) (own : ℕ) : Type 0 where
   pub counts : (children : Trees) (inside : ℕ) → At m shape.children children inside → AllHaveRoom children → own + total_words (output c children) ≡ total_words (output c (tree shape.form children none))
   pub room : HasRoom shape.form (length shape.children)

@@ -52,7 +52,7 @@ pub count-trim : (trees : Trees) → count (trim trees) ≡ count trees
 count-trim none = refl
 count-trim (tree form children rest) = omega (arith, count-trim rest)
 
--- one tree whose held trees are trimmed already
+-- a tree below which the trees are trimmed already
 twice : (form : Form) (children : Trees) → HasRoom form (count children)
     → (trim_form (trim_form form children) (trim_children form children) ≡ trim_form form children) × (trim_children (trim_form form children) (trim_children form children) ≡ trim_children form children)
 twice null children room = (refl, refl)

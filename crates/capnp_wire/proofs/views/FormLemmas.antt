@@ -53,7 +53,7 @@ entered_shown p object fact entered holds = (
   (holds, entered.within),
 )
 
--- a list of numbers is not declined by what takes it
+-- a view does not decline a list of numbers that it accepts
 pub numbers_form : (object : ReadObject) (sizes : ElementSize) (n : ℕ) (values : List ℕ) → object.body ≡ Numbers sizes n
     → values ≡ elements (words_of object.segment.now) object.start.word (code_of sizes) n → form_of object ≡ numbers (code_of sizes) values
 numbers_form object sizes n values body values_are =

@@ -51,7 +51,7 @@ pub same_list : (form : Form) (m : List (List ℕ)) (at : List Place) (nesting :
 same_list form m at nesting limit other a b x y =
     x.whole ∙ ap (λ (t : Trees). tree form t none) (one_tree m at x.children y.children x.traversed y.traversed x.stand y.stand).0 ∙ sym y.whole
 
--- its own words, with those of what it holds, and the room that its fields have
+-- its own words, with those of the trees below it, and the room that its fields have
 pub record OwnWords (form : Form) (m : List (List ℕ)) (at : List Place) (c : Bool) (own : ℕ) : Type 0 where
   pub totals : (children : Trees) (inside : ℕ) → At m at children inside → AllHaveRoom children → own + total_words (output c children) ≡ total_words (output c (tree form children none))
   pub room : (children : Trees) (inside : ℕ) → At m at children inside → HasRoom form (count children)
@@ -148,7 +148,8 @@ pointers_written {m} {first} {n} {nesting} {c} {gap} {next} {room} {trees} {old}
       next_is = omega (arith, all.next_is k.trees k.traversed there, o.totals);
     }
 
--- A list of structs, as it is and as it is kept: in canonical form without what is at the ends of all for nothing.
+-- A list of structs, as it is and as it is kept: in canonical form without the trailing words that
+-- no element needs.
 abbrev pub kept_size : Bool → List ℕ → Place → Elements → StructSize
 kept_size c words first elements = if c then least_size words first.word elements.size elements.count else elements.size
 

@@ -1,4 +1,4 @@
--- What views show of lists of structs and of pointers, and when they are rejected.
+-- What views of lists of structs and of pointers show, and when they fail.
 use Rattle.std.proofs.Common.{◌≡◌, ℕ, ◌+◌, ◌*◌, ◌/◌, ◌^◌, ◌<◌, ◌≤◌, List, length, refl, sym, ap, subst, arith}
 use Rattle.capnp_frame.specs.declared.error.ErrorKind.{ErrorKind}
 use Rattle.capnp_frame.specs.declared.error.ErrorKind.TheVariants.{WrongPointerKind}
@@ -38,7 +38,7 @@ pointers_decide = record {
   unlimited = λ form kind declined. wrong_kind_unlimited kind declined.1;
 }
 
--- what a list of structs shows is of a form that it takes
+-- what a list of structs shows is of a form that it accepts
 rows_taken : (form : Form) (p : ℕ) (rows : List (List ℕ)) → HasRows form p rows → TakesStructs form
 rows_taken null p rows t = tt
 rows_taken (struct words) p rows t = t
@@ -119,7 +119,7 @@ pointers_show p object n entered body =
       (holds.0, holds.1, entered.within),
     )
 
--- what a list of numbers shows is of a form that it takes
+-- what a list of numbers shows is of a form that it accepts
 numbers_taken : (form : Form) (code : ℕ) (values : List ℕ) → IsNumbers code form values → TakesNumbers code form
 numbers_taken null code values t = tt
 numbers_taken (struct words) code values t = t
@@ -130,7 +130,8 @@ numbers_taken (structs d p rows) code values t = t
 pub numbers_accepted : (p : Pointer) (code : ℕ) (values : List ℕ) → Reads p (λ form. IsNumbers code form values) → Accepts p (TakesNumbers code)
 numbers_accepted p code values read = (read.0, read.1, numbers_taken read.0.form code values read.2.0)
 
--- a list that was entered has no more elements, and of structs no more words, than a pointer tells
+-- a list that was entered has no more elements, and of structs no more words, than a pointer can
+-- say
 room_entered : (p : Pointer) (object : ReadObject) (body : Body) → IsEntered p object → object.body ≡ body
     → let shape = shape_of (words_of object.segment.now) object.start body in HasRoom shape.form (length shape.children)
 room_entered p object body entered is =

@@ -25,7 +25,7 @@ pub entered_form : (p : Pointer) (object : ReadObject) (body : Body) (form : For
     → (shape_of (words_of object.segment.now) object.start body).form ≡ form → Accepts p (λ there. there ≡ form)
 entered_form p object body form entered is form_is = entered_kind p object body (λ there. there ≡ form) entered is form_is
 
--- every object is taken, and none is declined
+-- every object is accepted, and none is declined
 abbrev DeclinesNone : Form → ErrorKind → Type 0
 DeclinesNone form kind = ⊥
 

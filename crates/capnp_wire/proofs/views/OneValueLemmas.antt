@@ -1,4 +1,4 @@
--- A value is one tree, or is rejected for one reason, and so its measure is decided.
+-- A value is one tree, or fails with one error, and so its measure is determined.
 use Rattle.std.proofs.Common.{◌≡◌, ℕ, Bool, List, [], ◌∷◌, Option, Some, None, MatchOption, Result, Ok, Err, MatchResult, inl, inr, sym, ◌∙◌, ap, subst, arith}
 use Rattle.std.specs.Result.{IsErrAnd}
 use Rattle.capnp_frame.specs.declared.error.Error.{Error}
@@ -35,14 +35,14 @@ one_lack h r one c a b (inr x) (inl y) = absurd (one.apart b x.0 y x.1)
 one_lack h r one c a b (inr x) (inr y) =
     x.3 ∙ ap (λ (t : Trees). too_large c (total_words (output c t))) (one.same_tree x.0 y.0 x.1 y.1) ∙ sym y.3
 
--- a value that lacks words fails for just that
+-- a value that lacks words fails for exactly this reason
 pub measured_exactly : (h : Trees → Type 0) (r : ErrorKind → Type 0) → IsOne h r → (c : Bool) (returned : Result ℕ Error)
     → MatchResult returned (λ words. HasWords h c words) (λ error. LacksWords h r c error.kind)
     → (kind : ErrorKind) → LacksWords h r c kind → IsErrAnd returned (λ error. error.kind ≡ kind)
 measured_exactly h r one c (Ok words) m kind lacks = absurd (has_or_lacks h r one c words kind m lacks)
 measured_exactly h r one c (Err error) m kind lacks = one_lack h r one c error.kind kind m lacks
 
--- and one that has words is returned by just these
+-- and for one that has words exactly these are returned
 pub measured_found : (h : Trees → Type 0) (r : ErrorKind → Type 0) → IsOne h r → (c : Bool) (returned : Result ℕ Error)
     → MatchResult returned (λ words. HasWords h c words) (λ error. LacksWords h r c error.kind)
     → (words : ℕ) → HasWords h c words → returned ≡ Ok words

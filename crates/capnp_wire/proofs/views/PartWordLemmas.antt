@@ -14,7 +14,7 @@ use Rattle.capnp_wire.specs.declared.traits.PartWords.{PartWords}
 use Rattle.capnp_wire.proofs.objects.ObjectLemmas.{one_object}
 use Rattle.capnp_wire.proofs.trees.TrimLemmas.{total-trim}
 
--- a part by its words as it is, and in the form that is made
+-- a part, by its words as it is, and in the form that is written
 pub output_less : (c : Bool) (trees : Trees) → AllHaveRoom trees → total_words (output c trees) ≤ total_words trees
 output_less true trees rooms = total-trim trees rooms
 output_less false trees rooms = omega arith
@@ -45,7 +45,7 @@ same_ok r x y a b = cc
 unwrapped : (r : Result ℕ Error) (other x y : ℕ) → r ≡ Ok x → y ≡ result_unwrap_or r other → y ≡ x
 unwrapped r other x y a b = b ∙ ap (λ (e : Result ℕ Error). result_unwrap_or e other) a
 
--- what is returned of it: where no canonical form is made, its words once; else both
+-- what is returned of it: where no canonical form is written, its words once; else both
 pub as_is_found : (h : Trees → Type 0) (c : Bool) (returned : Result ℕ Error) (as_is : ℕ) (words : PartWords) → returned ≡ Ok as_is → ((n : ℕ) → HasWords h false n → returned ≡ Ok n)
     → c ≡ false → HasPart h c words → record { as_is = as_is; output = as_is } ≡ words
 as_is_found h c returned as_is words was found plain p =
@@ -76,12 +76,12 @@ both_found h c returned other as_is output_words_are words was found canonical f
     let there = found_output words.output (subst (λ (b : Bool). HasWords h b words.output) canonical (output_words h c words p)) in
     same_part (record { as_is = as_is; output = output_words_are }) words same (unwrapped other 0 words.output output_words_are there is)
 
--- where a pointer is nowhere, its tree is null
+-- where a pointer has no place, its tree is null
 pub null_there_tree : (p : Pointer) (trees : Trees) → p.place ≡ None → LeadsToTree p trees → trees ≡ tree null none none
 null_there_tree p trees e t =
     subst (λ (o : Option Place). MatchOption o (trees ≡ tree null none none) (λ there. TreeAt p.message there p.nesting p.limit trees)) e t
 
--- what is somewhere is null where its pointer is
+-- what has a place is null where its pointer is
 some_form : (words : List ℕ) (start : Place) (tag : ℕ) (shape : Shape) → ShapeStands words start tag shape → is_null shape.form ≡ false
 some_form words start tag shape (a_struct _ _) = refl
 some_form words start tag shape (some_numbers _ _ _) = refl

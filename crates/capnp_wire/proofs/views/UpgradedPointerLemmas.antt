@@ -40,7 +40,7 @@ pub first_pointers_accepted : (p : Pointer) (list : PointerList) → IsUpgradedP
 first_pointers_accepted p list read =
     (read.shown.0, read.shown.1, first_pointers_taken read.shown.0.form read.shown.0.children list.children read.shown.2.0)
 
--- places that are a step from one another
+-- places at one distance from one another
 pub length-stepped_places : (segment word step n : ℕ) → length (stepped_places segment word step n) ≡ n
 length-stepped_places segment word step zero = refl
 length-stepped_places segment word step (suc n) = ap (λ (k : ℕ). suc k) (length-stepped_places segment (word + step) step n)

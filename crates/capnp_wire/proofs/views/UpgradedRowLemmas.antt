@@ -92,7 +92,7 @@ structs_upgraded p object there following list entered body is =
     ReadsAsRows shape.form (length shape.children) wanted.pointer_words wanted.rows × (wanted.children ≡ shape.children) in
     subst (IsUpgradedStructs p) (sym is) (upgraded p object wanted entered refl refl refl (subst fact (sym body) ((refl, refl), refl)))
 
--- pointers, and elements of nothing, which have no data words
+-- pointers, and elements of no bits, which have no data words
 no_data : (words : List ℕ) (start p n : ℕ) → rows_from words start 0 p n ≡ replicate n []
 no_data words start p zero = refl
 no_data words start p (suc n) = ap (λ (rows : List (List ℕ)). [] ∷ rows) (no_data words (start + 0 + p) p n)

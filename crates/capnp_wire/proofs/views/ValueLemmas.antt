@@ -24,7 +24,7 @@ tree_at : (m : List (List ℕ)) (place : Place) (nesting : ℕ) (limit left : Op
     → TreeAt m place nesting limit w.stand.trees
 tree_at m place nesting limit left c before_it now w = record { traversed = w.traversed; stand = w.stand.stand; shallow = w.stand.shallow; within = w.within }
 
--- the words that a walk counted from 0 on
+-- the words that a walk counts from 0 on
 pub measured : (m : List (List ℕ)) (place : Place) (nesting : ℕ) (limit left : Option ℕ) (c : Bool) (now : Option ℕ) (words : ℕ) (w : Walked m c place nesting limit left (Some 0) now)
     → words ≡ 0 + w.words → words < 2 ^ 29
     → Measured m place nesting limit c words

@@ -1,4 +1,4 @@
--- When views are rejected.
+-- When views fail.
 use Rattle.std.proofs.Common.{◌≡◌, ◌≢◌, ◌⊎◌, ℕ, List, Some, None, Result, Ok, Err, IsOk, IfErr, MatchResult, inl, inr, refl, sym, ◌∙◌, subst}
 use Rattle.std.specs.Result.{IsErrAnd}
 use Rattle.capnp_frame.specs.declared.error.Error.{Error}
@@ -15,7 +15,7 @@ use Rattle.capnp_wire.proofs.objects.ObjectLemmas.{one_object}
 use Rattle.capnp_wire.proofs.pointers.FaultLemmas.{refused_has_no_object}
 use Rattle.capnp_wire.proofs.pointers.RefusalLemmas.{one_refusal}
 
--- a pointer stands for one thing alone
+-- a pointer stands for only one thing
 pub one_denoted : (p : Pointer) (s t : Shape) → Denotes p s → Denotes p t → s ≡ t
 one_denoted p s t (nowhere e) (nowhere f) = refl
 one_denoted p s t (nowhere e) (at_place f _ _) = cc
@@ -23,7 +23,7 @@ one_denoted p s t (at_place e _ _) (nowhere f) = cc
 one_denoted p s t (at_place {place = a} e o _) (at_place {place = b} f q _) =
     let same : a ≡ b = cc in one_object p.message b s t (subst (λ x. PointsTo p.message x s) same o) q
 
--- without a limit a pointer is unreadable only where it stands for nothing
+-- without a limit, a pointer can't be read only where it stands for nothing
 fault_denotes_nothing : (p : Pointer) (place : Place) (kind : ErrorKind) (s : Shape) → p.place ≡ Some place → Fault p.message place p.nesting kind → Denotes p s → ⊥
 fault_denotes_nothing p place kind s e fault (nowhere f) = cc
 fault_denotes_nothing p place kind s e fault (at_place {place = b} f o deep) =
@@ -37,7 +37,7 @@ unreadable_denotes_nothing : (p : Pointer) (kind : ErrorKind) (s : Shape) → Re
 unreadable_denotes_nothing p kind s (inl invalid_pointer) free there = invalid_pointer_denotes_nothing p kind s invalid_pointer there
 unreadable_denotes_nothing p kind s (inr met) free there = met.1 free
 
--- and never by the limit
+-- and never because of the limit
 no_word_unlimited : (m : List (List ℕ)) (place : Place) (kind : ErrorKind) → NoWord m place kind → kind ≢ ReadLimitExceeded
 no_word_unlimited m place kind (no_segment e) = λ is. cc
 no_word_unlimited m place kind (past_segment e f) = λ is. cc
@@ -71,13 +71,13 @@ unreadable_unlimited : (p : Pointer) (kind : ErrorKind) → RejectsReading p kin
 unreadable_unlimited p kind (inl invalid_pointer) free = fault_unlimited p.message invalid_pointer.0 p.nesting kind invalid_pointer.2
 unreadable_unlimited p kind (inr met) free = absurd (met.1 free)
 
--- What a view declines it does not take; it declines it by one error, which is not the limit's.
+-- What a view declines it does not accept; it declines it with one error, which is not the limit's.
 pub record Decides (takes : Form → Type 0) (declines : Form → ErrorKind → Type 0) : Type 0 where
   pub apart : (form : Form) (kind : ErrorKind) → declines form kind → takes form → ⊥
   pub once : (form : Form) (kind other : ErrorKind) → declines form kind → declines form other → kind ≡ other
   pub unlimited : (form : Form) (kind : ErrorKind) → declines form kind → kind ≢ ReadLimitExceeded
 
--- A view of a kind that decides, of a pointer.
+-- A view that decides by the form of an object, for a pointer.
 module _ {V : Type 0} (p : Pointer) (takes : Form → Type 0) (declines : Form → ErrorKind → Type 0) (shows : V → Type 0) (decides : Decides takes declines)
     (shown : (v : V) → shows v → Accepts p takes) where
   apart_there : (kind : ErrorKind) → Declines p declines kind → Accepts p takes → ⊥
@@ -101,7 +101,7 @@ module _ {V : Type 0} (p : Pointer) (takes : Form → Type 0) (declines : Form �
   unlimited (Ok v) returned free = tt
   unlimited (Err e) returned free = refused_unlimited e.kind returned free
 
-  -- where no object is, by just the one error
+  -- where no object is there, with exactly that error
   refused_invalid_pointer : (kind other : ErrorKind) → IsInvalidPointer p kind → Refuses p declines other → other ≡ kind
   refused_invalid_pointer kind other invalid_pointer (inl (inl another)) =
       let there : p.place ≡ Some another.0 = another.1 in
@@ -115,7 +115,7 @@ module _ {V : Type 0} (p : Pointer) (takes : Form → Type 0) (declines : Form �
   exact (Ok v) returned kind invalid_pointer = let taken = shown v returned in absurd (invalid_pointer_denotes_nothing p kind taken.0 invalid_pointer taken.1)
   exact (Err e) returned kind invalid_pointer = refused_invalid_pointer kind e.kind invalid_pointer returned
 
-  -- what a view declines, by the error that it declines it by, or by the limit
+  -- what a view declines, with the error of the view, or with the limit's
   refused_declined : (kind other : ErrorKind) → Declines p declines kind → Refuses p declines other → (other ≡ kind) ⊎ MeetsLimit p other
   refused_declined kind other declined (inl (inl invalid_pointer)) = absurd (invalid_pointer_denotes_nothing p other declined.0 invalid_pointer declined.1)
   refused_declined kind other declined (inl (inr met)) = inr met
@@ -182,7 +182,7 @@ text_once form kind other (inr p) (inr q) = p.2 ∙ sym q.2
 pub text_decides : Decides TakesText DeclinesText
 text_decides = record { apart = text_apart; once = text_once; unlimited = text_unlimited }
 
--- what a view shows is of a form that it takes
+-- what a view shows is of a form that it accepts
 data_taken : (form : Form) (bytes : List ℕ) → IsData form bytes → TakesNumbers 2 form
 data_taken null bytes t = tt
 data_taken (struct words) bytes t = t

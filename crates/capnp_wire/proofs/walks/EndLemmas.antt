@@ -1,4 +1,4 @@
--- Where a walk that tests ends early, that no canonical trees are there, and that it ends in one way.
+-- Where a walk that tests ends early, no canonical trees are there, and it ends in only one way.
 use Rattle.std.proofs.Common.{◌≡◌, ℕ, ◌+◌, ◌-◌, ◌^◌, ◌<◌, ◌≤◌, List, [], ◌∷◌, length, Option, Some, slice_get, slice_index_or, refl, sym, ◌∙◌, ap, subst, arith}
 use Rattle.std.specs.Prelude.{All}
 use Rattle.capnp_frame.specs.declared.error.ErrorKind.{ErrorKind}
@@ -86,7 +86,7 @@ children_before segment word nesting next limit shape all before within meets l 
     subst (λ (l : List Place). AllBefore (next + object_size shape.form (length shape.children)) l) (sym exact.children_is)
     (before_placed next (object_size shape.form (length shape.children)) (slots shape.form (length shape.children)) (slots_before shape.form (length shape.children) room))
 
--- where a walk ends that is not rejected, no trees are as the canonical form has them
+-- where a walk ends without an error, no trees are as the canonical form has them
 pub ends_not : (segment : List ℕ) (places : List Place) (nesting next : ℕ) (limit : Option ℕ) (trees : Trees) (traversed : ℕ) → All (λ w. w < 2 ^ 64) segment
     → Ends segment places nesting limit next not_canonical → At (segment ∷ []) places trees traversed → AllBefore next places → next ≤ length segment → IsInPreorder segment places next trees → Trimmed trees → ⊥
 ends_not segment places nesting next limit trees traversed all (far {place = place} f) (at {shape = s} {children = h} o inner tail) before within in_preorder trimmed =

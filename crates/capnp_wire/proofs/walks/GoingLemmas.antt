@@ -1,4 +1,4 @@
--- How far a walk that tests what an object holds has come.
+-- How far a walk that tests what is below an object has come.
 use Rattle.std.proofs.Common.{◌≡◌, ℕ, ◌+◌, ◌-◌, ◌<◌, ◌≤◌, List, [], ◌∷◌, ◌++◌, length, Bool, true, false, Option, Some, slice_get, Result, Ok, Err, IfOk, IfErr, refl, sym, ◌∙◌, ap, subst}
 use Rattle.std.proofs.Common.{arith, append_assoc, ◌^◌}
 use Rattle.std.proofs.lemmas.List.{append-nil}
@@ -72,7 +72,8 @@ null_passes {segment} {word} {nesting} {next} {after} {limit} {left} met room = 
   left_is = met.1 ∙ sym (less_none limit);
 }
 
--- How far a walk over the trees at some places has come that all pass so far: which are done, and which are left.
+-- How far a walk over the trees at some places has come, all of which pass so far: which are done,
+-- and which are left.
 pub record Going (segment : List ℕ) (children rest : List Place) (nesting : ℕ) (limit left : Option ℕ) (next now : ℕ) : Type 0 where
   pub front : List Place
   pub children_is : children ≡ front ++ rest

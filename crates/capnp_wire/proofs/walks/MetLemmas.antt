@@ -73,7 +73,7 @@ tests_as {segment} {word} {nesting} {next} {pointer} {limit} {object} m before =
       λ l. let t = e.1 l in (t.0, t.1, subst truncated (sym m.local.content) t.2),
     )
 
--- what the test of these returns says of it, where the segment has a given number of words
+-- what the test of these says of it, where the segment has this many words
 pub tests_say : {segment : List ℕ} {word nesting next pointer there : ℕ} {limit : Option ℕ} {object : ReadObject} (returned : Bool)
     → Met segment word nesting next pointer limit object
     → word < next → next ≤ there → length segment ≡ there
@@ -104,7 +104,7 @@ start_of (Numbers size count) word next pointer start before target is = let at 
 start_of (Pointers count) word next pointer start before target is = let at = lead_start word next start (offset pointer) before is target in omega arith
 start_of (Structs e more) word next pointer start before target is = let at = lead_start word next start (offset pointer) before is.0 target in omega arith
 
--- its words end where the next free word is then
+-- its words end at the next free word after it
 met_end : {segment : List ℕ} {word nesting next pointer : ℕ} {limit : Option ℕ} {object : ReadObject} → Met segment word nesting next pointer limit object → word < next
     → NextOf pointer word next object.body
     → object.start.word + words_in object.body ≤ next + words_in object.body
@@ -112,7 +112,7 @@ met_end {segment} {word} {nesting} {next} {pointer} {limit} {object} m before is
     let start = start_of object.body word next pointer object.start.word before m.local.target is in
     omega arith
 
--- it is as the canonical form has it, and its pointers are to be tested yet
+-- it is as the canonical form has it, and its pointers are still to be tested
 pub met_pointers : {segment : List ℕ} {word nesting next pointer : ℕ} {limit : Option ℕ} {object : ReadObject} (left : Option ℕ) (more : ℕ) (pointers : PointerSlots)
     → Met segment word nesting next pointer limit object → word < next → next ≤ length segment
     → IsLaidOut segment (record { segment = 0; word = word }) next (shape_as segment object)

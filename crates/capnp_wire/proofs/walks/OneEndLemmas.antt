@@ -1,4 +1,4 @@
--- A walk that tests ends in one way.
+-- A walk that tests ends in only one way.
 use Rattle.std.proofs.Common.{◌≡◌, ℕ, ◌+◌, ◌-◌, ◌^◌, ◌<◌, ◌≤◌, List, [], ◌∷◌, length, Option, Some, sym, ◌∙◌, ap, subst, arith}
 use Rattle.std.specs.Prelude.{All}
 use Rattle.capnp_frame.specs.declared.error.ErrorKind.{ErrorKind}
@@ -13,7 +13,7 @@ use Rattle.capnp_wire.proofs.walks.StopLemmas.{stops_has_no_trees, one_stop}
 use Rattle.capnp_wire.proofs.layouts.LaidOutLemmas.{laid_room}
 use Rattle.capnp_wire.proofs.walks.EndLemmas.{AllBefore, ends_stops, ends_not, children_before, before_later, in_first}
 
--- a walk that is rejected does not pass
+-- a walk that fails does not pass
 pub refused_passes : (segment : List ℕ) (places : List Place) (nesting traversed next start after : ℕ) (limit : Option ℕ) (kind : ErrorKind) → Ends segment places nesting limit next (refused kind)
     → Passes segment places nesting traversed start after → Within limit traversed → ⊥
 refused_passes segment places nesting traversed next start after limit kind ends p fits =
@@ -74,7 +74,7 @@ one_way_to_end segment places nesting next limit kind all before within (later {
     subst (λ (k : ℕ). Ends segment others nesting (less limit x) k not_canonical) ends_same (subst (λ (k : ℕ). Ends segment others nesting (less limit k) end not_canonical) same.1 f) in
     one_way_to_end segment others nesting after (less limit x) kind all (before_later next after others (omega (arith, p.after_is)) before.2) p.room e there
 
--- one error alone
+-- with only one error
 pub one_refusal_ends : (segment : List ℕ) (places : List Place) (nesting next : ℕ) (limit : Option ℕ) (a b : ErrorKind) → Ends segment places nesting limit next (refused a)
     → Ends segment places nesting limit next (refused b) → a ≡ b
 one_refusal_ends segment places nesting next limit a b x y =

@@ -1,4 +1,4 @@
--- A walk comes to an object that holds a run of others, and then goes over these.
+-- A walk comes to an object that has a run of pointers, and then goes over these.
 use Rattle.std.proofs.Common.{◌≡◌, ◌≢◌, Bool, ℕ, ◌+◌, ◌-◌, List, [], ◌∷◌, ◌++◌, length, slice_get, Option, refl, ◌∙◌, ap, arith, length-append}
 use Rattle.capnp_frame.specs.declared.error.ErrorKind.{ErrorKind}
 use Rattle.capnp_wire.specs.Object.{places}
@@ -12,7 +12,7 @@ use Rattle.capnp_wire.specs.declared.layout.fast_path.LocalStruct.{LocalStruct}
 use Rattle.capnp_wire.specs.declared.layout.pointer_run.PointerRun.{PointerRun}
 use Rattle.capnp_wire.proofs.walks.ProgressLemmas.{Progress, Going, entered, progress_front, progress_over, progress_next, progress_stops, walk_over, walk_stops_inside}
 
--- a struct that is entered holds its pointers
+-- a struct that is entered has its pointers
 pub struct_holds : {m : List (List ℕ)} {c : Bool} {place : Place} {nesting : ℕ} {limit left counted_then counted_now : Option ℕ} (found : LocalStruct) (children : PointerRun)
     → EntersObject m c place (local_struct_of found) nesting limit left counted_then counted_now
     → children.segment.now ≡ found.segment.now → children.first.word ≡ found.start.word + found.size.data_words → children.first.segment ≡ found.start.segment → children.count ≡ found.size.pointers
@@ -54,7 +54,7 @@ pub some_before : {m : List (List ℕ)} {c : Bool} {at rest : List Place} {run :
     → WalkedTo m c at rest run nesting limit left counted_then counted_now → at ≢ []
 some_before {rest = rest} w none = absurd (omega (arith, ap length w.at_is, ap length none, length-append w.front (w.place ∷ rest)))
 
--- and goes over what it holds, or stops there
+-- and goes over what is below it, or stops there
 pub parent_walked : {m : List (List ℕ)} {c : Bool} {children at rest pointers : List Place} {run : PointerRun} {nesting : ℕ} {limit left mid after counted_then counted_now counted_mid counted_after : Option ℕ}
     → Progress m c children at nesting limit left counted_then counted_now → WalkedTo m c at rest run nesting left mid counted_now counted_mid
     → pointers ≡ places run.first.segment run.first.word run.count → WalkedAll m c pointers (nesting - 1) mid after counted_mid counted_after

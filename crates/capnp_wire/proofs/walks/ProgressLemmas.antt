@@ -1,4 +1,4 @@
--- How far a walk over what an object holds has come.
+-- How far a walk over what is below an object has come.
 use Rattle.std.proofs.Common.{◌≡◌, ◌≢◌, arith, length, Bool, ℕ, ◌+◌, ◌-◌, ◌<◌, Some, slice_get, List, [], ◌∷◌, ◌++◌, Option, Result, Ok, Err, OnOk, IfErr, refl, sym, ◌∙◌, ap, subst, append_assoc}
 use Rattle.std.proofs.lemmas.List.{append-nil}
 use Rattle.capnp_frame.specs.declared.error.Error.{Error}
@@ -18,8 +18,8 @@ use Rattle.capnp_wire.proofs.trees.StandLemmas.{within_none, less_none, within_b
 use Rattle.capnp_wire.proofs.trees.StoodLemmas.{OwnOf, own_output, stood_nowhere, stood_both, stood_over, stood_null, plain_stand}
 use Rattle.capnp_wire.proofs.walks.StopLemmas.{stops_more, stops_after}
 
--- How far a walk over the places that an object holds has come: which are done, and what is left of the limit
--- and counted since.
+-- How far a walk over the pointers of an object has come: which are done, and what is left of the
+-- limit, and has been counted since.
 pub record Progress (m : List (List ℕ)) (c : Bool) (children rest : List Place) (nesting : ℕ) (limit left words_before words_now : Option ℕ) : Type 0 where
   pub front : List Place
   pub children_is : children ≡ front ++ rest
@@ -45,7 +45,7 @@ progress_begins m c children nesting limit words = record {
 pub some_left : {place : Place} {rest others : List Place} → rest ≡ place ∷ others → rest ≢ []
 some_left is none = absurd (omega (arith, ap length is, ap length none))
 
--- then over some more of them, or over one
+-- then over more of them, or over one
 pub progress_over : {m : List (List ℕ)} {c : Bool} {children rest front others : List Place} {nesting : ℕ} {limit left after counted_then counted_now counted_after : Option ℕ}
     → rest ≡ front ++ others → Progress m c children rest nesting limit left counted_then counted_now → WalkedAll m c front nesting left after counted_now counted_after
     → Progress m c children others nesting limit after counted_then counted_after
@@ -92,7 +92,7 @@ progress_done {m} {c} {children} {rest} {nesting} {limit} {left} {counted_then} 
     let all : children ≡ p.front = p.children_is ∙ ap (λ (l : List Place). p.front ++ l) done ∙ append-nil p.front in
     subst (λ (l : List Place). WalkedAll m c l nesting limit left counted_then counted_now) (sym all) (progress_front p)
 
--- The walk is over some of an object's pointers in a segment; those that are left are there, too.
+-- The walk is over some of an object's pointers in a segment, and so are those that are left.
 pub record Going (m : List (List ℕ)) (segment : List ℕ) (c : Bool) (whole rows : PointerSlots) (nesting : ℕ) (limit left words_before words_now : Option ℕ) : Type 0 where
   pub progress : Progress m c (places_in whole) (places_in rows) nesting limit left words_before words_now
   pub content : places_in rows ≢ [] → slice_get m rows.next.segment ≡ Some segment
@@ -167,7 +167,7 @@ walked_over m c place shape nesting limit left after counted_then counted_now co
   counted = counts_both counted_then counted_now counted_after e.own w.words e.counted w.counted;
 }
 
--- below an object that holds nothing
+-- below an object without pointers
 pub walked_alone : {m : List (List ℕ)} {c : Bool} {place : Place} {shape : Shape} {nesting : ℕ} {limit left counted_then counted_now : Option ℕ}
     → Entered m c place shape nesting limit left counted_then counted_now → shape.children ≡ [] → Walked m c place nesting limit left counted_then counted_now
 walked_alone {m} {c} {place} {shape} {nesting} {limit} {left} {counted_then = a} {counted_now = b} e none =

@@ -1,4 +1,4 @@
--- What a walk tests says that the words of a layout are, and the other way round.
+-- The tests of a walk hold exactly where the words are those of a layout.
 use Rattle.std.proofs.Common.{◌≡◌, ℕ, ◌+◌, ◌-◌, ◌^◌, ◌<◌, ◌≤◌, List, [], ◌∷◌, ◌++◌, length, Some, slice_get, refl, sym, subst, arith, length-append}
 use Rattle.capnp_wire.specs.Pointer.{digits, number_of}
 use Rattle.capnp_wire.specs.Element.{width, words_for}

@@ -29,7 +29,7 @@ word_in_number (word ∷ words) (suc q) small =
 quotient : (a b unit : ℕ) → b < unit → (a * unit + b) / unit ≡ a
 quotient a b unit small = ap (λ (k : ℕ). k / unit) (omega arith) ∙ high_digits unit b a small
 
--- some bits of a number are those of its lowest bits
+-- some bits of a number are bits of its lowest ones
 cut_bits : (n r w : ℕ) → n % 2 ^ (w + r) / 2 ^ r ≡ n / 2 ^ r % 2 ^ w
 cut_bits n r w =
     let positive : 0 < 2 ^ r = pow_pos r in

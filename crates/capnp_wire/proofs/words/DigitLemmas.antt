@@ -46,7 +46,7 @@ pow-mul b i (suc j) = rw (pow-suc, mul-suc, pow-add, pow-mul b i j) refl
 room_bits : (bits n : ℕ) → bits * n ≤ 64 * words_for n bits
 room_bits bits n = let swap : n * bits ≡ bits * n = mul_comm n bits in omega arith
 
--- the words of some numbers hold them
+-- the words of some numbers contain them
 pub room_for : (bits n : ℕ) → (2 ^ bits) ^ n ≤ (2 ^ 64) ^ words_for n bits
 room_for bits n =
     let few : bits * n ≤ 64 * words_for n bits = room_bits bits n in

@@ -1,4 +1,4 @@
--- How many of some words are left without zeros at their end.
+-- How many of some words are left without the zeros at their end.
 use Rattle.std.proofs.Common.{◌≡◌, ℕ, zero, suc, ◌+◌, ◌-◌, ◌*◌, ◌<◌, ◌≤◌, max, List, [], ◌∷◌, ◌++◌, length, take, drop, Some, None, slice_get, refl, sym, ◌∙◌, ap, arith, length-append}
 use Rattle.std.proofs.Common.{length-take, length-drop}
 use Rattle.capnp_wire.specs.Pointer.{words_from}
@@ -60,7 +60,7 @@ word_is_there [] i within none = omega arith
 word_is_there (x ∷ words) zero within none = cc
 word_is_there (x ∷ words) (suc i) within none = word_is_there words i (omega arith) none
 
--- stretches one after the other
+-- consecutive parts
 pub most_next : (words : List ℕ) (start k step n so_far : ℕ) → 0 < n
     → max so_far (most_used words start k step n) ≡ max (max so_far (length (cut_zeros (words_from words start k)))) (most_used words (start + step) k step (n - 1))
 most_next words start k step zero so_far some = absurd (omega arith)
@@ -78,7 +78,7 @@ stretch_next start count step (suc n) there some room =
     let less : suc n - 1 ≡ n = omega arith in
     rw less (omega arith)
 
--- stretches of no words
+-- parts of no words
 pub most_none : (words : List ℕ) (start step n : ℕ) → most_used words start 0 step n ≡ 0
 most_none words start step zero = refl
 most_none words start step (suc n) = omega (arith, most_within words start 0, most_none words (start + step) step n)

@@ -42,7 +42,7 @@ pub number-append : (base : ℕ) (xs ys : List ℕ) → number_of base (xs ++ ys
 number-append base [] ys = rw (pow-zero, one-mul, zero-add) refl
 number-append base (x ∷ xs) ys = rw (number-append base xs ys, pow-suc base (length xs)) (omega arith)
 
--- what some words from a start on are, as one number, their bytes are
+-- the bytes of some words from a start on, as one number, are these words as one number
 numbers_first : (k t : ℕ) (bytes : List ℕ) → k ≤ t → 8 * t ≤ length bytes
     → number_of (2 ^ 64) (take k (map (number_of 256) (first_chunks 8 t bytes))) ≡ number_of 256 (take (8 * k) bytes)
 numbers_first zero t bytes le room = refl

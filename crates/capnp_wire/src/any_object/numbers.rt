@@ -1,4 +1,4 @@
-//! Lists of numbers of any size that are read.
+//! Readers of lists of numbers of any size.
 ghost use Rattle.std.specs.Prelude.{◌≡◌, ◌*◌, length};
 ghost use Rattle.capnp_wire.specs.Element.{code_of, width, words_for};
 
@@ -6,7 +6,7 @@ use crate::layout::element::ElementSize;
 use crate::layout::object::words_fit;
 use crate::layout::place::word;
 
-/// A list of numbers, of bits or of nothing in a message, whatever the size of its elements.
+/// A list of numbers, of bools or of `Void` in a message, whatever the size of its elements.
 #[derive(Drop)]
 pub struct Numbers<'a> {
     /// The words of the list.
@@ -27,14 +27,14 @@ impl<'a> Numbers<'a> {
         self.count
     }
 
-    /// How many bits each element has: 0, 1, 8, 16, 32 or 64.
+    /// The size of each element in bits: 0, 1, 8, 16, 32 or 64.
     pub fn bits_of_each(&self) -> u32
         ensures { result ≡ width (code_of self.now.size) }
     {
         self.size.bits() as u32
     }
 
-    /// The bits of the element of this index, in the low bits of a number.
+    /// The bits of the element at this index, in the low bits of a number.
     pub fn get(&self, index: u32) -> u64
         requires { index < length (sized_numbers_of self.now) }
         ensures { result ≡ slice_index (sized_numbers_of self.now) index }

@@ -10,8 +10,8 @@ use crate::{any_pointer, any_pointer_list, struct_list};
 use capnp_frame::Result;
 use capnp_frame::message::ReaderSegments;
 
-/// What a pointer leads to, counted once against the traversal limit: null, or a view of the kind
-/// of object that is there. What the object's own pointers lead to is counted when they are
+/// What a pointer leads to: null, or a view of the kind of object that is there. The object is
+/// counted once against the traversal limit. What its own pointers lead to is counted when they are
 /// followed.
 #[derive(Drop)]
 pub enum Reader<'a, S: ReaderSegments> {
@@ -21,7 +21,7 @@ pub enum Reader<'a, S: ReaderSegments> {
     Structs(struct_list::Reader<'a, S>),
     /// A list of pointers.
     Pointers(any_pointer_list::Reader<'a, S>),
-    /// A list of numbers, of bits or of nothing.
+    /// A list of numbers, of bools or of `Void`.
     Numbers(Numbers<'a>),
 }
 
@@ -81,7 +81,7 @@ impl<'a, S: ReaderSegments> Reader<'a, S> {
     }
 }
 
-// Null, and an object of any kind, is accepted.
+// Accepts null, and an object of any kind.
 impl<'a, S: ReaderSegments> FromPointerReader<'a, S> for Reader<'a, S> {
     ghost use Rattle.std.specs.Prelude.{⊤};
     ghost use Rattle.capnp_wire.specs.Readers.{pointer_of};

@@ -15,15 +15,16 @@ use crate::layout::place::word;
 use crate::read_limiter::traversed;
 use capnp_frame::message::ReaderSegments;
 
-// A view of numbers or of a struct asks here first. `None` doesn't tell what is there: `enter`
-// does.
+// Views of numbers and of structs ask here first. `None` says nothing about what is there; then
+// `enter` finds it.
 // Speed: from `get_as`, `get_pointer`, `get_data_field` and the `get` of lists down to the
-// pointer's word all is inlined, since a reader or a result of more than two words would be passed
-// by memory, and of what is inlined the kind is known (`tools/time-reading`).
+// pointer's word everything is inlined, since a reader or a result of more than two words would be
+// passed in memory, and the kind of an object is known where the code is inlined
+// (`tools/time-reading`).
 
 impl<'a, S: ReaderSegments> Reader<'a, S> {
-    /// The list of numbers that the pointer leads to without a landing pad, once it is counted
-    /// against the traversal limit.
+    /// The list of numbers that the pointer leads to without a landing pad, counted against the
+    /// traversal limit.
     #[inline(always)]
     pub(crate) fn enter_local_numbers(&self, size: ElementSize) -> Option<Object<'a>>
         ensures { let pointer = pointer_of S.segments self.now in
@@ -42,8 +43,8 @@ impl<'a, S: ReaderSegments> Reader<'a, S> {
         }
     }
 
-    /// The struct that the pointer leads to without a landing pad, once it is counted against the
-    /// traversal limit.
+    /// The struct that the pointer leads to without a landing pad, counted against the traversal
+    /// limit.
     #[inline(always)]
     pub(crate) fn enter_local_struct(&self) -> Option<Object<'a>>
         ensures { let pointer = pointer_of S.segments self.now in
@@ -63,7 +64,7 @@ impl<'a, S: ReaderSegments> Reader<'a, S> {
     }
 
     // The list of numbers that the pointer leads to.
-    // Speed: the size is looked at first, so the compiler knows it from there on
+    // Speed: the size is looked at first, so the compiler knows it in the code after that
     // (`tools/time-reading`).
     #[inline(always)]
     fn local_numbers(&self, size: ElementSize) -> Option<NumberList<'a>>

@@ -16,7 +16,7 @@ use crate::traits::FromPointerReader;
 use capnp_frame::message::ReaderSegments;
 use capnp_frame::{Error, ErrorKind, Result};
 
-/// A pointer of a message. Past the last pointer of a struct it is null.
+/// A pointer of a message. A pointer past the last one of a struct is null.
 #[derive(Drop)]
 pub struct Reader<'a, S> {
     pub(crate) segments: &'a S,
@@ -26,8 +26,8 @@ pub struct Reader<'a, S> {
 }
 
 impl<'a, S: ReaderSegments> Reader<'a, S> {
-    /// The root pointer of segments, read without a traversal limit and with objects nested up to
-    /// 2^31 - 1 deep: for a message that is being built. Without a first segment it is null.
+    /// The root pointer of a message that is being built, read without a traversal limit and with
+    /// objects nested up to 2^31 - 1 deep. It is null where there is no first segment.
     pub fn root_of(segments: &'a S) -> Reader<'a, S>
         ensures { pointer_of S.segments result ≡ unlimited_root (S.segments segments.now) }
     {
@@ -62,9 +62,10 @@ impl<'a, S: ReaderSegments> Reader<'a, S> {
     /// The size of the object that the pointer leads to, with all below it, without the landing
     /// pads of far pointers.
     ///
-    /// Fails where the walk over these objects stops: as a view of one of them does, or with
-    /// `ReadLimitExceeded` where they have more words than the traversal limit. A size past 64 bits
-    /// fails with `AllocationTooLarge(4294967295)`. The walk counts from 0, and leaves what views
+    /// Fails where the walk over these objects stops: with the error of a view of one of them, or
+    /// with `ReadLimitExceeded` where they have more words than the traversal limit. A size past 64
+    /// bits fails with `AllocationTooLarge(4294967295)`. The walk counts from 0, and does not
+    /// change what views have counted.
     /// have counted.
     pub fn target_size(&self) -> Result<MessageSize>
         ensures returned { let pointer = pointer_of S.segments self.now in MatchResult result
@@ -102,7 +103,7 @@ impl<'a, S: ReaderSegments> Reader<'a, S> {
         }
     }
 
-    /// The object that the pointer leads to as a view, which borrows it from the segments.
+    /// The object that the pointer leads to, as a view that borrows it from the segments.
     ///
     /// Fails with `InvalidSegmentId`, `PointerOutOfBounds`, `CapabilityRefused` or
     /// `WrongPointerKind` where no object is there; with `NestingLimitExceeded` where the object is
@@ -117,11 +118,12 @@ impl<'a, S: ReaderSegments> Reader<'a, S> {
             pointer.limit ≡ None → T.accepts pointer → IsOk result }
         ensures unlimited { let pointer = pointer_of S.segments self.now in
             pointer.limit ≡ None → IfErr result (λ error. error.kind ≢ ReadLimitExceeded) }
-        // Where no object is there, and the pointer itself is no view, whatever was read before.
+        // Where no object is there, this is the error, whatever was read before, unless the view
+        // accepts the pointer itself.
         ensures exact { let pointer = pointer_of S.segments self.now in
             (kind : ErrorKind) → IsInvalidPointer pointer kind → (T.accepts pointer → ⊥) →
             IsErrAnd result (λ error. error.kind ≡ kind) }
-        // Where an object is there that is no such view.
+        // Where an object is there that the view declines.
         ensures declined { let pointer = pointer_of S.segments self.now in
             (kind : ErrorKind) → T.declines pointer kind →
             IsErrAnd result (λ error. (error.kind ≡ kind) ⊎ MeetsLimit pointer error.kind) }
@@ -131,6 +133,7 @@ impl<'a, S: ReaderSegments> Reader<'a, S> {
 
     /// A copy of this reader, for the slow path.
     /// Speed: the address of the original never escapes, so it stays in registers
+    /// (`tools/time-reading`).
     /// (`tools/time-reading`).
     #[inline(always)]
     pub(crate) fn copied(&self) -> Reader<'a, S>
@@ -164,7 +167,7 @@ impl<'a, S: ReaderSegments> Reader<'a, S> {
     }
 }
 
-// A view of the pointer itself doesn't follow it, and never fails.
+// A view of the pointer itself doesn't follow the pointer, and never fails.
 impl<'a, S: ReaderSegments> FromPointerReader<'a, S> for Reader<'a, S> {
     ghost shows = { λ pointer view. pointer_of S.segments view ≡ pointer };
 

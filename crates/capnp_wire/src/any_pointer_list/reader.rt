@@ -1,4 +1,4 @@
-//! Lists of pointers that are read.
+//! Readers of lists of pointers.
 ghost use Rattle.std.specs.Prelude.{◌≡◌, ◌+◌, ◌^◌, ◌<◌, length, MatchResult};
 
 use crate::any_pointer;
@@ -36,7 +36,7 @@ impl<'a, S: ReaderSegments> Reader<'a, S> {
         self.count
     }
 
-    /// The pointer of this index. What it leads to is counted against the traversal limit when it
+    /// The pointer at this index. What it leads to is counted against the traversal limit when it
     /// is followed.
     pub fn get(&self, index: u32) -> any_pointer::Reader<'a, S>
         requires { index < length (pointer_list_of S.segments self.now).children }
@@ -57,7 +57,7 @@ impl<'a, S: ReaderSegments> Reader<'a, S> {
         }
     }
 
-    /// The element of this index, or `None` where there are no more elements than it.
+    /// The element at this index, or `None` where the list ends before it.
     pub fn try_get(&self, index: u32) -> Option<any_pointer::Reader<'a, S>>
         ensures { FindsElement (length (pointer_list_of S.segments self.now).children) index
             (λ item. pointer_of S.segments item
@@ -133,7 +133,7 @@ impl<'a, S: ReaderSegments> IndexMove for Reader<'a, S> {
     }
 }
 
-// Null has no elements; any object but a list of pointers fails with `WrongPointerKind`.
+// Null is an empty list; any object other than a list of pointers fails with `WrongPointerKind`.
 impl<'a, S: ReaderSegments> FromPointerReader<'a, S> for Reader<'a, S> {
     ghost use Rattle.capnp_wire.specs.Readers.{pointer_of};
     ghost use Rattle.capnp_wire.specs.Views.{IsViewOf, Accepts, Refuses, Declines};

@@ -25,8 +25,8 @@ impl<'a, S: ReaderSegments> StructReader<'a, S> {
     }
 
     /// A field that has a default, at an offset in units of its own width. The data section has the
-    /// bits in which the value differs from the default. Where it ends before the field, the
-    /// default is returned.
+    /// bits of the value XORed with those of the default. Where the section ends before the field,
+    /// the default is returned.
     pub fn get_data_field_mask<T: PrimitiveElement>(&self, offset: u32, default: T) -> T
         ensures { result ≡ T.value_of (bit_xor
             (field (struct_of S.segments self.now).words (width T.code) offset)
@@ -64,7 +64,7 @@ impl<'a, S: ReaderSegments> StructReader<'a, S> {
         T::get_from_pointer(self.get_pointer(index))
     }
 
-    // The bits of a field of a size.
+    // The bits of a field of this size.
     fn field_bits(&self, size: ElementSize, offset: u32) -> u64
         ensures bits { result
             ≡ field (struct_of S.segments self.now).words (width (code_of size)) offset }

@@ -1,5 +1,5 @@
-//! Numbers of lists as structs: the part of a data word that is such a struct's own (encoding
-//! document, "Lists").
+//! Elements of lists of numbers as structs: the part of a data word that is such a struct's own
+//! (encoding document, "Lists").
 ghost use Rattle.std.specs.Prelude.{◌≡◌};
 ghost use Rattle.capnp_wire.specs.Parts.{own_part};
 
@@ -13,7 +13,8 @@ pub(crate) struct WordPart {
     pub index: u32,
 }
 
-/// A data word of a struct, by the word that holds it: all of it, or its own part in the low bits.
+/// A data word of a struct, from the word that it is in: all of that word, or the struct's own part
+/// in the low bits.
 pub(crate) fn own_bits(part: Option<WordPart>, word: u64) -> u64
     ensures { result ≡ own_part part word }
 {

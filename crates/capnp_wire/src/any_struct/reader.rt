@@ -1,4 +1,4 @@
-//! Structs that are read.
+//! Readers of structs.
 ghost use Rattle.std.specs.Prelude.{◌≡◌, ◌≢◌, ◌+◌, ◌/◌, ◌≤◌, length, slice_index, None, MatchResult};
 ghost use Rattle.capnp_wire.specs.Pointer.{words_of};
 ghost use Rattle.capnp_wire.specs.Object.{message_of};
@@ -24,7 +24,8 @@ pub struct StructReader<'a, S: ReaderSegments> {
     pub(crate) start: Place,
     pub(crate) size: StructSize,
     pub(crate) nesting: u32,
-    /// Where the struct is a number of a list: which part of its one data word is its own.
+    /// Where the struct is an element of a list of numbers: which part of its one data word is its
+    /// own.
     pub(crate) part: Option<WordPart>,
     ghost room: { start.word + (size.data_words + size.pointers) ≤ length segment.now / 8 },
     ghost content: { HoldsPointers (message_of (S.segments segments.now)) (words_of segment.now)
@@ -98,7 +99,8 @@ impl<'a, S: ReaderSegments> StructReader<'a, S> {
     }
 
     // The struct that a pointer leads to, by any path.
-    // Speed: apart from `read`, so the kind of each one's object is known (`tools/time-reading`).
+    // Speed: a function of its own, so `read` knows the kind of the fast path's object
+    // (`tools/time-reading`).
     #[inline(never)]
     fn enter(reader: &any_pointer::Reader<'a, S>) -> Result<StructReader<'a, S>>
         ensures { let pointer = pointer_of S.segments reader.now in MatchResult result
@@ -152,7 +154,8 @@ impl<'a, S: ReaderSegments> StructReader<'a, S> {
     }
 }
 
-// Null has no data and no pointers; any object but a struct fails with `WrongPointerKind`.
+// Null is a struct without data and pointers; any object other than a struct fails with
+// `WrongPointerKind`.
 impl<'a, S: ReaderSegments> FromPointerReader<'a, S> for StructReader<'a, S> {
     ghost use Rattle.capnp_wire.specs.Readers.{struct_of, pointer_of};
     ghost use Rattle.capnp_wire.specs.Views.{IsViewOf, Accepts, Refuses, Declines, IsStruct, TakesStruct, DeclinesStruct};

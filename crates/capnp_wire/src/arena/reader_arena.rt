@@ -77,9 +77,9 @@ impl<S: ReaderSegments> ReaderArena<S> {
     /// A message of more than one segment is not canonical, nor is one with a far pointer.
     ///
     /// Fails with `InvalidSegmentId(0)` without a segment, and else where the walk over the objects
-    /// stops before it meets what is not canonical: as a view of one of them does, or with
-    /// `ReadLimitExceeded` where they have more words than the traversal limit. The walk counts
-    /// from 0, takes no memory, and leaves what views have counted.
+    /// stops before it meets what is not canonical: with the error of a view of one of them, or
+    /// with `ReadLimitExceeded` where they have more words than the traversal limit. The walk
+    /// counts from 0, takes no memory, and does not change what views have counted.
     pub fn is_canonical(&self) -> Result<bool>
         ensures returned { let m = message_of (S.segments self.now.segments) in
             let nesting = nesting_of self.now.nesting_limit in
@@ -106,7 +106,7 @@ impl<S: ReaderSegments> ReaderArena<S> {
         is_canonical(&self.segments, segment, self.nesting(), self.limiter.limit)
     }
 
-    // How many objects may follow one another from the root on.
+    // The longest chain of objects that may be followed from the root.
     fn nesting(&self) -> u32
         ensures { result ≡ nesting_of self.now.nesting_limit }
     {
@@ -139,8 +139,8 @@ impl<S: ReaderSegments> ReaderArena<S> {
         self.nesting_limit
     }
 
-    /// The words of all segments, at most `usize::MAX`. Bytes after the last whole word of a
-    /// segment are not counted.
+    /// The number of words of all segments, at most `usize::MAX`. Bytes after the last whole word
+    /// of a segment are not counted.
     pub fn size_in_words(&self) -> usize
         requires { length (S.segments self.now.segments) < 2 ^ 32 }
         ensures { result ≡ min (size_in_words (S.segments self.now.segments)) (2 ^ 64 - 1) }

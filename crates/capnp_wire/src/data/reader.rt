@@ -1,4 +1,4 @@
-//! Bytes that are read.
+//! Readers of `Data`.
 ghost use Rattle.std.specs.Prelude.{◌+◌, ◌/◌, ◌≤◌, length, MatchResult};
 ghost use Rattle.capnp_wire.specs.Landing.{room_of};
 ghost use Rattle.capnp_wire.specs.Views.{IsViewOf, Accepts, Reads, Refuses, Declines, IsData, TakesNumbers, DeclinesNumbers};
@@ -12,11 +12,10 @@ use crate::traits::FromPointerReader;
 use capnp_frame::Result;
 use capnp_frame::message::ReaderSegments;
 
-/// Bytes in a message.
+/// The bytes of a `Data` in a message.
 pub type Reader<'a> = &'a [u8];
 
-// Null is empty; else it shows the bytes of a list of bytes; any other object fails with
-// `WrongPointerKind`.
+// Null is empty; a list of bytes shows its bytes; any other object fails with `WrongPointerKind`.
 impl<'a, S: ReaderSegments> FromPointerReader<'a, S> for &'a [u8] {
     ghost shows = { λ pointer view. Reads pointer (λ form. IsData form view.now) };
 
@@ -51,7 +50,8 @@ fn read_bytes<'a, S: ReaderSegments>(reader: &any_pointer::Reader<'a, S>) -> Res
 }
 
 // The bytes of a list of bytes, by any path.
-// Speed: apart from `read_bytes`, so the kind of each one's object is known (`tools/time-reading`).
+// Speed: a function of its own, so `read_bytes` knows the kind of the fast path's object
+// (`tools/time-reading`).
 #[inline(never)]
 fn enter_bytes<'a, S: ReaderSegments>(reader: &any_pointer::Reader<'a, S>) -> Result<&'a [u8]>
     ensures { let pointer = pointer_of S.segments reader.now in MatchResult result
@@ -64,7 +64,7 @@ fn enter_bytes<'a, S: ReaderSegments>(reader: &any_pointer::Reader<'a, S>) -> Re
     bytes_in(&object)
 }
 
-// The bytes that an object holds.
+// The bytes of an object that is a list of bytes.
 #[inline(always)]
 fn bytes_in<'a>(object: &Object<'a>) -> Result<&'a [u8]>
     requires { object.now.start.word + room_of object.now.body

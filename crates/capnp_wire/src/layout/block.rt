@@ -1,4 +1,4 @@
-//! Words of a block, and what is written into it.
+//! Blocks of words, and what is written into them.
 ghost use Rattle.std.specs.Prelude.{◌≡◌, ℕ, List, ◌+◌, ◌-◌, ◌*◌, ◌^◌, ◌/◌, ◌%◌, ◌<◌, ◌≤◌, ◌∷◌, [], length, max, slice_get, Some};
 ghost use Rattle.capnp_frame.specs.Words.{bytes_of};
 ghost use Rattle.capnp_wire.specs.Pointer.{words_of, words_from};
@@ -13,7 +13,7 @@ use crate::layout::number_list::NumberList;
 use crate::layout::object::words_fit;
 use capnp_frame::Word;
 
-/// A word that a segment has.
+/// The word at this index of a segment, which has one there.
 #[inline(always)]
 pub(crate) fn word_at(segment: &[u8], index: usize) -> u64
     requires { index < length segment.now / 8 }
@@ -28,7 +28,7 @@ pub(crate) trait BlockItem: Sized {
     /// The words of a block.
     ghost as_words: { List Self → List ℕ };
 
-    /// Puts the bytes of whole words into a block, from a word of it on.
+    /// Puts the bytes of whole words into a block, from a word of the block on.
     fn put_bytes(block: &mut [Self], at: usize, bytes: &[u8])
         requires whole { length bytes.now % 8 ≡ 0 }
         requires room { at + length bytes.now / 8 ≤ length (as_words block.old) }
@@ -68,7 +68,7 @@ fn copy_bytes(to: &mut [u8], bytes: &[u8])
 }
 
 // Copies more bytes.
-// Speed: it is a call, which leaves registers to the loops that copy (`tools/time-building`).
+// Speed: it is a call, which leaves the registers to the loops that copy (`tools/time-building`).
 #[inline(never)]
 fn copy_long(to: &mut [u8], bytes: &[u8])
     requires { length to.old ≡ length bytes.now }
@@ -154,7 +154,7 @@ pub(crate) fn put_elements<T: BlockItem>(block: &mut [T], at: usize, list: &Numb
     }
 }
 
-/// How many of these words there are up to the last one that isn't zero.
+/// How many of these words are left without the zeros at their end.
 #[inline(always)]
 pub(crate) fn used(segment: &[u8], start: usize, count: usize) -> usize
     requires { start + count ≤ length segment.now / 8 }
@@ -170,7 +170,7 @@ pub(crate) fn used(segment: &[u8], start: usize, count: usize) -> usize
     0
 }
 
-/// The most words that one of some rows uses, up to its last word that isn't zero.
+/// The most words that one of some rows needs without the zeros at its end.
 pub(crate) fn most_used(segment: &[u8], start: usize, count: usize, step: usize, rows: u32) -> usize
     requires there { start + rows * step ≤ length segment.now / 8 + (step - count) }
     requires inside { count ≤ step }

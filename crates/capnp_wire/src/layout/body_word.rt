@@ -22,7 +22,8 @@ pub(crate) fn pointer_word(copied: Body, offset: u64) -> u64
     }
 }
 
-// The pointer word to a struct. One of no words is said to begin at its own pointer.
+// The pointer word to a struct. A struct of no words has the offset -1: it begins at its own
+// pointer.
 #[inline(always)]
 pub(crate) fn struct_pointer_word(size: StructSize, offset: u64) -> u64
     requires { offset < 2 ^ 29 }

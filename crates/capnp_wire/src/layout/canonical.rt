@@ -1,4 +1,4 @@
-//! Walks that test whether objects are as the canonical form has them.
+//! Walks that test whether objects are laid out in canonical form.
 ghost use Rattle.std.specs.Prelude.{◌≡◌, ◌≢◌, ◌↔◌, ◌+◌, ◌/◌, ◌^◌, ◌<◌, ◌≤◌, ℕ, [], ◌∷◌, length, slice_get, Option, Some, IfOk, IfErr, IsTrue, true, false};
 ghost use Rattle.capnp_wire.specs.Pointer.{words_of, pointer_kind};
 ghost use Rattle.capnp_wire.specs.Object.{message_of};
@@ -20,7 +20,7 @@ use crate::layout::walk::Walk;
 use capnp_frame::Result;
 use capnp_frame::message::ReaderSegments;
 
-/// A walk over the objects of a message of one segment, and the first word after those that it has
+/// A walk over the objects of a message of one segment, and the first word after those that were
 /// tested.
 #[derive(Drop)]
 pub(crate) struct CanonicalWalk {
@@ -28,8 +28,8 @@ pub(crate) struct CanonicalWalk {
     next: usize,
 }
 
-/// What a pointer leads to: null, an object that isn't as the canonical form has it, or one that is
-/// by itself, with the pointers that are still to be tested.
+/// What a pointer leads to: null; an object that isn't canonical; or an object that is canonical by
+/// itself, with its pointers, which are still to be tested.
 #[derive(Drop)]
 pub(crate) enum Met {
     Null,
@@ -56,9 +56,9 @@ impl CanonicalWalk {
         self.next
     }
 
-    /// Whether the object that the pointer at a word leads to, and all below it, are as the
-    /// canonical form has them, from the next free word on. It goes in preorder, and stops at the
-    /// first that isn't, or at the first error.
+    /// Whether the object that the pointer at a word leads to, and all below it, are laid out as in
+    /// canonical form, from the next free word on. It goes in preorder, and stops at the first
+    /// object that isn't canonical, or at the first error.
     #[inline(always)]
     #[cycle(testing)]
     pub(crate) fn test<S: ReaderSegments>(
@@ -86,7 +86,7 @@ impl CanonicalWalk {
             Met::Null => Ok(true),
             Met::NotCanonical => Ok(false),
             Met::Pointers(pointers) => {
-                // Speed: most objects hold no pointers, and only what holds some takes a call
+                // Speed: most objects have no pointers, and only those that have some take a call
                 // (workload `canon`).
                 if pointers.is_empty() {
                     return Ok(true);
@@ -129,7 +129,7 @@ impl CanonicalWalk {
         Ok(true)
     }
 
-    // Enters the object that the pointer at a word leads to, and tests it by itself.
+    // Enters the object that the pointer at a word leads to, and tests it alone.
     // Speed: what most pointers lead to is found in the segment in hand (workload `canon`).
     #[inline(always)]
     fn visit<S: ReaderSegments>(
@@ -162,7 +162,7 @@ impl CanonicalWalk {
         self.visit_object(segments, segment, pointer, word, nesting)
     }
 
-    // Goes to what a pointer leads to that isn't far, of any kind.
+    // Does the same for a pointer of any kind but a far pointer.
     #[inline(never)]
     fn visit_object<S: ReaderSegments>(
         &mut self,
@@ -187,7 +187,7 @@ impl CanonicalWalk {
         self.enter(segment, pointer, word, &object)
     }
 
-    // Enters an object that the pointer at a word leads to, and tests it by itself.
+    // Enters an object that the pointer at a word leads to, and tests it alone.
     #[inline(always)]
     fn enter(
         &mut self,
@@ -217,7 +217,7 @@ impl CanonicalWalk {
 }
 
 /// Whether the one segment of a message is the canonical form of its root tree.
-/// Speed: it is a call, so a few instructions tell that a message has more segments (workload
+/// Speed: it is a call, so that few instructions decide that a message has more segments (workload
 /// `roots`).
 #[inline(never)]
 pub(crate) fn is_canonical<S: ReaderSegments>(
@@ -244,7 +244,7 @@ pub(crate) fn is_canonical<S: ReaderSegments>(
     Ok(passes && walk.next() == segment.len() / 8)
 }
 
-// Whether an object by itself is as the canonical form has it.
+// Whether an object alone is as the canonical form has it.
 #[inline(always)]
 fn is_laid_out(segment: &[u8], pointer: u64, word: usize, next: usize, object: &Object<'_>) -> bool
     requires before { word < next }

@@ -1,4 +1,4 @@
-//! What the canonical form asks of an object by itself: its place, its padding and its sizes.
+//! What the canonical form requires of an object alone: its place, its padding and its sizes.
 ghost use Rattle.std.specs.Prelude.{◌≢◌, ◌↔◌, ◌+◌, ◌*◌, ◌-◌, ◌/◌, ◌^◌, ◌<◌, ◌≤◌, ℕ, length, slice_index_or, IsTrue};
 ghost use Rattle.capnp_wire.specs.Pointer.{words_of, words_from};
 ghost use Rattle.capnp_wire.specs.Element.{code_of, width, words_for};
@@ -47,7 +47,7 @@ fn is_set(segment: &[u8], index: usize) -> bool
     }
 }
 
-// Whether the last of some words is not zero, if there is one.
+// Whether the last of some words is not zero; true where there are none.
 #[inline(always)]
 fn ends_full(segment: &[u8], start: usize, count: usize) -> bool
     requires { start + count ≤ length segment.now / 8 }
@@ -56,7 +56,7 @@ fn ends_full(segment: &[u8], start: usize, count: usize) -> bool
     count == 0 || is_set(segment, start + count - 1)
 }
 
-// Whether one of some words, this far from one another, is not zero.
+// Whether one of some words, at equal distances from one another, is not zero.
 fn some_is_set(segment: &[u8], first: usize, apart: usize, count: u32) -> bool
     requires within { (i : ℕ) → i < count → first + i * apart < length segment.now / 8 }
     requires apart { apart < 2 ^ 32 }

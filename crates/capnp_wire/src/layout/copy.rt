@@ -24,7 +24,7 @@ pub struct Copied {
 }
 
 /// Copies the object that the pointer at a place leads to, with all below it, into a block from the
-/// word `next` on. The pointer to the copy is the word before `following`.
+/// word `next` on. The pointer to the copy is to be put into the word before `following`.
 #[inline(always)]
 pub(crate) fn copy<S: ReaderSegments, T: BlockItem>(
     segments: &S,
@@ -56,14 +56,14 @@ pub(crate) fn copy<S: ReaderSegments, T: BlockItem>(
                 segments, found, place, nesting, canonical, block, following, next,
             )
         }
-        // There is a tree at the place, so this can't be.
+        // There is a tree at the place, so this can't happen.
         None => Copied { pointer: 0, next },
     }
 }
 
 // Copies from the segment of the pointer.
 // Speed: always inlined, so what most pointers lead to needs no call (workload `canon`); the
-// recursion goes through `copy_object` and `copy_run`, which are not.
+// recursion goes through `copy_object` and `copy_run`, which are not inlined.
 #[inline(always)]
 #[cycle(copy)]
 pub(crate) fn copy_target<S: ReaderSegments, T: BlockItem>(
@@ -136,7 +136,7 @@ pub(crate) fn copy_target<S: ReaderSegments, T: BlockItem>(
     }
 }
 
-// Copies what the pointer leads to, whatever it is.
+// Copies what the pointer leads to, of any kind.
 #[inline(never)]
 #[cycle(copy)]
 fn copy_object<S: ReaderSegments, T: BlockItem>(

@@ -14,9 +14,9 @@ use crate::layout::place::Place;
 use crate::layout::row_pair::RowPair;
 use capnp_frame::message::ReaderSegments;
 
-/// Copies what the pointers of an object lead to, one after the other after the object's own copy,
-/// which begins at the word `next`, and puts the pointers to these copies into that. Returns the
-/// first free word.
+/// Copies what the pointers of an object lead to, one after the other, to the words after the
+/// object's own copy, which begins at the word `next`, and puts the pointers to these copies into
+/// that copy. Returns the first free word.
 #[inline(always)]
 #[cycle(copy)]
 pub(crate) fn copy_pointers<S: ReaderSegments, T: BlockItem>(
@@ -112,7 +112,7 @@ pub(crate) fn copy_rows<S: ReaderSegments, T: BlockItem>(
     free
 }
 
-// Copies what this many pointers lead to that are one after the other, as their slots are.
+// Copies what this many consecutive pointers lead to, whose slots are consecutive, too.
 // Speed: the arguments fit in registers (`tools/time-building`).
 #[inline(never)]
 #[cycle(copy)]

@@ -1,4 +1,4 @@
-//! The words of an object but for its pointers.
+//! The words of an object except for its pointers.
 ghost use Rattle.std.specs.Prelude.{◌≡◌, ◌+◌, ◌-◌, ◌*◌, ◌/◌, ◌^◌, ◌<◌, ◌≤◌, length};
 ghost use Rattle.capnp_wire.specs.Pointer.{words_of};
 ghost use Rattle.capnp_wire.specs.Object.{rows_from};
@@ -12,7 +12,7 @@ use crate::layout::object::{Body, Object};
 use crate::layout::pointer::Elements;
 use crate::pointer_word::struct_word;
 
-/// Puts the words of a copy into a block, but for its pointers.
+/// Puts the words of a copy into a block, except for its pointers.
 #[inline(always)]
 pub(crate) fn put_data_words<T: BlockItem>(
     object: &Object<'_>,
@@ -76,7 +76,7 @@ pub(crate) fn put_data_words<T: BlockItem>(
     }
 }
 
-/// Puts the data of structs into a block, each before the room for its pointers.
+/// Puts the data sections of structs into a block, with room for the pointers after each of them.
 pub(crate) fn put_rows<T: BlockItem>(
     block: &mut [T],
     next: usize,

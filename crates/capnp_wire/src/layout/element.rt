@@ -66,7 +66,7 @@ impl ElementSize {
         self.bits() * index as u64 / 64
     }
 
-    /// The bits of an element, from the word that holds it.
+    /// The bits of an element, taken from the word that holds it.
     pub(crate) fn in_word(self, word: u64, index: u32) -> u64
         ensures { result ≡ word / 2 ^ (width (code_of self) * index % 64) % 2 ^ width (code_of self) }
     {

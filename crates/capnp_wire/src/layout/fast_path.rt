@@ -20,18 +20,18 @@ use crate::layout::pointer_run::PointerRun;
 use crate::layout::pointer_slots::PointerSlots;
 
 // Speed: most pointers of most messages are null, or lead to structs, to lists of numbers, or to
-// lists of pointers. What goes over many of them asks here first, of the segment in hand: then a
-// pointer needs no call, and what it leads to holds at most one run of pointers (workload `canon`,
-// `tools/time-building`). Copies always ask for lists of pointers, walks only at the root, since
-// one more fast path in their loops costs more than the calls that it saves, and tests for
-// canonical form never.
+// lists of pointers. Code that goes over many pointers asks here first, for the segment in hand:
+// then a pointer needs no call, and what it leads to has at most one run of pointers (workload
+// `canon`, `tools/time-building`). Copies always ask for lists of pointers, and walks only at the
+// root, since one more fast path in their loops costs more than the calls that it saves; tests for
+// canonical form never ask for them.
 
 // The pointer to a struct of no words, with the offset -1: the struct begins at its pointer.
 const EMPTY_STRUCT: u64 = 0xffff_fffc;
 
-/// The pointer at a word of a segment, where it is null, or `EMPTY_STRUCT` and that struct may be
-/// entered at this nesting depth. Other words may lead to structs of no words, too: `local_struct`
-/// finds these.
+/// The pointer at a word of a segment, if it is null, or if it is `EMPTY_STRUCT` and that struct
+/// may be entered at this nesting depth. Other pointer words may lead to structs of no words, too:
+/// `local_struct` finds these.
 #[inline(always)]
 pub(crate) fn null_or_empty_struct(segment: &[u8], index: usize, nesting: u32) -> Option<u64>
     ensures { IfSome result (λ pointer. (slice_get (words_of segment.now) index ≡ Some pointer)
@@ -54,8 +54,8 @@ pub(crate) fn has_fast_path(pointer: u64) -> bool
 }
 
 /// The list of numbers that the pointer at a place of this segment leads to without a landing pad,
-/// where it may be entered at this nesting depth. `None` doesn't tell what is there: `object_in`
-/// does.
+/// where it may be entered at this nesting depth. `None` says nothing about what is there; then
+/// `object_in` finds it.
 #[inline(always)]
 pub(crate) fn local_list(segment: &[u8], place: Place, nesting: u32) -> Option<NumberList<'_>>
     ensures { (m : List (List ℕ)) → slice_get m place.segment ≡ Some (words_of segment.now) →
@@ -152,7 +152,7 @@ pub(crate) fn local_pointers(segment: &[u8], place: Place, nesting: u32) -> Opti
 }
 
 /// A struct.
-/// Speed: a type of its own, since an object whose kind the compiler can't tell is kept in memory
+/// Speed: a type of its own, since an object whose kind the compiler doesn't know is kept in memory
 /// (`tools/time-building`).
 #[derive(Drop)]
 pub(crate) struct LocalStruct<'a> {

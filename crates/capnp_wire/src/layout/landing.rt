@@ -1,4 +1,4 @@
-//! Where pointers lead, by way of landing pads.
+//! Where pointers lead, through landing pads.
 ghost use Rattle.std.specs.Prelude.{◌≡◌, ◌+◌, ◌*◌, ◌/◌, ◌^◌, ◌<◌, ℕ, slice_get, Some, None, IfOk, IfErr, MatchOption, MatchResult, false};
 ghost use Rattle.capnp_frame.specs.declared.error.ErrorKind.{ErrorKind};
 ghost use Rattle.capnp_wire.specs.Pointer.{words_of};
@@ -14,7 +14,8 @@ use crate::layout::pointer::{FarPointer, LocalPointer, LocalShape, PointerWord};
 use capnp_frame::message::ReaderSegments;
 use capnp_frame::{Error, ErrorKind, Result};
 
-/// Where an object begins, unless its pointer leads to before the segment, and what its tag says.
+/// Where an object begins, unless its pointer leads to a word before the segment, and the shape
+/// that its tag gives it.
 #[derive(Drop)]
 pub(crate) struct Landing<'a> {
     pub segment: &'a [u8],
@@ -95,7 +96,7 @@ fn land_far<S: ReaderSegments>(segments: &S, far: FarPointer) -> Result<Landing<
     land_wide(segments, first, tag)
 }
 
-// Where a far pointer leads by way of a landing pad of these two words.
+// Where a far pointer leads through a landing pad of these two words.
 fn land_wide<S: ReaderSegments>(segments: &S, first: u64, tag: u64) -> Result<Landing<'_>>
     ensures found { let m = message_of (S.segments segments.now) in
         IfOk result (λ landing. (place : Place) (word : ℕ) → word_at m place ≡ Some word →

@@ -1,4 +1,4 @@
-//! Lists of pointers that are read, as values: measured, and written into a block.
+//! Lists of pointers that are read, as values: they are measured, and written into a block.
 ghost use Rattle.std.specs.Prelude.{◌≡◌, ◌+◌, ◌-◌, ◌^◌, ◌<◌, ◌≤◌, ℕ, Option, length, IfErr, MatchResult, OnOk};
 ghost use Rattle.capnp_wire.specs.Pointer.{words_of};
 ghost use Rattle.capnp_wire.specs.Tree.{pointers, Trees};
@@ -20,8 +20,8 @@ use crate::pointer_word::list_word;
 use capnp_frame::Result;
 use capnp_frame::message::ReaderSegments;
 
-/// The words of a list of pointers with all below it, after its pointer, as it is or in
-/// canonical form.
+/// The number of words of a list of pointers with all below it, without the pointer to it, as it is
+/// or in canonical form.
 pub(crate) fn measure<S: ReaderSegments>(
     segments: &S,
     first: Place,
@@ -43,7 +43,7 @@ pub(crate) fn measure<S: ReaderSegments>(
     checked_word_count(walk.words(), canonical)
 }
 
-// Walks over all objects that the pointers of a list lead to, whose segment is still to be found.
+// Walks over all objects that the pointers of a list lead to, and finds their segment first.
 fn walk_list<S: ReaderSegments>(
     walk: &mut Walk,
     segments: &S,
@@ -69,7 +69,7 @@ fn walk_list<S: ReaderSegments>(
 }
 
 /// Writes the words of a list of pointers with all below it into a block, from the word `next` on.
-/// The pointer to it is the word before `following`.
+/// The pointer to it is to be put into the word before `following`.
 pub(crate) fn write<S: ReaderSegments>(
     segments: &S,
     first: Place,
@@ -101,7 +101,7 @@ pub(crate) fn write<S: ReaderSegments>(
                 segments, segment, first, count, nesting, canonical, block, next, end,
             ),
         },
-        // There is a tree at each pointer, and so a segment: the list has no pointers.
+        // There is a tree at each pointer, and so a segment: here the list has no pointers.
         None => Copied { pointer, next: end },
     }
 }

@@ -14,13 +14,13 @@ pub(crate) struct NumberList<'a> {
     pub start: Place,
     pub size: ElementSize,
     pub count: u32,
-    /// The bits of all elements, so that their size need not be looked at again.
+    /// The bits of all elements, kept so that their size need not be looked at again.
     pub bits: u64,
     ghost bits_are: { bits ≡ count * width (code_of size) },
 }
 
 impl NumberList<'_> {
-    /// Its words.
+    /// The number of its words.
     #[inline(always)]
     pub(crate) fn words(&self) -> u64
         ensures { result ≡ words_for self.now.count (width (code_of self.now.size)) }
@@ -28,7 +28,7 @@ impl NumberList<'_> {
         self.bits.div_ceil(64)
     }
 
-    /// The words that a reader counts against the traversal limit for it.
+    /// The number of words that a reader counts against the traversal limit for it.
     #[inline(always)]
     pub(crate) fn traversed(&self) -> u64
         ensures { result ≡ traversed_of (Body.Numbers self.now.size self.now.count) }

@@ -1,4 +1,4 @@
-//! From a place to the object that its pointer leads to: nesting depth, bounds, and list tags.
+//! From a place to the object that its pointer leads to: nesting depth, bounds, and tags of lists.
 ghost use Rattle.std.specs.Prelude.{◌≡◌, ◌↔◌, ◌+◌, ◌/◌, ◌^◌, ◌<◌, ◌≤◌, ℕ, [], ◌∷◌, All, length, slice_get, Some, None, IfOk, IfErr, MatchOption, MatchResult, IsTrue};
 ghost use Rattle.capnp_frame.specs.declared.error.ErrorKind.{ErrorKind};
 ghost use Rattle.capnp_wire.specs.Pointer.{words_of};
@@ -27,8 +27,8 @@ pub(crate) struct Object<'a> {
     pub segment: &'a [u8],
     pub start: Place,
     pub body: Body,
-    /// The words that a reader counts against the traversal limit for it, with those of landing
-    /// pads.
+    /// The number of words that a reader counts against the traversal limit for it, with those of
+    /// landing pads.
     pub traversed: u64,
 }
 
@@ -60,7 +60,7 @@ pub(crate) fn object_at<S: ReaderSegments>(
     object_in(segments, segment, place, nesting)
 }
 
-/// The same, where the segment of the pointer is known.
+/// Does the same where the segment of the pointer is known.
 #[inline(always)]
 pub(crate) fn object_in<'a, S: ReaderSegments>(
     segments: &'a S,
@@ -99,7 +99,8 @@ pub(crate) fn object_in<'a, S: ReaderSegments>(
     }))
 }
 
-/// The object of the pointer at a place of this segment that has a tree; `None` for null.
+/// The object that the pointer at a place of this segment leads to, where there is a tree; `None`
+/// for null.
 #[inline(always)]
 pub(crate) fn object_there<'a, S: ReaderSegments>(
     segments: &'a S,
@@ -128,7 +129,7 @@ pub(crate) fn words_fit(segment: &[u8])
     ensures length { length segment.now < 2 ^ 64 }
 {}
 
-// What is at a word of a segment, by its pointer.
+// The object at a word of a segment, by its pointer.
 #[inline(always)]
 fn body_at(segment: &[u8], start: usize, shape: LocalShape) -> Result<Body>
     ensures found { let words = words_of segment.now in
@@ -179,7 +180,7 @@ fn structs(segment: &[u8], start: usize, words: u32) -> Result<Body>
     Ok(Body::Structs(elements, words))
 }
 
-// Fails with `PointerOutOfBounds` where words from a start on don't lie within a segment.
+// Fails with `PointerOutOfBounds` where words from this start on don't lie within a segment.
 #[inline(always)]
 fn expect_room(segment: &[u8], start: usize, words: u64) -> Result<()>
     ensures { let there = length segment.now / 8 in
@@ -192,7 +193,7 @@ fn expect_room(segment: &[u8], start: usize, words: u64) -> Result<()>
     Ok(())
 }
 
-/// Whether words from a start on lie within a segment.
+/// Whether words from this start on lie within a segment.
 #[inline(always)]
 pub(crate) fn fits(segment: &[u8], start: usize, words: u64) -> bool
     ensures { IsTrue result ↔ (start + words ≤ length segment.now / 8) }
@@ -218,7 +219,7 @@ impl<'a> Object<'a> {
 }
 
 impl Body {
-    /// The words that a reader counts against the traversal limit for it.
+    /// The number of words that a reader counts against the traversal limit for it.
     #[inline(always)]
     pub(crate) fn traversed(self) -> u64
         ensures traversed { result ≡ traversed_of self }
@@ -240,7 +241,7 @@ impl Body {
         }
     }
 
-    /// Its words, for a list of structs the tag and the elements.
+    /// The number of its words; for a list of structs, of the tag and the elements.
     #[inline(always)]
     pub(crate) fn words(self) -> u64
         ensures { result ≡ words_in self }

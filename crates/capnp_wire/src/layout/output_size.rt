@@ -1,4 +1,4 @@
-//! Object sizes as stored, or truncated for the canonical form (trailing zero words dropped).
+//! Sizes of objects as they are, or in canonical form, without trailing zero words.
 ghost use Rattle.std.specs.Prelude.{◌≡◌, if◌then◌else◌, ◌+◌, ◌*◌, ◌/◌, ◌≤◌, length};
 ghost use Rattle.capnp_wire.specs.Pointer.{words_of};
 ghost use Rattle.capnp_wire.specs.Landing.{room_of, words_in};
@@ -8,7 +8,7 @@ use crate::layout::block::most_used;
 use crate::layout::object::{Body, Object};
 use crate::layout::pointer::{Elements, StructSize};
 
-// The body of an object once it is copied: in canonical form without its trailing zero words.
+// The body of an object's copy: in canonical form without its trailing zero words.
 #[inline(always)]
 pub(crate) fn output_body(object: &Object<'_>, canonical: bool) -> Body
     requires room { object.now.start.word + room_of object.now.body
@@ -38,8 +38,8 @@ pub(crate) fn output_body(object: &Object<'_>, canonical: bool) -> Body
     }
 }
 
-/// The size that some structs need, which follow one another from a word on: in canonical form, or
-/// all.
+/// The size of some consecutive structs from a word on: the size that they need in canonical form,
+/// or all of it.
 #[inline(always)]
 pub(crate) fn output_size(
     segment: &[u8],

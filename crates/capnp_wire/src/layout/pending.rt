@@ -1,5 +1,5 @@
-//! Copies that are begun: the words of an object are in the block, but what its pointers lead to
-//! isn't.
+//! Copies in progress: the words of an object are in the block, but not yet what its pointers lead
+//! to.
 ghost use Rattle.std.specs.Prelude.{◌≡◌, ◌+◌, ◌-◌, ◌^◌, ◌<◌, ◌≤◌, ◌/◌, Bool, ℕ, List, [], ◌∷◌, length, slice_get, Some, MatchOption};
 ghost use Rattle.capnp_wire.specs.Pointer.{words_of};
 ghost use Rattle.capnp_wire.specs.Object.{message_of};
@@ -21,7 +21,7 @@ use crate::layout::pointer_run::PointerRun;
 use crate::pointer_word::list_word;
 use capnp_frame::message::ReaderSegments;
 
-/// An object whose copy is begun, the body of the copy, and the pointer to it.
+/// An object whose copy is in progress, the body of the copy, and the pointer to it.
 #[derive(Drop)]
 pub(crate) struct PendingCopy<'a> {
     pub object: Object<'a>,
@@ -29,15 +29,15 @@ pub(crate) struct PendingCopy<'a> {
     pub pointer: u64,
 }
 
-/// The copy of a struct: whole, or begun.
+/// The copy of a struct: complete, or in progress.
 #[derive(Clone, Copy)]
 pub(crate) enum StructCopy {
     Whole(Copied),
     Pending(PendingPointers),
 }
 
-/// The pointer to a copy, and what is left to copy: this many pointers, one after the other, as
-/// their slots are. What they lead to goes from the word `next` on.
+/// The pointer to a copy, and what is left to copy: what this many consecutive pointers lead to,
+/// whose slots are consecutive, too. It goes from the word `next` on.
 #[derive(Clone, Copy)]
 pub(crate) struct PendingPointers {
     pub pointer: u64,
@@ -48,7 +48,8 @@ pub(crate) struct PendingPointers {
 }
 
 /// Begins the copy of the object that the pointer at a place of this segment leads to, at the word
-/// `next` of a block; `None` for null. The pointer to the copy is the word before `following`.
+/// `next` of a block; `None` for null. The pointer to the copy is to be put into the word before
+/// `following`.
 #[inline(always)]
 pub(crate) fn begin<'a, S: ReaderSegments, T: BlockItem>(
     segments: &'a S,
@@ -88,8 +89,8 @@ pub(crate) fn begin<'a, S: ReaderSegments, T: BlockItem>(
     })
 }
 
-/// Begins the copy of a struct in the same way. It is whole where all pointers that it keeps are
-/// null.
+/// Begins the copy of a struct in the same way. The copy is complete where all pointers that it
+/// keeps are null.
 #[inline(always)]
 pub(crate) fn begin_struct<T: BlockItem>(
     found: &LocalStruct<'_>,
@@ -130,7 +131,7 @@ pub(crate) fn begin_struct<T: BlockItem>(
     })
 }
 
-/// Copies a list of numbers, which holds no pointers, in the same way.
+/// Copies a list of numbers, which has no pointers, in the same way.
 #[inline(always)]
 pub(crate) fn copy_list<T: BlockItem>(
     list: &NumberList<'_>,

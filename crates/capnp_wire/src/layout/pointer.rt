@@ -6,7 +6,7 @@ ghost use Rattle.capnp_wire.specs.PointerWord.{IsPointerWord, IsLocalShape, IsEl
 use crate::layout::element::ElementSize;
 use crate::layout::place::Place;
 
-/// What a word says that isn't a null pointer.
+/// What a word that isn't a null pointer is as a pointer.
 #[derive(Clone, Copy)]
 pub(crate) enum PointerWord {
     Local(LocalPointer),
@@ -30,11 +30,11 @@ pub(crate) struct Offset(pub u32);
 #[derive(Clone, Copy)]
 pub enum LocalShape {
     Struct(StructSize),
-    /// A list of numbers: their size, and how many they are.
+    /// A list of numbers: the size of its elements, and how many there are.
     Numbers(ElementSize, u32),
-    /// A list of pointers: how many they are.
+    /// A list of pointers: how many there are.
     Pointers(u32),
-    /// A list of structs: how many words its elements have.
+    /// A list of structs: how many words its elements have together.
     Structs(u32),
 }
 
@@ -62,8 +62,8 @@ pub(crate) struct FarPointer {
     pub is_wide: bool,
 }
 
-// Speed: all of these are inlined. Most have a few instructions; `PointerWord::read` and
-// `list_shape` would return by memory, stored in parts and loaded in others, for which a processor
+// Speed: all of these are inlined. Most have few instructions; `PointerWord::read` and `list_shape`
+// would return their results in memory, stored in parts and loaded in others, for which a processor
 // waits (workloads `log`, `far`).
 
 impl PointerWord {
@@ -140,8 +140,8 @@ impl StructSize {
 }
 
 impl Elements {
-    /// What the tag before the elements says; `None` where it isn't of the shape of a struct
-    /// pointer.
+    /// What the tag in front of the elements says; `None` where it doesn't have the shape of a
+    /// struct pointer.
     #[inline(always)]
     pub(crate) fn read(tag: u64) -> Option<Elements>
         ensures { MatchOption result (0 < pointer_kind tag)
@@ -156,7 +156,7 @@ impl Elements {
         })
     }
 
-    /// The words of all elements.
+    /// The number of words of all elements.
     #[inline(always)]
     pub(crate) fn words(self) -> u64
         ensures words { result ≡ self.count * (self.size.data_words + self.size.pointers) }
@@ -166,7 +166,7 @@ impl Elements {
     }
 }
 
-// What a word says that is a list pointer.
+// What a word is as a list pointer.
 #[inline(always)]
 fn list_shape(word: u64) -> LocalShape
     requires { pointer_kind word ≡ 1 }

@@ -1,9 +1,9 @@
-//! Pointers that follow one another.
+//! Consecutive pointers.
 ghost use Rattle.std.specs.Prelude.{◌+◌, ◌^◌, ◌<◌};
 
 use crate::layout::place::Place;
 
-/// Some pointers that follow one another in a segment: those of a struct, or a list of pointers.
+/// Some consecutive pointers of a segment: those of a struct, or a list of pointers.
 #[derive(Drop)]
 pub(crate) struct PointerRun<'a> {
     pub segment: &'a [u8],

@@ -1,19 +1,19 @@
-//! The pointers of an object, in rows: as many in each, after the data of the row.
+//! The pointers of an object, in rows: each row has the same number of pointers, after its data.
 ghost use Rattle.std.specs.Prelude.{◌≡◌, ◌≢◌, ◌↔◌, ◌+◌, ◌*◌, ◌^◌, ◌<◌, ◌≤◌, [], IsTrue};
 
 use crate::layout::object::Body;
 use crate::layout::place::Place;
 use crate::layout::pointer::StructSize;
 
-/// The words of data and of pointers in each row of an object.
+/// How many words of data and how many pointers each row of an object has.
 #[derive(Clone, Copy)]
 pub(crate) struct RowSize {
     pub data_words: u16,
     pub pointers: u32,
 }
 
-/// The pointers that a walk over an object has not come to yet. Where the rows have none, nothing
-/// is left, however many rows there are.
+/// The pointers that a walk over an object has not come to yet. Where rows have no pointers,
+/// nothing is left, however many rows there are.
 #[derive(Drop)]
 pub(crate) struct PointerSlots {
     /// The place of the next pointer.
@@ -49,7 +49,7 @@ impl StructSize {
 impl Body {
     ghost use Rattle.capnp_wire.specs.Rows.{row_size, row_count, first_row};
 
-    /// The size of its rows.
+    /// The size of each of its rows.
     #[inline(always)]
     pub(crate) fn row_size(self) -> RowSize
         ensures { result ≡ row_size self }
@@ -81,7 +81,7 @@ impl Body {
         }
     }
 
-    // The word of its first row, where the object begins at a word.
+    // The word at which its first row begins, where the object begins at a word.
     #[inline(always)]
     fn first_row(self, start: usize) -> usize
         requires { start < 2 ^ 62 }
@@ -154,7 +154,7 @@ impl PointerSlots {
         }
     }
 
-    /// Some pointers that follow one another.
+    /// Some consecutive pointers.
     #[inline(always)]
     pub(crate) fn run(first: Place, count: u32) -> PointerSlots
         requires bound { first.word + count < 2 ^ 61 }
@@ -180,7 +180,7 @@ impl PointerSlots {
         self.here == 0 && self.more == 0
     }
 
-    /// Takes the next pointer: its place.
+    /// Takes the next pointer, and returns its place.
     #[inline(always)]
     pub(crate) fn take(&mut self) -> Place
         requires { places_in self.old ≢ [] }

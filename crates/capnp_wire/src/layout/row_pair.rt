@@ -11,7 +11,7 @@ use crate::layout::place::Place;
 use crate::layout::pointer::{Elements, StructSize};
 use crate::layout::pointer_slots::PointerSlots;
 
-/// The pointers that are left to copy, and the slots of their copies.
+/// The pointers that are left to copy, and the slots in the copy for each of them.
 #[derive(Drop)]
 pub(crate) struct RowPair {
     from: PointerSlots,
@@ -19,7 +19,8 @@ pub(crate) struct RowPair {
 }
 
 impl RowPair {
-    /// The pointers of an object that its copy keeps, which begins at the word `next` of a block.
+    /// The pointers of an object that are kept in its copy, which begins at the word `next` of a
+    /// block.
     #[inline(always)]
     pub(crate) fn of(object: &Object<'_>, copied: Body, next: usize) -> RowPair
         requires narrower { IsNarrower object.now.body copied }
@@ -43,7 +44,7 @@ impl RowPair {
         RowPair { from, to }
     }
 
-    /// Some pointers that follow one another, as their slots do.
+    /// Some consecutive pointers, whose slots are consecutive, too.
     #[inline(always)]
     pub(crate) fn run(first: Place, count: u32, slot: usize) -> RowPair
         requires there { first.word + count < 2 ^ 61 }
@@ -60,8 +61,8 @@ impl RowPair {
         RowPair { from, to }
     }
 
-    /// The pointers that copies of structs keep, by the first of these structs and their size, and
-    /// their slots in the copies, which begin at a word of a block.
+    /// The pointers that are kept in copies of structs, by the first of these structs and their
+    /// size, and their slots in the copies, which begin at a word of a block.
     #[inline(always)]
     pub(crate) fn elements(first: Place, size: StructSize, kept: Elements, slots: usize) -> RowPair
         requires pointers { kept.size.pointers ≤ size.pointers }
@@ -91,7 +92,7 @@ impl RowPair {
         self.from.is_empty()
     }
 
-    /// Takes the next pointer: its place, and its slot.
+    /// Takes the next pointer, and returns its place and its slot.
     #[inline(always)]
     pub(crate) fn take(&mut self) -> (Place, usize)
         requires some { places_in self.old.from ≢ [] }

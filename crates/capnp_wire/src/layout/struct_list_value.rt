@@ -1,4 +1,4 @@
-//! Lists of structs that are read, as values: measured, and written into a block.
+//! Lists of structs that are read, as values: they are measured, and written into a block.
 ghost use Rattle.std.specs.Prelude.{◌≡◌, if◌then◌else◌, ◌+◌, ◌-◌, ◌*◌, ◌/◌, ◌^◌, ◌<◌, ◌≤◌, ℕ, Option, length, MatchResult};
 ghost use Rattle.capnp_wire.specs.Pointer.{words_of};
 ghost use Rattle.capnp_wire.specs.Tree.{Trees};
@@ -24,8 +24,8 @@ use crate::pointer_word::{list_word, struct_word};
 use capnp_frame::Result;
 use capnp_frame::message::ReaderSegments;
 
-/// The words of a list of structs with all below it, after its pointer, as it is or in
-/// canonical form. The elements begin at a place of a segment.
+/// The number of words of a list of structs with all below it, without the pointer to it, as it is
+/// or in canonical form. The elements begin at a place of a segment.
 pub(crate) fn measure<S: ReaderSegments>(
     segments: &S,
     segment: &[u8],
@@ -60,7 +60,7 @@ pub(crate) fn measure<S: ReaderSegments>(
 }
 
 /// Writes the words of a list of structs with all below it into a block, from the word `next` on.
-/// The pointer to it is the word before `following`.
+/// The pointer to it is to be put into the word before `following`.
 pub(crate) fn write<S: ReaderSegments>(
     segments: &S,
     segment: &[u8],
@@ -105,8 +105,8 @@ pub(crate) fn write<S: ReaderSegments>(
     }
 }
 
-// The elements once they are copied: in canonical form without trailing words that are zero in all
-// of them.
+// The size of the elements in the copy: in canonical form without trailing words that are zero in
+// all elements.
 fn kept_elements(segment: &[u8], first: Place, elements: Elements, canonical: bool) -> Elements
     requires { first.word + elements.count * (elements.size.data_words + elements.size.pointers)
         ≤ length segment.now / 8 }

@@ -1,4 +1,4 @@
-//! Structs that are read, as values: measured, and written into a block.
+//! Structs that are read, as values: they are measured, and written into a block.
 ghost use Rattle.std.specs.Prelude.{◌≡◌, ◌+◌, ◌-◌, ◌/◌, ◌^◌, ◌<◌, ◌≤◌, ℕ, Option, length, MatchResult};
 ghost use Rattle.capnp_wire.specs.Pointer.{words_of};
 ghost use Rattle.capnp_wire.specs.Tree.{Trees};
@@ -20,7 +20,8 @@ use crate::layout::walk::Walk;
 use capnp_frame::Result;
 use capnp_frame::message::ReaderSegments;
 
-/// The words of a struct with all below it, after its pointer, as it is or in canonical form.
+/// The number of words of a struct with all below it, without the pointer to it, as it is or in
+/// canonical form.
 pub(crate) fn measure<S: ReaderSegments>(
     segments: &S,
     segment: &[u8],
@@ -53,7 +54,7 @@ pub(crate) fn measure<S: ReaderSegments>(
 }
 
 /// Writes the words of a struct with all below it into a block, from the word `next` on. The
-/// pointer to it is the word before `following`.
+/// pointer to it is to be put into the word before `following`.
 pub(crate) fn write<S: ReaderSegments>(
     segments: &S,
     segment: &[u8],

@@ -1,5 +1,5 @@
-//! Trees of a message as values that are measured, and lists of bytes and of numbers, which are
-//! written too.
+//! Trees of a message as values that are measured; lists of bytes and of numbers, which are written
+//! as well.
 ghost use Rattle.std.specs.Prelude.{◌≡◌, ◌<◌, ◌≤◌, ◌+◌, ◌-◌, ◌++◌, ◌*◌, ◌/◌, ◌^◌, ℕ, All, [], ◌∷◌, length, min, MatchResult};
 ghost use Rattle.capnp_wire.specs.Pointer.{digits, number_of, words_of};
 ghost use Rattle.capnp_wire.specs.Element.{code_of, width, words_for};
@@ -20,7 +20,8 @@ use crate::pointer_word::list_word;
 use capnp_frame::message::ReaderSegments;
 use capnp_frame::{Error, ErrorKind, Result};
 
-/// The words of the tree at a place, after its pointer, as it is or in canonical form.
+/// The number of words of the tree at a place, without the pointer to it, as it is or in canonical
+/// form.
 #[inline(always)]
 pub(crate) fn measure<S: ReaderSegments>(
     segments: &S,
@@ -38,8 +39,8 @@ pub(crate) fn measure<S: ReaderSegments>(
     checked_word_count(walk.words(), canonical)
 }
 
-/// Words that a block may have. Fails for 2^29 and more with `AllocationTooLarge`, in canonical
-/// form with `CanonicalTooLarge`.
+/// Returns a number of words that a block may have. Fails for 2^29 and more with
+/// `AllocationTooLarge`, in canonical form with `CanonicalTooLarge`.
 pub(crate) fn checked_word_count(words: Option<u64>, canonical: bool) -> Result<u32>
     ensures { (counted : ℕ) → Counts words counted → MatchResult result
         (λ number. (number ≡ counted) × (number < 2 ^ 29))
@@ -55,7 +56,7 @@ pub(crate) fn checked_word_count(words: Option<u64>, canonical: bool) -> Result<
     Err(too_many_words(words))
 }
 
-// The error for a block of too many words, which it tells as far as 32 bits hold them.
+// The error for a block of too many words, with their number as far as it fits 32 bits.
 fn too_many_words(words: u64) -> Error
     ensures { result.kind ≡ ErrorKind.AllocationTooLarge (min words (2 ^ 32 - 1)) }
 {
@@ -67,7 +68,7 @@ fn too_many_words(words: u64) -> Error
     Error::from_kind(ErrorKind::AllocationTooLarge(told))
 }
 
-/// The words of a list of bytes.
+/// The number of words of a list of bytes.
 pub(crate) fn measure_bytes(bytes: &[u8]) -> Result<u32>
     ensures words { MatchResult result
         (λ words. (length bytes.now < 2 ^ 29) × (words ≡ words_for (length bytes.now) 8))
@@ -98,7 +99,7 @@ pub(crate) fn write_bytes(bytes: &[u8], block: &mut [u8], following: usize, next
     }
 }
 
-// Puts bytes into a block that is zero from the word `next` on, so zeros follow them.
+// Puts bytes into a block that is zero from the word `next` on, so they are padded with zeros.
 #[inline(always)]
 fn put_padded(bytes: &[u8], block: &mut [u8], next: usize)
     requires room { 8 * next + length bytes.now ≤ length block.old }
@@ -112,7 +113,7 @@ fn put_padded(bytes: &[u8], block: &mut [u8], next: usize)
     block[begin..begin + bytes.len()].copy_from_slice(bytes);
 }
 
-/// The words of a text, with the zero byte at its end.
+/// The number of words of a `Text`, with the zero byte at its end.
 pub(crate) fn measure_text(bytes: &[u8]) -> Result<u32>
     ensures words { MatchResult result
         (λ words. (length bytes.now + 1 < 2 ^ 29) × (words ≡ words_for (length bytes.now + 1) 8))
@@ -128,7 +129,7 @@ pub(crate) fn measure_text(bytes: &[u8]) -> Result<u32>
     Err(too_many_words(words))
 }
 
-/// Writes a text into a block that is zero from the word `next` on.
+/// Writes a `Text` into a block that is zero from the word `next` on.
 pub(crate) fn write_text(bytes: &[u8], block: &mut [u8], following: usize, next: usize) -> Copied
     requires few { length bytes.now + 1 < 2 ^ 29 }
     requires room { next + words_for (length bytes.now + 1) 8 ≤ length (words_of block.old) }
@@ -145,7 +146,7 @@ pub(crate) fn write_text(bytes: &[u8], block: &mut [u8], following: usize, next:
     }
 }
 
-/// The words of a list of this many numbers.
+/// The number of words of a list of this many numbers.
 pub(crate) fn measure_numbers(size: ElementSize, count: u32) -> Result<u32>
     ensures { MatchResult result
         (λ words. (count < 2 ^ 29) × (words ≡ words_for count (width (code_of size))))

@@ -66,7 +66,7 @@ impl Walk {
         Ok(found.holds_nulls(found.size.pointers))
     }
 
-    /// Enters a list of numbers, which holds no pointers.
+    /// Enters a list of numbers, which has no pointers.
     #[inline(always)]
     pub(crate) fn visit_list(&mut self, list: &NumberList<'_>) -> Result<()>
         ensures found { (m : List (List ℕ)) (canonical : Bool) (place : Place) (nesting : ℕ) →

@@ -20,7 +20,8 @@ use crate::layout::pointer_slots::PointerSlots;
 use capnp_frame::message::ReaderSegments;
 use capnp_frame::{Error, ErrorKind, Result};
 
-/// What a walk may still count against the traversal limit, and how many words it has counted.
+/// How many more words a walk may count against the traversal limit, and how many words it has
+/// counted.
 #[derive(Drop)]
 pub(crate) struct Walk {
     pub(crate) left: Option<usize>,
@@ -42,8 +43,8 @@ impl Walk {
         }
     }
 
-    /// The words of all objects that it has entered, without landing pads, as they are or in
-    /// canonical form; `None` where they don't fit.
+    /// The number of words of all objects that it has entered, without landing pads, as they are or
+    /// in canonical form; `None` where it does not fit 64 bits.
     pub(crate) fn words(&self) -> Option<u64>
         ensures { result ≡ counted self.now }
     {
@@ -91,7 +92,7 @@ impl Walk {
         Ok(())
     }
 
-    /// Counts words that no pointer leads to.
+    /// Counts words of no object, for example of the value that has the objects.
     #[inline(always)]
     pub(crate) fn count(&mut self, more: u64)
         ensures words { CountsMore (counted self.old) (counted self.new) more }
@@ -145,7 +146,7 @@ impl Walk {
         self.walk_run(segments, segment, place, 1, nesting, canonical)
     }
 
-    // Walks over what a pointer of this segment leads to, whatever it is.
+    // Walks over what a pointer of this segment leads to, of any kind.
     #[inline(never)]
     #[cycle(walk)]
     fn walk_object<S: ReaderSegments>(
@@ -198,7 +199,8 @@ impl Walk {
             IfErr result (λ error.
             StopsWalk m (places_in pointers) nesting self.old.left error.kind) }
     {
-        // Speed: only what a parent's children hold takes a call (`tools/time-building`).
+        // Speed: there is a call only for what the children of a child have
+        // (`tools/time-building`).
         'parents: while let Some(parent) = self.next_parent(
             segments,
             segment,
@@ -228,7 +230,8 @@ impl Walk {
         Ok(())
     }
 
-    // Walks up to the first struct that holds others: enters it alone, and returns its pointers.
+    // Walks up to the first object that has others below it: enters it alone, and returns its
+    // pointers.
     #[inline(always)]
     #[cycle(walk)]
     fn next_parent<'a, S: ReaderSegments>(
@@ -273,7 +276,7 @@ impl Walk {
         Ok(None)
     }
 
-    // Walks over what this many pointers lead to that follow one another.
+    // Walks over what this many consecutive pointers lead to.
     // Speed: the arguments fit in registers (`tools/time-building`).
     #[inline(never)]
     #[cycle(walk)]

@@ -1,4 +1,4 @@
-//! Lists of pointers to views of one type, which are read.
+//! Readers of lists of pointers to views of one type.
 ghost use Rattle.std.specs.Prelude.{◌≡◌, ◌<◌, length};
 
 use crate::list_list::view_iter::ViewIter;
@@ -27,7 +27,7 @@ impl<'a, S: ReaderSegments, T: FromPointerReader<'a, S>> Reader<'a, S, T> {
         self.pointers.len()
     }
 
-    /// The view of the element of this index, counted against the traversal limit each time.
+    /// The view of the element at this index, counted against the traversal limit each time.
     ///
     /// Fails as `any_pointer::Reader::get_as` does of the element's pointer.
     #[inline(always)]
@@ -40,7 +40,7 @@ impl<'a, S: ReaderSegments, T: FromPointerReader<'a, S>> Reader<'a, S, T> {
         T::get_from_pointer(self.pointers.get(index))
     }
 
-    /// The element of this index, or `None` where there are no more elements than it.
+    /// The element at this index, or `None` where the list ends before it.
     ///
     /// The element fails as `get` does.
     pub fn try_get(&self, index: u32) -> Option<Result<T>>
@@ -63,7 +63,7 @@ impl<'a, S: ReaderSegments, T: FromPointerReader<'a, S>> Reader<'a, S, T> {
     }
 }
 
-// Null has no elements; any object but a list of pointers fails with `WrongPointerKind`.
+// Null is an empty list; any object other than a list of pointers fails with `WrongPointerKind`.
 impl<'a, S: ReaderSegments, T> FromPointerReader<'a, S> for Reader<'a, S, T> {
     ghost use Rattle.capnp_wire.specs.Readers.{pointer_of};
     ghost use Rattle.capnp_wire.specs.Views.{IsViewOf, Accepts, Refuses, Declines};

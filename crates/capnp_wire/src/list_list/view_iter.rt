@@ -31,7 +31,7 @@ impl<'l, L: IndexMove, T> ViewIter<'l, L, T> {
     }
 }
 
-// Each call follows the pointer of the next index, as `get` of the list does.
+// Each call follows the pointer at the next index, as `get` of the list does.
 impl<'l, 'a, S, L, T> Iterator for ViewIter<'l, L, T>
 where
     S: ReaderSegments + 'a,

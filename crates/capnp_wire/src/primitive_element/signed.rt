@@ -1,4 +1,4 @@
-//! Numbers with a sign, in two's complement.
+//! Signed numbers, in two's complement.
 ghost use Rattle.std.specs.Int.{w8, w16, w32, w64, cast_signed, cast_unsigned};
 
 use super::PrimitiveElement;

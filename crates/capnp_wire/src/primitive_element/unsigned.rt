@@ -1,4 +1,4 @@
-//! Numbers without a sign.
+//! Unsigned numbers.
 use super::PrimitiveElement;
 use crate::layout::element::ElementSize;
 

@@ -1,4 +1,4 @@
-//! Lists of numbers that are read.
+//! Readers of lists of numbers.
 ghost use Rattle.std.specs.Prelude.{◌≡◌, ◌+◌, ◌*◌, ◌/◌, ◌<◌, ◌≤◌, length, slice_index, MatchResult};
 ghost use Rattle.capnp_wire.specs.Element.{code_of, width, words_for};
 ghost use Rattle.capnp_wire.specs.Landing.{room_of};
@@ -14,7 +14,7 @@ use capnp_frame::Result;
 use capnp_frame::message::ReaderSegments;
 use std::marker::PhantomData;
 
-/// A list of numbers, of bools or of nothing in a message.
+/// A list of numbers, of bools or of `Void` in a message.
 #[derive(Drop)]
 pub struct Reader<'a, T: PrimitiveElement> {
     /// The words of the list.
@@ -37,7 +37,7 @@ impl<'a, T: PrimitiveElement> Reader<'a, T> {
         self.count
     }
 
-    /// The element of this index.
+    /// The element at this index.
     pub fn get(&self, index: u32) -> T
         requires { index < length (numbers_of T.code self.now) }
         ensures { result ≡ T.value_of (slice_index (numbers_of T.code self.now) index) }
@@ -52,7 +52,7 @@ impl<'a, T: PrimitiveElement> Reader<'a, T> {
         T::from_bits(size.in_word(word, index))
     }
 
-    /// The element of this index, or `None` where there are no more elements than it.
+    /// The element at this index, or `None` where the list ends before it.
     pub fn try_get(&self, index: u32) -> Option<T>
         ensures { FindsElement (length (numbers_of T.code self.now)) index
             (λ item. item ≡ T.value_of (slice_index (numbers_of T.code self.now) index)) result }
@@ -67,7 +67,7 @@ impl<'a, T: PrimitiveElement> Reader<'a, T> {
         ListIter::new(self)
     }
 
-    /// The list as what is copied.
+    /// The list as a value to be copied.
     pub(crate) fn as_value(&self) -> NumberList<'a>
         ensures size { code_of result.size ≡ T.code }
         ensures count { result.count ≡ self.now.count }
@@ -101,7 +101,8 @@ impl<'a, T: PrimitiveElement> Reader<'a, T> {
     }
 
     // The list that a pointer leads to, by any path.
-    // Speed: apart from `read`, so the kind of each one's object is known (`tools/time-reading`).
+    // Speed: a function of its own, so `read` knows the kind of the fast path's object
+    // (`tools/time-reading`).
     #[inline(never)]
     fn enter<S: ReaderSegments>(reader: &any_pointer::Reader<'a, S>) -> Result<Reader<'a, T>>
         ensures { let pointer = pointer_of S.segments reader.now in MatchResult result
@@ -158,8 +159,8 @@ impl<'a, T: PrimitiveElement> IndexMove for Reader<'a, T> {
     }
 }
 
-// Null is empty; else it shows the numbers of a list of this size; any other object fails with
-// `WrongPointerKind`.
+// Null is an empty list; a list of numbers of this size shows its numbers; any other object fails
+// with `WrongPointerKind`.
 impl<'a, S: ReaderSegments, T: PrimitiveElement> FromPointerReader<'a, S> for Reader<'a, T> {
     ghost use Rattle.capnp_wire.specs.NumberViews.{numbers_of, IsNumbers};
     ghost use Rattle.capnp_wire.specs.Views.{IsViewOf, Accepts, Reads, Refuses, Declines, TakesNumbers, DeclinesNumbers};

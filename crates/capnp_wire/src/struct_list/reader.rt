@@ -1,4 +1,4 @@
-//! Lists of structs that are read.
+//! Readers of lists of structs.
 ghost use Rattle.std.specs.Prelude.{◌≡◌, ◌+◌, ◌*◌, ◌/◌, ◌^◌, ◌<◌, ◌≤◌, length, MatchResult};
 ghost use Rattle.capnp_wire.specs.Pointer.{words_of};
 ghost use Rattle.capnp_wire.specs.Object.{message_of};
@@ -47,8 +47,8 @@ impl<'a, S: ReaderSegments> Reader<'a, S> {
         self.elements.count
     }
 
-    /// The element of this index, whose pointers have the nesting depth of the list's. Its words
-    /// were counted against the traversal limit with the list's.
+    /// The element at this index. Its pointers have the nesting depth that is left below the list.
+    /// Its words were counted against the traversal limit with the list's.
     pub fn get(&self, index: u32) -> StructReader<'a, S>
         requires { index < length (struct_list_of S.segments self.now).rows }
         ensures { struct_of S.segments result
@@ -72,7 +72,7 @@ impl<'a, S: ReaderSegments> Reader<'a, S> {
         }
     }
 
-    /// The element of this index, or `None` where there are no more elements than it.
+    /// The element at this index, or `None` where the list ends before it.
     pub fn try_get(&self, index: u32) -> Option<StructReader<'a, S>>
         ensures { FindsElement (length (struct_list_of S.segments self.now).rows) index
             (λ item. struct_of S.segments item
@@ -103,7 +103,7 @@ impl<'a, S: ReaderSegments> Reader<'a, S> {
         Ok(Reader::within(reader, &object, 1, elements))
     }
 
-    /// The list of null, which has no elements.
+    /// The list that null is, which has no elements.
     pub(crate) fn empty(reader: &any_pointer::Reader<'a, S>) -> Reader<'a, S>
         ensures { struct_list_of S.segments result ≡ no_structs (pointer_of S.segments reader.now) }
     {
@@ -183,7 +183,7 @@ impl<'a, S: ReaderSegments> IndexMove for Reader<'a, S> {
     }
 }
 
-// Null has no elements; any object but a list of structs fails with `WrongPointerKind`.
+// Null is an empty list; any object other than a list of structs fails with `WrongPointerKind`.
 impl<'a, S: ReaderSegments> FromPointerReader<'a, S> for Reader<'a, S> {
     ghost use Rattle.capnp_wire.specs.Readers.{pointer_of};
     ghost use Rattle.capnp_wire.specs.Views.{IsViewOf, Accepts, Refuses, Declines};

@@ -1,4 +1,4 @@
-//! Texts that are read.
+//! Readers of `Text`.
 ghost use Rattle.std.specs.Prelude.{◌≡◌, ◌↔◌, ◌+◌, ◌/◌, ◌≤◌, ◌++◌, ◌∷◌, [], ℕ, List, length, IsTrue, MatchResult, MatchOption};
 ghost use Rattle.std.specs.Str.{IsUtf8, IsValidUpTo, valid_up_to};
 ghost use Rattle.capnp_wire.specs.Landing.{room_of};
@@ -14,7 +14,7 @@ use capnp_frame::message::ReaderSegments;
 use capnp_frame::{Error, ErrorKind, Result};
 use std::str::{Utf8Error, from_utf8};
 
-/// A text in a message, by its bytes.
+/// A `Text` in a message, by its bytes.
 #[derive(Clone, Copy)]
 pub struct Reader<'a> {
     pub(crate) bytes: &'a [u8],
@@ -44,8 +44,8 @@ impl<'a> Reader<'a> {
 
     /// The text as a `str`.
     ///
-    /// Fails where the bytes aren't UTF-8, and tells how many of them are: writers should write no
-    /// other text ("Blobs"), but no reader tests what it isn't asked for.
+    /// Fails where the bytes aren't UTF-8, with how many of them are at the front: writers should
+    /// write only UTF-8 ("Blobs"), but no reader tests it unasked.
     pub fn to_str(&self) -> std::result::Result<&'a str, Utf8Error>
         ensures { MatchResult result
             (λ text. (text.now ≡ self.now.bytes.now) × IsUtf8 self.now.bytes.now)
@@ -63,8 +63,8 @@ impl<'a> Reader<'a> {
     }
 }
 
-// Null is empty; else it shows the bytes of a list of bytes before the zero byte at its end,
-// without which it fails with `TextNotTerminated`. Any other object fails with `WrongPointerKind`.
+// Null is empty; a list of bytes that ends with a zero byte shows the bytes before it, and one that
+// doesn't fails with `TextNotTerminated`. Any other object fails with `WrongPointerKind`.
 impl<'a, S: ReaderSegments> FromPointerReader<'a, S> for Reader<'a> {
     ghost shows = { λ pointer view. Reads pointer (λ form. IsText form view.bytes.now) };
 
@@ -85,7 +85,7 @@ impl<'a, S: ReaderSegments> FromPointerReader<'a, S> for Reader<'a> {
     }
 }
 
-// The text of a list of bytes.
+// The `Text` that a list of bytes is.
 #[inline(always)]
 fn read_text<'a, S: ReaderSegments>(reader: &any_pointer::Reader<'a, S>) -> Result<Reader<'a>>
     ensures { let pointer = pointer_of S.segments reader.now in MatchResult result
@@ -98,8 +98,9 @@ fn read_text<'a, S: ReaderSegments>(reader: &any_pointer::Reader<'a, S>) -> Resu
     }
 }
 
-// The text of a list of bytes, by any path.
-// Speed: apart from `read_text`, so the kind of each one's object is known (`tools/time-reading`).
+// The `Text` that a list of bytes is, by any path.
+// Speed: a function of its own, so `read_text` knows the kind of the fast path's object
+// (`tools/time-reading`).
 #[inline(never)]
 fn enter_text<'a, S: ReaderSegments>(reader: &any_pointer::Reader<'a, S>) -> Result<Reader<'a>>
     ensures { let pointer = pointer_of S.segments reader.now in MatchResult result
@@ -112,7 +113,7 @@ fn enter_text<'a, S: ReaderSegments>(reader: &any_pointer::Reader<'a, S>) -> Res
     text_in(&object)
 }
 
-// The text that an object holds.
+// The `Text` that an object is.
 #[inline(always)]
 fn text_in<'a>(object: &Object<'a>) -> Result<Reader<'a>>
     requires { object.now.start.word + room_of object.now.body
@@ -127,7 +128,7 @@ fn text_in<'a>(object: &Object<'a>) -> Result<Reader<'a>>
     }
 }
 
-// The bytes before a zero byte at the end.
+// The bytes in front of a zero byte at the end; `None` where there is none.
 fn before_zero(bytes: &[u8]) -> Option<&[u8]>
     ensures { MatchOption result ((text : List ℕ) → bytes.now ≡ text ++ 0 ∷ [] → ⊥)
         (λ text. bytes.now ≡ text.now ++ 0 ∷ []) }

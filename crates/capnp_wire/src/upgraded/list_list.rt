@@ -9,7 +9,7 @@ use capnp_frame::Result;
 use capnp_frame::message::ReaderSegments;
 use std::marker::PhantomData;
 
-/// A list of pointers in a message, or of structs of which each has such a pointer first, read as
+/// A list of pointers in a message, or of structs whose first pointer is such a pointer, read as
 /// views of one type: of text, data or a list.
 #[derive(Drop)]
 pub struct ListList<'a, S, T> {
@@ -30,7 +30,7 @@ impl<'a, S: ReaderSegments, T: FromPointerReader<'a, S>> ListList<'a, S, T> {
         self.pointers.len()
     }
 
-    /// The view of the element of this index, counted against the traversal limit each time.
+    /// The view of the element at this index, counted against the traversal limit each time.
     ///
     /// Fails as `any_pointer::Reader::get_as` does of the element's pointer.
     pub fn get(&self, index: u32) -> Result<T>
@@ -42,7 +42,7 @@ impl<'a, S: ReaderSegments, T: FromPointerReader<'a, S>> ListList<'a, S, T> {
         T::get_from_pointer(self.pointers.get(index))
     }
 
-    /// The element of this index, or `None` where there are no more elements than it.
+    /// The element at this index, or `None` where the list ends before it.
     ///
     /// The element fails as `get` does.
     pub fn try_get(&self, index: u32) -> Option<Result<T>>
@@ -66,8 +66,8 @@ impl<'a, S: ReaderSegments, T: FromPointerReader<'a, S>> ListList<'a, S, T> {
     }
 }
 
-// Null has no elements; any object but a list of pointers, or of structs that have one, fails with
-// `WrongPointerKind`.
+// Null is an empty list; any object other than a list of pointers, or of structs that have one,
+// fails with `WrongPointerKind`.
 impl<'a, S: ReaderSegments, T> FromPointerReader<'a, S> for ListList<'a, S, T> {
     ghost use Rattle.capnp_wire.specs.Readers.{pointer_of};
     ghost use Rattle.capnp_wire.specs.Views.{IsViewOf, Accepts, Refuses, Declines};

@@ -22,18 +22,18 @@ pub struct NumberList<'a, T: PrimitiveElement> {
     pub(crate) numbers: Numbers<primitive_list::Reader<'a, T>, FirstFields<'a, T>>,
 }
 
-/// The elements: of a list of numbers, or the first fields of structs.
+/// The elements: numbers of a list, or the first fields of structs.
 #[derive(Drop)]
 pub(crate) enum Numbers<L, F> {
     InPlace(L),
     OfStructs(F),
 }
 
-/// The first fields of structs that follow one another.
+/// The first fields of consecutive structs.
 #[derive(Drop)]
 pub(crate) struct FirstFields<'a, T: PrimitiveElement> {
     pub segment: &'a [u8],
-    /// The word of the first struct.
+    /// The word at which the first struct begins.
     pub first: usize,
     pub size: StructSize,
     pub count: u32,
@@ -76,7 +76,7 @@ impl<'a, T: PrimitiveElement> NumberList<'a, T> {
         }
     }
 
-    /// The element of this index.
+    /// The element at this index.
     pub fn get(&self, index: u32) -> T
         requires { index < length (upgraded_numbers_of T.code self.now) }
         ensures { result ≡ T.value_of (slice_index (upgraded_numbers_of T.code self.now) index) }
@@ -87,7 +87,7 @@ impl<'a, T: PrimitiveElement> NumberList<'a, T> {
         }
     }
 
-    /// The element of this index, or `None` where there are no more elements than it.
+    /// The element at this index, or `None` where the list ends before it.
     pub fn try_get(&self, index: u32) -> Option<T>
         ensures { FindsElement (length (upgraded_numbers_of T.code self.now)) index
             (λ item. item ≡ T.value_of (slice_index (upgraded_numbers_of T.code self.now) index)) result }
@@ -122,7 +122,7 @@ impl<'a, T: PrimitiveElement> NumberList<'a, T> {
         Ok(list)
     }
 
-    // The list that an object is.
+    // The list of numbers that an object is read as.
     fn of(object: &Object<'a>) -> Result<NumberList<'a, T>>
         requires room { object.now.start.word + room_of object.now.body
             ≤ length object.now.segment.now / 8 }
@@ -158,7 +158,7 @@ impl<'a, T: PrimitiveElement> NumberList<'a, T> {
     }
 }
 
-// Whether an element of a size can be the first field of structs of some data words.
+// Whether an element of this size can be the first field of structs of this many data words.
 fn is_first_field(size: ElementSize, data_words: u16) -> bool
     ensures { IsTrue result ↔ IsFirstField (code_of size) data_words }
 {
@@ -187,9 +187,9 @@ impl<'a, T: PrimitiveElement> IndexMove for NumberList<'a, T> {
     }
 }
 
-// Null is empty; else it shows the numbers of a list of this size, or the first fields of structs
-// that have a data word; any other object fails with `WrongPointerKind`, and so does any but a list
-// of bits where these are asked for.
+// Null is an empty list; a list of numbers of this size shows its numbers, and a list of structs
+// that have a data word shows their first fields. Any other object fails with `WrongPointerKind`;
+// where bits are asked for, so does any object other than a list of bits.
 impl<'a, S: ReaderSegments, T: PrimitiveElement> FromPointerReader<'a, S> for NumberList<'a, T> {
     ghost use Rattle.capnp_wire.specs.Readers.{pointer_of};
     ghost use Rattle.capnp_wire.specs.Views.{IsViewOf, Accepts, Reads, Refuses, Declines};

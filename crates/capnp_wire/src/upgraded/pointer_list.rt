@@ -10,14 +10,14 @@ use crate::traits::{FromPointerReader, IndexMove, ListIter};
 use capnp_frame::Result;
 use capnp_frame::message::ReaderSegments;
 
-/// A list of pointers in a message, or of structs of which each has such a pointer first.
+/// A list of pointers in a message, or of structs whose first pointer is such a pointer.
 #[derive(Drop)]
 pub struct PointerList<'a, S> {
     pub(crate) segments: &'a S,
     pub(crate) limiter: Option<&'a ReadLimiter>,
     /// The place of the first pointer.
     pub(crate) first: Place,
-    /// The words from one pointer to the next.
+    /// The number of words from one pointer to the next.
     pub(crate) step: usize,
     pub(crate) count: u32,
     pub(crate) nesting: u32,
@@ -39,7 +39,7 @@ impl<'a, S: ReaderSegments> PointerList<'a, S> {
         self.count
     }
 
-    /// The pointer of this index. What it leads to is counted against the traversal limit when it
+    /// The pointer at this index. What it leads to is counted against the traversal limit when it
     /// is followed.
     pub fn get(&self, index: u32) -> any_pointer::Reader<'a, S>
         requires { index < length (upgraded_pointers_of S.segments self.now).children }
@@ -61,7 +61,7 @@ impl<'a, S: ReaderSegments> PointerList<'a, S> {
         }
     }
 
-    /// The element of this index, or `None` where there are no more elements than it.
+    /// The element at this index, or `None` where the list ends before it.
     pub fn try_get(&self, index: u32) -> Option<any_pointer::Reader<'a, S>>
         ensures { FindsElement (length (upgraded_pointers_of S.segments self.now).children) index
             (λ item. pointer_of S.segments item
@@ -93,7 +93,7 @@ impl<'a, S: ReaderSegments> PointerList<'a, S> {
         PointerList::of(reader, &object)
     }
 
-    // The list that an object is.
+    // The list of pointers that an object is read as.
     fn of(reader: &any_pointer::Reader<'a, S>, object: &Object<'a>) -> Result<PointerList<'a, S>>
         requires { IsEntered (pointer_of S.segments reader.now) object.now }
         ensures { let pointer = pointer_of S.segments reader.now in MatchResult result
@@ -119,7 +119,7 @@ impl<'a, S: ReaderSegments> PointerList<'a, S> {
         Ok(PointerList::new(reader, first, step, elements.count))
     }
 
-    // Pointers that are this far from one another.
+    // Pointers at this distance from one another.
     fn new(
         reader: &any_pointer::Reader<'a, S>,
         first: Place,
@@ -166,8 +166,8 @@ impl<'a, S: ReaderSegments> IndexMove for PointerList<'a, S> {
     }
 }
 
-// Null has no elements; any object but a list of pointers, or of structs that have one, fails with
-// `WrongPointerKind`.
+// Null is an empty list; any object other than a list of pointers, or of structs that have one,
+// fails with `WrongPointerKind`.
 impl<'a, S: ReaderSegments> FromPointerReader<'a, S> for PointerList<'a, S> {
     ghost use Rattle.capnp_wire.specs.Readers.{pointer_of};
     ghost use Rattle.capnp_wire.specs.Views.{IsViewOf, Accepts, Refuses, Declines};

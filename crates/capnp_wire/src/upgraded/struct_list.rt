@@ -18,7 +18,7 @@ use capnp_frame::Result;
 use capnp_frame::message::ReaderSegments;
 
 /// A list of structs, of numbers or of pointers in a message, read as a list of structs: a number
-/// is the low bits of its struct's one data word, a pointer is its struct's one pointer.
+/// is in the low bits of its struct's one data word, and a pointer is its struct's one pointer.
 #[derive(Drop)]
 pub struct StructList<'a, S: ReaderSegments> {
     pub(crate) rows: Rows<'a, S>,
@@ -27,7 +27,7 @@ pub struct StructList<'a, S: ReaderSegments> {
 /// The elements.
 #[derive(Drop)]
 pub(crate) enum Rows<'a, S: ReaderSegments> {
-    /// Structs, and what is laid out as structs are: pointers, and elements of no bytes.
+    /// Structs, and lists that have the layout of structs: pointers, and elements of no bytes.
     InPlace(struct_list::Reader<'a, S>),
     Numbers(NumberRows<'a, S>),
 }
@@ -51,7 +51,7 @@ impl<'a, S: ReaderSegments> NumberRows<'a, S> {
     ghost use Rattle.capnp_wire.specs.ListViews.{element_of};
     ghost use Rattle.capnp_wire.specs.UpgradedReaders.{number_rows_of};
 
-    // The number of this index, as a struct.
+    // The number at this index, as a struct.
     fn get(&self, index: u32) -> StructReader<'a, S>
         requires { index < length (number_rows_of S.segments self.now).rows }
         ensures { struct_of S.segments result
@@ -98,8 +98,8 @@ impl<'a, S: ReaderSegments> StructList<'a, S> {
         }
     }
 
-    /// The element of this index, whose pointers have the nesting depth of the list's. Its words
-    /// were counted against the traversal limit with the list's.
+    /// The element at this index. Its pointers have the nesting depth that is left below the list.
+    /// Its words were counted against the traversal limit with the list's.
     pub fn get(&self, index: u32) -> StructReader<'a, S>
         requires { index < length (upgraded_structs_of S.segments self.now).rows }
         ensures { struct_of S.segments result
@@ -111,7 +111,7 @@ impl<'a, S: ReaderSegments> StructList<'a, S> {
         }
     }
 
-    /// The element of this index, or `None` where there are no more elements than it.
+    /// The element at this index, or `None` where the list ends before it.
     pub fn try_get(&self, index: u32) -> Option<StructReader<'a, S>>
         ensures { FindsElement (length (upgraded_structs_of S.segments self.now).rows) index
             (λ item. struct_of S.segments item
@@ -191,7 +191,7 @@ impl<'a, S: ReaderSegments> StructList<'a, S> {
         })
     }
 
-    // The structs in an object that is laid out as a list of structs is.
+    // The structs of an object that has the layout of a list of structs.
     fn in_place(
         reader: &any_pointer::Reader<'a, S>,
         object: &Object<'a>,
@@ -239,7 +239,7 @@ impl<'a, S: ReaderSegments> IndexMove for StructList<'a, S> {
     }
 }
 
-// Structs of no data words, each with as many pointers.
+// Structs of no data words, each with this many pointers.
 fn elements_without_data(pointers: u16, count: u32) -> Elements
     ensures { result ≡ elements_of pointers count }
 {
@@ -252,7 +252,7 @@ fn elements_without_data(pointers: u16, count: u32) -> Elements
     }
 }
 
-// Null has no elements; a struct, and a list of bits, fail with `WrongPointerKind`.
+// Null is an empty list; a struct, and a list of bits, fail with `WrongPointerKind`.
 impl<'a, S: ReaderSegments> FromPointerReader<'a, S> for StructList<'a, S> {
     ghost use Rattle.capnp_wire.specs.Readers.{pointer_of};
     ghost use Rattle.capnp_wire.specs.Views.{IsViewOf, Accepts, Refuses, Declines};

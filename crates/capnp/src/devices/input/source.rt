@@ -40,7 +40,7 @@ impl<R: io::Read> Read for Input<R> {
             IsRefused RunsShort (length buffer.new) (unread_of R.remaining self.old)
             ErrorKind.FailedToFillTheWholeBuffer) }
 
-        // An error.
+        // With which kind it fails.
         ensures device { IfErr result (λ error. error.kind ≡ ErrorKind.DeviceFailed) }
         ensures failed { OnErr result (Fails self.old.failures.count self.new.failures.count) }
         ensures kept { OnErr result (Keeps (coming R.remaining self.old) (coming R.remaining self.new)) }

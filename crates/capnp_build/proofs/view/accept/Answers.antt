@@ -1,4 +1,4 @@
--- What is rejected declines the root.
+-- A failure declines the root.
 use Rattle.capnp_build.proofs.AcceptLemmas.{declined_there}
 use Rattle.capnp_build.proofs.view.accept.Goals as goal
 

@@ -1,4 +1,4 @@
--- What one reader of bytes rejects, another rejects too, with a kind of its own.
+-- Where one reader of bytes fails, another fails too, with a kind of its own.
 use Rattle.capnp_frame.proofs.AgreementLemmas.{flat_agree, one_at_a_front}
 use Rattle.capnp_frame.proofs.laws.flat_readers_agree.Goals as goal
 

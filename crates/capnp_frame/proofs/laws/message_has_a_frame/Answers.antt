@@ -1,4 +1,4 @@
--- The written text of a message is a frame of it.
+-- What is written of a message is a framed encoding of it.
 use Rattle.capnp_frame.proofs.FrameLemmas.{frame_bytes_are}
 use Rattle.capnp_frame.proofs.laws.message_has_a_frame.Goals as goal
 

@@ -1,4 +1,4 @@
--- Its table is, and the next line is the limit's.
+-- Its table is there, and the next line is the limit's.
 use Rattle.capnp_frame.proofs.LimitLemmas.{past_limit}
 use Rattle.capnp_frame.proofs.laws.message_past_the_limit_is_refused.Goals as goal
 

@@ -1,4 +1,4 @@
--- No chunk is rejected otherwise.
+-- A chunk fails for no other reason.
 use Rattle.capnp_frame.proofs.SizeLemmas.{lacks_memory_alone}
 use Rattle.capnp_frame.proofs.laws.vectors_lack_memory_alone.Goals as goal
 

@@ -1,4 +1,4 @@
--- The zeros are from the first byte on.
+-- The bytes from the first one on are zero.
 use Rattle.std.proofs.Common.{◌≡◌, ◌∙◌, ◌+◌, ◌-◌, ℕ, length, take, drop, replicate, ap, arith, length-take, length-drop}
 use Rattle.capnp_orphans.proofs.WrittenLemmas.{middle_zero}
 use Rattle.capnp_orphans.proofs.segment.prepare.Goals as goal

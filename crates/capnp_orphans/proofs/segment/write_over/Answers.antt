@@ -1,4 +1,4 @@
--- The object's block is over the bytes from one on.
+-- The object's block replaces the bytes from this one on.
 use Rattle.std.proofs.Common.{◌≡◌, ◌∙◌, ◌+◌, ◌-◌, ◌*◌, ◌≤◌, ◌++◌, ℕ, List, length, take, drop, sym, ap, subst, arith, length-take, length-drop}
 use Rattle.std.specs.Prelude.{replicate}
 use Rattle.capnp_orphans.proofs.WrittenLemmas.{middle_part, middle_long}

@@ -1,4 +1,4 @@
--- A group is a part of each result that it fits into.
+-- A group is a part of the result of each request that it fits into.
 use Rattle.std.proofs.Common.{rules, refl}
 use Rattle.capnp_pack.proofs.CallLemmas.{next_err, next_ok}
 use Rattle.capnp_frame.proofs.AskLemmas.{passed_on}

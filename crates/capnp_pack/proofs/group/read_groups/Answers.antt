@@ -1,4 +1,4 @@
--- The groups that are shown are a part of each result that they fit into.
+-- The groups that are shown are a part of the result of each request that they fit into.
 use Rattle.std.proofs.Common.{rules, arith, ◌<◌}
 use Rattle.capnp_pack.proofs.ProgressLemmas.{shown_taken}
 use Rattle.capnp_pack.proofs.UnpackedLemmas.{shown_takes, shown_some}

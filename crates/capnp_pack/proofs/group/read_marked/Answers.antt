@@ -1,4 +1,4 @@
--- Each byte by its bit.
+-- Each byte is read by its bit.
 use Rattle.std.proofs.Common.{rules, take}
 use Rattle.std.proofs.lemmas.List.{length-take-le, take_all, take_more_set}
 use Rattle.capnp_frame.proofs.SourceLemmas.{Advances-join}

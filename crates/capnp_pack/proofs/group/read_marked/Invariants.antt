@@ -1,4 +1,4 @@
--- The bytes so far are under the tag, and the others under the bits that are left.
+-- The bytes so far are those of the tag, and the others those of the bits that are left.
 use Rattle.std.proofs.Common.{take}
 use Rattle.capnp_frame.specs.Source.{IfKnown, Advances}
 use Rattle.capnp_pack.proofs.WordLemmas.{MarksTo}

@@ -1,4 +1,4 @@
--- The count after the tag says the run.
+-- The count after the tag is the length of the run.
 use Rattle.std.proofs.Common.{rules, arith, ◌+◌, ◌*◌, refl}
 use Rattle.std.proofs.lemmas.Grind.{common_steps}
 use Rattle.capnp_pack.proofs.CallLemmas.{takes_own}

@@ -1,4 +1,4 @@
--- The words say each next group of a packer.
+-- The words determine each next group of a packer.
 use Rattle.capnp_pack.proofs.PackerLemmas.{Packs-once}
 use Rattle.capnp_pack.proofs.laws.packed_encoding_is_one.Goals as goal
 

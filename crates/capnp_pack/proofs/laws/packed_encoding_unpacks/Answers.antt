@@ -1,4 +1,4 @@
--- A packed encoding is a chunk, and a request has one result.
+-- A packed encoding is a chunk, and a request has at most one result.
 use Rattle.capnp_pack.proofs.PackerLemmas.{Packs-unpacks, Packs-unpacks-alone}
 use Rattle.capnp_pack.proofs.laws.packed_encoding_unpacks.Goals as goal
 

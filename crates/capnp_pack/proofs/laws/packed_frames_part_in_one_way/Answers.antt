@@ -1,4 +1,4 @@
--- What the requests take is given in one way alone.
+-- What the requests take is given in only one way.
 use Rattle.capnp_pack.proofs.MessageLemmas.{packed_frames_part}
 use Rattle.capnp_pack.proofs.laws.packed_frames_part_in_one_way.Goals as goal
 

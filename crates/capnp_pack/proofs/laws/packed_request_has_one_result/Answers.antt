@@ -1,4 +1,4 @@
--- No group's text begins another's.
+-- No group's encoding is the start of another's.
 use Rattle.capnp_pack.specs.UnpackingLaws.{unpack_once}
 use Rattle.capnp_pack.proofs.laws.packed_request_has_one_result.Goals as goal
 

@@ -1,4 +1,4 @@
--- The word and its tag are in the buffer, before the words after it.
+-- The word and its tag are in the buffer, in front of the words after it.
 use Rattle.std.proofs.Common.{rules, length, take, ◌≡◌, Ok, refl, sym}
 use Rattle.capnp_pack.proofs.CallLemmas.{hands_passed}
 use Rattle.capnp_pack.proofs.Chunks.{each_word}

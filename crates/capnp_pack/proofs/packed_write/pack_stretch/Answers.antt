@@ -1,4 +1,4 @@
--- One more group is before the words that are left.
+-- One more group comes before the words that are left.
 use Rattle.std.proofs.Common.{rules, arith, ◌≡◌, ◌<◌, ◌≤◌, ◌+◌, ◌-◌, ap, length, length-drop, get_or, [], take, drop}
 use lib.Count.{ones, ones-le}
 use Rattle.capnp_pack.proofs.BufferedLemmas.{buffered_more, tagged_group}

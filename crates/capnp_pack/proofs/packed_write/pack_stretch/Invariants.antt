@@ -1,4 +1,4 @@
--- The words so far are packed after what the buffer held.
+-- The words so far are packed after what the buffer had.
 use Rattle.std.proofs.Common.{◌≡◌, ◌++◌, ◌+◌, ◌*◌, ◌-◌, ◌≤◌, List, ℕ, length, take, drop}
 use Rattle.capnp_pack.specs.PackedWords.{PacksTo}
 use Rattle.capnp_pack.proofs.packed_write.pack_stretch.Given as goal

@@ -1,4 +1,4 @@
--- What the table has for the tag.
+-- The table's entry for the tag.
 use Rattle.std.proofs.Common.{arith, ◌≤◌, ◌<◌, ◌∙◌, sym, subst}
 use Rattle.capnp_pack.proofs.SizeLemmas.{size_at, size_few, size_tagged}
 use Rattle.capnp_pack.proofs.sizes.group_bytes.Goals as goal

@@ -1,4 +1,4 @@
--- The numbers from here on have no more bits than their type tells.
+-- The numbers from here on have no more bits than their type has.
 use Rattle.std.proofs.Common.{◌≤◌, ◌<◌, ◌^◌, length, drop, map}
 use Rattle.std.specs.Prelude.{All}
 use Rattle.capnp_wire.specs.Element.{width}

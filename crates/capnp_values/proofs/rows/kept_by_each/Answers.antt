@@ -1,4 +1,4 @@
--- As they are all is kept, and in canonical form what one of them needs.
+-- As the structs are, all is kept; in canonical form, as much as one of them needs.
 use Rattle.std.proofs.Common.{◌∙◌, Bool, List, ℕ, length, map, ap, sym, arith}
 use Rattle.capnp_wire.specs.Trim.{cut_zeros}
 use Rattle.capnp_values.specs.StructLists.{element_data, element_pointers}

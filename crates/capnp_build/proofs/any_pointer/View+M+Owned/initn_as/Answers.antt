@@ -1,4 +1,4 @@
--- A view is rejected as the object is.
+-- The call fails as making the object does.
 use Rattle.std.proofs.lemmas.Result.{err_from_is_err_and}
 use Rattle.capnp_build.proofs.InitLemmas.{init_refused}
 use Rattle.capnp_build.proofs.any_pointer.«View+M+Owned».initn_as.Goals as goal

@@ -1,4 +1,4 @@
--- Where a list of bytes is there is a segment.
+-- Where there is a list of bytes, there is a segment.
 use Rattle.capnp_build.proofs.AcceptLemmas.{no_bytes}
 use Rattle.capnp_build.proofs.data.«View+M+Owned».as_bytes.Goals as goal
 

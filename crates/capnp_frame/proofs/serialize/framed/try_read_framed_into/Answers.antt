@@ -1,4 +1,4 @@
--- The text is in the buffer, its padding zero.
+-- The framed encoding is in the buffer, with zero padding.
 use Rattle.std.proofs.Common.{length, rules, arith, refl, sym, subst}
 use Rattle.std.proofs.lemmas.Result.{err_from_is_err_and}
 use Rattle.capnp_frame.specs.declared.serialize.segment_table.Padding.TheVariants.{Zero}

@@ -1,4 +1,4 @@
--- The message that is held is the one that is there.
+-- The message in the buffer is the one that is there.
 use Rattle.std.proofs.Common.{◌≡◌, length, rules, ap}
 use Rattle.std.proofs.lemmas.Result.{err_from_is_err_and}
 use Rattle.capnp_frame.proofs.ProvidedLemmas.{reads_into, refused_into}

@@ -1,4 +1,4 @@
--- The lengths before the index are spelled, and this is their sum.
+-- The lengths before the index are in the fields, and this is their sum.
 use Rattle.std.proofs.Common.{◌≡◌, ◌*◌, ◌≤◌, ◌^◌}
 use Rattle.std.specs.Prelude.{sum}
 use Rattle.capnp_frame.specs.Front.{declared_lengths, SpellsLengths}

@@ -1,4 +1,4 @@
--- The chunks, joined, are the frame, and few segments always fit.
+-- The chunks, joined, are the frame, and with few segments it always fits.
 use Rattle.std.proofs.Common.{inl, inr, arith}
 use Rattle.std.proofs.lemmas.Result.{err_from_is_err_and}
 use Rattle.capnp_frame.proofs.SizeLemmas.{written_frame, lacks_memory_alone, few_fit}

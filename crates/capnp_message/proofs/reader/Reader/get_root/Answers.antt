@@ -1,4 +1,4 @@
--- One failure alone is at the root's word.
+-- The root's word fails with only one error.
 use Rattle.capnp_message.proofs.RootLemmas.{root_nowhere, root_read}
 use Rattle.capnp_message.proofs.reader.Reader.get_root.Goals as goal
 

@@ -1,4 +1,4 @@
--- Where a tree is, the walk does not stop.
+-- Where there is a tree, the walk does not stop.
 use Rattle.capnp_message.proofs.CanonicalLemmas.{tree_found}
 use Rattle.capnp_message.proofs.reader.Reader.is_canonical.Goals as goal
 

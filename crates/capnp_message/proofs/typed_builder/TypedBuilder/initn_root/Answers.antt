@@ -1,4 +1,4 @@
--- A view is rejected as the object is, and leaves a null root.
+-- The call fails as making the object does, and leaves a null root.
 use Rattle.std.proofs.Common.{refl}
 use Rattle.std.proofs.lemmas.Result.{err_from_is_err_and}
 use Rattle.capnp_build.proofs.InitLemmas.{init_refused}

@@ -1,4 +1,4 @@
--- A part of a word is rejected before anything is read.
+-- A request that isn't whole words fails before anything is read.
 use Rattle.std.proofs.Common.{inr, ◌≡◌}
 use Rattle.capnp_pack.specs.UnpackingLaws.{not_plain}
 use Rattle.capnp_frame.proofs.SourceLemmas.{IfErr-vacuous}

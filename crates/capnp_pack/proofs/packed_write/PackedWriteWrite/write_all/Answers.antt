@@ -1,4 +1,4 @@
--- Whole words are rejected only as the sink rejects.
+-- Whole words fail only where the sink fails.
 use Rattle.std.proofs.Common.{◌≡◌}
 use Rattle.capnp_frame.specs.declared.error.ErrorKind.TheVariants.{DeviceFailed}
 use Rattle.capnp_pack.proofs.PackerLemmas.{Packs-whole}

@@ -1,4 +1,4 @@
--- The struct that is there.
+-- The struct at this index.
 use Rattle.std.proofs.Common.{refl}
 use Rattle.capnp_values.proofs.SourceLemmas.{itself, stands_at}
 use Rattle.capnp_values.proofs.sources.RefSliceStructSource.get.Goals as goal

@@ -1,4 +1,4 @@
--- The value that is there.
+-- The value at this index.
 use Rattle.capnp_values.proofs.SourceLemmas.{itself, stands_at}
 use Rattle.capnp_values.proofs.sources.RefSliceValueSource.get.Goals as goal
 

@@ -1,4 +1,4 @@
--- The most that one stretch needs, stretch by stretch.
+-- The most words that one part needs, part by part.
 use Rattle.std.proofs.Common.{◌≡◌, ◌+◌, ◌-◌, ◌/◌, ◌<◌, max, length, ◌∙◌, sym, arith, ℕ}
 use Rattle.capnp_wire.specs.Pointer.{words_of}
 use Rattle.capnp_wire.proofs.words.UsedLemmas.{most_next, most_none, most_within, stretch_next}

@@ -1,4 +1,4 @@
--- The most of the stretches so far, and what is left of them.
+-- The most words of the parts so far, and the parts that are left.
 use Rattle.std.proofs.Common.{◌≡◌, ◌≤◌, ◌+◌, ◌-◌, ◌*◌, ◌/◌, max, length}
 use Rattle.capnp_wire.specs.Pointer.{words_of}
 use Rattle.capnp_wire.specs.Block.{most_used}

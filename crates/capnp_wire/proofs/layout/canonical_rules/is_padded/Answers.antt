@@ -1,4 +1,4 @@
--- What is after the bits of a list in its last word.
+-- The bits after the elements of a list in its last word.
 use Rattle.std.proofs.Common.{◌≡◌, ◌<◌, ◌+◌, ◌*◌, ◌/◌, ◌%◌, ◌^◌, ℕ, length, slice_get, slice_index_or, None, refl, sym, ap, arith}
 use Rattle.std.proofs.lemmas.Bool.Decides.{nat_tests}
 use Rattle.capnp_wire.specs.Pointer.{words_of}

@@ -1,4 +1,4 @@
--- A list of numbers that a near pointer leads to is where it has room.
+-- A pointer leads to a list of numbers in its segment where there is room for the list.
 use Rattle.std.proofs.Common.{◌+◌, ◌/◌, ◌≤◌, length, refl, sym, arith}
 use Rattle.capnp_wire.specs.Pointer.{words_of}
 use Rattle.capnp_wire.specs.Element.{code_of, width, words_for}

@@ -1,4 +1,4 @@
--- A list of pointers that a near pointer leads to is where it has room.
+-- A pointer leads to a list of pointers in its segment where there is room for the list.
 use Rattle.std.proofs.Common.{◌+◌, ◌/◌, ◌≤◌, length, sym, arith}
 use Rattle.capnp_wire.specs.Pointer.{words_of}
 use Rattle.capnp_wire.proofs.pointers.LocalLemmas.{word_there, pointer_list_stands}

@@ -1,4 +1,4 @@
--- A struct that a near pointer leads to is where it has room.
+-- A pointer leads to a struct in its segment where there is room for the struct.
 use Rattle.std.proofs.Common.{◌+◌, ◌/◌, ◌≤◌, length, sym, arith}
 use Rattle.capnp_wire.specs.Pointer.{words_of}
 use Rattle.capnp_wire.proofs.pointers.LocalLemmas.{word_there, struct_stands_local}

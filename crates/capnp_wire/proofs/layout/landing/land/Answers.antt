@@ -1,4 +1,4 @@
--- A pointer is near, far, or no struct or list pointer.
+-- A pointer is a struct or list pointer, a far pointer, or neither.
 use Rattle.std.proofs.Common.{◌<◌, Some, sym, ◌∙◌, ap, subst, arith, lit≤}
 use Rattle.std.proofs.lemmas.Result.{err_from_is_err_and}
 use Rattle.capnp_wire.specs.Object.{message_of, local}

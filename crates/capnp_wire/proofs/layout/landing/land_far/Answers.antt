@@ -1,4 +1,4 @@
--- A far pointer leads on by a landing pad of one word, or of two.
+-- A far pointer leads on through a landing pad of one word, or of two.
 use Rattle.std.proofs.Common.{◌≡◌, ℕ, Some, sym, subst}
 use Rattle.capnp_wire.specs.PointerWord.{IsFarPointer}
 use Rattle.capnp_wire.specs.Landing.{HasWideLandingPad}

@@ -1,4 +1,4 @@
--- A word that is no struct or list pointer fails for its kind.
+-- A word that is no struct or list pointer fails with the error of its kind.
 use Rattle.std.proofs.Common.{inl, inr}
 use Rattle.capnp_wire.proofs.layout.landing.local_pointer.Goals as goal
 

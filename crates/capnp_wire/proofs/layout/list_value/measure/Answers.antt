@@ -1,4 +1,4 @@
--- The walk over a list's pointers counts what is after these.
+-- The walk over a list's pointers counts the words after these.
 use Rattle.std.proofs.Common.{◌+◌, refl, arith}
 use Rattle.capnp_wire.specs.Object.{message_of, places}
 use Rattle.capnp_wire.specs.Tree.{pointers}

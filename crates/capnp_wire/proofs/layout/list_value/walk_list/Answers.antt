@@ -1,4 +1,4 @@
--- A walk over no pointers is none, and over some it is in their segment.
+-- A walk over no pointers finds nothing, and a walk over some is in their segment.
 use Rattle.std.proofs.Common.{◌<◌, arith}
 use Rattle.capnp_frame.proofs.AskLemmas.{passed_on}
 use Rattle.capnp_wire.specs.Object.{message_of}

@@ -1,4 +1,4 @@
--- Each kind of object is where it has room.
+-- Each kind of object is there where the segment has room for it.
 use Rattle.std.proofs.Common.{◌+◌, ◌/◌, ◌<◌, ◌≤◌, length, arith}
 use Rattle.std.proofs.lemmas.Result.{err_from_is_err_and}
 use Rattle.capnp_wire.specs.Pointer.{code}

@@ -1,4 +1,4 @@
--- The segment of the pointer is there, or that is rejected.
+-- The segment of the pointer is there, or the call fails.
 use Rattle.std.proofs.Common.{sym, subst}
 use Rattle.capnp_wire.specs.Object.{message_of}
 use Rattle.capnp_wire.specs.Faults.{Fault, no_word, no_segment}

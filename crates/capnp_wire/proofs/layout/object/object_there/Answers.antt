@@ -1,4 +1,4 @@
--- Where a tree is, no object is rejected.
+-- Where there is a tree, no error is met.
 use Rattle.capnp_wire.specs.Object.{message_of}
 use Rattle.capnp_wire.proofs.layouts.CopiedLemmas.{fault_no_tree}
 use Rattle.capnp_wire.proofs.layout.object.object_there.Goals as goal

@@ -1,4 +1,4 @@
--- A list of structs is after its tag.
+-- The elements of a list of structs are after its tag.
 use Rattle.std.proofs.Common.{◌+◌, ◌*◌, ◌<◌, ◌≤◌, arith}
 use Rattle.std.proofs.lemmas.Result.{err_from_is_err_and}
 use Rattle.capnp_wire.proofs.pointers.LandingLemmas.{structs_misfit, no_tag_misfits, odd_tag_misfits, many_elements_misfit, structs_stand}

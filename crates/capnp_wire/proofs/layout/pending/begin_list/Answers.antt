@@ -1,4 +1,4 @@
--- The copy of a list of pointers is begun by nothing but the pointer to it.
+-- Only the pointer to a list of pointers is known when its copy begins.
 use Rattle.std.proofs.Common.{refl}
 use Rattle.capnp_wire.proofs.layouts.NumberCopyLemmas.{pointer_list_opened, pointer_list_begins}
 use Rattle.capnp_wire.proofs.layout.pending.begin_list.Goals as goal

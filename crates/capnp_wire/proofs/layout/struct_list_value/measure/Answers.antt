@@ -1,4 +1,4 @@
--- The walk over the pointers of a list of structs counts what is after its own words.
+-- The walk over the pointers of a list of structs counts the words after its own.
 use Rattle.std.proofs.Common.{◌≢◌, ◌+◌, ◌*◌, ◌≤◌, List, [], inl, ◌∙◌, ap, sym, refl, subst, length, arith}
 use Rattle.std.proofs.lemmas.Result.{err_from_is_err_and}
 use Rattle.capnp_wire.specs.Pointer.{words_of}

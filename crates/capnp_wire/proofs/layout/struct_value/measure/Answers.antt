@@ -1,4 +1,4 @@
--- The walk over a struct's pointers counts what is after its own words.
+-- The walk over a struct's pointers counts the words after its own.
 use Rattle.std.proofs.Common.{◌≡◌, ◌+◌, ◌≤◌, ◌∙◌, ap, refl, length, arith}
 use Rattle.capnp_wire.specs.Pointer.{words_of}
 use Rattle.capnp_wire.specs.Object.{message_of}

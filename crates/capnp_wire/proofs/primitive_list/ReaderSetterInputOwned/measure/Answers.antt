@@ -1,4 +1,4 @@
--- The words of a list of numbers are told by their count.
+-- The count of a list of numbers determines its words.
 use Rattle.std.proofs.Common.{ℕ, MatchResult, subst}
 use Rattle.capnp_wire.specs.Pointer.{words_of}
 use Rattle.capnp_wire.specs.NumberViews.{numbers_of}

@@ -1,4 +1,4 @@
--- The bytes before a last zero are there just where the last byte is zero.
+-- There are bytes in front of a last zero exactly where the last byte is zero.
 use Rattle.std.proofs.Common.{◌≡◌, ◌+◌, ℕ, List, [], ◌∷◌, suc, length, ap, ◌∙◌, arith, length-append}
 use Rattle.capnp_wire.proofs.views.FormLemmas.{zero_after, no_zero_after}
 use Rattle.capnp_wire.proofs.text.reader.before_zero.Goals as goal

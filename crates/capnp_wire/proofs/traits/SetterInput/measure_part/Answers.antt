@@ -1,4 +1,4 @@
--- A part is measured as it is, and where the canonical form is made, in that, too.
+-- A part is measured as it is, and, where the canonical form is written, in that form, too.
 use Rattle.std.proofs.Common.{Ok, ap}
 use Rattle.capnp_wire.specs.declared.traits.PartWords.{PartWords}
 use Rattle.capnp_wire.proofs.views.PartWordLemmas.{as_is_words, as_is_found, both_returned, both_found}

@@ -1,4 +1,4 @@
--- What is rejected declines the root, null where there was no segment.
+-- A failure declines the root, which is null where there was no segment.
 use Rattle.capnp_build.proofs.OutcomeLemmas.{looks_at_root}
 use Rattle.capnp_build.proofs.arena.builder_arena.BuilderArena.accept_root.Goals as goal
 

@@ -1,4 +1,4 @@
--- What is described is held.
+-- What the table's numbers describe is in the buffer.
 use Rattle.std.proofs.Common.{ap}
 use Rattle.capnp_frame.specs.declared.serialize.segment_table.Padding.TheVariants.{Any}
 use Rattle.capnp_frame.proofs.HeldLemmas.{described_held, begins_held}

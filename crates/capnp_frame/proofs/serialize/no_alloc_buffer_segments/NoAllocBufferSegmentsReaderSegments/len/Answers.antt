@@ -1,4 +1,4 @@
--- As many as the table tells.
+-- As many as the table declares.
 use Rattle.std.proofs.Common.{◌∙◌, length, sym, ap}
 use Rattle.capnp_frame.proofs.FrontMessages.{length-declared_segments}
 use Rattle.capnp_frame.proofs.serialize.no_alloc_buffer_segments.NoAllocBufferSegmentsReaderSegments.len.Goals as goal

@@ -1,4 +1,4 @@
--- The view of each kind of object shows what it shows where it is asked for itself.
+-- The view of each kind of object shows what it shows where one asks for this kind alone.
 use Rattle.std.proofs.Common.{◌≡◌, ℕ, List, refl, sym, subst}
 use Rattle.capnp_wire.specs.Pointer.{words_of}
 use Rattle.capnp_wire.specs.Element.{code_of}

@@ -1,5 +1,5 @@
--- What a pointer leads to is entered once it is counted against the traversal limit, and rejected where no object is or
--- the limit is met.
+-- What a pointer leads to is entered once it is counted against the traversal limit; the call fails
+-- where no object is there or the limit is met.
 use Rattle.std.proofs.Common.{inl, inr}
 use Rattle.std.proofs.lemmas.Result.{err_from_is_err_and}
 use Rattle.capnp_wire.specs.Object.{is_null as null_there}

@@ -1,4 +1,4 @@
--- A pointer is null where it is nowhere, or at a word of zeros.
+-- A pointer is null where it has no place, or is at a word of zeros.
 use Rattle.std.proofs.Common.{refl}
 use Rattle.capnp_wire.specs.Views.{nowhere}
 use Rattle.capnp_wire.proofs.pointers.NullLemmas.{null_by_word, word_by_null, no_null}

@@ -1,4 +1,5 @@
--- A size is returned just where the tree has one in 64 bits, and rejected just as the walk is.
+-- A size is returned exactly where the tree has one in 64 bits, and the call fails exactly where
+-- the walk does.
 use Rattle.std.proofs.Common.{◌≡◌}
 use Rattle.capnp_wire.specs.Views.{Measures}
 use Rattle.capnp_wire.specs.Readers.{pointer_of}

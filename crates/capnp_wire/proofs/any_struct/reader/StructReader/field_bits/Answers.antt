@@ -1,4 +1,4 @@
--- A field is some of the bits of the data word in which it is.
+-- A field is some of the bits of the data word that it is in.
 use Rattle.std.proofs.Common.{◌*◌, ◌/◌, ◌%◌, ◌^◌, ℕ, slice_index_or, sym, ap, ◌∙◌, arith}
 use Rattle.capnp_wire.specs.Element.{code_of, width}
 use Rattle.capnp_wire.specs.Pointer.{words_of, words_from}

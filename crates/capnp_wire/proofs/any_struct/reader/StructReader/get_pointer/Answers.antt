@@ -1,4 +1,4 @@
--- A pointer of a struct is after the data words, and past the last one nowhere.
+-- A pointer of a struct is after the data words; past the last one it has no place.
 use Rattle.std.proofs.Common.{◌+◌, ◌<◌, ◌≤◌, Option, sym, ap, ◌∙◌, arith}
 use Rattle.capnp_wire.specs.Object.{message_of}
 use Rattle.capnp_wire.specs.Readers.{limit_of}

@@ -1,4 +1,4 @@
--- A data word is the struct's own part of that of the segment, and 0 past the last one.
+-- A data word is the struct's own part of the segment's word, and 0 past the last one.
 use Rattle.std.proofs.Common.{sym, ◌∙◌, ap}
 use Rattle.capnp_wire.specs.Pointer.{words_of, words_from}
 use Rattle.capnp_wire.specs.Parts.{own_part}

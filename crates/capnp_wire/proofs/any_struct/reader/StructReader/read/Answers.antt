@@ -1,4 +1,4 @@
--- The struct that a pointer leads to elsewhere is that of the same pointer.
+-- The struct that is found by another path is that of the same pointer.
 use Rattle.capnp_wire.proofs.any_struct.reader.StructReader.read.Goals as goal
 
 pub returns-in-None : goal.returns-in-None

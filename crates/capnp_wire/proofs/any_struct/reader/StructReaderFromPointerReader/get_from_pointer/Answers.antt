@@ -1,4 +1,4 @@
--- A struct is a view that decides which objects it takes.
+-- A struct is a view that decides which objects it accepts.
 use Rattle.capnp_wire.specs.Views.{DeclinesStruct, TakesStruct}
 use Rattle.capnp_wire.specs.Readers.{pointer_of, struct_of}
 use Rattle.capnp_wire.proofs.views.ViewLemmas.{is_view_of, struct_decides, struct_accepted}

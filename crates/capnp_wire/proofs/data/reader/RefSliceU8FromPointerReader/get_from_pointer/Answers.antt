@@ -1,4 +1,4 @@
--- Data is a view that decides which objects it takes.
+-- Data is a view that decides which objects it accepts.
 use Rattle.capnp_wire.specs.Views.{DeclinesNumbers, TakesNumbers}
 use Rattle.capnp_wire.specs.Readers.{pointer_of}
 use Rattle.capnp_wire.proofs.views.ViewLemmas.{is_view_of, numbers_decide, data_accepted}

@@ -1,4 +1,5 @@
--- How far a walk over the pointers of an object has come; they all are before the next free word.
+-- How far a walk over the pointers of an object has come; all of them are before the next free
+-- word.
 use Rattle.std.proofs.Common.{◌≡◌, ◌+◌, ◌*◌, ◌≤◌, length}
 use Rattle.capnp_wire.specs.Pointer.{words_of}
 use Rattle.capnp_wire.specs.Rows.{places_in, end_of}

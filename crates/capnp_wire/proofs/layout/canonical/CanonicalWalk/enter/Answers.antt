@@ -1,4 +1,4 @@
--- What a walk finds at an object that it enters, exit by exit.
+-- What a walk finds at an object that it enters, for each way out of the function.
 use Rattle.std.proofs.Common.{◌≡◌, refl, arith, true, false}
 use Rattle.capnp_wire.specs.Pointer.{words_of}
 use Rattle.capnp_wire.specs.Tested.{elsewhere}

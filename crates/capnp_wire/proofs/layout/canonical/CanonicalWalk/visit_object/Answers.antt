@@ -1,4 +1,4 @@
--- What a walk meets at a pointer that is not far.
+-- What a walk meets at a pointer that is no far pointer.
 use Rattle.std.proofs.Common.{◌≡◌, ◌<◌, List, [], ◌∷◌, Some, ℕ, refl, sym, subst}
 use Rattle.capnp_wire.specs.Pointer.{words_of}
 use Rattle.capnp_wire.specs.Landing.{IsObject}

@@ -1,4 +1,4 @@
--- All pointers of an object are those that its shape holds.
+-- The pointers of an object are all those of its shape.
 use Rattle.std.proofs.Common.{◌∙◌}
 use Rattle.capnp_wire.specs.Pointer.{words_of}
 use Rattle.capnp_wire.proofs.pointers.PointerSlotLemmas.{kept_children}

@@ -1,4 +1,4 @@
--- An object is counted against the traversal limit and counted, or the walk stops there.
+-- An object counts against the traversal limit and its words are counted, or the walk stops there.
 use Rattle.capnp_wire.specs.Object.{is_null as null_there}
 use Rattle.capnp_wire.specs.Faults.{at_pointer}
 use Rattle.capnp_frame.proofs.AskLemmas.{passed_on}

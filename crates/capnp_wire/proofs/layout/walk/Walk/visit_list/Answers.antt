@@ -1,4 +1,5 @@
--- A list of numbers is counted against the traversal limit and counted, and this is all that a walk meets there.
+-- A list of numbers counts against the traversal limit and its words are counted; nothing is below
+-- it.
 use Rattle.std.proofs.Common.{◌∙◌}
 use Rattle.capnp_wire.proofs.pointers.LocalLemmas.{number_list_walked}
 use Rattle.capnp_frame.proofs.AskLemmas.{passed_on}

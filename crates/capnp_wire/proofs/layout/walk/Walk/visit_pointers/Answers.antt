@@ -1,4 +1,4 @@
--- A list of pointers is counted against the traversal limit and counted.
+-- A list of pointers counts against the traversal limit, and its words are counted.
 use Rattle.std.proofs.Common.{◌∙◌}
 use Rattle.capnp_wire.proofs.pointers.LocalLemmas.{pointer_list_entered}
 use Rattle.capnp_frame.proofs.AskLemmas.{passed_on}

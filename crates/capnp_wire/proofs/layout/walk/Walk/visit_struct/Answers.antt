@@ -1,4 +1,5 @@
--- A struct is counted against the traversal limit and counted; where its pointers are null, this is all that a walk meets there.
+-- A struct counts against the traversal limit and its words are counted; where its pointers are
+-- null, nothing is below it.
 use Rattle.std.proofs.Common.{◌+◌, ◌∙◌, refl, arith}
 use Rattle.capnp_wire.specs.Pointer.{words_of}
 use Rattle.capnp_wire.proofs.words.WordLemmas.{length-words_of}

@@ -1,4 +1,4 @@
--- An element is some of the bits of the word in which it is.
+-- An element is some of the bits of the word that it is in.
 use Rattle.std.proofs.Common.{◌≡◌, ◌*◌, ◌^◌, ◌<◌, ℕ, Option, length, slice_index_or, sym, ap, ◌∙◌, subst, arith}
 use Rattle.std.proofs.lemmas.Nat.{pow_pos}
 use Rattle.std.proofs.lemmas.Option.{unwrap_or-slice_get}

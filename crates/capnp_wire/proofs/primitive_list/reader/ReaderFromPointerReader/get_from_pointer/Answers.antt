@@ -1,4 +1,4 @@
--- A list of numbers is a view that decides which objects it takes.
+-- A list of numbers is a view that decides which objects it accepts.
 use Rattle.capnp_wire.specs.Views.{DeclinesNumbers, TakesNumbers}
 use Rattle.capnp_wire.specs.Readers.{pointer_of}
 use Rattle.capnp_wire.specs.NumberViews.{numbers_of}

@@ -1,4 +1,4 @@
--- A list of structs is a view that decides which objects it takes.
+-- A list of structs is a view that decides which objects it accepts.
 use Rattle.capnp_wire.specs.Readers.{pointer_of}
 use Rattle.capnp_wire.specs.ListViews.{TakesStructs, DeclinesStructs, struct_list_of}
 use Rattle.capnp_wire.proofs.views.ViewLemmas.{is_view_of}

@@ -1,4 +1,4 @@
--- A list of numbers is a view that decides which objects it takes.
+-- A list of numbers is a view that decides which objects it accepts.
 use Rattle.capnp_wire.specs.Readers.{pointer_of}
 use Rattle.capnp_wire.specs.UpgradedViews.{TakesFields, DeclinesFields}
 use Rattle.capnp_wire.specs.UpgradedReaders.{upgraded_numbers_of}

@@ -1,4 +1,4 @@
--- A pointer of a list is as many steps after the first as its index says.
+-- A pointer of a list is as many steps after the first as its index.
 use Rattle.std.proofs.Common.{◌<◌, Option, sym, ap, arith, length}
 use Rattle.capnp_wire.specs.Object.{message_of}
 use Rattle.capnp_wire.specs.Readers.{limit_of}

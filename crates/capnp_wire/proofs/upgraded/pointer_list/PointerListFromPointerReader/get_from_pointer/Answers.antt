@@ -1,4 +1,4 @@
--- A list of pointers is a view that decides which objects it takes.
+-- A list of pointers is a view that decides which objects it accepts.
 use Rattle.capnp_wire.specs.Readers.{pointer_of}
 use Rattle.capnp_wire.specs.UpgradedViews.{TakesFirstPointers, DeclinesFirstPointers}
 use Rattle.capnp_wire.specs.UpgradedReaders.{upgraded_pointers_of}

@@ -1,4 +1,4 @@
--- A number is the one data word of its struct, by its part of the word in which it is.
+-- A number is the one data word of its struct: its part of the word that it is in.
 use Rattle.std.proofs.lemmas.List.{length-map}
 use Rattle.std.proofs.Common.{◌≡◌, ◌^◌, ◌<◌, ℕ, List, [], ◌∷◌, Some, length, slice_index_or, refl, ap, ◌∙◌, arith}
 use Rattle.capnp_wire.specs.Pointer.{number_of, words_of, words_from}

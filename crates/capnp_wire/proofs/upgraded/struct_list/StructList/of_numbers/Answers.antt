@@ -1,4 +1,4 @@
--- Numbers are read as structs but where they are bits.
+-- Numbers are read as structs, unless they are bits.
 use Rattle.std.proofs.Common.{◌≡◌, ℕ, [], map, ap, ◌∙◌, sym, arith}
 use Rattle.capnp_wire.specs.Element.{code_of, width}
 use Rattle.capnp_wire.specs.Pointer.{words_of}

@@ -1,4 +1,4 @@
--- A list of structs is a view that decides which objects it takes.
+-- A list of structs is a view that decides which objects it accepts.
 use Rattle.capnp_wire.specs.Readers.{pointer_of}
 use Rattle.capnp_wire.specs.UpgradedViews.{TakesRows, DeclinesRows}
 use Rattle.capnp_wire.specs.UpgradedReaders.{upgraded_structs_of}
