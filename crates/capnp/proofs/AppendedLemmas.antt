@@ -45,7 +45,7 @@ texts_next rule format limit segments xs ys x old mid new e texts begins =
     subst (λ ms. IfKnown old new (AreEncodings (grammar_of rule format) limit ms)) (sym both)
     (IfKnown-join old mid new (AreEncodings-push (grammar_of rule format) limit (map segments xs) (segments x)) texts begins)
 
--- after fewer texts a next one is
+-- after fewer encodings a next one is there
 texts_further : {IsText : Grammar} {rule : Padding} {gives : Giving} {refuses : Refusing} {limit : Option ℕ}
     → PartsStreams IsText rule gives refuses limit
     → (ns ms : List (List (List ℕ))) (raw mid rest : List ℕ) → AreEncodings IsText limit ns raw mid
@@ -57,7 +57,7 @@ texts_further {IsText} {limit = limit} parts (n ∷ ns) (m ∷ ms) raw mid rest 
     let same = parts.begins_once n m raw had.0 texts.0 had.1 texts.1 in
     texts_further parts ns ms texts.0 mid rest (subst (λ l. AreEncodings IsText limit ns l mid) same.1 had.2) texts.2 (omega arith)
 
--- so where as many as are asked for are, an error is a fault
+-- so where there are as many as are asked for, an error is a fault
 pub accepted_later : (rule : Padding) (format : Format) (limit : Option ℕ) (F : Type 0) (ns : List (List (List ℕ))) (count : ℕ)
     (old mid : Option (List ℕ)) → length ns < count → IfKnown old mid (AreEncodings (grammar_of rule format) limit ns)
     → IfSome mid (λ raw. (m : List (List ℕ)) (rest : List ℕ) → StandsNext rule format limit m raw rest → F)
@@ -75,7 +75,7 @@ pub accepted_at_memory : (rule : Padding) (format : Format) (limit : Option ℕ)
 accepted_at_memory rule format limit count kind None memory = tt
 accepted_at_memory rule format limit count kind (Some raw) memory = λ ms rest texts counted. inr memory
 
--- as many texts are the same messages
+-- encodings of as many messages are those of the same messages
 texts_same : {IsText : Grammar} {rule : Padding} {gives : Giving} {refuses : Refusing} {limit : Option ℕ}
     → PartsStreams IsText rule gives refuses limit
     → (ns ms : List (List (List ℕ))) (raw left rest : List ℕ) → AreEncodings IsText limit ns raw left
@@ -88,12 +88,12 @@ texts_same {IsText} {limit = limit} parts (n ∷ ns) (m ∷ ms) raw left rest ha
     let inner = texts_same parts ns ms texts.0 left rest (subst (λ l. AreEncodings IsText limit ns l left) same.1 had.2) texts.2 (omega arith) in
     (ap (λ x. x ∷ ns) same.0 ∙ ap (λ l. m ∷ l) inner.0, inner.1)
 
--- what is written of a message is a text of it
+-- what is written of a message is an encoding of it
 pub text_is : (rule : Padding) (format : Format) (m : List (List ℕ)) (text : List ℕ) → IsWritable m → IsTextOf format m text → grammar_of rule format text m
 text_is rule Framed m text writable e = subst (λ t. IsFrame rule t m) (sym e) (frame_bytes_are rule m (HasTable-writable m writable) writable.whole)
 text_is rule Packed m text writable p = packed_text_is rule text m (HasTable-writable m writable) p
 
--- so what is written of messages is their texts
+-- so what is written of messages is their encodings
 appended_texts : (rule : Padding) (format : Format) (limit : Option ℕ) (ms : List (List (List ℕ))) (text : List ℕ)
     → AllByRecursion IsWritable ms → AllByRecursion IsWithinSegmentLimit ms → AllByRecursion (λ m. KeepsLimit (lengths m) limit) ms
     → AppendsEach (IsTextOf format) ms text → AreEncodings (grammar_of rule format) limit ms text []
@@ -151,7 +151,7 @@ few_next segments xs index x here is before few = subst (AllByRecursion IsWithin
 pub appended_alone : (P : List ℕ → Type 0) (start new : List ℕ) → start ≡ [] → Adds P start new → P new
 appended_alone P start new none (text, holds, e) = subst P (sym (e ∙ ap (λ l. l ++ text) none)) holds
 
--- what was appended to nothing is texts
+-- what was appended to nothing is encodings
 pub read_texts : (rule : Padding) (format : Format) (limit : Option ℕ) (ms : List (List (List ℕ))) (start new shown : List ℕ)
     → start ≡ [] → shown ≡ new → AllByRecursion IsWritable ms → AllByRecursion IsWithinSegmentLimit ms
     → AllByRecursion (λ m. KeepsLimit (lengths m) limit) ms → Adds (AppendsEach (IsTextOf format) ms) start new

@@ -1,4 +1,5 @@
--- The chunks of a message are whole words, and a sink that rejects one of them rejects some chunk.
+-- The chunks of a message are whole words, and a sink that fails for one of them fails for some
+-- chunk.
 use Rattle.std.proofs.Common.{◌≡◌, ◌⊎◌, inl, inr, ℕ, ◌+◌, ◌*◌, ◌/◌, List, [], ◌∷◌, length, take, drop, arith}
 use Rattle.std.proofs.lemmas.List.{length-take-le, length-drop}
 use Rattle.std.specs.List.{AllByRecursion}

@@ -104,7 +104,7 @@ stream_after limit kind raw left more (inr (room, (some, asks))) =
       | inr there ↦ inr (inr (room, (none_before raw more some, there)))
     ]
 
--- what rejects the front of a record that a reader takes says that it ends too early
+-- the error for the front of a record that a reader accepts says that it ends too early
 pub front_is_cut : (limit : Option ℕ) (next : List (List ℕ)) (part missing left : List ℕ) (kind : ErrorKind) → IsWritable next → IsWithinSegmentLimit next → KeepsLimit (lengths next) limit
     → IsPackedEncodingOf next (part ++ missing) → RefusesNext Zero Packed limit kind part left → IsCutKind kind
 front_is_cut limit next part missing left kind writable few size packed refused = elim (stream_after limit kind part left missing refused) [

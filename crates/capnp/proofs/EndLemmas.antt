@@ -27,7 +27,7 @@ ran_out_ends rule format limit Writes left before after raw ran messages ending 
           absurd (omega (arith, bound, few, most, counted))
     ]
 
--- the reader's error says what is there
+-- the reader's error is the right one
 refused_ends : (rule : Padding) (format : Format) (limit : Option ℕ) (kind : ErrorKind) (rest : List ℕ) (left : Option (List ℕ)) → IfKnown (Some rest) left (RefusesNext rule format limit kind) → EndsBy rule format limit (Some kind) rest
 refused_ends rule format limit kind rest None line = absurd line
 refused_ends rule format limit kind rest (Some left) line = (left, line)
@@ -52,7 +52,7 @@ few_written rule format limit Writes count before after raw rest written message
     let bound = AreEncodings-most (format_parts rule format limit) ending messages written.messages raw stream.rest rest stream.texts stream.ends written.texts in
     omega (arith, bound, written.counted)
 
--- the message that is after some of a stream's messages is the next of them
+-- the message after some of a stream's messages is the next of them
 next_listed : (rule : Padding) (format : Format) (limit : Option ℕ) (ending : Option ErrorKind) (ms messages : List (List (List ℕ))) (message : List (List ℕ))
     (raw between left rest : List ℕ) → AreEncodings (grammar_of rule format) limit ms raw between → StandsNext rule format limit message between left
     → AreEncodings (grammar_of rule format) limit messages raw rest → EndsBy rule format limit ending rest

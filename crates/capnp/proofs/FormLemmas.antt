@@ -48,7 +48,7 @@ declines_reading : (pointer : Pointer) (refuses : Declining) (kind : ErrorKind) 
 declines_reading pointer refuses kind (inl lacks) = inr (inr (inl lacks))
 declines_reading pointer refuses kind (inr memory) = inr (inl memory)
 
--- what is rejected after a call is rejected as that
+-- a failure after a call is a failure of both
 pub refused_on : {Y : Type 0} {error : Error} (P : Error → Type 0) (result : Result Y Error) → IsErrAnd result (λ y. y ≡ error) → P error → IsErrAnd result P
 refused_on P (Ok y) is p = is
 refused_on P (Err e) is p = subst P (sym is) p
@@ -98,7 +98,7 @@ form_written sink old new pointer form segments (Err e) stands is declared = rec
   grows = declared.parts.grows;
 }
 
--- nothing of it is written unless the sink rejects a chunk
+-- nothing of it is written unless the sink fails for a chunk
 pub form_untouched : {S X : Type 0} (sink : Ghosts S) (old new : S) (pointer : Pointer) (form : List ℕ) (segments : List (List ℕ)) (r : Result X Error)
     → IsForm pointer form → segments ≡ form ∷ [] → WritesSegments sink old new segments r → FailsOr r (λ kind. BreaksForm pointer sink.refuses kind ⊎ (new ≡ old))
 form_untouched sink old new pointer form segments (Ok x) stands is declared = tt

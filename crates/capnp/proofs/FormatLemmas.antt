@@ -139,7 +139,7 @@ or_fails_failed source old new rules limit (Ok found) reads = tt
 or_fails_failed source old new rules limit (Err e) (inl reads) = reads.failed
 or_fails_failed source old new rules limit (Err e) (inr (kind, reads)) = λ device. cc
 
--- what is in a format, within the limit, begins with a text
+-- a message of a format, within the limit, is an encoding at the front
 pub stands_next : (rule : Padding) (format : Format) (limit : Option ℕ) (segments : List (List ℕ)) (old new : Option (List ℕ))
     → IsWithin segments limit → IfKnown old new ((rules_of rule format).stands segments)
     → IfKnown old new (StandsNext rule format limit segments)

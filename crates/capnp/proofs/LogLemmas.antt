@@ -37,7 +37,7 @@ appended_log m old new writable few (text, packed, spelled) limit records log si
   appended = subst (λ l. AppendsEach (IsTextOf Packed) (records ++ m ∷ []) l) (sym spelled) (AppendsEach-push (IsTextOf Packed) records m old text log.appended packed);
 }
 
--- what is at the front is kept by a cut to its length
+-- what is at the front is kept when the log is truncated to its length
 pub kept_back : (old new kept : List ℕ) (end : ℕ) → IfKnown (Some old) (Some new) IsFront → end ≡ length old → kept ≡ take end new → kept ≡ old
 kept_back old new kept end (tail, spelled) at is = is ∙ ap (λ k. take k new) at ∙ ap (λ l. take (length old) l) spelled ∙ take-append_seam old tail
 
@@ -65,7 +65,7 @@ log_is_read limit ms refusal log end within (inr ends) exact records is =
 
 -- A log that is cut
 
--- texts stay where more bytes follow
+-- encodings stay where more bytes follow
 texts_after : (IsText : Grammar) (limit : Option ℕ) (ms : List (List (List ℕ))) (raw rest part : List ℕ) → AreEncodings IsText limit ms raw rest → AreEncodings IsText limit ms (raw ++ part) (rest ++ part)
 texts_after IsText limit [] raw rest part texts = ap (λ l. l ++ part) texts
 texts_after IsText limit (m ∷ ms) raw rest part (between, begins, texts) = (

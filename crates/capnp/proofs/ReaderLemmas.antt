@@ -1,4 +1,4 @@
--- From the requests of a source to the texts of its stream.
+-- From the requests of a source to the encodings in its stream.
 use Rattle.std.proofs.Common.{◌≡◌, ◌↔◌, ℕ, List, [], ◌++◌, Option, Some, None, IfSome, Result, Ok, Err, IfOk, IfErr, lit<}
 use Rattle.capnp_frame.specs.declared.error.Error.{Error}
 use Rattle.capnp_frame.specs.declared.error.ErrorKind.TheVariants.{DeviceFailed}
@@ -25,7 +25,7 @@ frames_requested rule gives refuses plain segments raw rest = (
   λ text. MessageStands-map (λ w n b t. (plain.given w n b t).0) segments raw rest ((plain_requests rule segments raw rest).1 text),
 )
 
--- where a message is by these rules, there is a text of it in this grammar
+-- where a message is by these rules, there is an encoding of it in this grammar
 abbrev pub AreEncodingsBy : Grammar → StreamRules → Type 0
 AreEncodingsBy IsText rules = (m : List (List ℕ)) (raw rest : List ℕ) → rules.stands m raw rest ↔ ((text : List ℕ) × IsText text m × (raw ≡ text ++ rest))
 
@@ -40,7 +40,7 @@ begins_next IsText rules limit old new (Ok (Some m)) texts within found = IfKnow
     let text = (texts m raw rest).0 stands in
     record { text = text.0; is_text = text.1; within = within; spelled = text.2 }) found
 
--- and what follows where a message is follows where the stream begins with it
+-- and what follows where a message is there follows where the stream begins with it
 accepts_next : (IsText : Grammar) (rules : StreamRules) (limit : Option ℕ) (F : List (List ℕ) → Type 0)
     (old : Option (List ℕ)) → AreEncodingsBy IsText rules
     → IfSome old (λ raw. (m : List (List ℕ)) (rest : List ℕ) → rules.stands m raw rest → IsWithin m limit → F m)
@@ -49,7 +49,7 @@ accepts_next IsText rules limit F None texts accepted = tt
 accepts_next IsText rules limit F (Some raw) texts accepted =
     λ m rest begins. accepted m rest ((texts m raw rest).1 (begins.text, begins.is_text, begins.spelled)) begins.within
 
--- what a reader returns by its rules it returns in texts
+-- what a reader returns by its rules, it returns by the encodings
 pub returns_texts : {S : Type 0} (source : Ghosts S) (old new : S) (rules : StreamRules) (IsText : Grammar)
     (limit : Option ℕ) (r : Result (Option (List (List ℕ))) Error) → AreEncodingsBy IsText rules
     → ReadsStream source old new rules limit r → ReturnsEncodings IsText limit (source.unread old) (source.unread new) r
@@ -67,7 +67,7 @@ returns_texts_into source old new rules IsText limit room r texts reads = record
   accepted = accepts_next IsText rules limit (λ m. BufferHasRoom room m → IfErr r (λ error. error.kind ≡ DeviceFailed)) _ texts reads.accepted;
 }
 
--- no message is where nothing is unread
+-- where nothing is unread, there is no message
 pub nothing_stands : (rule : Padding) {gives : Giving} {refuses : Refusing} → IsSource gives refuses → (m : List (List ℕ))
     (old new : Option (List ℕ)) → old ≡ Some [] → IfKnown old new (MessageStands rule gives m) → ⊥
 nothing_stands rule laws m None new none stands = cc

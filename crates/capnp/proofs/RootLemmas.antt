@@ -35,12 +35,12 @@ use Rattle.capnp.proofs.FormatLemmas.{or_fails_failed}
 use Rattle.capnp.proofs.RunLemmas.{format_lawful, format_requested, format_parts}
 use Rattle.capnp.proofs.WriterLemmas.{IsWithin-written}
 
--- where a tree is at the root, there is a segment
+-- where there is a tree at the root, there is a segment
 pub has_segment : (spaces : List Space) (trees : Trees) (traversed : ℕ) → At (message spaces) (root ∷ []) trees traversed → 0 < length spaces
 has_segment spaces trees traversed (at points inside following) =
     let word = word_stands (message spaces) root _ points in (root_stands spaces word.0 word.1).0
 
--- the text of a message stands for it before any rest
+-- the encoding of a message is one whatever follows it
 text_stands : (rule : Padding) (format : Format) (limit : Option ℕ) (m : List (List ℕ)) (text rest : List ℕ) → IsWritable m → IsWithinSegmentLimit m → KeepsLimit (lengths m) limit
     → IsTextOf format m text → StandsNext rule format limit m (text ++ rest) rest
 text_stands rule format limit m text rest writable few size here =
@@ -60,7 +60,7 @@ root_is_read rule format limit spaces trees text rest left read root writable fe
     let same = written_is_read rule format limit (map used_of spaces) read text rest left writable few size here stands in
     (subst (λ (segments : List (List ℕ)). HasRootTree segments trees) (sym same.0) root, same.1)
 
--- what was added to nothing is its text, alone
+-- what was added to nothing is its encoding, and no more
 added_stands : (rule : Padding) (format : Format) (limit : Option ℕ) (m : List (List ℕ)) (shown : List ℕ) → IsWritable m
     → IsTextOf format m shown → IsWithinSegmentLimit m → KeepsLimit (lengths m) limit → StandsNext rule format limit m shown []
 added_stands rule format limit m shown writable here few size =

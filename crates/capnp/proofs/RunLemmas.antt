@@ -81,7 +81,7 @@ HasWritten-next rule format limit Writes count before between after raw mid rest
       (subst (λ k. IfKnown between after (Adds (Writes k next.message))) (sym written.counted) next.written);
 }
 
--- the next message is, and is written, or not as a whole
+-- the next message is there, and is written, or not completely
 pub written_next : (rule : Padding) (format : Format) (limit : Option ℕ) (Writes : Writing) (index : ℕ) (message : List (List ℕ))
     (old new before after : Option (List ℕ)) → IsWithin message limit
     → IfKnown old new ((rules_of rule format).stands message) → IfKnown before after (Adds (Writes index message))

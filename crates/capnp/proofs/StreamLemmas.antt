@@ -14,7 +14,7 @@ use Rattle.capnp.specs.Streams.{grammar_of, StandsNext, RefusesNext, EndsBy, IsS
 use Rattle.capnp.proofs.EndLemmas.{stream_once}
 use Rattle.capnp.specs.Reading.{kind_of, LacksMemory}
 
--- a slice never fails, so its reader fails for want of memory or by what is there
+-- a slice never fails, so its reader fails only for want of memory or with an error of its bytes
 pub slice_refused : (rule : Padding) (format : Format) (limit : Option ℕ) (kind : ErrorKind) (old new : List ℕ) (T : Type 0) → (kind ≡ DeviceFailed → Fails 0 0)
     → (kind ≡ DeviceFailed) ⊎ ((kind ≡ OutOfMemory) × T) ⊎ RefusesNext rule format limit kind old new
     → (kind ≡ OutOfMemory) ⊎ EndsBy rule format limit (Some kind) old
@@ -22,7 +22,7 @@ slice_refused rule format limit kind old new T failed (inl device) = absurd (nev
 slice_refused rule format limit kind old new T failed (inr (inl memory)) = inl memory.0
 slice_refused rule format limit kind old new T failed (inr (inr line)) = inr (new, line)
 
--- texts are at the front of a stream
+-- encodings are at the front of a stream
 pub texts_front : (IsText : Grammar) (limit : Option ℕ) (ms : List (List (List ℕ))) (raw rest : List ℕ) → AreEncodings IsText limit ms raw rest
     → (front : List ℕ) × (raw ≡ front ++ rest)
 texts_front IsText limit [] raw rest texts = ([], sym texts)
@@ -35,7 +35,7 @@ drop-front front rest =
     let len : length (front ++ rest) - length rest ≡ length front = omega (arith, length-append front rest) in
     ap (λ k. drop k (front ++ rest)) len ∙ drop-append_seam front rest
 
--- what is left of it is told by how long it is
+-- the length of what is left determines what is left
 pub rest_is_dropped : (raw front rest : List ℕ) (end : ℕ) → raw ≡ front ++ rest → end ≡ length raw - length rest → drop end raw ≡ rest
 rest_is_dropped raw front rest end is at = ap (λ k. drop k raw) at ∙ ap (λ l. drop (length l - length rest) l) is ∙ drop-front front rest
 

@@ -1,4 +1,5 @@
--- A run whose messages' texts are known by less, and so of one that transcodes, over a plain sink.
+-- A run of which less is known of the messages' encodings, and so one that transcodes, over a plain
+-- sink.
 use Rattle.std.proofs.Common.{inl, inr, ℕ, ◌+◌, Option, Some, None, IfSome, Result, Ok, Err, List, [], ◌∷◌}
 use Rattle.capnp_frame.specs.declared.serialize.segment_table.Padding.{Padding}
 use Rattle.capnp_frame.specs.declared.error.ErrorKind.{ErrorKind}
@@ -66,7 +67,7 @@ HasStopped-weaker rule format limit P Q Declines weaker count kind left before a
   untouched = stopped.untouched;
 })
 
--- a plain sink gets the text of a message in the other format
+-- a plain sink gets the encoding of a message in the other format
 pub other_text_added : (way : Way) (appends : Appending) → IsPlainSink appends → (index : ℕ) (message : List (List ℕ))
     (text : List ℕ) → Transcodes way appends index message text → IsOtherText way index message text
 other_text_added Pack appends plain index message text all = packed_text_added appends plain message text all

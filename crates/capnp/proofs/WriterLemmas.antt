@@ -31,7 +31,7 @@ AppendsAll-packed appends [] text plain all = all
 AppendsAll-packed appends (x ∷ xs) text plain (first, others, here, more, e) =
     (first, others, (here.0, here.1, AppendsAll-plain appends here.0 first plain here.2), AppendsAll-packed appends xs others plain more, e)
 
--- so it gets the text of a message, framed and packed
+-- so it gets the encoding of a message, framed and packed
 pub frame_bytes_added : (appends : Appending) → IsPlainSink appends → (message : List (List ℕ)) (text : List ℕ) → AppendsAll appends (chunks message) text → IsFrameEncoding message text
 frame_bytes_added appends plain message text all = (chunks_joined (chunks message) text).0 (AppendsAll-plain appends (chunks message) text plain all) ∙ concat-chunks message
 
@@ -76,7 +76,7 @@ writer_fault L refuses message limit (Err e) within (inr (inr (inl many))) =
     let some = many.0 in let few = within.few in absurd (omega (arith, length-lengths message))
 writer_fault L refuses message limit (Err e) within (inr (inr (inr memory))) = inr (inl (memory.1, memory.0))
 
--- the size of a text that was written
+-- the size of an encoding that was written
 pub text_size : (r : Result ℕ Error) (message : List (List ℕ)) → IsWritable message → IfOk r (λ words. words ≡ serialized_words message)
     → IfOk r (λ words. (text : List ℕ) → IsFrameEncoding message text → length text ≡ 8 * words)
 text_size (Err e) message writable size = tt

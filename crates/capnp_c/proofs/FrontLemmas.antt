@@ -1,4 +1,4 @@
--- One message is at the front of a buffer, and its root has one form.
+-- At most one message is at the front of a buffer, and its root has at most one form.
 use Rattle.std.proofs.Common.{◌≡◌, ◌⊎◌, ℕ, ◌+◌, ◌*◌, ◌<◌, ◌≤◌, true, Some, None, List, ◌++◌, length, take, Ok, Err, inl, inr, refl, sym, ap, ◌∙◌, subst, arith, length-append}
 use Rattle.std.specs.Prelude.{slice_get}
 use Rattle.std.specs.Option.{option_map}
@@ -63,7 +63,7 @@ one_size segments a b x y =
     let following : x.0 ≡ y.0 = cc in
     x.2 ∙ ap (λ n. n + 1) following ∙ sym y.2
 
--- An error of a form that is to be written into a given number of bytes
+-- The error of a form that is to be written into this many bytes
 
 pub form_fits : (segments : List (List ℕ)) (room size : ℕ) (kind : ErrorKind) → FrontLacksForm segments kind ⊎ IsShort segments room kind → FrontHasForm segments size → 8 * size ≤ room → ⊥
 form_fits segments room size kind (inl lacks) has fits = has_or_lacks segments size kind has lacks

@@ -37,7 +37,7 @@ front_table bytes segments rest front =
       omega (arith, ap length spelled, length-append table (concat segments ++ rest), length-append (concat segments) rest),
     )
 
--- and one rest is after it
+-- and the bytes after it are determined
 pub one_rest : (bytes rest left : List ℕ) (segments others : List (List ℕ)) → IsAtFront bytes segments rest → IsAtFront bytes others left → rest ≡ left
 one_rest bytes rest left segments others p q = (frames_part p.text q.text rest left segments others p.is_text q.is_text (sym p.spelled ∙ q.spelled)).2
 

@@ -27,7 +27,7 @@ front_message bytes segments n (text, frame, e) room within =
 pub taken : (segments : List (List ℕ)) (packed rest : List ℕ) → PackedStands Zero segments packed rest → length rest ≤ length packed
 taken segments packed rest (text, frame, e) = omega (arith, ap length e, length-append text rest)
 
--- no packed message is where there are no bytes
+-- where there are no bytes, there is no packed message
 pub none_stands : (segments : List (List ℕ)) (packed rest : List ℕ) → PackedStands Zero segments packed rest → packed ≡ [] → ⊥
 none_stands segments packed rest stands none =
     let requests = (packed_requests Zero segments packed rest).1 stands in

@@ -1,3 +1,3 @@
--- What the exports say.
+-- What the exports do.
 pub mod Fronts
 pub mod Packing

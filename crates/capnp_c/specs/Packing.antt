@@ -1,4 +1,4 @@
--- What is packed of a message, and what the steps keep that pack its chunks.
+-- What is packed of a message, and what is kept by the steps that pack its chunks.
 use Rattle.std.specs.Prelude.{◌≡◌, ℕ, ◌+◌, ◌⊎◌, List, [], ◌∷◌, length, Result, OnOk, IfErr, IsOk}
 use Rattle.capnp_frame.specs.declared.error.Error.{Error}
 use Rattle.capnp_frame.specs.declared.error.ErrorKind.TheVariants.{DeviceFailed}
@@ -18,12 +18,13 @@ IsMessage bytes segments = IsAtFront bytes segments []
 abbrev pub packed_chunks : List (List ℕ) → List (List ℕ)
 packed_chunks segments = table_first segments ∷ table_others segments ∷ segments
 
--- What a step keeps that packs chunks into a sink, one after the other. `sink` is what is seen of the sink (the members of the
--- trait Write), `old` and `new` are the sink before the call and after it.
+-- What is kept by a step that packs chunks into a sink, one after the other. `sink` is what is seen
+-- of the sink (the members of the trait Write), `old` and `new` are the sink before the call and
+-- after it.
 pub record PacksChunks {S X : Type 0} (sink : Ghosts S) (old new : S) (chunks : List (List ℕ)) (result : Result X Error) : Type 0 where
-  -- where it succeeds, what each chunk is packed to is added
+  -- where it succeeds, the packed encoding of each chunk is added
   pub packed : OnOk result (IfKnown (sink.written old) (sink.written new) (Adds (AppendsAll (AppendsPacked sink.appends) chunks)))
-  -- it fails with the device's failure, or as one of the chunks is rejected
+  -- it fails with the device's failure, or with a kind of one of the chunks
   pub refused : IfErr result (λ error. (error.kind ≡ DeviceFailed) ⊎ DeclinesSome (DeclinesPacked sink.refuses) chunks error.kind)
   -- `DeviceFailed` is returned only where the device failed
   pub failed : IfErr result (λ error. error.kind ≡ DeviceFailed → Fails (sink.failures old) (sink.failures new))

@@ -17,8 +17,8 @@ use capnp_wire::any_pointer;
 use capnp_wire::arena::ReaderArena;
 use capnp_wire::canonical::{canonical_size, write_form};
 
-/// How many words the canonical form of the message at the front of these bytes has, with its root.
-/// Returns 0, or the number of the error of the reader or of the walk over the tree.
+/// Counts the words of the canonical form of the message at the front of these bytes, with its root
+/// pointer. Returns 0, or the number of the error of the reader or of the walk over the tree.
 #[unsafe(no_mangle)]
 pub extern "C" fn linsjoar_canonical_size(bytes: &[u8], words: &mut usize) -> u8
     ensures size { (segments : List (List ℕ)) (rest : List ℕ) →
@@ -37,7 +37,7 @@ pub extern "C" fn linsjoar_canonical_size(bytes: &[u8], words: &mut usize) -> u8
 }
 
 /// Writes the canonical form of the message at the front of these bytes to the front of a block,
-/// and tells how many words it has. Returns 2 where the block has no room for it, and else what
+/// and counts its words. Returns 2 where the block has no room for it, and else what
 /// `linsjoar_canonical_size` returns.
 #[unsafe(no_mangle)]
 pub extern "C" fn linsjoar_canonical(bytes: &[u8], block: &mut [u8], words: &mut usize) -> u8
@@ -76,7 +76,7 @@ fn opened<'a>(bytes: &'a [u8]) -> Result<ReaderArena<NoAllocSliceSegments<'a>>>
     Ok(ReaderArena::new(segments, DEFAULT_READER_OPTIONS))
 }
 
-// The root, and how many words its canonical form has.
+// The root, and the number of words of its canonical form.
 fn measured_root<'a, S: ReaderSegments>(
     arena: &'a ReaderArena<S>,
 ) -> Result<(any_pointer::Reader<'a, S>, usize)>

@@ -1,4 +1,4 @@
-//! Framed messages that are checked and listed.
+//! Framed messages: checked and listed.
 ghost use Rattle.std.specs.Prelude.{◌≡◌, ◌⊎◌, ◌+◌, ◌*◌, ◌<◌, ◌≤◌, ℕ, List, [], length, slice_get, Some};
 ghost use Rattle.capnp_frame.specs.declared.serialize.segment_table.Padding.TheVariants.{Zero};
 ghost use Rattle.capnp_frame.specs.FlatRefusals.{by_fields, RefusesFlat};
@@ -13,7 +13,7 @@ use capnp_frame::ErrorKind;
 use capnp_frame::message::{DEFAULT_READER_OPTIONS, ReaderSegments};
 use capnp_frame::serialize::NoAllocBufferSegments;
 
-/// Where a framed message at the front of a buffer lies, in bytes.
+/// Where the framed message at the front of a buffer is, in bytes.
 #[repr(C)]
 #[derive(Clone, Copy)]
 pub struct LinsjoarMessage {
@@ -59,7 +59,7 @@ pub extern "C" fn linsjoar_message(bytes: &[u8], message: &mut LinsjoarMessage) 
     }
 }
 
-/// How many words a segment of that message has. The segments follow one another.
+/// Counts the words of a segment of that message. The segments follow one another.
 ///
 /// Returns 18 where the message has no segment of this number, and else what `linsjoar_message`
 /// returns.
@@ -89,9 +89,9 @@ pub extern "C" fn linsjoar_segment(bytes: &[u8], id: u32, words: &mut usize) -> 
     }
 }
 
-/// How many bytes the framed message at the front of these bytes takes, so that a caller steps from
-/// one message to the next. Returns what `linsjoar_message` returns, but 0 for no bytes, which take
-/// none.
+/// Counts the bytes of the framed message at the front of these bytes, so that a caller can step
+/// from one message to the next. Returns what `linsjoar_message` returns, but 0 for no bytes, which
+/// are no message.
 #[unsafe(no_mangle)]
 pub extern "C" fn linsjoar_next_message(bytes: &[u8], message_len: &mut usize) -> u8
     ensures found { result ≡ 0 → (bytes.now ≡ []) ⊎ ((segments : List (List ℕ)) × (rest : List ℕ)

@@ -1,5 +1,5 @@
-//! The library for C: words packed and unpacked, framed messages checked and listed, canonical
-//! words.
+//! The library for C: it packs and unpacks words, checks and lists framed messages, and writes
+//! canonical forms.
 //!
 //! Each export works over caller-provided buffers, and takes no memory. It returns 0, or the number
 //! of an error (docs/FORMAT.md). `capnp_c.h` declares them.

@@ -1,4 +1,4 @@
-//! Words that are packed, and unpacked.
+//! Words: packed and unpacked.
 ghost use Rattle.std.specs.Prelude.{◌≡◌, ◌⊎◌, ◌<◌, ◌≤◌, ◌+◌, ℕ, List, length, take, IfErr, OnOk, IsOk};
 ghost use Rattle.std.specs.Result.{IsErrAnd};
 ghost use Rattle.capnp_frame.specs.Message.{IsWholeWords};
@@ -15,10 +15,10 @@ use capnp_frame::Result;
 use capnp_frame::io::{BufRead, Read, Write};
 use capnp_pack::{PackedRead, PackedWrite, laws};
 
-/// Packs whole words into `text`, and tells how many bytes that took.
+/// Packs whole words into `text`, and counts the bytes that this takes.
 ///
-/// Returns 0 exactly where the words are whole ones and `text` has room for what they are packed
-/// to, 14 for a part of a word, and 2 where there is no room.
+/// Returns 0 exactly where the words are whole ones and `text` has room for their packed encoding,
+/// 14 where they aren't whole words, and 2 where there is no room.
 #[unsafe(no_mangle)]
 pub extern "C" fn linsjoar_pack(words: &[u8], text: &mut [u8], written: &mut usize) -> u8
     ensures packed { result ≡ 0 → Packs words.now (take written.new text.new) }
@@ -61,8 +61,8 @@ pub(crate) fn pack_into<W: Write>(sink: &mut W, words: &[u8]) -> Result<()>
     packed.write_all(words)
 }
 
-/// Fills `words` with what is packed at the front of a text, and tells how many bytes of it that
-/// took. Returns 0, or the number of the error of the packed source.
+/// Fills `words` with the words that are packed at the front of these bytes, and counts the packed
+/// bytes that this takes. Returns 0, or the number of the error of the packed source.
 #[unsafe(no_mangle)]
 pub extern "C" fn linsjoar_unpack(text: &[u8], words: &mut [u8], read: &mut usize) -> u8
     ensures filled { result ≡ 0 → (rest : List ℕ)
@@ -85,7 +85,7 @@ pub extern "C" fn linsjoar_unpack(text: &[u8], words: &mut [u8], read: &mut usiz
     }
 }
 
-// Fills `words` with what a source holds packed.
+// Fills `words` with the words that are packed in a source.
 fn unpack_from<R: BufRead>(source: &mut R, words: &mut [u8]) -> Result<()>
     ensures given { OnOk result (IfKnown (R.unread source.old) (R.unread source.new)
         (λ raw rest. Unpacks raw (length words.new) words.new rest)) }

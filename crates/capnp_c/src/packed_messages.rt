@@ -1,4 +1,4 @@
-//! Messages that are packed, and unpacked.
+//! Messages: packed and unpacked.
 ghost use Rattle.std.specs.Prelude.{◌≡◌, ◌⊎◌, ◌*◌, ◌/◌, ◌<◌, ◌≤◌, ◌+◌, ◌^◌, ℕ, List, [], ◌∷◌, length, take, drop, slice_get, Some, IfSome, IfNone, IfOk, IsOk};
 ghost use Rattle.std.specs.Result.{IsErrAnd};
 ghost use Rattle.capnp_frame.specs.declared.serialize.segment_table.Padding.TheVariants.{Zero};
@@ -22,11 +22,11 @@ use capnp_frame::serialize::{NoAllocBufferSegments, NoAllocSliceSegments};
 use capnp_frame::{Error, ErrorKind, Result};
 use capnp_pack::stream::try_read_packed_framed_into;
 
-/// Packs a framed message, and tells how many bytes that took: the first word of its table, the
+/// Packs a framed message, and counts the bytes that this takes: the first word of its table, the
 /// table's other words, and each segment are packed one by one.
 ///
-/// The bytes are one message and no more. Returns 6 where it is cut, or where bytes follow it; 2
-/// where its packed encoding has no room; and else what `linsjoar_message` returns.
+/// The bytes have to be one message and no more. Returns 6 where it is cut, or where bytes follow
+/// it; 2 where there is no room for its packed encoding; and else what `linsjoar_message` returns.
 #[unsafe(no_mangle)]
 pub extern "C" fn linsjoar_pack_message(
     framed: &[u8],
@@ -62,9 +62,9 @@ pub extern "C" fn linsjoar_pack_message(
     }
 }
 
-/// Unpacks the packed message at the front of these bytes into its framed encoding, and tells how many
-/// bytes that has, and how many packed ones it took, so that a caller steps from one message to the
-/// next.
+/// Unpacks the packed message at the front of these bytes into its framed encoding. Counts the
+/// bytes of that, and the packed bytes that it takes, so that a caller can step from one message to
+/// the next.
 ///
 /// Returns 2 before all else where there is no room for 8 bytes, 9 where there are no packed bytes,
 /// and else 0 or the number of the reader's error.
@@ -103,7 +103,7 @@ pub extern "C" fn linsjoar_unpack_message(
     }
 }
 
-// The message that these bytes are. Fails as for one that is cut where bytes follow it.
+// The message that these bytes are. Where bytes follow it, fails as for a message that is cut.
 fn whole_message<'a>(framed: &'a [u8]) -> Result<NoAllocSliceSegments<'a>>
     ensures whole { IfOk result (λ held. IsMessage framed.now held.segments) }
     ensures few { IfOk result (λ held. length held.segments < 512) }

@@ -1,4 +1,4 @@
-//! A text that is written into a caller-provided block.
+//! Bytes that are written into a caller-provided block.
 ghost use Rattle.std.specs.Prelude.{◌≡◌, ◌+◌, ◌≤◌, length, take, Some, refl};
 ghost use Rattle.std.proofs.Common.{◌∙◌};
 ghost use Rattle.capnp_frame.specs.declared.error.ErrorKind.{ErrorKind};
@@ -7,7 +7,7 @@ ghost use Rattle.capnp_frame.specs.Sink.{AppendsSame, LeavesNothing, ByKind};
 use capnp_frame::io::Write;
 use capnp_frame::{Error, ErrorKind, Result};
 
-/// The front of a caller-provided block, which the next chunk follows.
+/// The used bytes at the front of a caller-provided block, which the next chunk follows.
 #[derive(Drop)]
 pub struct ProvidedText<'a> {
     block: &'a mut [u8],
@@ -16,7 +16,7 @@ pub struct ProvidedText<'a> {
 }
 
 impl<'a> ProvidedText<'a> {
-    /// A text over this block, of which no byte is used.
+    /// A sink into this block, of which no byte is used.
     pub fn new(block: &'a mut [u8]) -> ProvidedText<'a>
         ensures same_reference { result.block.ghost_name ≡ block.entry.ghost_name }
         ensures block { result.block.now ≡ block.old }
@@ -25,7 +25,7 @@ impl<'a> ProvidedText<'a> {
         ProvidedText { block, used: 0 }
     }
 
-    /// The number of bytes of the text.
+    /// The number of used bytes.
     pub fn len(&self) -> usize
         ensures { result ≡ self.now.used }
     {

@@ -1,10 +1,10 @@
--- The flags that are in place of a command.
+-- The flags that are given instead of a command.
 use Rattle.std.specs.Prelude.{◌≡◌, ◌⊎◌, ℕ, List, [], ◌∷◌, codes}
 use Rattle.capnp_ls.specs.declared.flags.Flag.{Flag}
 use Rattle.capnp_ls.specs.declared.flags.Flag.TheVariants.{Help, Version}
 use Rattle.capnp_ls.specs.declared.flags.TheConstants.{HELP, VERSION}
 
--- the words, each its bytes, that are the flag
+-- these words, each as its bytes, are the flag
 abbrev pub IsFlag : Flag → List (List ℕ) → Type 0
 IsFlag Help words = (words ≡ codes "--help" ∷ []) ⊎ (words ≡ codes "-h" ∷ [])
 IsFlag Version words = words ≡ codes "--version" ∷ []

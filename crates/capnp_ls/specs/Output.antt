@@ -1,4 +1,4 @@
--- What the program prints of messages.
+-- What the program prints for messages.
 use Rattle.std.specs.Prelude.{◌≡◌, ◌⊎◌, ⊤, ℕ, List, [], ◌∷◌, ◌++◌, length, sum, decimal}
 use Rattle.std.specs.List.{flat_map}
 use Rattle.capnp.specs.Passed.{Appending, Leaving, Declining, lengths, size_in_words, default_root, LacksForm}
@@ -12,23 +12,26 @@ use Rattle.capnp_ls.specs.declared.command.Command.TheVariants.{Listing, Transco
 abbrev pub spaced : ℕ → List ℕ
 spaced n = 32 ∷ decimal n
 
--- The line of a message: its index, the number of its segments, their words in all, the words of each. Numbers are decimal, a
--- space (32) parts them, and a newline (10) ends the line.
+-- The line for a message: its index, the number of its segments, the words of all of them, the
+-- words of each. Numbers are decimal; a space (32) separates them, and a newline (10) ends the
+-- line.
 abbrev pub line : ℕ → List (List ℕ) → List ℕ
 line index segments = decimal index ++ spaced (length segments) ++ spaced (size_in_words segments) ++ flat_map spaced (lengths segments) ++ 10 ∷ []
 
--- the line of a message of these lengths, in words
+-- the line for a message of these lengths, in words
 abbrev pub line_of : ℕ → List ℕ → List ℕ
 line_of index ns = decimal index ++ spaced (length ns) ++ spaced (sum ns) ++ flat_map spaced ns ++ 10 ∷ []
 
--- What a sink adds for the message of this index: its line; its chunks, packed or as they are; or the chunks of its canonical form.
+-- What a sink adds for the message of this index: its line; its chunks, packed or as they are; or
+-- the chunks of its canonical form.
 abbrev pub Prints : Command → Appending → Writing
 Prints (Listing format padding) appends index segments text = appends (line index segments) text
 Prints (Transcoding way padding) appends index segments text = Transcodes way appends index segments text
 Prints (Canonical format) appends index segments text = AppendsForm (default_root segments) appends text
 
--- and how this message may fail to be printed: it has no canonical form, or the sink rejects a chunk of what is printed. Memory is taken
--- for a line and for a form, and the sink is left with nothing of them, or with what it leaves.
+-- and how printing for this message may fail: it has no canonical form, or the sink fails for a
+-- chunk of what is printed. Memory is taken for a line and for a form; of these the sink is left
+-- with nothing, or with what it leaves of a chunk.
 abbrev pub DeclinesPrinted : Command → Appending → Leaving → Declining → DecliningWriting
 DeclinesPrinted (Listing format padding) appends leaves refuses = record {
   lacks = λ index segments kind. ⊥;

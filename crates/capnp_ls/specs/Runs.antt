@@ -4,7 +4,7 @@ use Rattle.capnp.specs.declared.streams.StoppedAt.{StoppedAt}
 use Rattle.capnp_ls.specs.declared.stop.Stop.{Stop}
 use Rattle.capnp_ls.specs.declared.stop.Stop.TheVariants.{Usage, Refused}
 
--- as a run over the messages of a stream; a command's run is never stopped by Usage
+-- the same as a run over the messages of a stream; the run of a command never stops with Usage
 abbrev pub ForCommand : (Result (Unit {0}) StoppedAt → Type 0) → Result (Unit {0}) Stop → Type 0
 ForCommand Run (Ok done) = Run (Ok done)
 ForCommand Run (Err Usage) = ⊥

@@ -1,4 +1,4 @@
--- The line that a stop is reported by.
+-- The line that reports a stop.
 use Rattle.std.specs.Prelude.{◌≡◌, ℕ, List, [], ◌∷◌, ◌++◌, codes, decimal}
 use Rattle.capnp.specs.Passed.{kind_number}
 use Rattle.capnp.specs.Passed.{ErrorKind}
@@ -13,16 +13,16 @@ newline = 10 ∷ []
 abbrev pub usage_line : List ℕ
 usage_line = codes "usage: capnp_ls list [--packed] [--lenient] | pack [--lenient] | unpack [--lenient] | canon [--packed]" ++ newline
 
--- how the line of an error begins: the message's index and the number of the kind
+-- how the line for an error begins: the message's index and the number of the kind
 abbrev pub refusal_front : ℕ → ErrorKind → List ℕ
 refusal_front message kind = codes "capnp_ls: message " ++ (decimal message ++ (codes ": error " ++ (decimal (kind_number kind) ++ codes " ")))
 
--- `line` reports the stop; the text of an error's error is free
+-- `line` reports the stop; the wording for an error is left open
 abbrev pub IsLineOf : Stop → List ℕ → Type 0
 IsLineOf Usage line = line ≡ usage_line
 IsLineOf (Refused message error) line = (text : List ℕ) × (line ≡ refusal_front message error.kind ++ (text ++ newline))
 
--- `line` tells why a stream of this name failed; the text of the reason is free
+-- `line` says why a stream of this name failed; the wording of the reason is left open
 abbrev pub IsFaultLine : List ℕ → List ℕ → Type 0
 IsFaultLine name line = (text : List ℕ) × (line ≡ codes "capnp_ls: " ++ (name ++ (codes ": " ++ (text ++ newline))))
 
@@ -31,6 +31,6 @@ abbrev pub status_of : Stop → ℕ
 status_of Usage = 2
 status_of (Refused message error) = 1
 
--- the stop is an error of this kind before the first message
+-- the stop is an error of this kind in front of the first message
 abbrev pub IsAtStart : Stop → ErrorKind → Type 0
 IsAtStart stop kind = (error : Error) × (stop ≡ Refused 0 error) × (error.kind ≡ kind)

@@ -13,7 +13,7 @@ use capnp::streams::{Format, MessageWriter};
 use capnp::{Result, Way, serialize};
 use std::alloc::Global;
 
-/// What the program is told to do.
+/// What the program is to do.
 #[derive(Clone, Copy, Debug, PartialEq, Eq)]
 pub enum Command {
     /// `list`, with `--packed`, `--lenient` or both after it: print a line for each message.
@@ -21,12 +21,12 @@ pub enum Command {
     /// `pack` and `unpack`, each with `--lenient` after it or not: write each message in the other
     /// format.
     Transcoding(Way, Padding),
-    /// `canon`, and `canon --packed`: write the canonical form of each message, framed.
+    /// `canon`, with `--packed` after it or not: write the canonical form of each message, framed.
     Canonical(Format),
 }
 
 impl Command {
-    /// The command of these words, which are after the program's name.
+    /// The command that these words, which follow the program's name, stand for.
     pub fn from_words(words: &[String]) -> Option<Command>
         ensures some { IfSome result (λ command. map string_bytes words.now ≡ command_words command) }
         ensures none { IfNone result
@@ -45,7 +45,7 @@ impl Command {
         }
     }
 
-    /// How the messages are that the command reads.
+    /// The format of the messages that the command reads.
     pub fn input(self) -> Format
         ensures { result ≡ command_input self }
     {
@@ -56,7 +56,7 @@ impl Command {
         }
     }
 
-    /// Of which padding they may be.
+    /// The rule of padding by which it reads them.
     pub fn padding(self) -> Padding
         ensures { result ≡ padding_of self }
     {
@@ -96,7 +96,7 @@ impl MessageWriter for Command {
 
     ghost declines = { DeclinesPrinted };
 
-    // Writes what the command prints of a message.
+    // Writes what the command prints for a message.
     fn write_message<W: Write>(
         &self,
         alloc: Global,

@@ -1,4 +1,4 @@
-//! The flags that are in place of a command, and print what the program is.
+//! Flags that are given instead of a command, and print what the program is.
 ghost use Rattle.std.specs.Prelude.{◌≡◌, ◌⊎◌, map, string_bytes, IfSome, IfNone, IfErr, OnOk};
 ghost use Rattle.capnp.specs.Passed.{ErrorKind, Fails, IfKnown, Adds, Grows};
 ghost use Rattle.capnp_ls.specs.declared.flags.Flag.{Flag};
@@ -7,7 +7,7 @@ ghost use Rattle.capnp_ls.specs.Flags.{IsFlag, text_of};
 use capnp::Result;
 use capnp::io::Write;
 
-/// What `--help` prints. The manual's page is made of it, too.
+/// What `--help` prints. The manual's page is made from it, too.
 pub const HELP: &str = "Lists and converts the messages of Cap'n Proto that come on standard input
 
 Usage: capnp_ls COMMAND [OPTIONS]
@@ -36,7 +36,7 @@ Exit status:
 /// What `--version` prints.
 pub const VERSION: &str = "capnp_ls 0.1.0\n";
 
-/// A flag that is alone, in place of a command.
+/// A flag, which is given alone, instead of a command.
 #[derive(Clone, Copy)]
 pub enum Flag {
     /// `--help`, and `-h`: what the program does, its commands and their options.
@@ -46,7 +46,7 @@ pub enum Flag {
 }
 
 impl Flag {
-    /// The flag of these words, which are after the program's name.
+    /// The flag that these words, which follow the program's name, stand for.
     pub fn from_words(words: &[String]) -> Option<Flag>
         ensures some { IfSome result (λ flag. IsFlag flag (map string_bytes words.now)) }
         ensures none { IfNone result

@@ -1,4 +1,4 @@
-//! The lines of framed messages, whose segments are skipped.
+//! The lines for framed messages, whose segments are skipped.
 ghost use Rattle.std.specs.Prelude.{◌≡◌, ◌<◌, ◌⊎◌, ◌^◌, ℕ, List, [], length, Option, None, Err, IfSome, IfOk, OnOk, OnErr, IfErr};
 ghost use Rattle.capnp.specs.Passed.{ErrorKind, IsReaderKind, IfKnown, Advances, Fails, Adds, Grows, SkipsMessage, ReadsStream, default_limit};
 ghost use Rattle.capnp.specs.declared.streams.Format.{Format};
@@ -18,7 +18,8 @@ use capnp::serialize::{
 use capnp::streams::{Format, StoppedAt};
 use std::alloc::Global;
 
-/// Prints the line of each framed message of the source, its padding by the rule, until none is left.
+/// Prints the line for each framed message of the source, read by this rule of padding, until none
+/// is left.
 pub fn list_each<R: BufRead, W: Write>(
     alloc: Global,
     padding: Padding,
@@ -32,7 +33,7 @@ pub fn list_each<R: BufRead, W: Write>(
     list_all(alloc, padding, source, sink)
 }
 
-// Message by message.
+// Does the same, message by message.
 fn list_all<R: BufRead, W: Write>(
     alloc: Global,
     padding: Padding,
@@ -64,7 +65,7 @@ fn list_all<R: BufRead, W: Write>(
     Ok(())
 }
 
-// Prints the line of the next message, of this index, if one is left, and returns its lengths.
+// Prints the line for the next message, of this index, if one is left, and returns its lengths.
 fn list_next<R: BufRead, W: Write>(
     padding: Padding,
     source: &mut R,
@@ -79,7 +80,7 @@ fn list_next<R: BufRead, W: Write>(
         (W.written sink.old) (W.written sink.new)))) }
     ensures none { IfOk result (λ next. next ≡ None → (sink.new ≡ sink.old)
         × IfSome (R.unread source.old) (λ raw. raw ≡ [])) }
-    // What a run comes to that has written the lines before this one, and stops here.
+    // Stopping here is a result of a run that has written the lines before this one.
     ensures stopped { IfErr result (λ error. (first before : Option (List ℕ))
         → IfKnown first (R.unread source.old) (HasWritten padding Format.Framed default_limit
         (Prints (Command.Listing Format.Framed padding) W.appends) message before (W.written sink.old))
@@ -108,7 +109,7 @@ fn list_next<R: BufRead, W: Write>(
     }
 }
 
-// Skips the next message, its padding by the rule, and returns the lengths of its segments.
+// Skips the next message, by this rule of padding, and returns the lengths of its segments.
 fn skip_next<R: BufRead>(
     padding: Padding,
     source: &mut R,
@@ -123,7 +124,7 @@ fn skip_next<R: BufRead>(
     }
 }
 
-// Prints the line of a message of these lengths. It is made in `text`.
+// Prints the line for a message of these lengths. The line is made in `text`.
 fn print_line<W: Write>(
     text: &mut Vec<u8>,
     index: u64,
@@ -147,7 +148,7 @@ fn print_line<W: Write>(
     sink.write_all(text)
 }
 
-// Makes `text` the line of a message of these lengths, as `write_line` does.
+// Makes `text` the line for a message of these lengths, as `write_line` does.
 fn write_lengths(text: &mut Vec<u8>, index: u64, lengths: &SegmentLengthsBuilder) -> Result<()>
     requires { length lengths.now < 2 ^ 32 }
     ensures ok { OnOk result (text.new.items ≡ line_of index lengths.now) }

@@ -1,4 +1,4 @@
-//! The line that stands for a message.
+//! The line that is printed for a message.
 ghost use Rattle.std.specs.Prelude.{◌≡◌, ◌++◌, ◌<◌, ◌^◌, decimal, length, IfErr, OnOk};
 ghost use Rattle.capnp.specs.Passed.{ErrorKind, size_in_words};
 ghost use Rattle.capnp_ls.specs.Output.{line, spaced};
@@ -7,8 +7,8 @@ use capnp::Result;
 use capnp::io::Write;
 use capnp::message::ReaderSegments;
 
-/// Makes `text` the line of a message: its index, the number of its segments, their words in all,
-/// and the words of each.
+/// Makes `text` the line for a message: its index, the number of its segments, the words of all of
+/// them, and the words of each.
 pub fn write_line<S: ReaderSegments>(text: &mut Vec<u8>, index: u64, segments: &S) -> Result<()>
     requires few { length (S.segments segments.now) < 2 ^ 32 }
     requires small { size_in_words (S.segments segments.now) < 2 ^ 64 }
@@ -28,7 +28,7 @@ pub fn write_line<S: ReaderSegments>(text: &mut Vec<u8>, index: u64, segments: &
     Ok(())
 }
 
-// The words of all segments.
+// The number of words of all segments.
 fn total_words<S: ReaderSegments>(segments: &S) -> usize
     requires few { length (S.segments segments.now) < 2 ^ 32 }
     requires small { size_in_words (S.segments segments.now) < 2 ^ 64 }

@@ -1,4 +1,4 @@
-//! Lists and converts the messages of Cap'n Proto that come on standard input.
+//! Lists and converts the Cap'n Proto messages that come on standard input.
 #![tactic(auto)]
 
 ghost use Rattle.std.specs.Prelude.{◌≡◌, ◌⊎◌, [], OnOk, OnErr, IfErr, IsErrOf};
@@ -57,10 +57,10 @@ fn run_on<R: Read, W: Write>(rt: HostRuntime, input: &mut R, output: &mut W) -> 
     flush_after(returned, &mut sink)
 }
 
-/// Hands what is pending to the device, whatever the run returned.
+/// Hands what is in the buffer to the device, whatever the run returned.
 ///
-/// A run's own stop stays the result. How many messages' output a failed flush held back is not
-/// known, so it is rejected at message 0.
+/// If the run itself stopped, that stays the result. A failed flush is reported at message 0, since
+/// it is not known how many messages' output it held back.
 fn flush_after<W: Write + Drop>(
     returned: Result<(), Stop>,
     sink: &mut Output<W>,
@@ -102,8 +102,8 @@ fn words(rt: HostRuntime) -> io::Result<Vec<String>> {
     Ok(words)
 }
 
-/// Without memory for the words the program stops at the start; a word that isn't UTF-8 is none of a
-/// command's.
+/// Without memory for the words the program stops at the start; a word that isn't UTF-8 is no word
+/// of a command.
 fn stop_without_words(error: io::Error) -> Stop
     ensures memory { IsOutOfMemory error →
         IsAtStart result ErrorKind.OutOfMemory }

@@ -16,25 +16,26 @@ use capnp::serialize::Padding;
 use capnp::streams::{Format, StoppedAt, write_each_message};
 use std::alloc::Global;
 
-/// Runs the command of these words: reads the messages of `source`, and writes what the command
-/// prints of each to `sink`.
+/// Runs the command that these words stand for: reads the messages of `source`, and writes what the
+/// command prints for each of them to `sink`.
 ///
-/// `list` writes a line for each message, `pack` and `unpack` its text in the other format, `canon`
-/// its canonical form, framed. All want zero padding but `list`, `pack` and `unpack` with
-/// `--lenient`, which read any. A run takes at most 2^64 - 1 messages, and leaves the rest unread.
+/// `list` writes a line for each message, `pack` and `unpack` write its encoding in the other
+/// format, `canon` its canonical form, framed. All accept only zero padding, except `list`, `pack`
+/// and `unpack` with `--lenient`, which accept any. A run takes at most 2^64 - 1 messages, and
+/// leaves the rest unread.
 pub fn run<R: BufRead, W: Write>(
     alloc: Global,
     words: &[String],
     source: &mut R,
     sink: &mut W,
 ) -> std::result::Result<(), Stop>
-    // Other words: nothing is read, and nothing written.
+    // For other words nothing is read, and nothing written.
     ensures usage { IsErrOf result Stop.Usage
         ↔ ((command : Command) → map string_bytes words.now ≡ command_words command → ⊥) }
     ensures untouched { IsErrOf result Stop.Usage
         → (source.new ≡ source.old) × (sink.new ≡ sink.old) }
 
-    // Else they are a command's: what it reads and writes, and where it stops.
+    // For the words of a command: what it reads and writes, and where it stops.
     ensures declared { IsErrOf result Stop.Usage
         ⊎ ((command : Command) × (map string_bytes words.now ≡ command_words command)) }
     ensures runs { (command : Command) → map string_bytes words.now ≡ command_words command →
@@ -48,7 +49,7 @@ pub fn run<R: BufRead, W: Write>(
     print_all(alloc, command, source, sink)
 }
 
-// Prints the messages of the source until none is left.
+// Prints what the command prints for the messages of the source, until none is left.
 fn print_all<R: BufRead, W: Write>(
     alloc: Global,
     command: Command,
@@ -65,7 +66,7 @@ fn print_all<R: BufRead, W: Write>(
     }
 }
 
-// The same.
+// Does the same.
 fn print_each<R: BufRead, W: Write>(
     alloc: Global,
     command: Command,
@@ -92,7 +93,7 @@ fn print_each<R: BufRead, W: Write>(
     )
 }
 
-// Prints a line for each message of a format. A line needs the lengths of the segments alone, so
+// Prints a line for each message of a format. A line needs only the lengths of the segments, so
 // framed messages are skipped.
 fn print_lines<R: BufRead, W: Write>(
     alloc: Global,

@@ -15,9 +15,9 @@ const USAGE: &str =
 /// Why the program stops before the end of its input.
 #[derive(Debug, Drop)]
 pub enum Stop {
-    /// The words after the program's name are none of its commands.
+    /// The words after the program's name are no command.
     Usage,
-    /// `error` came up when `message` messages were done.
+    /// `error` came up after `message` messages were done.
     Refused { message: u64, error: Error },
 }
 
@@ -35,7 +35,8 @@ impl Stop {
 
 /// Writes the stop as one line, in one chunk.
 ///
-/// It is rejected as the sink rejects that chunk, or by `OutOfMemory` where the line has no room.
+/// Fails as the sink does for that chunk, or with `OutOfMemory` where there is no memory for the
+/// line.
 pub fn report<W: Write>(alloc: Global, stop: &Stop, sink: &mut W) -> Result<()>
     ensures line { OnOk result (IfKnown (W.written sink.old) (W.written sink.new)
         (Adds (λ text. (line : List ℕ) × IsLineOf stop.now line × W.appends line text))) }
@@ -72,7 +73,7 @@ fn refusal_line(
 
 /// Writes why the stream of this name failed as one line, in one chunk.
 ///
-/// It is rejected as `report` is.
+/// Fails as `report` does.
 pub fn report_fault<W: Write>(
     alloc: Global,
     name: &str,

@@ -1,4 +1,4 @@
-//! Devices that tell why they failed.
+//! Devices that keep the reason of a failure.
 ghost use Rattle.std.specs.Prelude.{◌≡◌, ◌≢◌, None, Some, IfErr, OnOk};
 ghost use Rattle.std.specs.Io.{ReadsAtMost, WritesAtMost};
 ghost use Rattle.std.specs.Io.KnownBytes.{Keeps, ReadConsumes, WriteAppends};
@@ -7,7 +7,7 @@ ghost use Rattle.std.specs.IoError.{error_kind};
 use std::io;
 use std::io::{ErrorKind, Read, Write};
 
-/// A device that keeps the error of the last call of it that failed. An interrupted call is made again,
+/// A device that keeps the error of its last call that failed. An interrupted call is made again,
 /// so its error isn't kept.
 #[derive(Drop)]
 pub struct Watched<D> {
@@ -16,7 +16,7 @@ pub struct Watched<D> {
 }
 
 impl<D> Watched<D> {
-    /// The device, which has not failed.
+    /// The device, which has not failed yet.
     pub fn new(device: D) -> Watched<D>
         ensures device { result.device ≡ device }
         ensures unfailed { result.fault ≡ None }

@@ -1,4 +1,4 @@
--- Which of some structs a word is of, by how many words it is after the first one's start.
+-- Which of some structs a word belongs to, by how many words it comes after the first one's start.
 use Rattle.std.proofs.Common.{◌≡◌, ℕ, zero, suc, ◌+◌, ◌-◌, ◌*◌, ◌/◌, ◌%◌, ◌<◌, ◌≤◌, [], refl, sym, ap, ◌∙◌, arith}
 use Rattle.std.proofs.lemmas.Nat.{div-add-mod', mod_below, mod-mul-add, div-mul-add}
 use Rattle.capnp_wire.specs.Object.{row_places}

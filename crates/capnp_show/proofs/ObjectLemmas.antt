@@ -41,7 +41,7 @@ room_in segments start words bytes there room =
     let P : List ℕ → Type 0 = λ b. start.word + words ≤ length b / 8 in
     subst P (one_segment segments start.segment room.0 bytes room.1 there) room.2
 
--- a word that is in the message is in its segment
+-- a word of the message is in its segment
 pub word_here : (segments : List (List ℕ)) (place : Place) (bytes : List ℕ) (word : ℕ) → slice_get segments place.segment ≡ Some bytes
     → word_at (message_of segments) (read_place place) ≡ Some word → slice_get (words_of bytes) place.word ≡ Some word
 word_here segments place bytes word there e = rw (segment_stands segments place.segment bytes there) at e
@@ -66,7 +66,7 @@ listed_stand EightBytes bytes place pointer count k e f room = numbers_stand byt
 listed_stand Pointer bytes place pointer count k e f room =
     pointers_stand bytes place pointer count k (sym e) f (omega (arith, room, words_for_pointers count 6 refl))
 
--- what a pointer says is where the segment has room for it
+-- an object is where a pointer leads, where the segment has room for it
 pub says_stands : (shape : Shape) (bytes : List ℕ) (start : Place) (pointer : ℕ) → pointer_kind pointer < 2 → Says (words_of bytes) start.word pointer shape
     → start.word + words_in shape ≤ length bytes / 8 → ShapeStands (words_of bytes) (read_place start) pointer (stood (words_of bytes) (read_place start) shape)
 says_stands (Struct size) bytes start pointer local says room =

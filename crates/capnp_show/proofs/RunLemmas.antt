@@ -1,4 +1,4 @@
--- What is as it is, run by run.
+-- What is written as it is, run by run.
 use Rattle.std.proofs.Common.{arith, ◌≡◌, ℕ, suc, ◌+◌, ◌/◌, ◌<◌, ◌≤◌, List, [], ◌∷◌, ◌++◌, length, get_or, take, drop, refl, sym, ap, subst, ◌∙◌, append-nil, append_assoc, ⊎_elim, length-append}
 use Rattle.std.specs.List.{All}
 use Rattle.std.specs.Prelude.{IsUtf8}

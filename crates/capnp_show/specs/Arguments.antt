@@ -19,7 +19,8 @@ IsGiven found name = one_text found name ≡ Some (codes "true")
 abbrev pub IsAbsent : Found → List ℕ → Type 0
 IsAbsent found name = (one_text found name ≡ None) ⊎ (one_text found name ≡ Some (codes "false"))
 
--- how the messages are: packed by --packed and --unpack, which come before --detect, and framed where none is given
+-- the format of the messages: packed by --packed and --unpack, which come before --detect, and
+-- framed where none is given
 pub record AsksReading (found : Found) (reading : Reading) : Type 0 where
   pub packed : IsGiven found (codes "packed") → reading ≡ Packed
   pub unpacked : IsGiven found (codes "unpack") → reading ≡ Packed

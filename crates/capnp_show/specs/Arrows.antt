@@ -56,7 +56,7 @@ turns_between from to =
 abbrev pub arrow_of : ℕ → Corner → Corner → List ℕ
 arrow_of number from to = arrow_front number from ++ (turns_between from to ++ arrow_head to)
 
--- The arrow of a word that is at a place is added.
+-- The arrow of the word at a place is added.
 pub record AddsArrowOf (grid : Grid) (place : Place) (word : Word) (old new : List ℕ) : Type 0 where
   pub number : ℕ
   pub start : Place

@@ -9,7 +9,7 @@ use Rattle.capnp_frame.specs.FlatReaders.{FlatRules, no_alloc_rules, StandsBy, R
 use Rattle.capnp_show.specs.declared.detected.Look.{Look}
 use Rattle.capnp_show.specs.declared.detected.Look.TheVariants.{Is, More}
 
--- the kinds by which the bytes of a framed message are rejected that end too early
+-- the kinds of the errors for the bytes of a framed message that end too early
 abbrev pub IsCut : ErrorKind → Type 0
 IsCut kind = (kind ≡ EmptyBuffer) ⊎ ((wanted : ℕ) × (there : ℕ) × (kind ≡ MessageEndsPrematurely wanted there))
 

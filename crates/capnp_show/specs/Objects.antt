@@ -56,7 +56,7 @@ abbrev pub landing_words : Option LandingPad → ℕ
 landing_words None = 0
 landing_words (Some landing_pad) = landing_pad.words
 
--- what is at a place in this shape, among the words of its segment
+-- the object of this shape at a place, among the words of its segment
 abbrev pub stood : List ℕ → ReadPlace → Shape → Stood
 stood words start (Struct size) = struct_shape words start size.data_words size.pointers
 stood words start (Listed size count) =
@@ -86,7 +86,7 @@ abbrev pub HasRoom : List (List ℕ) → Place → ℕ → Type 0
 HasRoom segments start words =
     (bytes : List ℕ) × (slice_get segments start.segment ≡ Some bytes) × (start.word + words ≤ length bytes / 8)
 
--- an object of this shape is at a place, as its pointer says
+-- an object of this shape is at a place, by its pointer
 pub record StandsAt (segments : List (List ℕ)) (start : Place) (pointer : ℕ) (shape : Shape) : Type 0 where
   pub bytes : List ℕ
   pub content : slice_get segments start.segment ≡ Some bytes
@@ -98,7 +98,8 @@ pub data RejectsTarget (words : List ℕ) (origin : Origin) (pointer : ℕ) : Er
   misfits : {start : ℕ} {kind : ErrorKind} → IsStart origin pointer start → RejectsSize words start pointer kind
       → RejectsTarget words origin pointer kind
 
--- a far pointer is at a place, 0 with a landing pad of one word, 1 with one of two, of which the first is at a place, too
+-- a far pointer is at `place`: `width` is 0 with a landing pad of one word, 1 with one of two words,
+-- and the landing pad's first word is at `landing_place`
 pub record IsFarTo (segments : List (List ℕ)) (place : Place) (pointer width : ℕ) (landing_place : Place) (first : ℕ) : Type 0 where
   pub there : word_at (message_of segments) (read_place place) ≡ Some pointer
   pub is_far : IsFar pointer width

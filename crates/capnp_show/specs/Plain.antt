@@ -1,4 +1,4 @@
--- Characters that are as they are both within quotation marks and in a page (src/runs.rt).
+-- Characters that are written as they are both within quotation marks and in a page (src/runs.rt).
 use Rattle.std.specs.Prelude.{◌≡◌, ◌≢◌, ℕ, ◌≤◌}
 
 -- The bytes of which such characters consist: no control character of ASCII, none of the characters that have a letter in JSON or

@@ -22,7 +22,7 @@ use Rattle.capnp_show.specs.Objects.{read_place, size_of, words_in, landing_word
 abbrev pub further : Place → ℕ → Place
 further place words = record { segment = place.segment; word = min (place.word + words) (2 ^ 64 - 1) }
 
--- how many words the next node of a row is after this one
+-- how many words the next node of a row comes after this one
 abbrev pub step_of : RowKind → ℕ
 step_of Root = 1
 step_of Pointers = 1
@@ -38,7 +38,7 @@ label_of (Elements size) index = ElementLabel index
 abbrev pub row_after : Row → Row
 row_after row = record row { index = min (row.index + 1) (2 ^ 64 - 1); next = further row.next (step_of row.kind) }
 
--- the pointers of a struct that is below a row
+-- the pointers of a struct below a row
 abbrev pub pointers_row : Row → Place → StructSize → ℕ → Row
 pointers_row row start size nesting = record {
   index = 0;
@@ -59,7 +59,7 @@ pointers_in Root next count = places next.segment next.word count
 pointers_in Pointers next count = places next.segment next.word count
 pointers_in (Elements size) next count = row_places next.segment next.word size.data_words size.pointers count
 
--- the pointers of an object that is within 2^61 words
+-- the pointers of an object whose words are within 2^61
 abbrev pub children_by : Object → List ReadPlace → Type 0
 children_by object children = (words : List ℕ) → object.start.word + words_in object.shape < 2 ^ 61
     → children ≡ (stood words (read_place object.start) object.shape).children
@@ -91,7 +91,7 @@ Finds segments place nesting left (Refused kind) = IsRefused segments place kind
     ⊎ ((object : Object) × (most : ℕ) × IsObject segments place object × (left ≡ Some most) × (0 < nesting)
     × (counted object < 2 ^ 58 → most < counted object) × (kind ≡ ReadLimitExceeded))
 
--- The node of a row that comes: where it is and how deep, and what is found there.
+-- The next node of a row: where it is and how deep, and what is found there.
 pub record IsNodeOf (segments : List (List ℕ)) (row : Row) (left : Option ℕ) (node : Node) : Type 0 where
   pub place : node.place ≡ row.next
   pub depth : node.depth ≡ row.depth

@@ -45,7 +45,7 @@ HasName character name =
     ((character ≡ 38) × (name ≡ codes "&amp;")) ⊎ ((character ≡ 60) × (name ≡ codes "&lt;"))
     ⊎ ((character ≡ 62) × (name ≡ codes "&gt;")) ⊎ ((character ≡ 34) × (name ≡ codes "&quot;"))
 
--- how a character is in a page
+-- how a character is written in a page
 abbrev pub IsMarkOf : ℕ → Mark → Type 0
 IsMarkOf character PlainMark =
     (IsControl character → ⊥) × (character ≢ 38) × (character ≢ 60) × (character ≢ 62) × (character ≢ 34)
@@ -78,13 +78,13 @@ pub data AreEscaped : List ℕ → List ℕ → Type 0 where
 abbrev pub AddsEscaped : List ℕ → List ℕ → List ℕ → List ℕ → List ℕ → Type 0
 AddsEscaped front shown end old new = (bytes : List ℕ) × (new ≡ old ++ (front ++ (bytes ++ end))) × AreEscaped (chars shown) bytes
 
--- the bytes of a character in a page, by how it is there
+-- the bytes of a character in a page, by how it is written there
 abbrev pub IsMarked : ℕ → Mark → List ℕ → Type 0
 IsMarked character PlainMark bytes = bytes ≡ encode_utf8 character
 IsMarked character (Named name) bytes = bytes ≡ name.now
 IsMarked character Control bytes = (escape : Escape) × IsEscapeOf character escape × (bytes ≡ escaped character escape)
 
--- these characters are in a page as these bytes
+-- these characters are written in a page as these bytes
 pub data AreMarked : List ℕ → List ℕ → Type 0 where
   none_marked : AreMarked [] []
   one_marked : (characters bytes added : List ℕ) (character : ℕ) (mark : Mark) → AreMarked characters bytes → IsMarkOf character mark
@@ -148,7 +148,7 @@ refused_class (Some kind) = codes " refused"
 abbrev pub word_classes : Word → List ℕ
 word_classes word = owner_classes word.owner ++ (null_class word.owner word.lead ++ refused_class word.refusal)
 
--- what is said of a word whose pointer is not rejected: where it is, and what it is to whom
+-- what is said of a word whose pointer is followed: where it is, and its role in which object
 abbrev pub role_name : Role → List ℕ
 role_name Data = codes "data"
 role_name PointerRole = codes "pointer"

@@ -14,7 +14,8 @@ use Rattle.capnp_show.specs.declared.owners.Word.{Word}
 use Rattle.capnp_show.specs.declared.owners.Owners.{Owners}
 use Rattle.capnp_show.specs.Objects.{size_of}
 
--- the word is among the pointers of one of some structs, by how many words it is after the first one's start
+-- the word is a pointer of one of some structs, by how many words it comes after the first one's
+-- start
 pub record IsPointerOfElement (size : StructSize) (count index : ℕ) : Type 0 where
   pub element : ℕ
   pub among : element < count
@@ -28,7 +29,7 @@ IsRoleInElement size count index Pointer = IsPointerOfElement size count index
 IsRoleInElement size count index Tag = ⊥
 IsRoleInElement size count index Landing = ⊥
 
--- the word of an object is one of its pointers, by how many words it is after the object's start
+-- the word of an object is one of its pointers, by how many words it comes after the object's start
 abbrev pub IsPointerIn : Shape → ℕ → Type 0
 IsPointerIn (Struct size) index = size.data_words ≤ index
 IsPointerIn (Listed size count) index = size ≡ PointerSize

@@ -136,7 +136,7 @@ fn flagged<'a>(alloc: Global, command: Command<'a>) -> Result<Command<'a>, Alloc
     with_flags(alloc, command, &FLAGS)
 }
 
-// The command with these flags more. It is handed on at once, since each `?` drops what is made
+// The command with these further flags. It is returned at once, since each `?` drops what is made
 // already.
 fn with_flags<'a>(
     alloc: Global,
@@ -150,7 +150,7 @@ fn with_flags<'a>(
     Ok(command)
 }
 
-// The command with one flag more, which can't be given with these others.
+// The command with one further flag, which can't be given with these others.
 fn with_flag<'a>(
     alloc: Global,
     command: Command<'a>,
@@ -185,7 +185,7 @@ fn with_numbers<'a>(alloc: Global, command: Command<'a>) -> Result<Command<'a>, 
     Ok(command)
 }
 
-// The command with one number more.
+// The command with one further number.
 fn with_number<'a>(
     alloc: Global,
     command: Command<'a>,

@@ -1,10 +1,10 @@
 //! The arrows of a drawing, from each pointer to the object that it leads to.
 //!
-//! An arrow runs in the gaps between the cells alone: from the right of its pointer in the gap after
-//! that column, then in the gap above the object's row, and to the left of the cell where the object
-//! begins. Cells, gaps and headings have fixed sizes, so its corners are computed. In a segment of up
-//! to eight rows no arrow lies over one to another object: in the gap after a column each row has a
-//! lane of its own, and in the gap above a row each column.
+//! An arrow runs only in the gaps between the cells: from the right of its pointer in the gap after
+//! that column, then in the gap above the object's row, and to the left of the cell where the
+//! object begins. Cells, gaps and headings have fixed sizes, so its corners are computed. In a
+//! segment of up to eight rows no arrow runs over one to another object: in the gap after a column
+//! each row has a lane of its own, and in the gap above a row each column has one.
 ghost use Rattle.std.specs.Prelude.{◌≡◌, ◌⊎◌, ◌+◌, ◌*◌, ◌/◌, ◌^◌, ◌<◌, ℕ, None, length, slice_get, MatchOption, ◌++◌, IfOk, OnOk, codes, string_bytes};
 ghost use Rattle.capnp_show.specs.Arrows.{height_of, AreTops, IsCorner, AddsArrowOf, HasNoArrow, arrow_front, arrow_head, arrow_of, turns_between, sizes_text};
 ghost use Rattle.capnp_show.specs.Texts.{counted};
@@ -32,7 +32,7 @@ const HEADING_HEIGHT: u64 = 34;
 // The left of the first cell of a row, after the row's number and a gap.
 const FIRST_LEFT: u64 = NUMBER_WIDTH + COLUMN_GAP;
 
-// From where the cells of one column begin to where those of the next do, and of one row and the next.
+// The distance from one column to the next, and from one row to the next.
 const COLUMN_STEP: u64 = CELL_WIDTH + COLUMN_GAP;
 
 const ROW_STEP: u64 = CELL_HEIGHT + ROW_GAP;
@@ -57,7 +57,7 @@ pub fn push_sizes(text: &mut String) -> Result<(), AllocError>
     )
 }
 
-/// The height of the part of a drawing that a segment of a given number of words has.
+/// The height of the part of a drawing that shows a segment of this many words.
 pub fn part_height(words: usize) -> u64
     ensures { result ≡ height_of words }
 {
@@ -95,7 +95,7 @@ impl Grid {
         Ok(Grid { tops })
     }
 
-    /// Adds the arrow of a word that is at a place, where it leads to a word.
+    /// Adds the arrow of the word at a place, where it leads to a word.
     pub fn push_arrow(
         &self,
         text: &mut String,
@@ -119,7 +119,7 @@ impl Grid {
         }
     }
 
-    // Where the cell of a word is: four in a row, and the rows of a segment below its top.
+    // Where the cell of a word is: four cells in a row, and the rows of a segment below its top.
     fn corner(&self, place: Place) -> Option<Corner>
         ensures { MatchOption result (slice_get self.now.tops.items place.segment ≡ None)
             (IsCorner self.now place) }

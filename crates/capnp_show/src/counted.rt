@@ -1,10 +1,10 @@
-//! A source that counts the bytes that are taken of it.
+//! A source that counts the bytes that are taken from it.
 ghost use Rattle.std.specs.Prelude.{◌≡◌};
 
 use capnp::Result;
 use capnp::io::{BufRead, Read};
 
-/// A source, and how many bytes were taken of it.
+/// A source, and how many bytes were taken from it.
 #[derive(Drop)]
 pub struct Counted<R: Drop> {
     source: R,
@@ -12,7 +12,7 @@ pub struct Counted<R: Drop> {
 }
 
 impl<R: Drop> Counted<R> {
-    /// The source, of which nothing is taken yet.
+    /// The source, from which nothing is taken yet.
     pub fn new(source: R) -> Counted<R>
         ensures source { result.source ≡ source }
         ensures taken { result.taken ≡ 0 }

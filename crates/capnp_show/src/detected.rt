@@ -11,7 +11,7 @@ use std::alloc::AllocError;
 use std::io;
 use std::io::Read;
 
-/// How many bytes are enough to tell: more than a whole segment table has.
+/// How many bytes are enough to decide: more than a whole segment table has.
 const FRONT_BYTES: usize = 4096;
 
 /// What the bytes at the front of an input say.
@@ -22,8 +22,8 @@ pub enum Look {
     More,
 }
 
-/// What the bytes at the front of an input say: that it is framed where they are a segment table
-/// whose segments are within the limit of words, and are there or may follow.
+/// What the bytes at the front of an input say: it is framed where they are a segment table whose
+/// segments are within the limit of words, and are there or may follow.
 pub fn look_at(front: &[u8], limits: ReaderOptions) -> Look
     ensures { Says FRONT_BYTES limits.traversal_limit_in_words front.now result }
 {
@@ -42,9 +42,9 @@ pub fn look_at(front: &[u8], limits: ReaderOptions) -> Look
     }
 }
 
-/// Reads bytes of a device into `front` until they say how its messages are, or it ends; `None`
-/// where it fails before. Framed is what begins a framed message within the limit of words, also
-/// where it ends too early, and packed only what begins none.
+/// Reads bytes of a device into `front` until they say which format its messages have, or the
+/// device ends; `None` where it fails before that. Bytes that begin a framed message within the
+/// limit of words are framed, also where they end too early; only bytes that begin none are packed.
 pub fn detect<D: Read>(
     device: &mut D,
     front: &mut Vec<u8>,
@@ -73,7 +73,7 @@ pub fn detect<D: Read>(
     }
 }
 
-// What a device gives at once.
+// What one read of a device returns.
 #[derive(Clone, Copy)]
 enum Part {
     /// Some bytes, or none yet.
@@ -82,7 +82,7 @@ enum Part {
     Failure,
 }
 
-// Reads what a device gives at once into `front`.
+// Reads what a device has at once into `front`.
 fn take_part<D: Read>(device: &mut D, front: &mut Vec<u8>) -> Result<Part, AllocError>
     ensures taken { IfOk result (λ _. Takes front.old.items front.new.items
         (D.remaining device.old) (D.remaining device.new)) }

@@ -14,10 +14,10 @@ use capnp::io::Write;
 use capnp::message::{ReaderOptions, ReaderSegments};
 use std::alloc::Global;
 
-// How many words a message has at most that is drawn.
+// The most words of a message that is drawn.
 const MOST_WORDS: u64 = 4096;
 
-/// Whether a message of a given number of words is drawn.
+/// Whether a message of this many words is drawn.
 pub fn is_drawn(words: u64) -> bool
     ensures { IsTrue result ↔ (words ≤ MOST_WORDS) }
 {

@@ -9,10 +9,10 @@ use crate::refusals::push_refusal;
 use crate::words::Place;
 use std::alloc::AllocError;
 
-/// How many words are in a row.
+/// The number of words in a row.
 pub const ROW_WORDS: usize = 4;
 
-// How many colours objects have, one after the other.
+// How many colours objects have, in turn.
 const COLOURS: u64 = 9;
 
 /// The name of a message in a page: its input's number and its own.
@@ -59,14 +59,14 @@ pub fn push_object_classes(text: &mut String, number: u64) -> Result<(), AllocEr
     push_counted(text, " c", colour)
 }
 
-/// The colour of an object: the colours come one after the other, and then again from the first.
+/// The colour of an object: the colours are used in turn, and then again from the first.
 pub fn colour_of(number: u64) -> u64
     ensures { result ≡ number % COLOURS }
 {
     number % COLOURS
 }
 
-/// Adds a row of words, of which the first is at a place.
+/// Adds a row of words, the first of which is at this place.
 pub fn push_row(
     text: &mut String,
     drawn: Drawn<'_>,
@@ -106,8 +106,8 @@ fn push_cell(
     text.push_str("</td>")
 }
 
-// Adds the link of a word that leads to the word at a start, with its arrow: so a mouse on either is
-// on both.
+// Adds the link of a word that leads to the word at which an object begins, with its arrow, so that
+// a mouse over one of the two is over both.
 fn push_link(
     text: &mut String,
     drawn: Drawn<'_>,
@@ -124,7 +124,8 @@ fn push_link(
     text.push_str("</svg></a>")
 }
 
-// Adds the classes of a word: what it is to whom it belongs, and how a pointer fares.
+// Adds the classes of a word: its role in the object that it belongs to, and whether its pointer is
+// followed.
 fn push_classes(text: &mut String, word: &Word) -> Result<(), AllocError>
     ensures { OnOk result (string_bytes text.new ≡ string_bytes text.old ++ word_classes word.now) }
 {
@@ -133,7 +134,7 @@ fn push_classes(text: &mut String, word: &Word) -> Result<(), AllocError>
     push_refused(text, word)
 }
 
-// Adds what a word is to whom it belongs.
+// Adds the role of a word in the object that it belongs to.
 fn push_owner(text: &mut String, owner: Owner) -> Result<(), AllocError>
     ensures { OnOk result (string_bytes text.new ≡ string_bytes text.old ++ owner_classes owner) }
 {
@@ -165,7 +166,7 @@ fn push_null(text: &mut String, word: &Word) -> Result<(), AllocError>
     Ok(())
 }
 
-// Adds that what a word leads to is rejected.
+// Adds that the pointer at a word is not followed.
 fn push_refused(text: &mut String, word: &Word) -> Result<(), AllocError>
     ensures { OnOk result (string_bytes text.new
         ≡ string_bytes text.old ++ refused_class word.now.refusal) }
@@ -176,7 +177,8 @@ fn push_refused(text: &mut String, word: &Word) -> Result<(), AllocError>
     Ok(())
 }
 
-// Adds what is said of a word: why it is rejected, or where it is, and what it is to whom.
+// Adds what is said of a word: why its pointer is not followed, or where it is, and its role in
+// which object.
 fn push_title(text: &mut String, place: Place, word: &Word) -> Result<(), AllocError>
     ensures { word.now.refusal ≡ None → OnOk result
         (string_bytes text.new ≡ string_bytes text.old ++ title_of place word.now) }
@@ -200,7 +202,7 @@ fn push_where(text: &mut String, place: Place) -> Result<(), AllocError>
     text.push_str(", ")
 }
 
-// Adds what a word is to whom.
+// Adds the role of a word in which object.
 fn push_owner_name(text: &mut String, owner: Owner) -> Result<(), AllocError>
     ensures { OnOk result (string_bytes text.new ≡ string_bytes text.old ++ owner_name owner) }
 {

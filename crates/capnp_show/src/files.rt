@@ -17,8 +17,8 @@ use std::{fs, io};
 
 /// Shows the messages of the files of these names, or of standard input where none is named.
 ///
-/// It returns whether all were read to their ends. It is rejected where what is shown can't be
-/// written, and reads no further then.
+/// It returns whether all were read to their ends. Where what is shown can't be written, it fails,
+/// and reads no further.
 pub fn show_files<W: Write>(
     rt: HostRuntime,
     settings: Settings,
@@ -124,7 +124,8 @@ fn show_name<W: Write>(rt: HostRuntime, showing: Showing<'_>, sink: &mut W) -> R
     sink.write_all(text.as_bytes())
 }
 
-// How the reading of a file is told: for regular files also where standard error is a terminal.
+// How progress is reported while a file is read: for regular files, and only where standard error
+// is a terminal.
 fn progress_of(rt: HostRuntime, settings: Settings, file: &File) -> Progress {
     let size = match file.metadata() {
         Ok(metadata) if metadata.is_file() => Some(metadata.len()),
@@ -150,7 +151,7 @@ fn show_device<D: Read + Drop, W: Write>(
     show_input(rt, Showing { format, ..showing }, progress, device, sink)
 }
 
-// Shows the messages of a device, in the format that its first bytes tell, and says which.
+// Shows the messages of a device, in the format that its first bytes have, and says which.
 fn show_detected<D: Read + Drop, W: Write>(
     rt: HostRuntime,
     showing: Showing<'_>,
@@ -216,7 +217,7 @@ fn show_source<R: BufRead + Drop, W: Write>(
     }
 }
 
-// Says on standard error which message is rejected, and why.
+// Says on standard error which message was not shown, and why.
 fn say_refused(rt: HostRuntime, name: &str, index: u64, offset: u64, error: &Error) -> Result<()> {
     let line = refused_line(rt.alloc(), name, index, offset, error)?;
     let _ = eprint!(rt; "{line}");

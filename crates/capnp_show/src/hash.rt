@@ -19,7 +19,7 @@ pub fn canonical_hash<S: ReaderSegments>(alloc: Global, message: &Reader<S>) -> 
     Ok(Sha256::digest(bytes.as_slice()))
 }
 
-/// What is shown of a canonical form.
+/// The hash of a canonical form, or why there is none.
 #[derive(Drop)]
 pub enum Hash {
     /// Its hash, in hexadecimal digits.
@@ -28,8 +28,8 @@ pub enum Hash {
     Lacking(ErrorKind),
 }
 
-/// What is shown of a message's canonical form: its hash, or why the message has none. It fails
-/// with `OutOfMemory` alone.
+/// The hash of a message's canonical form, or why the message has none. It fails with `OutOfMemory`
+/// alone.
 pub fn hash_of<S: ReaderSegments>(alloc: Global, message: &Reader<S>) -> Result<Hash>
     ensures { MatchResult result (λ hash. ShowsHash (root_of S.segments message.now) hash)
         (λ error. error.kind ≡ ErrorKind.OutOfMemory) }

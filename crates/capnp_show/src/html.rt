@@ -1,4 +1,4 @@
-//! The parts of a page that is alone, but for the drawings.
+//! The parts of a page that is complete in itself, except for the drawings.
 ghost use Rattle.std.specs.Prelude.{◌≡◌, ◌++◌, OnOk, codes, string_bytes};
 ghost use Rattle.capnp_show.specs.Arrows.{height_of};
 ghost use Rattle.capnp_show.specs.Texts.{AddsMarked, counted, message_name, object_classes};
@@ -62,7 +62,7 @@ pub fn push_large(text: &mut String) -> Result<(), AllocError>
     text.push_str("<p class=\"large\">A message of more than 4096 words is not drawn.</p>\n")
 }
 
-/// Adds why a root pointer is rejected for which there is no word.
+/// Adds why a root pointer for which there is no word is not followed.
 pub fn push_no_root(text: &mut String, kind: ErrorKind) -> Result<(), AllocError> {
     text.push_str("<p class=\"refused\">root: ")?;
     push_refusal(text, kind)?;
@@ -89,7 +89,7 @@ fn push_object_front(text: &mut String, number: u64) -> Result<(), AllocError>
     text.push_str("\">")
 }
 
-/// Adds the front of a segment of a given number of words.
+/// Adds the front of a segment of this many words.
 pub fn push_part(text: &mut String, segment: u32, words: usize) -> Result<(), AllocError>
     ensures { OnOk result (string_bytes text.new
         ≡ string_bytes text.old ++ (counted (codes "<div style=\"height: ") (height_of words)

@@ -24,7 +24,7 @@ pub fn push_file(text: &mut String, name: &str) -> Result<(), AllocError>
     push_quoted(text, name)
 }
 
-/// Adds what is listed of a message.
+/// Adds what is listed for a message.
 pub fn push_listed(text: &mut String, listed: &Listed) -> Result<(), AllocError>
     ensures { OnOk result (string_bytes text.new
         ≡ string_bytes text.old ++ listed_members listed.now) }
@@ -53,7 +53,7 @@ pub fn push_hash(text: &mut String, hash: &Hash) -> Result<(), AllocError>
     }
 }
 
-/// Adds a number after what the object has already.
+/// Adds a number to an object that has other members already.
 pub fn push_number(text: &mut String, name: &str, number: u64) -> Result<(), AllocError>
     ensures { OnOk result (string_bytes text.new ≡ string_bytes text.old ++ member name.now number) }
 {
@@ -78,7 +78,7 @@ pub fn push_node<S: ReaderSegments>(
     text.push('}')
 }
 
-// Adds what is at a node.
+// Adds what was found at a node.
 fn push_found<S: ReaderSegments>(
     text: &mut String,
     segments: &S,
@@ -99,7 +99,7 @@ fn push_found<S: ReaderSegments>(
     }
 }
 
-// Adds an object: what it is, where it begins, and the text that it is.
+// Adds an object: what it is, where it begins, and its text if it is one.
 fn push_object<S: ReaderSegments>(
     text: &mut String,
     segments: &S,

@@ -27,8 +27,7 @@ pub(crate) fn far_object<S: ReaderSegments>(segments: &S, pointer: u64) -> Resul
     wide_object(segments, place, first)
 }
 
-// The object of a far pointer whose landing pad has two words, of which the first is at a
-// place.
+// The object of a far pointer whose landing pad has two words, the first of which is at this place.
 fn wide_object<S: ReaderSegments>(
     segments: &S,
     place: Place,
@@ -57,7 +56,7 @@ fn wide_object<S: ReaderSegments>(
     shaped_object(segments, start, tag, Some(LandingPad { place, words: 2 }))
 }
 
-// Rejects a word of a landing pad that is no struct or list pointer.
+// Fails where a word of a landing pad is no struct or list pointer.
 fn expect_local(word: u64) -> Result<(), ErrorKind>
     ensures { MatchResult result (λ _. pointer_kind word < 2) (λ kind. NotLocal word kind) }
 {

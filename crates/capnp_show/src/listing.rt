@@ -18,16 +18,16 @@ use std::fmt::Write;
 pub struct Listed {
     /// Its number in the input, from 0 on.
     pub index: u64,
-    /// How many bytes of the input are before it.
+    /// How many bytes of the input come before it.
     pub offset: u64,
-    /// How many bytes of the input it takes.
+    /// How many bytes of the input it has.
     pub bytes: u64,
     pub segments: u64,
-    /// The words of all segments.
+    /// The number of words of all segments.
     pub words: u64,
 }
 
-/// Adds what is in front of a line.
+/// Adds what comes in front of a line.
 #[tactic(auto, using(crate::proofs::TextLemmas::escaped_between))]
 pub fn push_name(text: &mut String, name: Option<&str>) -> Result<(), AllocError>
     ensures { OnOk result (MatchOption name.entry (string_bytes text.new ≡ string_bytes text.old)
@@ -40,7 +40,7 @@ pub fn push_name(text: &mut String, name: Option<&str>) -> Result<(), AllocError
     Ok(())
 }
 
-/// Adds what is listed of a message, without the end of the line.
+/// Adds what is listed for a message, without the end of the line.
 pub fn push_listed(text: &mut String, listed: &Listed) -> Result<(), AllocError>
     ensures { OnOk result (string_bytes text.new ≡ string_bytes text.old ++ listed_line listed.now) }
 {
@@ -104,7 +104,7 @@ pub fn push_node_text<S: ReaderSegments>(
     push_found(text, segments, node.found)
 }
 
-// Adds what is at a node.
+// Adds what was found at a node.
 fn push_found<S: ReaderSegments>(
     text: &mut String,
     segments: &S,
@@ -122,7 +122,7 @@ fn push_found<S: ReaderSegments>(
     }
 }
 
-// Adds an object: what it is, where it begins, and the text that it is.
+// Adds an object: what it is, where it begins, and its text if it is one.
 fn push_object<S: ReaderSegments>(
     text: &mut String,
     segments: &S,

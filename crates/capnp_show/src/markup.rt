@@ -1,4 +1,4 @@
-//! Texts, as they are in a page.
+//! Texts in a page.
 ghost use Rattle.std.specs.Prelude.{◌≡◌, ◌++◌, ℕ, List, [], OnOk, string_bytes};
 ghost use Rattle.capnp_show.specs.Texts.{IsMarkOf, IsMarked, AddsMarked};
 
@@ -6,18 +6,18 @@ use crate::runs::{next_run, push_run};
 use crate::text::{escape_of, push_escape};
 use std::alloc::AllocError;
 
-/// How a character is in a page.
+/// How a character is written in a page.
 #[derive(Clone, Copy)]
 pub enum Mark {
-    /// As it is.
+    /// As the character itself.
     Plain,
     /// By this name.
     Named(&'static str),
-    /// As a control character is shown elsewhere.
+    /// As control characters are shown elsewhere.
     Control,
 }
 
-/// How a character is in a page, within an attribute too.
+/// How a character is written in a page, within an attribute too.
 pub fn mark_of(character: char) -> Mark
     ensures { IsMarkOf character result }
 {
@@ -44,7 +44,7 @@ pub fn push_markup(text: &mut String, shown: &str) -> Result<(), AllocError>
     text.push_str(rest)
 }
 
-// Adds a character to a page, as it is there.
+// Adds a character to a page, written in this way.
 fn push_mark(text: &mut String, character: char, mark: Mark) -> Result<(), AllocError>
     ensures { OnOk result ((bytes : List ℕ) × (string_bytes text.new ≡ string_bytes text.old ++ bytes)
         × IsMarked character mark bytes) }

@@ -26,7 +26,7 @@ use std::alloc::Global;
 
 /// Shows the messages of a source, each as soon as it is read, or writes them in the other format.
 ///
-/// What is shown of the messages before an error stays written.
+/// What is shown of the messages before an error is kept.
 pub fn show_messages<R: BufRead + Drop, W: Write>(
     rt: HostRuntime,
     showing: Showing<'_>,
@@ -135,7 +135,7 @@ fn next_message<R: BufRead>(
     }
 }
 
-// What is listed of a message.
+// What is listed for a message.
 fn listed<S: ReaderSegments>(index: u64, offset: u64, bytes: u64, segments: &S) -> Listed
     ensures { Lists index offset bytes (S.segments segments.now) result }
 {

@@ -9,8 +9,8 @@ use std::str::from_utf8;
 
 /// Adds a number in decimal digits.
 ///
-/// A page has several numbers for each word, so most of them go through no formatter, and those of one
-/// digit, which most are, through no buffer either.
+/// A page has several numbers for each word, so most numbers are added without a formatter, and
+/// those of one digit, which are the most, without a buffer either.
 pub fn push_decimal(text: &mut String, number: u64) -> Result<(), AllocError>
     ensures { OnOk result (string_bytes text.new ≡ string_bytes text.old ++ decimal number) }
 {

@@ -13,7 +13,7 @@ use std::alloc::{AllocError, Global};
 /// How many nodes of a message are followed at most.
 pub const MOST_NODES: u64 = 65536;
 
-/// What a word is to its object.
+/// The role of a word in its object.
 #[derive(Clone, Copy)]
 pub enum Role {
     Data,
@@ -23,19 +23,20 @@ pub enum Role {
     Landing,
 }
 
-/// Whose a word is.
+/// The owner of a word.
 #[derive(Clone, Copy)]
 pub enum Owner {
-    /// No object's that the walk reaches.
+    /// No object that the walk reaches.
     Free,
     /// The root pointer.
     Root,
-    /// Of the object of this number, as the walk comes to them, from 0 on.
+    /// The object of this number, counted from 0 in the order of the walk, and the word's role in
+    /// it.
     Object(u64, Role),
 }
 
 impl Owner {
-    /// Whose a word is once another claims it: the first one keeps it.
+    /// The owner of a word once another one claims it: the first one keeps it.
     fn claimed_by(self, claimant: Owner) -> Owner
         ensures claimed { self ≡ Owner.Free → result ≡ claimant }
         ensures kept { (self ≡ Owner.Free → ⊥) → result ≡ self }
@@ -50,7 +51,7 @@ impl Owner {
 /// Where the pointer at a word leads.
 #[derive(Clone, Copy)]
 pub enum Lead {
-    /// The walk follows no pointer there, or what it leads to is rejected.
+    /// The walk follows no pointer there, or the pointer can't be followed.
     Nowhere,
     Null,
     /// To the object of this number, which begins at this place.
@@ -60,11 +61,11 @@ pub enum Lead {
 /// A word of a message.
 #[derive(Clone, Copy)]
 pub struct Word {
-    /// Its bytes, in the order in which they are.
+    /// Its bytes, in the order of memory.
     pub bytes: [u8; 8],
     pub owner: Owner,
     pub lead: Lead,
-    /// Why the pointer there is not followed, where it is not.
+    /// Why the pointer there is not followed, if it is not.
     pub refusal: Option<ErrorKind>,
 }
 
@@ -90,14 +91,14 @@ impl Word {
     }
 }
 
-/// The words of a message, each with the object that it belongs to: the first one that the walk
-/// reaches it by.
+/// The words of a message, each with the object that it belongs to: the first object through which
+/// the walk reaches it.
 #[derive(Drop)]
 pub struct Owners {
     segments: Vec<Vec<Word>>,
     // How many objects the walk has come to.
     objects: u64,
-    // Why the root pointer is not followed, where no word is there for it.
+    // Why the root pointer is not followed, where there is no word for it.
     no_root: Option<ErrorKind>,
 }
 
@@ -126,7 +127,7 @@ impl Owners {
         self.segments.as_slice()
     }
 
-    /// Why the root pointer is not followed, where no word is there for it.
+    /// Why the root pointer is not followed, where there is no word for it.
     pub fn no_root(&self) -> Option<ErrorKind>
         ensures { result ≡ self.now.no_root }
     {
@@ -157,7 +158,7 @@ impl Owners {
         })
     }
 
-    // Adds what a node says of the words.
+    // Adds what a node says about the words.
     fn add(&mut self, node: &Node) {
         if let Label::Root = node.label {
             self.claim(node.place, Owner::Root);
@@ -190,7 +191,7 @@ impl Owners {
         }
     }
 
-    // Claims a word where no other object has; false where there is none.
+    // Claims a word, unless another object has; false where there is no such word.
     fn claim(&mut self, place: Place, owner: Owner) -> bool {
         let Some(word) = self.word_mut(place) else {
             return false;
@@ -199,7 +200,7 @@ impl Owners {
         true
     }
 
-    // Says where the pointer at a word leads, where it was not said yet.
+    // Says where the pointer at a word leads, unless that was said before.
     fn lead(&mut self, place: Place, lead: Lead) {
         if let Some(word) = self.word_mut(place)
             && matches!(word.lead, Lead::Nowhere)
@@ -240,7 +241,7 @@ fn free_words(alloc: Global, segment: &[u8]) -> Result<Vec<Word>, AllocError>
     Ok(free)
 }
 
-// What the word of an object is that is a given number of words after its start.
+// The role of the word of an object that is this many words after the object's start.
 fn role_of(shape: Shape, index: u64) -> Role
     ensures { ((size : StructSize) (count words : ℕ) → shape ≡ Shape.Structs size count words
         → size_of size < 2 ^ 64)
@@ -255,7 +256,7 @@ fn role_of(shape: Shape, index: u64) -> Role
     }
 }
 
-// What the word of a list of structs is that is a given number of words after its tag.
+// The role of the word of a list of structs that is this many words after the list's tag.
 fn role_in_element(size: StructSize, count: u64, after_tag: u64) -> Role
     ensures { size_of size < 2 ^ 64 → IsRoleInElement size count after_tag result }
 {

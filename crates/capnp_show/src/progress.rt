@@ -6,24 +6,24 @@ use crate::refusals::named_line;
 use std::alloc::{AllocError, Global};
 use std::fmt::Write;
 
-/// After how many bytes each line is due.
+/// After how many bytes a line is due each time.
 pub const STEP_BYTES: u64 = 64_000_000;
 
-// The bytes of a MB.
+// The number of bytes of a MB.
 const MEGABYTE: u64 = 1_000_000;
 
 /// How far the reading of an input is.
 #[derive(Clone, Copy)]
 pub struct Progress {
-    // The size of the input in bytes, where it is known.
+    // The size of the input in bytes, if it is known.
     total: Option<u64>,
     // After how many bytes the next line is due; `None` where none is.
     next: Option<u64>,
 }
 
 impl Progress {
-    /// Nothing is read yet of an input, of a given number of bytes where that is known. No line is due
-    /// of an input of at most `STEP_BYTES`, nor where none is wanted.
+    /// The progress of an input of this many bytes, if the number is known, of which nothing is
+    /// read yet. No line is due for an input of at most `STEP_BYTES`, nor where none is wanted.
     pub fn new(is_wanted: bool, total: Option<u64>) -> Progress
         ensures due { IsSome result.next
             ↔ (IsTrue is_wanted × IfSome total (λ bytes. STEP_BYTES < bytes)) }
@@ -39,7 +39,7 @@ impl Progress {
         Progress { total, next }
     }
 
-    /// How many MB are read, where a line is due once this number of bytes is taken.
+    /// How many MB are read, if a line is due once this number of bytes is taken.
     pub fn after(&mut self, taken: u64) -> Option<u64>
         ensures due { IsSome result ↔ IsSomeAnd self.old.next (λ next. next ≤ taken) }
         ensures megabytes { IfSome result (λ megabytes. megabytes ≡ taken / MEGABYTE) }

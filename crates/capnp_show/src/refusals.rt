@@ -9,7 +9,7 @@ use std::alloc::{AllocError, Global};
 use std::fmt::Write;
 use std::io;
 
-/// What is said of an error of this kind, in one sentence.
+/// The sentence for an error of this kind.
 pub fn sentence(kind: ErrorKind) -> &'static str
     ensures { result.now ≡ sentence_of kind }
 {
@@ -47,7 +47,7 @@ pub fn sentence(kind: ErrorKind) -> &'static str
     }
 }
 
-/// Adds what is said of a pointer that is rejected.
+/// Adds what is said of a pointer that is not followed.
 pub fn push_refusal(text: &mut String, kind: ErrorKind) -> Result<(), AllocError> {
     let said = sentence(kind);
     write!(text, "refused, since {said} ({kind})")
@@ -56,7 +56,7 @@ pub fn push_refusal(text: &mut String, kind: ErrorKind) -> Result<(), AllocError
 /// Why the messages of an input are not shown to its end.
 #[derive(Drop)]
 pub enum Stop {
-    /// The message of this index was rejected, whose first byte is at this offset.
+    /// Reading the message of this index failed, whose first byte is at this offset.
     Refused {
         index: u64,
         offset: u64,
@@ -66,7 +66,7 @@ pub enum Stop {
     Unwritten(Error),
 }
 
-/// The line for a message that was rejected.
+/// The line for a message that could not be read.
 pub fn refused_line(
     alloc: Global,
     name: &str,
@@ -87,7 +87,7 @@ pub fn unopened_line(alloc: Global, name: &str, error: &io::Error) -> Result<Str
     Ok(line)
 }
 
-/// The line for an input of which was told how its messages are.
+/// The line for an input whose format was detected.
 #[tactic(auto, using(crate::proofs::TextLemmas::escaped_and_more))]
 pub fn detected_line(alloc: Global, name: &str, seen: &str) -> Result<String, AllocError>
     ensures { IfOk result (λ line. AddsEscaped (codes "capnp_show: ") name.now

@@ -1,6 +1,6 @@
-//! Runs of characters that are as they are, within quotation marks and in a page.
+//! Runs of characters that are written as they are, within quotation marks and in a page.
 //!
-//! Most of what is shown of a text is as it is, so it is added by runs and not by characters.
+//! Most of a text is written as it is, so it is added by runs and not by characters.
 ghost use Rattle.std.specs.Prelude.{◌≡◌, ◌++◌, ◌∷◌, ◌⊎◌, ◌≤◌, ◌<◌, None, IfSome, IsUtf8, IsTrue, IsFalse, OnOk, length, slice_index, string_bytes, take};
 ghost use Rattle.std.specs.List.{All};
 ghost use Rattle.std.specs.Str.{chars};
@@ -8,8 +8,8 @@ ghost use Rattle.capnp_show.specs.Plain.{IsPlainByte};
 
 use std::alloc::AllocError;
 
-/// The front of a text up to the first character that may not are as it is, that character, and
-/// what follows it; `None` where each may.
+/// The front of a text up to the first character that is not written as it is, that character, and
+/// what follows it; `None` where all characters are written as they are.
 #[inline(always)]
 pub fn next_run(shown: &str) -> Option<(&str, char, &str)>
     ensures whole { result ≡ None → IsUtf8 shown.now × All IsPlainByte shown.now }
@@ -24,8 +24,7 @@ pub fn next_run(shown: &str) -> Option<(&str, char, &str)>
     Some((plain, character, characters.as_str()))
 }
 
-/// Adds a run to a text. Where one character after the other is not as it is, most runs are
-/// empty.
+/// Adds a run to a text. Where most characters are not written as they are, most runs are empty.
 #[inline(always)]
 pub fn push_run(text: &mut String, run: &str) -> Result<(), AllocError>
     ensures { OnOk result (string_bytes text.new ≡ string_bytes text.old ++ run.now) }
@@ -36,7 +35,7 @@ pub fn push_run(text: &mut String, run: &str) -> Result<(), AllocError>
     text.push_str(run)
 }
 
-// How many bytes there are before the first one that is no plain one.
+// How many bytes there are in front of the first one that is not plain.
 fn plain_length(bytes: &[u8]) -> usize
     ensures within { result ≤ length bytes.now }
     ensures plain { All IsPlainByte (take result bytes.now) }
@@ -51,7 +50,7 @@ fn plain_length(bytes: &[u8]) -> usize
     bytes.len()
 }
 
-// Whether a byte is a plain one.
+// Whether a byte is plain.
 fn is_plain(byte: u8) -> bool
     ensures plain { IsTrue result → IsPlainByte byte }
     ensures other { IsFalse result → (byte < 128) ⊎ (byte ≡ 194) }

@@ -2,12 +2,12 @@
 use capnp::Way;
 use capnp::message::ReaderOptions;
 
-/// How the messages of a file are.
+/// The format of a file's messages.
 #[derive(Clone, Copy)]
 pub enum Reading {
     Framed,
     Packed,
-    /// As the bytes at the front look.
+    /// The one that the bytes at the front have.
     Detected,
 }
 
@@ -20,7 +20,7 @@ pub enum Form {
     Json,
     /// A page with a drawing of each message.
     Html,
-    /// The number of messages alone.
+    /// Only the number of messages.
     Count,
     /// The messages themselves, in the other format.
     Converted(Way),

@@ -1,4 +1,4 @@
-//! What is shown of a message, and of an input.
+//! What is shown for a message, and for an input.
 ghost use Rattle.std.specs.Prelude.{◌≡◌, ◌<◌, OnOk, Some, None, string_bytes, if◌then◌else◌};
 ghost use Rattle.std.specs.String.{string_len};
 ghost use Rattle.capnp_show.specs.Shown.{WritesFull};
@@ -16,7 +16,7 @@ use capnp::message::{Reader, ReaderSegments};
 use capnp::streams::Format;
 use std::alloc::Global;
 
-// From how many bytes on a text is written.
+// From how many bytes on a text is written to the sink.
 const TEXT_BYTES: usize = 32768;
 
 /// How an input is shown.
@@ -27,12 +27,12 @@ pub struct Showing<'a> {
     /// The number of the input, from 0 on.
     pub input: u64,
     pub name: &'a str,
-    /// Whether the name is in front of each line.
+    /// Whether the name is put in front of each line.
     pub is_named: bool,
 }
 
 impl<'a> Showing<'a> {
-    // What is in front of each line.
+    // What is put in front of each line.
     fn front(self) -> Option<&'a str>
         ensures { result ≡ (if self.entry.is_named then Some self.entry.name else None) }
     {
@@ -40,7 +40,7 @@ impl<'a> Showing<'a> {
     }
 }
 
-/// Shows one message, where messages are shown, and not counted or converted.
+/// Shows one message, if messages are shown, and not counted or converted.
 pub fn show_message<S: ReaderSegments, W: Write>(
     alloc: Global,
     showing: Showing<'_>,
@@ -60,7 +60,7 @@ pub fn show_message<S: ReaderSegments, W: Write>(
     sink.write_all(text.as_bytes())
 }
 
-// Shows one message as lines, but for the end of the last.
+// Shows one message as lines, without the end of the last line.
 fn show_lines<S: ReaderSegments, W: Write>(
     alloc: Global,
     showing: Showing<'_>,
@@ -103,7 +103,7 @@ fn show_json<S: ReaderSegments, W: Write>(
     Ok(())
 }
 
-// Shows one message as a section of a page, but for the end of its last line.
+// Shows one message as a section of a page, without the end of its last line.
 fn show_section<S: ReaderSegments, W: Write>(
     alloc: Global,
     showing: Showing<'_>,
@@ -171,7 +171,7 @@ fn show_node<S: ReaderSegments, W: Write>(
     write_full(text, sink)
 }
 
-/// Writes a text that has grown to `TEXT_BYTES`, and clears it; a shorter one stays.
+/// Writes a text that has grown to `TEXT_BYTES`, and clears it; a shorter one is left as it is.
 pub fn write_full<W: Write>(text: &mut String, sink: &mut W) -> Result<()>
     ensures short { OnOk result (string_len text.new < TEXT_BYTES) }
     ensures writes { OnOk result (WritesFull TEXT_BYTES W.appends (string_bytes text.old)

@@ -6,7 +6,7 @@ ghost use Rattle.capnp_show.specs.Objects.{code_of, size_of, words_in, traversed
 use crate::words::{ElementSize, Object, Shape, StructSize};
 
 impl StructSize {
-    // What a struct pointer says, or a tag.
+    // The size in a struct pointer, or in a tag.
     pub(crate) fn read(word: u64) -> StructSize
         ensures { IsSize word result }
     {
@@ -16,7 +16,7 @@ impl StructSize {
         }
     }
 
-    /// The words of the struct.
+    /// The number of words of the struct.
     pub fn words(self) -> u64
         ensures { result ≡ min (size_of self) u64.MAX }
     {
@@ -25,7 +25,7 @@ impl StructSize {
 }
 
 impl ElementSize {
-    // The bits of an element.
+    // The number of bits of an element.
     fn bits(self) -> u64
         ensures { result ≡ width (code_of self) }
     {
@@ -41,7 +41,7 @@ impl ElementSize {
 }
 
 impl Shape {
-    /// The words from the start of the object on, where they are fewer than 2^58.
+    /// The number of words from the start of the object on, if these are fewer than 2^58.
     pub fn words(self) -> u64
         ensures { words_in self < 2 ^ 58 → result ≡ words_in self }
     {
@@ -52,8 +52,8 @@ impl Shape {
         }
     }
 
-    // The words that count against the limit, where they are fewer than 2^58: elements of no words
-    // count one each.
+    // The number of words that count against the limit, if these are fewer than 2^58: elements of
+    // no words count as one each.
     fn traversed(self) -> u64
         ensures { traversed_of self < 2 ^ 58 → result ≡ traversed_of self }
     {
@@ -68,8 +68,8 @@ impl Shape {
 }
 
 impl Object {
-    /// The words that count against the limit, with those of the landing pad, where they are fewer
-    /// than 2^58.
+    /// The number of words that count against the limit, with those of the landing pad, if these
+    /// are fewer than 2^58.
     pub fn traversed(&self) -> u64
         ensures { let words = landing_words self.now.landing_pad + traversed_of self.now.shape in
             words < 2 ^ 58 → result ≡ words }

@@ -1,6 +1,6 @@
 //! How a page looks.
 
-/// The style of a page, but for the sizes of a drawing.
+/// The style of a page, except for the sizes of a drawing.
 pub const STYLE: &str = "\
 body { margin: 16px 24px 48px; background: #fff; color: #222; font: 15px/1.45 system-ui, sans-serif; }
 h1 { margin: 24px 0 8px; font-size: 22px; overflow-wrap: anywhere; }

@@ -12,14 +12,14 @@ use std::str::from_utf8;
 pub enum Escape {
     /// As it is.
     Plain,
-    /// After a backslash, by this letter.
+    /// As this letter, after a backslash.
     Letter(char),
-    /// By its number, in four hexadecimal digits.
+    /// As its number, in four hexadecimal digits.
     Number,
 }
 
-/// How a character is shown, as in JSON. Beyond that the control characters from U+007F to U+009F are
-/// shown by their numbers, since terminals may act on them.
+/// How a character is shown: as in JSON, but the control characters from U+007F to U+009F are shown
+/// by their numbers, too, since terminals may act on them.
 pub fn escape_of(character: char) -> Escape
     ensures { IsEscapeOf character result }
 {
@@ -47,7 +47,7 @@ pub fn push_escaped(text: &mut String, shown: &str) -> Result<(), AllocError>
     text.push_str(rest)
 }
 
-/// Adds a character, escaped in a given way.
+/// Adds a character, escaped in this way.
 pub fn push_escape(text: &mut String, character: char, escape: Escape) -> Result<(), AllocError>
     ensures { OnOk result (string_bytes text.new ≡ string_bytes text.old ++ escaped character escape) }
 {
@@ -74,8 +74,8 @@ pub fn push_quoted(text: &mut String, shown: &str) -> Result<(), AllocError>
     text.push('"')
 }
 
-/// The text that a list of bytes is: UTF-8, and a last zero byte, which doesn't belong to it;
-/// `None` where it is no text.
+/// The text that a list of bytes is: UTF-8, with a zero byte at the end, which doesn't belong to
+/// it; `None` where it is no text.
 pub fn text_in(bytes: &[u8]) -> Option<&str>
     ensures { MatchOption result ((text : List ℕ) → bytes.now ≡ text ++ 0 ∷ [] → IsUtf8 text → ⊥)
         (λ text. bytes.now ≡ text.now ++ 0 ∷ []) }

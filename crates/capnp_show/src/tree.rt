@@ -1,7 +1,7 @@
-//! The objects of a message, one by one, each before those that it leads to.
+//! The objects of a message, one by one, each before those below it.
 //!
-//! A walk ends whatever the pointers say: it goes no deeper than the nesting limit, and stops where
-//! the objects come to more words than the limit of words.
+//! A walk ends whatever the pointers are: it goes no deeper than the nesting limit, and stops where
+//! the objects have more words than the limit of words.
 ghost use Rattle.std.specs.Prelude.{◌≡◌, ◌↔◌, ◌≤◌, ◌+◌, ◌-◌, [], ◌∷◌, min, MatchOption, IfOk, IfSome, IsTrue, None, option_map};
 ghost use Rattle.std.specs.List.{All};
 ghost use Rattle.capnp_wire.specs.Readers.{nesting_of};
@@ -20,14 +20,14 @@ pub enum Label {
     Element(u64),
 }
 
-/// What is at a node.
+/// What was found at a node.
 #[derive(Clone, Copy)]
 pub enum Found {
     Null,
     Object(Object),
     /// A struct of a list of structs.
     Element(Place, StructSize),
-    /// Nothing that could be shown, by this kind.
+    /// Nothing that could be shown, with this error.
     Refused(ErrorKind),
 }
 
@@ -53,7 +53,7 @@ struct Row {
     // What each node is.
     kind: RowKind,
     depth: u64,
-    // How many objects may still be nested below.
+    // How many more objects may be nested below.
     nesting: u64,
 }
 
@@ -68,12 +68,12 @@ enum RowKind {
 #[derive(Drop)]
 pub struct Walk {
     rows: Vec<Row>,
-    // The words that objects may still have, where there is a limit.
+    // How many more words objects may have, if there is a limit.
     left: Option<u64>,
 }
 
 impl Walk {
-    /// A walk from the root pointer on, which is the first word of the first segment.
+    /// A walk that begins at the root pointer, the first word of the first segment.
     pub fn new(alloc: Global, limits: ReaderOptions) -> Result<Walk, AllocError>
         ensures left { IfOk result (λ walk. walk.left ≡ limits.traversal_limit_in_words) }
         ensures rows { IfOk result (λ walk. walk.rows.items ≡ record {
@@ -173,7 +173,7 @@ impl Walk {
         Ok(Found::Object(object))
     }
 
-    // Counts words against the limit; false where there are fewer left.
+    // Counts words against the limit; returns false where fewer are left.
     fn take(&mut self, words: u64) -> bool
         ensures within { IfSome self.old.left (λ left. IsTrue result ↔ (words ≤ left)) }
         ensures unlimited { self.old.left ≡ None → IsTrue result }
@@ -194,7 +194,7 @@ impl Walk {
 }
 
 impl Row {
-    // The row once its next node has come.
+    // The row after its next node.
     fn after(self) -> Row
         ensures { result ≡ row_after self }
     {
@@ -212,8 +212,8 @@ impl Row {
         }
     }
 
-    // The nodes below an object that this row leads to: its pointers, or its elements where they
-    // have pointers.
+    // The nodes below an object that this row leads to: its pointers, or, where its elements have
+    // pointers, its elements.
     fn below(self, object: &Object) -> Option<Row>
         ensures { IsBelow self object.now result }
     {
@@ -244,7 +244,7 @@ impl Row {
         self.row(RowKind::Pointers, first, size.pointers, nesting)
     }
 
-    // Nodes one deeper than those of this row.
+    // Nodes one step deeper than those of this row.
     fn row(self, kind: RowKind, next: Place, count: u64, nesting: u64) -> Row
         ensures { result ≡ record {
           index = 0;
@@ -267,7 +267,7 @@ impl Row {
 }
 
 impl Place {
-    /// The place a given number of words further; the last one where there is none.
+    /// The place this many words further; the last possible one where there is none.
     pub fn moved(self, words: u64) -> Place
         ensures { result ≡ further self words }
     {

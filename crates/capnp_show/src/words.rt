@@ -1,6 +1,6 @@
-//! What the pointer words of a message say, as in the encoding document, "Pointers".
+//! What the pointer words of a message mean, as in the encoding document, "Pointers".
 //!
-//! Nothing is followed but the landing pads of far pointers, so each result takes a few steps,
+//! Nothing is followed except the landing pads of far pointers, so each result takes a few steps,
 //! whatever the words are.
 ghost use Rattle.std.specs.Prelude.{◌≡◌, ◌<◌, ◌^◌, ◌+◌, ◌*◌, ◌/◌, ℕ, List, Some, length, slice_get, slice_range, IfOk, IfErr, MatchOption, MatchResult, IsTrue, IsFalse};
 ghost use Rattle.capnp_wire.specs.Pointer.{words_of, pointer_kind, code, list_count};
@@ -17,18 +17,18 @@ use capnp::message::ReaderSegments;
 pub struct Place {
     /// The number of the segment, from 0 on.
     pub segment: u32,
-    /// How many words of the segment are before it.
+    /// How many words of the segment come before it.
     pub word: u64,
 }
 
-/// The words of a struct.
+/// The number of words in the sections of a struct.
 #[derive(Clone, Copy)]
 pub struct StructSize {
     pub data_words: u64,
     pub pointers: u64,
 }
 
-/// What the elements of a list are that are no structs.
+/// The elements of a list that are no structs.
 #[derive(Clone, Copy)]
 pub enum ElementSize {
     Void,
@@ -44,13 +44,13 @@ pub enum ElementSize {
 #[derive(Clone, Copy)]
 pub enum Shape {
     Struct(StructSize),
-    /// A list of a given number of elements.
+    /// A list of this many elements.
     List(ElementSize, u64),
-    /// A list of a given number of structs, and the words after its tag.
+    /// A list of this many structs, with the number of words after its tag.
     Structs(StructSize, u64, u64),
 }
 
-/// The words by which a far pointer leads to an object.
+/// How a far pointer leads to an object.
 #[derive(Clone, Copy)]
 pub struct LandingPad {
     pub place: Place,
@@ -60,14 +60,14 @@ pub struct LandingPad {
 /// What a pointer leads to.
 #[derive(Clone, Copy)]
 pub struct Object {
-    /// Where it begins; of a list of structs where its tag is.
+    /// Where it begins; for a list of structs, where its tag is.
     pub start: Place,
     pub shape: Shape,
     pub landing_pad: Option<LandingPad>,
 }
 
-/// The object that the pointer at a place leads to, as readers find it; `None` for null. It fails as
-/// they do at a nesting depth left that is not 0.
+/// The object that the pointer at a place leads to, as readers find it; `None` for null. It fails
+/// as they do where the nesting depth left is not 0.
 pub fn object_at<S: ReaderSegments>(segments: &S, place: Place) -> Result<Option<Object>, ErrorKind>
     ensures found { let there = S.segments segments.now in IfOk result (λ found.
         MatchOption found (stands_at (message_of there) (read_place place) ≡ Some 0)
@@ -121,7 +121,7 @@ pub(crate) fn word_at<S: ReaderSegments>(segments: &S, place: Place) -> Result<u
     }
 }
 
-// The object of a struct or list pointer that is at a place.
+// The object of the struct or list pointer at a place.
 pub(crate) fn local_object<S: ReaderSegments>(
     segments: &S,
     place: Place,
@@ -146,7 +146,7 @@ pub(crate) fn local_object<S: ReaderSegments>(
     shaped_object(segments, start, pointer, landing_pad)
 }
 
-// Where the object begins of a struct or list pointer that is at a word of its segment: an
+// The word at which an object begins whose struct or list pointer is at a word of its segment: an
 // offset from 2^29 on is negative.
 fn start_after(word: u64, pointer: u64) -> Option<u64>
     ensures { let begins = λ (start : ℕ). IsStart (following word) pointer start in
@@ -161,8 +161,8 @@ fn start_after(word: u64, pointer: u64) -> Option<u64>
     }
 }
 
-// The object that begins at a place and is shaped as its pointer says, where it lies within its
-// segment.
+// The object that begins at a place and has the shape that its pointer gives it, if it lies within
+// its segment.
 pub(crate) fn shaped_object<S: ReaderSegments>(
     segments: &S,
     start: Place,
@@ -188,7 +188,7 @@ pub(crate) fn shaped_object<S: ReaderSegments>(
     }
 }
 
-// Whether a segment has a given number of words from a place on.
+// Whether a segment has this many words from a place on.
 fn has_room<S: ReaderSegments>(segments: &S, start: Place, words: u64) -> bool
     ensures room { IsTrue result → HasRoom (S.segments segments.now) start words }
     ensures few { IsTrue result → words < 2 ^ 61 }
@@ -205,7 +205,7 @@ fn has_room<S: ReaderSegments>(segments: &S, start: Place, words: u64) -> bool
     }
 }
 
-// What a struct or list pointer says of the object that begins at a place.
+// The shape that a struct or list pointer gives the object that begins at a place.
 fn shape_of<S: ReaderSegments>(segments: &S, start: Place, pointer: u64) -> Result<Shape, ErrorKind>
     ensures found { IfOk result (λ shape. (bytes : List ℕ)
         → slice_get (S.segments segments.now) start.segment ≡ Some bytes
@@ -231,7 +231,7 @@ fn shape_of<S: ReaderSegments>(segments: &S, start: Place, pointer: u64) -> Resu
     Ok(Shape::List(size, count))
 }
 
-// The list of structs with its tag at a place, and a given number of words after it.
+// The list of structs with its tag at a place, and this many words after the tag.
 fn structs_at<S: ReaderSegments>(segments: &S, start: Place, words: u64) -> Result<Shape, ErrorKind>
     ensures found { IfOk result (λ shape. (bytes : List ℕ)
         → slice_get (S.segments segments.now) start.segment ≡ Some bytes

@@ -1,4 +1,4 @@
--- What a list of numbers of any width shows, and when it is rejected.
+-- What a list of numbers of any width shows, and when it fails.
 use Rattle.std.proofs.Common.{◌≡◌, ℕ, List, [], refl, sym, subst}
 use Rattle.capnp_frame.specs.declared.error.ErrorKind.{ErrorKind}
 use Rattle.capnp_frame.specs.declared.error.ErrorKind.TheVariants.{WrongPointerKind}

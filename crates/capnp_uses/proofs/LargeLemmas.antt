@@ -1,4 +1,4 @@
--- A value of texts and structs is rejected for its size alone.
+-- A value of texts and structs fails only by its size.
 use Rattle.std.proofs.Common.{◌≡◌, ◌⊎◌, inl, inr, ◌+◌, ℕ, List, [], ◌∷◌, length, false, Option, Result, Ok, Err, IfErr}
 use Rattle.capnp_frame.specs.declared.error.Error.{Error}
 use Rattle.capnp_frame.specs.declared.error.ErrorKind.{ErrorKind}
@@ -70,7 +70,7 @@ lacks_segment alloc state asked kind (inl many) = inr (inr (asked, many.1))
 lacks_segment alloc state asked kind (inr (few, inl memory)) = inl memory.1
 lacks_segment alloc state asked kind (inr (few, inr refused)) = may_refuse asked kind refused.1
 
--- why no value is read back whose errors all tell a size
+-- why no value is read back that fails only by a size
 unset_refused : {A S : Type 0} (alloc : Ghosts A S) (has : Trees → Type 0) (refuses : ErrorKind → Type 0) (measured : ℕ → Type 0) (message : List (List ℕ)) (limit : Option ℕ) (old : Built A)
     (new : List Space) (kind : ErrorKind) → AllLarge refuses
     → LacksWords has refuses false kind ⊎ StopsFirst alloc old new kind ⊎ FindsNoRoom alloc measured old new kind → RefusesBack message limit kind

@@ -45,7 +45,7 @@ pub packed_refused : {X : Type 0} (A B C : ErrorKind → Type 0) (message : List
 packed_refused A B C message text (Ok x) is refused = tt
 packed_refused A B C message text (Err e) is refused = inr (inr (inr (text, is, refused)))
 
--- and is at the front of its text
+-- and is at the front of its encoding
 pub begins_packed : (limit : Option ℕ) (message : List (List ℕ)) (text : List ℕ) → IsWritable message → IsWithinSegmentLimit message → KeepsLimit (lengths message) limit
     → IsPackedEncodingOf message text → BeginsPacked Zero limit message text []
 begins_packed limit message text writable few size packed = record {

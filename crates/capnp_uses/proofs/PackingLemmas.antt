@@ -22,7 +22,7 @@ filled_same words text shown filled following n alone packed same room many (res
     subst (λ raw. Unpacks raw (length words) filled rest) (sym whole) (subst (λ k. Unpacks shown k filled rest) room unpacks) in
     ap (λ k. take k (filled ++ following)) many ∙ take-append_seam filled following ∙ (alone words text [] filled rest packed there).0
 
--- where a packing is a slice does not reject it
+-- where a packed encoding is there, a request of a slice does not fail
 not_refused : (raw : List ℕ) (n : ℕ) (bytes rest : List ℕ) (kind : ErrorKind) → Unpacks raw n bytes rest → (kind ≡ DeviceFailed → Fails 0 0)
     → (kind ≡ DeviceFailed) ⊎ RefusesChunk raw n kind → ⊥
 not_refused raw n bytes rest kind given failed (inl device) = never_fails kind failed device
@@ -33,7 +33,7 @@ pub unpack_succeeds : {X : Type 0} (raw : List ℕ) (n : ℕ) (r : Result X Erro
 unpack_succeeds raw n (Ok x) failed refused bytes rest given = refl
 unpack_succeeds raw n (Err e) failed refused bytes rest given = absurd (not_refused raw n bytes rest e.kind given failed refused)
 
--- what was packed is at the front of its text
+-- what was packed is at the front of its encoding
 pub unpacks_whole : (words text shown : List ℕ) (n : ℕ) → ((bytes text rest : List ℕ) → Packs bytes text → Unpacks (text ++ rest) (length bytes) bytes rest)
     → Packs words text → shown ≡ text → n ≡ length words → Unpacks shown n words []
 unpacks_whole words text shown n given packed same many =

@@ -1,4 +1,4 @@
--- Readers of bytes at hand return the one message that is there.
+-- Readers of bytes in memory return the one message that is there.
 use Rattle.std.proofs.Common.{◌≡◌, ◌⊎◌, inl, inr, ◌<◌, ℕ, List, [], Option, Some, None, Result, Ok, Err, IsOk, IfOk, IfErr, MatchResult, sym, ap, subst, arith}
 use Rattle.std.specs.Prelude.{IfNone, IsSomeAnd, IsOkAnd}
 use Rattle.capnp_frame.specs.declared.serialize.segment_table.Padding.TheVariants.{Zero}

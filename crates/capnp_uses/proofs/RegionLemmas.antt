@@ -9,7 +9,7 @@ pub available_alone : {X : Type 0} (region : Option X) (size : ℕ) → IsSome r
 available_alone None size available = absurd (cc)
 available_alone (Some x) size available = refl
 
--- at home it rejects the root's word where it has none
+-- an available region fails for the root's word where it has no room for it
 pub first_refused : {X : Type 0} (region : Option X) (size n : ℕ) (kind : ErrorKind) → IsSome region → size ≡ n → RefusesRegion region size 1 kind
     → (n / 8 ≡ 0) × (kind ≡ AllocationTooLarge 1)
 first_refused region size n kind available same (inl small) = (omega (arith, small.0, same), small.1)

@@ -72,7 +72,7 @@ null_is_read [] (traversed, stands) =
 null_is_read (space ∷ spaces) (traversed, stands) =
     null_by_word (unlimited_root (map used_of (space ∷ spaces))) root 0 refl (null_at (message (space ∷ spaces)) null traversed refl stands) refl
 
--- A view that takes what is at the root fails at the traversal limit alone.
+-- A view that accepts what is at the root fails only at the traversal limit.
 pub root_meets_limit : (pointer : Pointer) (form : Form) (declines : Form → ErrorKind → Type 0) (kind : ErrorKind) → pointer.place ≡ Some root
     → (traversed : ℕ) × Root pointer.message form none traversed → 0 < pointer.nesting → (declines form kind → ⊥) → NoWord pointer.message root kind ⊎ Refuses pointer declines kind
     → MeetsLimit pointer kind

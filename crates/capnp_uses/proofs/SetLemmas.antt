@@ -33,7 +33,7 @@ set_as p spaces form children is s =
 pub canonical_as : (p : Pointer) (spaces : List Space) (trees : Trees) → LeadsToTree p trees → IsWhole (LeadsToTree p) true spaces → message spaces ≡ canon trees ∷ []
 canonical_as p spaces trees is s = s.words_are ∙ ap (λ (t : Trees). canon t ∷ []) (leads_one p s.trees trees s.tree_is is)
 
--- where a tree is at the root there is a segment
+-- where there is a tree at the root, there is a segment
 pub root_has_segment : (spaces : List Space) (form : Form) (children : Trees) (traversed : ℕ) → Root (message spaces) form children traversed → 0 < length spaces
 root_has_segment [] form children traversed (at {shape = shape} points inside others) = absurd (word_of_object [] root shape refl points)
 root_has_segment (space ∷ spaces) form children traversed stands = omega arith

@@ -15,7 +15,7 @@ values_of (Some list) = sized_numbers_of list
 abbrev pub any_numbers_of : Reader → List ℕ
 any_numbers_of list = values_of list.numbers
 
--- none from null, those of a list of numbers of any width
+-- none for null, those of a list of numbers of any width
 abbrev pub IsAnyNumbers : Form → List ℕ → Type 0
 IsAnyNumbers null values = values ≡ []
 IsAnyNumbers (numbers code there) values = values ≡ there
@@ -26,6 +26,6 @@ TakesAnyNumbers null = ⊤
 TakesAnyNumbers (numbers code values) = ⊤
 TakesAnyNumbers _ = ⊥
 
--- and how other forms are rejected
+-- and the errors of other forms
 abbrev pub DeclinesAnyNumbers : Form → ErrorKind → Type 0
 DeclinesAnyNumbers form kind = (TakesAnyNumbers form → ⊥) × (kind ≡ WrongPointerKind)

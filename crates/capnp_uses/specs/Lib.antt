@@ -1,4 +1,4 @@
--- What callers say.
+-- What the callers return.
 pub mod AccountLists
 pub mod Regions
 pub mod Roots

@@ -29,12 +29,12 @@ phones_tree words numbers_of_phones = tree (structs 1 1 words) (texts numbers_of
 abbrev pub contact_tree : ℕ → List ℕ → List ℕ → List (List ℕ) → List (List ℕ) → Trees
 contact_tree id name mail words numbers_of_phones = tree (struct (id ∷ [])) (text_tree name (text_tree mail (phones_tree words numbers_of_phones))) none
 
--- an object is too large, and this tells its size
+-- an object is too large, and the error carries its size
 abbrev pub TellsLarge : ErrorKind → Type 0
 TellsLarge kind = (size : ℕ) × (kind ≡ AllocationTooLarge size)
 
--- why a message in which a value was to be the root is not read back: too many segments, more words than the limit, no memory, no
--- further segment, or an object that is too large
+-- why a message in which a value was to be the root is not read back: too many segments, more words
+-- than the limit, no memory, no further segment, or an object that is too large
 abbrev pub RefusesBack : List (List ℕ) → Option ℕ → ErrorKind → Type 0
 RefusesBack message limit kind = RefusesMany message kind ⊎ RefusesSize message limit kind
     ⊎ (kind ≡ OutOfMemory) ⊎ (kind ≡ SegmentTaken) ⊎ TellsLarge kind

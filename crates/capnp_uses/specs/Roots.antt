@@ -28,11 +28,13 @@ HasPlainRoot segments form = (traversed : ℕ) × Root (message_of segments) for
 abbrev pub HasRootForm : List Space → Form → Type 0
 HasRootForm spaces form = HasPlainRoot (map used_of spaces) form
 
--- An object of this form is not made the root: the first segment is not handed out, or none has room once the old root is cleared.
+-- An object of this form is not made the root: the request of the first segment fails, or no
+-- segment has room once the old root is cleared.
 abbrev pub LacksRoom : {A S : Type 0} → Ghosts A S → Form → Built A → ErrorKind → Type 0
 LacksRoom alloc form old kind = LacksFirst alloc old kind ⊎ FoundNoRoom alloc (InitWords (λ n made. made ≡ form) 0) old kind
 
--- The root is not set to a value: measuring it fails, the first segment is not handed out, or none has room.
+-- The root is not set to a value: measuring it fails, the request of the first segment fails, or no
+-- segment has room.
 abbrev pub RefusesRoot : {A S : Type 0} → Ghosts A S → (Trees → Type 0) → (ErrorKind → Type 0) → Built A → Built A → ErrorKind → Type 0
 RefusesRoot alloc has_tree refuses old new kind =
     LacksWords has_tree refuses false kind ⊎ StopsFirst alloc old new.spaces kind ⊎ FindsNoRoom alloc (HasWords has_tree false) old new.spaces kind
@@ -41,7 +43,8 @@ RefusesRoot alloc has_tree refuses old new kind =
 abbrev pub RefusesForm : {A S : Type 0} → Ghosts A S → (Trees → Type 0) → (ErrorKind → Type 0) → Built A → Built A → ErrorKind → Type 0
 RefusesForm alloc has_tree refuses old new kind = StopsFirst alloc old new.spaces kind ⊎ RefusesCanonical has_tree refuses new.spaces kind
 
--- No struct is read at the root of a packed message: memory is wanting, no message is there, or its root is rejected.
+-- No struct is read at the root of a packed message: memory is lacking, no message is there, or its
+-- root fails.
 abbrev pub RefusesPackedStruct : List ℕ → ErrorKind → Type 0
 RefusesPackedStruct text kind = (kind ≡ OutOfMemory) ⊎ EndsBy Zero Packed default_limit (Some kind) text
     ⊎ ((text ≡ []) × (kind ≡ PrematureEndOfFile))

@@ -1,4 +1,4 @@
--- What callers say of streams and of logs.
+-- What callers return of streams and of logs.
 use Rattle.std.specs.Prelude.{◌≡◌, ◌⊎◌, ◌∷◌, ℕ, List, [], length, Option, Some, None, Bool, IsTrue, IsFalse, IfSome, Result, IfOk, IfErr, MatchResult}
 use Rattle.std.specs.Result.{IsErrAnd}
 use Rattle.capnp_frame.specs.declared.error.Error.{Error}
@@ -15,25 +15,28 @@ use Rattle.capnp.specs.Reading.{LacksMemory}
 use Rattle.capnp.specs.RecordLog.{IsLog}
 use Rattle.capnp.specs.Streams.{gives_of, refuses_of, StandsNext, RefusesNext}
 
--- What a call returns that reads over the next message of a stream, of zero padding, and tells whether there was one. `source` is
--- what is seen of the source (the members of the trait Read), which is `old` before the call and `new` after it.
+-- What a call returns that reads past the next message of a stream, of zero padding, and returns
+-- whether there was one. `source` is what is seen of the source (the members of the trait Read),
+-- which is `old` before the call and `new` after it.
 pub record SkipsMessage {S : Type 0} (source : Ghosts S) (old new : S) (format : Format) (limit : Option ℕ) (result : Result Bool Error)
     : Type 0 where
-  -- true is told of a message within the limit, whose text was next, and just that text is consumed
+  -- true is returned for a message within the limit whose encoding was next, and only that encoding
+  -- is consumed
   pub passed : IfOk result (λ declared. IsTrue declared → (message : List (List ℕ)) × IsWithin message limit
       × IfKnown (source.unread old) (source.unread new) (StandsNext Zero format limit message))
-  -- false only where nothing is unread
+  -- false is returned only where nothing is unread
   pub none : IfOk result (λ declared. IsFalse declared → IfSome (source.unread old) (λ raw. raw ≡ []))
-  -- where such a text is next true is told, but for a fault
+  -- where such an encoding is next, true is returned, except for a fault
   pub accepted : IfSome (source.unread old) (λ raw. (message : List (List ℕ)) (rest : List ℕ) → StandsNext Zero format limit message raw rest
       → MatchResult result IsTrue (λ error. IsFault error.kind))
-  -- and where nothing is unread false, but for the device's failure
+  -- and where nothing is unread false, except for the device's failure
   pub end : source.unread old ≡ Some [] → MatchResult result IsFalse (λ error. error.kind ≡ DeviceFailed)
   -- it fails with the device's failure, for want of memory where memory is taken, or with a line of the table of errors
   pub refused : IfErr result (λ error. (error.kind ≡ DeviceFailed)
       ⊎ ((error.kind ≡ OutOfMemory) × IfKnown (source.unread old) (source.unread new) (TakesMemory Zero (gives_of format) limit))
       ⊎ IfKnown (source.unread old) (source.unread new) (RefusesNext Zero format limit error.kind))
-  -- where a line is the first to hold, with that line's kind, but for these two
+  -- where a line is the first to hold, it fails with that line's kind, unless the device fails or
+  -- memory is lacking
   pub exact : IfSome (source.unread old) (λ raw. (kind : ErrorKind) (left : List ℕ) → RefusesNext Zero format limit kind raw left
       → IsErrAnd result (λ error. (error.kind ≡ DeviceFailed) ⊎ (error.kind ≡ OutOfMemory) ⊎ (error.kind ≡ kind)))
   pub kinds : IfErr result (λ error. IsReaderKind Zero (refuses_of format) error.kind)
@@ -42,7 +45,8 @@ pub record SkipsMessage {S : Type 0} (source : Ghosts S) (old new : S) (format :
   -- the source moves on, or stays
   pub advances : Advances source.unread source.failures source.same old new
 
--- What is read of a log of two records, memory aside: both, and the last one ends where the log does that they were appended to.
+-- What is read of a log of two records, unless memory is lacking: both, and the last one ends where
+-- the log does to which they were appended.
 pub record ReadsBoth (limit : Option ℕ) (first second : List (List ℕ)) (messages : List (List (List ℕ))) (end : ℕ) (refusal : Option Error)
     : Type 0 where
   pub back : LacksMemory refusal ⊎ (messages ≡ first ∷ second ∷ []) × (refusal ≡ None)

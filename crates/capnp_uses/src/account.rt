@@ -48,10 +48,10 @@ impl<'a, S: ReaderSegments> FromPointerReader<'a, S> for Reader<'a, S> {
     // What the view shows: the struct that the pointer leads to.
     ghost shows = { λ pointer view. IsStruct pointer (struct_of S.segments view.fields) };
 
-    // Null, and each struct, is such a view.
+    // The view accepts null, and every struct.
     ghost accepts = { λ pointer. Accepts pointer TakesStruct };
 
-    // Why there is none: no object is there, it may not be read, or it is no struct.
+    // With which errors the view fails: no object is there, it may not be read, or it is no struct.
     ghost refuses = { λ pointer kind. Refuses pointer DeclinesStruct kind };
 
     // An object that is no struct fails with `WrongPointerKind`.

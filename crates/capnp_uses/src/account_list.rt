@@ -24,7 +24,7 @@ pub struct NewAccount<'a> {
     pub name: &'a str,
 }
 
-/// An account of this number, which leads to a name that is written.
+/// An account of this number, with a name that is written already.
 pub fn named_account(id: u64, name: Orphan<text::Owned>) -> StructDraft<account::Owned, 1, 1>
     ensures words { result.words ≡ id ∷ [] }
     ensures pointers { result.pointers ≡ name.word ∷ [] }
@@ -56,7 +56,7 @@ pub fn list_of_accounts<S: GrowingSegment>(
     objects.struct_list(&drafts)
 }
 
-/// Writes a message framed to a vector, and reads it from there: the segments are those that were
+/// Writes a message framed to a vector, and reads it back: the segments are those that were
 /// written.
 pub fn read_again<S: ReaderSegments>(
     alloc: Global,
@@ -73,8 +73,8 @@ pub fn read_again<S: ReaderSegments>(
     serialize::read_message(alloc, &mut source, options)
 }
 
-/// Builds the message of a list of these accounts, writes it framed, and reads it back: the list is its
-/// root.
+/// Builds the message of a list of these accounts, writes it framed, and reads it back: the list is
+/// its root.
 pub fn accounts_are_read_back(
     alloc: Global,
     accounts: &[NewAccount<'_>],

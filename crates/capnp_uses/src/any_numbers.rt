@@ -1,6 +1,7 @@
-//! A view that takes several kinds of objects: a list of numbers of any width, each read as `u64`.
+//! A view that accepts several kinds of objects: a list of numbers of any width, each read as
+//! `u64`.
 //!
-//! It asks for whatever the pointer leads to, which is entered once, and keeps what it takes of the
+//! It asks for whatever the pointer leads to, which is read once, and keeps what it accepts of the
 //! kinds (Cap'n Proto's encoding, "Lists").
 ghost use Rattle.std.specs.Prelude.{◌≡◌, MatchResult};
 ghost use Rattle.capnp_wire.specs.Readers.{pointer_of};
@@ -11,7 +12,7 @@ use capnp_frame::{Error, ErrorKind, Result};
 use capnp_wire::traits::FromPointerReader;
 use capnp_wire::{any_object, any_pointer};
 
-/// A list of unsigned numbers of any width in a message; none from null.
+/// A list of unsigned numbers of any width in a message; null is an empty list.
 #[derive(Drop)]
 pub struct Reader<'a> {
     numbers: Option<any_object::Numbers<'a>>,

@@ -29,7 +29,7 @@ pub fn write_text<A: Allocator>(message: &mut Builder<A>, bytes: &[u8]) -> Resul
     Ok(())
 }
 
-/// Makes a text the root of a message, and reads it from there.
+/// Makes a text the root of a message, and reads it back.
 pub fn text_is_read_back<A: Allocator>(
     alloc: Global,
     message: &mut Builder<A>,
@@ -63,7 +63,7 @@ pub fn write_data<A: Allocator>(message: &mut Builder<A>, bytes: &[u8]) -> Resul
     Ok(())
 }
 
-/// Makes data the root of a message, and reads it from there.
+/// Makes data the root of a message, and reads it back.
 pub fn data_is_read_back<A: Allocator>(
     alloc: Global,
     message: &mut Builder<A>,
@@ -96,7 +96,7 @@ pub fn write_numbers<A: Allocator>(message: &mut Builder<A>, first: u64, second:
     Ok(())
 }
 
-/// Makes a list of two words the root of a message, and reads them from there.
+/// Makes a list of two words the root of a message, and reads them back.
 pub fn numbers_are_read_back<A: Allocator>(
     alloc: Global,
     message: &mut Builder<A>,
@@ -131,7 +131,7 @@ pub fn write_struct<A: Allocator>(message: &mut Builder<A>, first: u64, second: 
     Ok(())
 }
 
-/// Makes a struct of two words the root of a message, and reads its words from there.
+/// Makes a struct of two words the root of a message, and reads its words back.
 pub fn a_struct_is_read_back<A: Allocator>(
     message: &mut Builder<A>,
     first: u64,
@@ -157,7 +157,7 @@ pub fn write_null<A: Allocator>(message: &mut Builder<A>) -> Result<()>
     Ok(())
 }
 
-/// Makes the root of a message null, and asks it whether it is.
+/// Makes the root of a message null, and returns whether it is.
 pub fn null_is_read_back<A: Allocator>(message: &mut Builder<A>) -> Result<bool>
     ensures stands { OnOk result (HasRootForm message.new.spaces null) }
     ensures back { IfOk result (λ is_null. is_null ≡ true) }

@@ -19,11 +19,11 @@ pub fn canonical_words(alloc: Global, bytes: &[u8]) -> Result<Vec<Word>>
     ensures form { (message : List (List ℕ)) (rest : List ℕ) →
         BeginsFramed Zero default_limit message bytes.now rest →
         IfOk result (λ words. IsCanonicalForm (default_root message) (numbers_of words.items)) }
-    // They are returned wherever there are such words, memory aside.
+    // They are returned wherever there are such words, unless memory is lacking.
     ensures found { (message : List (List ℕ)) (rest : List ℕ) →
         BeginsFramed Zero default_limit message bytes.now rest → HasForm (default_root message) →
         IfErr result (λ error. error.kind ≡ ErrorKind.OutOfMemory) }
-    // Else it fails as the reader does, or by why the message has no form.
+    // Else it fails as the reader does, or with the reason why the message has no form.
     ensures refused { IfErr result (λ error. (error.kind ≡ ErrorKind.OutOfMemory)
         ⊎ RefusesBy (no_alloc_rules Zero default_limit) error.kind bytes.now
         ⊎ ((message : List (List ℕ)) × (rest : List ℕ)

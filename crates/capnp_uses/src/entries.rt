@@ -24,8 +24,8 @@ pub fn amount_of<S: ReaderSegments>(entries: &struct_list::Reader<'_, S>, index:
     Some(entries.get(index).get_data_field(0))
 }
 
-/// Whether an entry is paid: true where an older writer left the field out, since it holds the bits in
-/// which it differs from its default.
+/// Whether an entry is paid: true where an older writer left the field out, since the data section
+/// has the bit XORed with the default.
 pub fn is_paid<S: ReaderSegments>(entries: &struct_list::Reader<'_, S>, index: u32) -> bool
     requires { index < length (struct_list_of S.segments entries.now).rows }
     ensures { let entry = element_of (struct_list_of S.segments entries.now) index in

@@ -17,8 +17,8 @@ use capnp_message::Builder;
 use capnp_wire::any_struct::StructReader;
 use std::alloc::Global;
 
-/// Makes a struct of two words the root of a message, writes that packed, and reads the words from
-/// there.
+/// Makes a struct of two words the root of a message, writes the message packed, and reads the
+/// words back.
 pub fn a_struct_is_read_packed<A: Allocator>(
     alloc: Global,
     message: &mut Builder<A>,
@@ -38,8 +38,8 @@ pub fn a_struct_is_read_packed<A: Allocator>(
     read_packed_words(alloc, &text)
 }
 
-/// The packed encoding of a message that is built, which has a segment. It has no more than a reader
-/// accepts, so that `read_packed_words` finds it within the limit of words.
+/// The packed encoding of a message that is built, which must have a segment. The message has no
+/// more segments than a reader accepts, so `read_packed_words` finds it within the limit of words.
 pub fn packed_text<A: Allocator>(alloc: Global, message: &Builder<A>) -> Result<Vec<u8>>
     requires { 0 < length message.now.spaces }
     ensures packed { IfOk result (λ text. IsWritable (output_of message.now)
@@ -59,7 +59,7 @@ pub fn read_packed_words(alloc: Global, text: &[u8]) -> Result<(u64, u64)>
     ensures words { (message : List (List ℕ)) (first second : ℕ) → IsWritable message →
         IsPackedEncodingOf message text.now → HasPlainRoot message (struct (first ∷ second ∷ [])) →
         IfOk result (λ read. read ≡ (first, second)) }
-    // Memory and the traversal limit aside, it succeeds.
+    // It succeeds, unless memory is lacking or the traversal limit is met.
     ensures found { (message : List (List ℕ)) (first second : ℕ) → IsWritable message →
         IsWithinSegmentLimit message → KeepsLimit (lengths message) default_limit →
         IsPackedEncodingOf message text.now → HasPlainRoot message (struct (first ∷ second ∷ [])) →

@@ -13,7 +13,7 @@ use capnp::io::{Read, Write};
 use capnp_pack::{PackedRead, PackedWrite, laws};
 use std::alloc::Global;
 
-/// These words, packed.
+/// The packed encoding of these words.
 pub fn pack_words(alloc: Global, words: &[u8]) -> Result<Vec<u8>>
     requires { IsWholeWords words.now }
     ensures packed { IfOk result (λ text. Packs words.now text.items) }
@@ -39,7 +39,7 @@ fn pack_into<W: Write>(sink: &mut W, words: &[u8]) -> Result<()>
     packed.write_all(words)
 }
 
-/// Fills `words` with what is packed at the front of a text.
+/// Fills `words` with the words that are packed at the front of these bytes.
 pub fn unpack_words(text: &[u8], words: &mut [u8]) -> Result<()>
     ensures filled { OnOk result ((rest : List ℕ)
         × Unpacks text.now (length words.new) words.new rest) }

@@ -1,4 +1,4 @@
-//! Messages that are read from bytes at hand.
+//! Messages that are read from bytes in memory.
 ghost use Rattle.std.specs.Prelude.{◌≡◌, ◌⊎◌, ◌<◌, ◌++◌, ◌∷◌, [], ℕ, List, Some, IfOk, IfErr, IfSome, IfNone, MatchResult, IsSomeAnd, IsOkAnd};
 ghost use Rattle.capnp_frame.specs.declared.serialize.segment_table.Padding.TheVariants.{Zero};
 ghost use Rattle.capnp_frame.specs.declared.error.ErrorKind.{ErrorKind};
@@ -24,7 +24,7 @@ pub fn first_message(alloc: Global, bytes: &[u8]) -> Result<Option<Reader<OwnedS
     ensures found { IfOk result (λ found. IfSome found (λ reader.
         (rest : List ℕ) × BeginsFramed Zero default_limit reader.segments bytes.now rest)) }
     ensures none { IfOk result (λ found. IfNone found (bytes.now ≡ [])) }
-    // A message that is there is returned, memory aside.
+    // A message that is there is returned, unless memory is lacking.
     ensures exact { (message : List (List ℕ)) (rest : List ℕ) →
         BeginsFramed Zero default_limit message bytes.now rest → MatchResult result
         (λ found. IsSomeAnd found (λ reader. reader.segments ≡ message))
@@ -58,7 +58,7 @@ pub fn root_text<'a, S: ReaderSegments>(message: &'a Reader<S>) -> Result<text::
     ensures shown { (bytes : List ℕ) →
         HasPlainRoot (S.segments message.now.segments) (numbers 2 (bytes ++ 0 ∷ [])) →
         IfOk result (λ text. text.bytes.now ≡ bytes) }
-    // It fails at the traversal limit alone, where there is one and objects may be nested.
+    // It fails only at the traversal limit, where there is one and objects may be nested.
     ensures found { let pointer = root_of S.segments message.now in (bytes : List ℕ) →
         HasPlainRoot (S.segments message.now.segments) (numbers 2 (bytes ++ 0 ∷ [])) →
         0 < pointer.nesting → IfErr result (λ error. MeetsLimit pointer error.kind) }

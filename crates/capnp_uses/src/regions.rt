@@ -1,4 +1,4 @@
-//! Messages that are built over a region that the caller provides, which comes home zero.
+//! Messages that are built in a region that the caller provides, which is zero again afterwards.
 ghost use Rattle.std.specs.Prelude.{◌≡◌, ◌⊎◌, ℕ, ◌+◌, ◌/◌, ◌^◌, ◌<◌, false, length, IfOk, IfErr, IsOk};
 ghost use Rattle.capnp_frame.specs.declared.error.ErrorKind.TheVariants.{SegmentTaken};
 ghost use Rattle.capnp_wire.specs.Values.{HasWords, LacksWords};
@@ -12,8 +12,8 @@ use capnp_message::{Builder, SingleSegmentAllocator};
 use capnp_wire::traits::SetterInput;
 use std::alloc::Global;
 
-/// Sets the root of a new message over a region: a value that has room there after the root's word is
-/// set, and is just after it. Where it is rejected, that is not for a region that is out.
+/// Sets the root of a new message in a region: a value that has room there after the root's word is
+/// set, and is just after that word. Where the call fails, it is not because the region is out.
 pub fn set_in_region<'a, T, V: SetterInput<T> + Drop>(
     alloc: Global,
     region: &'a mut [u8],
@@ -37,8 +37,8 @@ pub fn set_in_region<'a, T, V: SetterInput<T> + Drop>(
     Ok(message)
 }
 
-/// Sets the root of a new message over a region, and lets the message go: the region is at home, all
-/// zero, whether the value was set or not.
+/// Sets the root of a new message in a region, and drops the message: the region is available
+/// again, all zero, whether the value was set or not.
 pub fn region_comes_home<'a, T, V: SetterInput<T> + Drop>(
     alloc: Global,
     region: &'a mut [u8],

@@ -14,7 +14,7 @@ use capnp_frame::message::ReaderSegments;
 use capnp_message::{Builder, Reader};
 use capnp_wire::{any_pointer, text};
 
-/// Sets the root to the root tree of a message that is read, an object with all that it holds.
+/// Sets the root to the root tree of a message that is read, an object with all below it.
 pub fn copy_root<S: ReaderSegments, A: Allocator>(
     message: &mut Builder<A>,
     reader: &Reader<S>,
@@ -30,7 +30,7 @@ pub fn copy_root<S: ReaderSegments, A: Allocator>(
     message.set_root::<any_pointer::Owned, any_pointer::Reader<'_, S>>(root)
 }
 
-/// Sets the root to a text, and tells whether it is what is read there afterwards.
+/// Sets the root to a text, and returns whether that is what is read there afterwards.
 pub fn set_text_is_read_back<A: Allocator>(message: &mut Builder<A>, text: &str) -> Result<bool>
     ensures back { IfOk result (λ same. same ≡ true) }
     ensures set { OnOk result (IsSet (λ trees. IsTextTree text.now trees) false message.new.spaces) }

@@ -23,7 +23,7 @@ use capnp_wire::any_pointer;
 use capnp_wire::traits::SetterInput;
 use std::alloc::Global;
 
-/// Makes the root what a pointer of another message leads to, a struct with pointers, say.
+/// Makes the root what a pointer of another message leads to, for example a struct with pointers.
 pub fn set_tree<A: Allocator, S: ReaderSegments>(
     built: &mut Builder<A>,
     source: any_pointer::Reader<'_, S>,
@@ -40,7 +40,7 @@ pub fn set_tree<A: Allocator, S: ReaderSegments>(
     built.set_root::<any_pointer::Owned, any_pointer::Reader<'_, S>>(source)
 }
 
-/// The same, and then another first data word: what the struct's pointers lead to stays.
+/// Does the same, and then sets another first data word: what the struct's pointers lead to stays.
 pub fn set_tree_and_word<A: Allocator, S: ReaderSegments>(
     built: &mut Builder<A>,
     source: any_pointer::Reader<'_, S>,
@@ -98,7 +98,7 @@ pub fn set_and_write<T, V: SetterInput<T> + Drop, A: Allocator>(
     Ok(text)
 }
 
-/// The same in canonical form.
+/// Does the same in canonical form.
 pub fn set_canonical_and_write<T, V: SetterInput<T> + Drop, A: Allocator>(
     alloc: Global,
     built: &mut Builder<A>,

@@ -15,8 +15,9 @@ use std::alloc::Global;
 
 /// The next message of a stream in either format, or `None` at its end.
 ///
-/// What is said of the bytes holds where the source's are known, as a slice's are. A device's are
-/// not; there `reads.failed` says that it is blamed only where it failed.
+/// What the contract says of the bytes holds where those of the source are known, as a slice's are.
+/// A device's are not; for it `reads.failed` says that `DeviceFailed` is returned only where the
+/// device failed.
 pub fn next_message<R: BufRead>(
     alloc: Global,
     format: Format,
@@ -37,7 +38,7 @@ pub fn next_message<R: BufRead>(
     }
 }
 
-/// Reads over the next message of a stream, and tells whether there was one.
+/// Reads past the next message of a stream, and returns whether there was one.
 pub fn skip_message<R: BufRead>(
     alloc: Global,
     format: Format,

@@ -1,4 +1,4 @@
-//! Values that are composed: a person is set as the root of a message, written and read back.
+//! Composed values: a person is set as the root of a message, written and read back.
 ghost use Rattle.std.specs.Prelude.{◌≡◌, ◌∷◌, [], map, IfOk, IfErr, OnOk};
 ghost use Rattle.capnp_wire.specs.Layout.{canon};
 ghost use Rattle.capnp_build.specs.Built.{message};
@@ -74,7 +74,7 @@ pub fn person_is_canonical<A: Allocator>(
     built.set_root_canonical::<any_struct::Owned, Person<'_>>(value)
 }
 
-/// A phone: a struct of a data word, in which its type is, and of its number, a text.
+/// A phone: a struct of a data word, which has its type, and of its number, a text.
 pub type Phone<'a> = StructValue<1, Field<text::Owned, &'a str, NoFields>>;
 
 /// What a contact has after the address.

@@ -1,4 +1,4 @@
--- What was written is texts, which are read.
+-- What was written is encodings, which are read.
 use Rattle.std.proofs.Common.{map, [], ap, Some, inl, inr}
 use Rattle.std.proofs.lemmas.List.{length-map}
 use Rattle.std.proofs.lemmas.Result.{err_from_is_err_and}

@@ -1,4 +1,4 @@
--- The texts that are written part as they were written.
+-- The encodings that are written part as they were written.
 use Rattle.capnp.proofs.AppendedLemmas.{appended_stream}
 use Rattle.capnp.proofs.laws.what_is_written_is_a_stream.Goals as goal
 

@@ -1,4 +1,4 @@
--- What was written is one text, which is read.
+-- What was written is one encoding, which is read.
 use Rattle.std.proofs.Common.{inl, inr, refl}
 use Rattle.std.proofs.lemmas.Result.{err_from_is_err_and}
 use Rattle.capnp_frame.specs.declared.serialize.segment_table.Padding.TheVariants.{Zero}

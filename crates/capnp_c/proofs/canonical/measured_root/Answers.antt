@@ -1,4 +1,4 @@
--- The root is found, and its form is measured, or one of the two is rejected.
+-- The root is found, and its form is measured, or one of the two fails.
 use Rattle.std.proofs.lemmas.Result.{err_from_is_err_and}
 use Rattle.capnp_c.proofs.FrontLemmas.{root_lacks}
 use Rattle.capnp_c.proofs.canonical.measured_root.Goals as goal

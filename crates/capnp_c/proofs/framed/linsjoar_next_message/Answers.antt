@@ -1,4 +1,4 @@
--- A message that is there is not rejected, and one that is cut or too large is, by its line.
+-- A message that is there is found, and one that is cut or too large fails by its line.
 use Rattle.std.proofs.Common.{ap, ◌∙◌}
 use Rattle.capnp_frame.specs.Numbers.{kind_number}
 use Rattle.capnp_c.proofs.framed.linsjoar_next_message.Goals as goal

@@ -1,4 +1,4 @@
--- Where the packed encoding has no room, that is the error.
+-- Where there is no room for the packed encoding, that is the error.
 use Rattle.std.proofs.Common.{rules, arith, ◌≤◌, ◌+◌, length, ap, ◌∙◌}
 use Rattle.std.proofs.lemmas.Bool.{false≢true}
 use Rattle.capnp_frame.specs.Numbers.{kind_number}

@@ -1,4 +1,4 @@
--- A text that begins with such a packing is not rejected, and any other is, by its line.
+-- Bytes that begin with such an encoding are unpacked, and any others fail by their line.
 use Rattle.std.proofs.Common.{ap, ◌∙◌}
 use Rattle.capnp_frame.specs.Numbers.{kind_number}
 use Rattle.capnp_pack.specs.RefusingLaws.{unpacking}

@@ -1,4 +1,4 @@
--- The table of a message is at its front.
+-- A message begins with its table.
 use Rattle.std.proofs.Common.{◌+◌, ◌*◌, ◌/◌, [], take, arith, sym, ap, ◌∙◌}
 use Rattle.std.proofs.lemmas.List.{length-take-le}
 use Rattle.capnp_c.proofs.MessageLemmas.{front_table}

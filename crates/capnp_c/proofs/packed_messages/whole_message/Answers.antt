@@ -1,4 +1,4 @@
--- One message is at the front of the bytes, and one rest after it.
+-- At most one message is at the front of the bytes, and the bytes after it are determined.
 use Rattle.std.proofs.Common.{◌≡◌, ◌<◌, [], length, arith, ap, rules}
 use Rattle.capnp_c.proofs.MessageLemmas.{one_rest}
 use Rattle.capnp_c.proofs.packed_messages.whole_message.Goals as goal

@@ -1,4 +1,4 @@
--- The first lengths are listed after what was before.
+-- The first lengths are listed after what was in the line before.
 use Rattle.std.proofs.Common.{◌-◌, ◌≡◌, ◌++◌, List, ℕ, length}
 use Rattle.capnp_ls.proofs.LineLemmas.{ListsLengths}
 use Rattle.capnp_ls.proofs.lines.write_lengths.Given as goal

@@ -1,4 +1,4 @@
--- The first segments are listed after what was before.
+-- The first segments are listed after what was in the line before.
 use Rattle.std.proofs.Common.{◌-◌, ◌≡◌, ◌++◌, ℕ, List, length}
 use Rattle.capnp_ls.proofs.LineLemmas.{IsListed}
 use Rattle.capnp_ls.proofs.listing.write_line.Given as goal

@@ -1,4 +1,4 @@
--- What is rejected is cut, or begins no framed message.
+-- Bytes that fail are cut, or begin no framed message.
 use Rattle.std.proofs.Common.{inl, inr}
 use Rattle.capnp_show.proofs.detected.look_at.Goals as goal
 

@@ -1,4 +1,4 @@
--- Each run is after what came before it, and then the character at its end.
+-- Each run comes after what was added before it, and then the character at its end.
 use Rattle.std.proofs.Common.{rules, ◌≡◌, ℕ, List, [], ◌∷◌, ◌++◌, refl, sym, subst, ap, ◌∙◌, string_bytes, append-nil}
 use Rattle.std.specs.Str.{chars}
 use Rattle.std.proofs.lemmas.Result.{on_ok_weaker}

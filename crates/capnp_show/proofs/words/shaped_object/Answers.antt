@@ -1,4 +1,4 @@
--- What a pointer says is where its segment has room for it.
+-- An object is where a pointer leads, where its segment has room for it.
 use Rattle.std.proofs.Common.{◌<◌, ◌^◌, refl, arith}
 use Rattle.capnp_show.specs.Objects.{words_in}
 use Rattle.capnp_show.proofs.ObjectLemmas.{says_stands, says_misfits, says_small}

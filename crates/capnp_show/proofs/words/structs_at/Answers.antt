@@ -1,4 +1,4 @@
--- A list of structs is after its tag.
+-- The elements of a list of structs are after its tag.
 use Rattle.std.proofs.Common.{◌*◌, ◌<◌, refl, arith}
 use Rattle.capnp_wire.specs.Pointer.{pointer_kind, offset}
 use Rattle.capnp_wire.proofs.pointers.LandingLemmas.{structs_misfit, odd_tag_misfits, many_elements_misfit}

@@ -1,4 +1,4 @@
--- A text that begins with such a packing is not rejected.
+-- Bytes that begin with such an encoding are unpacked.
 use Rattle.std.proofs.Common.{length, ap, sym, subst}
 use Rattle.capnp_pack.specs.PackedSource.{Unpacks}
 use Rattle.capnp_uses.proofs.PackingLemmas.{unpack_succeeds}

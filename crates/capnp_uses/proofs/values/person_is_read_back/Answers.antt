@@ -1,4 +1,4 @@
--- A person is rejected for its size alone.
+-- A person fails only by its size.
 use Rattle.capnp_uses.proofs.LargeLemmas.{person_back}
 use Rattle.capnp_uses.proofs.values.person_is_read_back.Goals as goal
 

@@ -1,4 +1,4 @@
--- What is read by requests, in texts.
+-- What is read by requests, by encodings.
 use Rattle.std.proofs.lemmas.Result.{err_from_is_err_and}
 use Rattle.capnp_frame.specs.Frame.{IsFrame}
 use Rattle.capnp_frame.specs.Streams.{framed_rules}

@@ -1,4 +1,4 @@
--- What is read by requests, in texts.
+-- What is read by requests, by encodings.
 use Rattle.std.proofs.lemmas.Result.{err_from_is_err_and}
 use Rattle.capnp_pack.specs.PackedFrame.{IsPackedFrame}
 use Rattle.capnp_pack.specs.PackedStreams.{packed_rules}

@@ -1,4 +1,4 @@
--- The messages so far are texts at the front, and what is left is after `end`.
+-- The messages so far are encodings at the front, and what is left is after `end`.
 use Rattle.std.specs.Prelude.{◌≡◌, ◌-◌, length, map}
 use Rattle.std.specs.List.{AllByRecursion}
 use Rattle.capnp_frame.specs.Texts.{AreEncodings}

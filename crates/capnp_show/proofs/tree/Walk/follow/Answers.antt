@@ -1,4 +1,4 @@
--- No pointer is rejected for want of words.
+-- No pointer fails for want of words.
 use Rattle.std.proofs.Common.{refl, arith}
 use Rattle.capnp_wire.proofs.views.ViewLemmas.{fault_unlimited}
 use Rattle.capnp_show.proofs.tree.Walk.follow.Goals as goal
