@@ -1,4 +1,4 @@
-//! What a builder shows of the fields that are set in it.
+//! Getters of builders, for the fields that are set.
 use crate::builder_templates::HAS_SET;
 use crate::code::{Code, Holes, fill_with};
 use crate::getters::{Shown, Site, shown_of};
@@ -9,7 +9,8 @@ use crate::signatures::signature;
 use crate::templates::GETTER;
 use std::alloc::{AllocError, Global};
 
-/// Adds the getter of a number, a bool or an enum, and for a pointer whether it is set.
+/// Adds the getter of a number, a bool or an enum, and for a pointer the method that returns
+/// whether it is set.
 pub fn push_set_getter(
     alloc: Global,
     code: &mut Code,
@@ -33,7 +34,7 @@ pub fn push_set_getter(
     }
 }
 
-// Adds whether a pointer is set.
+// Adds the method that returns whether a pointer is set.
 fn push_has_set(
     alloc: Global,
     code: &mut Code,
@@ -48,7 +49,7 @@ fn push_has_set(
     code.add(HAS_SET, &holes)
 }
 
-// Adds the getter of what the data section shows.
+// Adds the getter of a value in the data section.
 fn push_getter(
     alloc: Global,
     code: &mut Code,
@@ -74,7 +75,7 @@ fn push_getter(
     code.add(GETTER, &holes)
 }
 
-// The code of a reader's getter, as that of a builder, which has a draft in place of the fields.
+// The code of a reader's getter as that of a builder, which has a draft in place of the fields.
 fn of_draft(alloc: Global, body: &str) -> Result<String, AllocError> {
     body.replace(alloc, "self.fields.", "self.draft.")
 }

@@ -1,4 +1,4 @@
-//! The code that is written of builders, with `@name@` for what differs.
+//! Templates of the code of builders, with `@name@` for what differs.
 
 /// A struct before it is written, and a list of such structs as a type of the schema.
 pub const BUILDER: &str = "
@@ -104,7 +104,7 @@ impl Draft<Owned, @words@, @pointers@> for Builder {
 }
 ";
 
-/// What is before the setters of the fields of a struct or a group.
+/// What comes before the setters of the fields of a struct or a group.
 pub const ACCESSORS: &str = "
 impl @path@Builder {
 ";
@@ -146,7 +146,7 @@ pub const OLD_WORDS: &str = "self.old.draft.words";
 /// The words of the orphans before a setter, as a clause names them.
 pub const OLD_POINTERS: &str = "self.old.draft.pointers";
 
-/// What a clause says of the words where they stay.
+/// What a clause says where the words stay the same.
 pub const WORDS_STAY: &str = "self.new.draft.words ≡ self.old.draft.words";
 
 /// What a clause says of the words that are set.

@@ -11,7 +11,7 @@ use crate::setters::{is_data, push_data_setter};
 use crate::structs::close_module;
 use std::alloc::{AllocError, Global};
 
-/// Adds the builder of a struct, with the setters of its fields; of a group the setters alone.
+/// Adds the builder of a struct, with the setters of its fields; for a group only the setters.
 pub fn push_builder(
     alloc: Global,
     code: &mut Code,
@@ -58,7 +58,7 @@ fn push_accessors(
     close_module(code)
 }
 
-// Adds the setter of a field, and its getter or whether it is set.
+// Adds the setter of a field, and its getter or the method that returns whether it is set.
 fn push_accessor(
     alloc: Global,
     code: &mut Code,

@@ -1,5 +1,5 @@
-//! What is asked of a schema before code is written of it: the nodes that its types name are there, and no
-//! two names of one scope become one.
+//! Checks of a schema before code is written for it: the nodes that its types name have to be
+//! there, and no two names of one scope may become one.
 use crate::cleared::{group_name, group_of};
 use crate::getters::Site;
 use crate::names::{constant, default_name, enum_type, module, snake, variant};
@@ -25,7 +25,8 @@ pub fn check_file(alloc: Global, request: &Request, file: u64) -> Result<()> {
     Ok(())
 }
 
-// Says what is wrong with a node, and adds to what is left what is declared in it, and its groups.
+// Says what is wrong with a node, and adds to the nodes that are left the ones declared in it, and
+// its groups.
 fn check_node(alloc: Global, request: &Request, node: &Node, left: &mut Vec<u64>) -> Result<()> {
     left.extend_from_slice(node.nested.as_slice())?;
     if let Body::Struct(body) = &node.body {
@@ -39,7 +40,7 @@ fn check_node(alloc: Global, request: &Request, node: &Node, left: &mut Vec<u64>
     check_variants(alloc, node)
 }
 
-// Adds the groups of a struct to what is left.
+// Adds the groups of a struct to the nodes that are left.
 fn push_groups(left: &mut Vec<u64>, body: &Struct) -> Result<()> {
     for field in body.fields.as_slice() {
         if let Slot::Group(group) = field.slot {
@@ -65,7 +66,7 @@ fn check_fields(request: &Request, node: &Node, body: &Struct) -> Result<()> {
     Ok(())
 }
 
-// Whether the node of a field's type is in the request, and is what the type says.
+// Whether the node of a field's type is in the request, and is of the kind that the type has.
 fn is_declared(request: &Request, place: &Place) -> bool {
     match place.of.base {
         Base::Enum(id) => match request.find(id) {
@@ -80,7 +81,7 @@ fn is_declared(request: &Request, place: &Place) -> bool {
     }
 }
 
-/// Names that code has in one scope, each with what has it in the schema.
+/// The names that the code has in one scope, each with what has it in the schema.
 #[derive(Drop)]
 struct Names {
     taken: Vec<(String, String)>,
@@ -94,7 +95,8 @@ impl Names {
         }
     }
 
-    // Adds a name of what has another in the schema; names that differ only in capitals are one.
+    // Adds the name that something of the schema has; names that differ only in capitals count as
+    // one.
     fn add(&mut self, alloc: Global, name: Result<String, AllocError>, of: &str) -> Result<()> {
         let name = name?;
         self.expect_new(name.as_str(), of)?;
@@ -103,7 +105,7 @@ impl Names {
         Ok(())
     }
 
-    // Rejects a name that another has already.
+    // Fails for a name that another one has already.
     fn expect_new(&self, name: &str, of: &str) -> Result<()> {
         for (other, one) in self.taken.as_slice() {
             if other.as_str().eq_ignore_ascii_case(name) {
@@ -114,7 +116,7 @@ impl Names {
     }
 }
 
-// Says which two declarations of a node would have one name.
+// Says which two declarations of a node would have the same name.
 fn check_scope(alloc: Global, request: &Request, node: &Node) -> Result<()> {
     let mut items = Names::new(alloc);
     let mut constants = Names::new(alloc);
@@ -163,7 +165,7 @@ fn add_fields(
     Ok(())
 }
 
-// Says which two enumerants, or fields, would have one name.
+// Says which two enumerants, or fields, would have the same name.
 fn check_variants(alloc: Global, node: &Node) -> Result<()> {
     let mut names = Names::new(alloc);
     match &node.body {
@@ -184,7 +186,7 @@ fn check_variants(alloc: Global, node: &Node) -> Result<()> {
     Ok(())
 }
 
-// Says which two fields of a struct, and of its groups, would have setters of one name.
+// Says which two fields of a struct, and of its groups, would have setters of the same name.
 fn check_setters(alloc: Global, request: &Request, id: u64) -> Result<()> {
     let mut setters = Names::new(alloc);
     let mut left: Vec<u64> = Vec::new(alloc);

@@ -1,4 +1,4 @@
-//! The setters that select a group which is a member of a union, and clear what is in it.
+//! The setters that select a group that is a member of a union, and clear its fields.
 use crate::builder_templates::{GROUP_INIT, OLD_POINTERS};
 use crate::code::{Code, Holes};
 use crate::getters::Site;
@@ -10,17 +10,17 @@ use crate::setters::code_of;
 use std::alloc::{AllocError, Global};
 use std::fmt::Write;
 
-/// What a group has of its struct, each once.
+/// The fields and pointers that a group has of its struct, each once.
 #[derive(Drop)]
 struct Cleared {
-    /// Fields of the data section: how many bits each has, and where it is in units of these.
+    /// Fields of the data section: how many bits each has, and its offset in units of these.
     fields: Vec<(u32, u32)>,
     /// Pointers, by their indices.
     pointers: Vec<u32>,
 }
 
 impl Cleared {
-    // Adds what a group has, and to what is left the groups in it.
+    // Adds the fields of a group, and its groups to those that are left.
     fn add_group(&mut self, body: &Struct, left: &mut Vec<u64>) -> Result<(), AllocError> {
         if let Some(offset) = body.discriminant {
             self.add_field(16, offset)?;
@@ -69,7 +69,7 @@ impl Cleared {
         Ok(())
     }
 
-    // The words in which the fields are zero, of these words, as a clause names them.
+    // The words, made from these, in which the fields are zero, as a clause names them.
     fn words(&self, alloc: Global, mut words: String) -> Result<String, AllocError> {
         for (width, offset) in self.fields.as_slice() {
             let before = words.as_str();
@@ -95,7 +95,7 @@ impl Cleared {
         Ok(words)
     }
 
-    // The code that clears all, a line for each.
+    // The code that clears all fields, a line for each.
     fn code(&self, alloc: Global) -> Result<String, AllocError> {
         let mut text = String::new(alloc);
         for (width, offset) in self.fields.as_slice() {
@@ -113,14 +113,14 @@ impl Cleared {
         Ok(text)
     }
 
-    // The code that sets these numbers of unions, and then clears all.
+    // The code that sets these numbers of unions, and then clears all fields.
     fn setting(&self, alloc: Global, tags: &[(u32, u16)]) -> Result<String, AllocError> {
         let clearing = self.code(alloc)?;
         code_of(alloc, tags, clearing.as_str())
     }
 }
 
-// Ends a line, where one is there.
+// Ends a line, if there is one.
 fn push_line(text: &mut String) -> Result<(), AllocError> {
     if text.is_empty() {
         return Ok(());
@@ -155,7 +155,7 @@ pub fn group_name(alloc: Global, owner: &Owner<'_>) -> Result<String, AllocError
     String::from_str(alloc, prefix.strip_suffix('_').unwrap_or(prefix))
 }
 
-/// The same as the schema has it.
+/// The same name as the schema has it.
 pub fn group_of<'a>(owner: &'a Owner<'_>) -> &'a str {
     let groups = owner.groups.as_str();
     groups.strip_suffix('.').unwrap_or(groups)

@@ -1,4 +1,4 @@
-//! Code that is written, line by line, at some depth of modules.
+//! Code that is written line by line, at a depth of modules.
 use std::alloc::{AllocError, Global};
 
 /// A name in a template, and the text that stands for it.
@@ -8,13 +8,13 @@ struct Hole {
     text: String,
 }
 
-/// The texts that stand for names in a template. Where memory lacks for one of them, a template that is
-/// filled with these fails, so that no call that adds one has to be asked.
+/// The texts that stand for names in a template. If memory is lacking for one of them, filling a
+/// template with these fails, so no call that adds one has to be tested.
 #[derive(Drop)]
 pub struct Holes {
     alloc: Global,
     holes: Vec<Hole>,
-    /// Whether memory lacked for none of them.
+    /// Whether there was memory for all of them.
     is_whole: bool,
 }
 
@@ -34,7 +34,7 @@ impl Holes {
         self.holding(name, text)
     }
 
-    /// With one more text, which it keeps, if there is one.
+    /// With one more text, which is kept here, if there is one.
     pub fn holding(mut self, name: &'static str, text: Result<String, AllocError>) -> Holes {
         let is_kept = match text {
             Ok(text) => self.holes.push(Hole { name, text }).is_ok(),
@@ -44,7 +44,7 @@ impl Holes {
         self
     }
 
-    // What stands for a name.
+    // The text that stands for a name.
     fn text_of(&self, name: &str) -> Option<&str> {
         for hole in self.holes.as_slice() {
             if hole.name == name {
@@ -74,8 +74,8 @@ impl Code {
         }
     }
 
-    /// Adds the lines of a template, in which `@name@` stands for the text of that hole. Where this text
-    /// has some lines, each begins where the line of the hole does.
+    /// Adds the lines of a template, in which `@name@` stands for the text of that hole. If the
+    /// text has several lines, each of them begins where the line of the hole does.
     pub fn add(&mut self, template: &str, holes: &Holes) -> Result<(), AllocError> {
         if !holes.is_whole {
             return Err(AllocError);
@@ -86,7 +86,7 @@ impl Code {
         Ok(())
     }
 
-    /// Adds the lines of a template with one name, for which this text is.
+    /// Adds the lines of a template with one name, in whose place this text is put.
     pub fn add_with(
         &mut self,
         template: &str,
@@ -137,7 +137,7 @@ impl Code {
         self.text.push('\n')
     }
 
-    // Adds the text of a hole, of a line that begins with some spaces. One that has no text stays.
+    // Adds the text of a hole, in a line that begins with some spaces. A hole without a text stays.
     fn add_hole(&mut self, name: &str, holes: &Holes, spaces: usize) -> Result<(), AllocError> {
         let Some(text) = holes.text_of(name) else {
             self.text.push('@')?;
@@ -156,7 +156,7 @@ impl Code {
         Ok(())
     }
 
-    // Adds the spaces before a line, and some more.
+    // Adds the spaces in front of a line, and some more.
     fn indent(&mut self, spaces: usize) -> Result<(), AllocError> {
         for _ in 0..self.depth {
             self.text.push_str("    ")?;
@@ -168,7 +168,7 @@ impl Code {
     }
 }
 
-/// A template whose holes are filled, with no end of a line after it. A hole that has no text stays.
+/// A template whose holes are filled, without a line's end after it. A hole without a text stays.
 pub fn fill(alloc: Global, template: &str, holes: &Holes) -> Result<String, AllocError> {
     let mut code = Code::new(alloc, 0);
     code.add(template, holes)?;
@@ -176,7 +176,7 @@ pub fn fill(alloc: Global, template: &str, holes: &Holes) -> Result<String, Allo
     Ok(code.text)
 }
 
-/// A template so filled that has one name, for which this text is.
+/// A template with one name, in whose place this text is put.
 pub fn fill_with(
     alloc: Global,
     template: &str,

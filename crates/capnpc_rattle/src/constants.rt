@@ -10,7 +10,7 @@ use crate::views::{CONSTANT, View, view_of};
 use crate::words::push_words;
 use std::alloc::{AllocError, Global};
 
-// What is said of a constant that is not written.
+// What is said of a constant that is left out.
 const LEFT_OUT: &str = "// The constant `@name@` is left out.";
 
 /// Adds the constants that are declared in a node.
@@ -126,7 +126,7 @@ fn view_type(alloc: Global, view: &View, bytes: usize) -> Result<String, AllocEr
     fill_with(alloc, type_name.as_str(), "size", size.as_str())
 }
 
-// Adds the line of a constant; its value on one of its own where it is too wide.
+// Adds the line of a constant; its value on a line of its own if that line would be too wide.
 fn push_line(
     alloc: Global,
     code: &mut Code,

@@ -9,7 +9,7 @@ use crate::views::{CONSTANT, MESSAGE, View, is_plain, view_of};
 use crate::words::words_of;
 use std::alloc::{AllocError, Global};
 
-/// Whether a pointer has a default that reads otherwise than null does.
+/// Whether a pointer has a default other than what null reads as.
 pub fn has_default(place: &Place) -> bool {
     if place.of.lists == 0 && place.of.base == Base::AnyPointer {
         return false;
@@ -22,7 +22,7 @@ pub fn has_default(place: &Place) -> bool {
     }
 }
 
-/// What the getter of a pointer returns that has a default.
+/// What the getter of a pointer that has a default returns.
 pub fn shown_default(
     alloc: Global,
     site: Site<'_>,
@@ -43,7 +43,7 @@ pub fn shown_default(
     }
 }
 
-// What is returned where the views of the message and of the default have one type.
+// What is returned if the views of the message and of the default have one type.
 fn shown_plain(
     alloc: Global,
     field: &Field,
@@ -59,7 +59,7 @@ fn shown_plain(
     )
 }
 
-// What is returned where they have two.
+// What is returned if they have two types.
 fn shown_either(
     alloc: Global,
     field: &Field,
@@ -75,7 +75,7 @@ fn shown_either(
     )
 }
 
-// What is in the clause and the code of the getter, which returns a view by this name.
+// The text in the clause and the code of the getter, which returns a view by this name.
 fn holes_of(
     alloc: Global,
     field: &Field,
@@ -92,7 +92,7 @@ fn holes_of(
         .holding("fact", default.fact(alloc, view))
 }
 
-// The type of what is a view of the message, or of the default.
+// The type of a view of the message, or of the default.
 fn either_type(
     alloc: Global,
     place: &Place,
@@ -153,7 +153,7 @@ fn push_default(
     )
 }
 
-// The name of what reads the default of a field, without its `get_`.
+// The name of the getter of a field's default, without its `get_`.
 fn getter_name(alloc: Global, field: &Field) -> Result<String, AllocError> {
     let mut name = snake(alloc, field.name.as_str())?;
     name.push_str("_default")?;

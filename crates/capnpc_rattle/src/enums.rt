@@ -8,8 +8,8 @@ use crate::schema::{Base, Body, Field, Node, Request, Slot};
 use crate::templates::{ENUM_END, ENUM_HEAD};
 use std::alloc::{AllocError, Global};
 
-/// The cases of a clause over an enum of this name: which number each enumerant has, and that any other
-/// is kept.
+/// The cases of a clause over an enum of this name: which number each enumerant has, and that any
+/// other number is kept.
 pub fn cases_of(
     alloc: Global,
     request: &Request,
@@ -63,8 +63,8 @@ pub fn enumerants_of(request: &Request, id: u64) -> &[String] {
     }
 }
 
-/// The name of an enum in the module of a struct that has a field of it: its own, or with the name of what
-/// it is declared in before it, where an enum of its name is in the module already.
+/// The name of an enum in the module of a struct that has a field of it: its own, or, if an enum of
+/// that name is in the module already, its own after the name of what it is declared in.
 pub fn enum_name(alloc: Global, site: Site<'_>, id: u64) -> Result<String, AllocError> {
     let Some(node) = site.request.find(id) else {
         return String::from_str(alloc, "u16");
@@ -76,7 +76,7 @@ pub fn enum_name(alloc: Global, site: Site<'_>, id: u64) -> Result<String, Alloc
     scoped_name(alloc, site.request, node, name.as_str())
 }
 
-// The name of an enum with that of what it is declared in before it.
+// The name of an enum after that of what it is declared in.
 fn scoped_name(
     alloc: Global,
     request: &Request,
@@ -123,7 +123,7 @@ fn is_named(alloc: Global, request: &Request, id: u64, name: &str) -> Result<boo
     }
 }
 
-// The enums that the fields of a struct hold, each once.
+// The enums of a struct's fields, each once.
 fn enums_of(alloc: Global, node: &Node) -> Result<Vec<u64>, AllocError> {
     let mut found: Vec<u64> = Vec::new(alloc);
     let Body::Struct(body) = &node.body else {
@@ -139,7 +139,7 @@ fn enums_of(alloc: Global, node: &Node) -> Result<Vec<u64>, AllocError> {
     Ok(found)
 }
 
-// The enum that a field holds, where it holds one.
+// The enum of a field, if it has one.
 fn enum_of(field: &Field) -> Option<u64> {
     match &field.slot {
         Slot::At(place) if place.of.lists == 0 => match place.of.base {
@@ -172,7 +172,8 @@ pub fn enum_uses(alloc: Global, site: Site<'_>) -> Result<Vec<String>, AllocErro
     Ok(sorted)
 }
 
-// Adds the line that brings an enum of this path into the module of a struct, with its place in the order.
+// Adds the line that brings an enum of this path into the module of a struct, at its place in the
+// order.
 fn push_use(
     alloc: Global,
     lines: &mut Vec<(String, String)>,
@@ -196,7 +197,7 @@ fn enum_use(alloc: Global, site: Site<'_>, node: &Node, path: &str) -> Result<St
     format!(in alloc; "use {path} as {name};")
 }
 
-// A text by which paths are in the order of `rt fmt`: those that lead further out are first.
+// A key that sorts paths as `rt fmt` does: those that lead further out come first.
 fn order_of(alloc: Global, path: &str) -> Result<String, AllocError> {
     let mut text = String::new(alloc);
     for part in path.split("::") {

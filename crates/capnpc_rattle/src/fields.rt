@@ -8,7 +8,8 @@ use crate::signatures::signature;
 use crate::templates::{GETTER, HAS, LEFT_OUT, VOID};
 use std::alloc::{AllocError, Global};
 
-/// Adds the getter of a field, of which the schema says this, and whether it is there where it is a pointer.
+/// Adds the getter of a field, with what the schema says of it, and for a pointer the method that
+/// returns whether it is there.
 pub fn push_field(
     alloc: Global,
     code: &mut Code,
@@ -41,7 +42,7 @@ pub fn push_field(
     push_has(alloc, code, site, field, name)
 }
 
-// Adds what the schema says of a field; where it says nothing, its name.
+// Adds what the schema says of a field; its name if that is nothing.
 fn push_comment(code: &mut Code, field: &Field, comment: &str) -> Result<(), AllocError> {
     if comment.is_empty() {
         code.add_with("/// The field `@name@`.", "name", field.name.as_str())
@@ -50,7 +51,7 @@ fn push_comment(code: &mut Code, field: &Field, comment: &str) -> Result<(), All
     }
 }
 
-// Adds whether a field is there, where it is a pointer.
+// Adds the method that returns whether a field is there, if it is a pointer.
 fn push_has(
     alloc: Global,
     code: &mut Code,
@@ -72,7 +73,7 @@ fn push_has(
     code.add(HAS, &holes)
 }
 
-// Whether a field is nothing.
+// Whether a field is of type `Void`.
 fn is_nothing(field: &Field) -> bool {
     match &field.slot {
         Slot::At(place) => place.of.lists == 0 && place.of.base == Base::Void,
@@ -80,7 +81,7 @@ fn is_nothing(field: &Field) -> bool {
     }
 }
 
-// Whether a pointer is at a place.
+// Whether there is a pointer at this place.
 fn is_pointer(place: &Place) -> bool {
     place.of.lists > 0 || (number_of(place.of.base).is_none() && place.of.base != Base::Void)
 }

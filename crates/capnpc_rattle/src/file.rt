@@ -12,7 +12,7 @@ use std::alloc::{AllocError, Global};
 // What is still to be written.
 #[derive(Clone, Copy)]
 enum Step {
-    // A node with all in it.
+    // A node with everything in it.
     Node(u64),
     // The end of a module.
     End,
@@ -46,8 +46,8 @@ pub fn code_of(alloc: Global, request: &Request, file: u64) -> Result<String, Al
     Ok(code.text)
 }
 
-// Adds the constants of a file or an interface, with what they import; what else is declared there is still
-// to be written.
+// Adds the constants of a file or an interface, with what they import; the other declarations there
+// are still to be written.
 fn push_declared(
     alloc: Global,
     code: &mut Code,
@@ -75,7 +75,7 @@ fn push_nested(steps: &mut Vec<Step>, node: &Node) -> Result<(), AllocError> {
     Ok(())
 }
 
-// Adds the groups of a struct so.
+// Adds the groups of a struct in the same way.
 fn push_groups(steps: &mut Vec<Step>, body: &Struct) -> Result<(), AllocError> {
     for field in body.fields.iter().rev() {
         if let Slot::Group(id) = field.slot {
@@ -85,8 +85,8 @@ fn push_groups(steps: &mut Vec<Step>, body: &Struct) -> Result<(), AllocError> {
     Ok(())
 }
 
-// Adds a node; what is declared in it is still to be written. Constants are with the node that declares
-// them.
+// Adds a node; what is declared in it is still to be written. Constants are written with the node
+// that declares them.
 fn push_node(
     alloc: Global,
     code: &mut Code,
@@ -111,7 +111,7 @@ fn push_node(
     }
 }
 
-// Says that an interface is left out, and opens its module where something is declared in it.
+// Says that an interface is left out, and opens its module if something is declared in it.
 fn push_interface(
     alloc: Global,
     code: &mut Code,

@@ -27,7 +27,7 @@ impl<'r> Site<'r> {
         }
     }
 
-    /// Where the number of its union is, where it has one.
+    /// Where the number of its union is, if it has one.
     pub fn discriminant(&self) -> Option<u32> {
         match &self.node.body {
             Body::Struct(body) => body.discriminant,
@@ -55,14 +55,14 @@ impl<'r> Site<'r> {
 pub struct Shown {
     /// The type, where `@borrow@` stands for the lifetime of a borrow of the reader.
     pub type_name: String,
-    /// What a clause says of it, where `@value@` stands for what is returned, and `fields` is the struct.
+    /// What a clause says of it: `@value@` stands for what is returned, and `fields` is the struct.
     pub fact: String,
     /// The code that returns it.
     pub body: String,
 }
 
 impl Shown {
-    /// What is so returned, unless memory lacks for a part of it.
+    /// What is returned, unless memory is lacking for a part of it.
     pub fn new(
         type_name: Result<String, AllocError>,
         fact: Result<String, AllocError>,
@@ -76,7 +76,7 @@ impl Shown {
     }
 }
 
-/// What the getter of a field returns; `None` for nothing, and for what is left out.
+/// What the getter of a field returns; `None` for `Void`, and for what is left out.
 pub fn shown_of(alloc: Global, site: Site<'_>, field: &Field) -> Result<Option<Shown>, AllocError> {
     match &field.slot {
         Slot::Group(id) => match site.request.find(*id) {

@@ -1,4 +1,4 @@
-//! What code imports: just the names that it has.
+//! What code imports: only the names that it uses.
 use crate::code::{Code, Holes};
 use std::alloc::{AllocError, Global};
 
@@ -105,7 +105,7 @@ const DEFINITIONS: &[(&str, &[&str])] = &[
 
 const PRIMITIVE_ELEMENT: &str = "capnp_wire::primitive_element::PrimitiveElement";
 
-/// What is imported where code has some text.
+/// What is imported if code contains a text.
 const ITEMS: &[(&str, &str)] = &[
     (" Result<", "capnp_frame::Result"),
     ("ReaderSegments", "capnp_frame::message::ReaderSegments"),
@@ -113,7 +113,8 @@ const ITEMS: &[(&str, &str)] = &[
     ("PrimitiveElement::", PRIMITIVE_ELEMENT),
 ];
 
-/// The modules of views, of which a module of a struct imports those that it names, with how they are named.
+/// The modules of views, from which a module of a struct imports those that it names, with how they
+/// are named.
 const VIEWS: &[(&str, &str)] = &[
     ("any_pointer", "any_pointer::"),
     ("text", "text::"),
@@ -177,7 +178,7 @@ fn push_cited(
     code.add("ghost use Rattle.@module@.{@names@};", &holes)
 }
 
-// The word by which a name is cited.
+// The word with which a name is cited.
 fn word_of<'a>(name: &'a str) -> &'a str {
     if name == "if◌then◌else◌" {
         return "then";
@@ -201,7 +202,7 @@ fn cites(text: &str, word: &str) -> bool {
     false
 }
 
-// Whether a letter is between words.
+// Whether a letter separates words.
 fn is_between(letter: char) -> bool {
     matches!(
         letter,
@@ -266,8 +267,8 @@ fn push_words(alloc: Global, lines: &mut Vec<String>, text: &str) -> Result<(), 
     Ok(())
 }
 
-// Adds the line that imports from a module those of some names that are named in the text, each as it is
-// named there.
+// Adds the line that imports from a module those of some names that occur in the text, each as it
+// is named there.
 fn push_group(
     alloc: Global,
     lines: &mut Vec<String>,
@@ -292,7 +293,7 @@ fn push_group(
     push_line(alloc, lines, path.as_str())
 }
 
-// Whether a path begins in the text that is no part of a longer one.
+// Whether the text contains a path that is no part of a longer one.
 fn is_named(text: &str, path: &str) -> bool {
     let mut before: Option<&str> = None;
     for part in text.split(path) {
@@ -306,7 +307,7 @@ fn is_named(text: &str, path: &str) -> bool {
     false
 }
 
-// Whether what follows a text is a part of the path at its end.
+// Whether what follows a text continues the path at its end.
 fn is_part(text: &str) -> bool {
     match text.chars().next_back() {
         Some(letter) => letter == ':' || letter == '_' || letter.is_ascii_alphanumeric(),

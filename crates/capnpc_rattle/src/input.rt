@@ -6,7 +6,8 @@ use capnp_wire::arena::ReaderArena;
 use std::alloc::Global;
 use std::io::Read;
 
-/// As much as the schema compiler sends: 64 MiB, and objects nested as deep as its own limit.
+/// The limits for what the schema compiler sends: 64 MiB, and objects nested as deep as its own
+/// limit.
 const OPTIONS: ReaderOptions = ReaderOptions {
     traversal_limit_in_words: Some(8388608),
     nesting_limit: 64,

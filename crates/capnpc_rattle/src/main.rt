@@ -1,10 +1,11 @@
-//! A plugin of the schema compiler: `capnp compile -o rattle` writes by it the types of a schema, with a
-//! contract at each getter that is proved when their user checks his crate.
+//! A plugin of the schema compiler: with it, `capnp compile -o rattle` writes the types of a
+//! schema, with a contract at each getter, which is proved when the user checks the crate.
 //!
-//! It reads a `CodeGeneratorRequest` from standard input, and writes `NAME_capnp.rt` for each file that is
-//! asked for, in the folder in which it runs, or in that of its first argument; to standard output where
-//! that is `-`. Nothing is written before all of it is made. Where its second argument is `readers`, or the
-//! environment has that as `CAPNPC_RATTLE`, it writes readers alone, and else builders, too.
+//! It reads a `CodeGeneratorRequest` from standard input, and writes `NAME_capnp.rt` for each file
+//! that is asked for, into the folder in which it runs, or into that of its first argument; to
+//! standard output if that is `-`. Nothing is written before everything is made. If its second
+//! argument is `readers`, or the environment has that as `CAPNPC_RATTLE`, it writes only readers,
+//! and else builders, too.
 #![tactic(auto)]
 
 mod builder_getters;
@@ -60,7 +61,7 @@ fn main(rt: HostRuntime) -> ExitCode {
     }
 }
 
-// Whether readers alone are asked for, by an argument or by the environment.
+// Whether only readers are asked for, by an argument or by the environment.
 fn is_for_readers(rt: &HostRuntime, words: &[String]) -> bool {
     if let Some(word) = words.get(2) {
         return word.as_str() == "readers";

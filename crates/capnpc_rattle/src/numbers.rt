@@ -17,7 +17,7 @@ pub struct Number {
     pub kind: NumberKind,
 }
 
-/// What the bits of a number say.
+/// The value of the bits of a number.
 #[derive(Clone, Copy, PartialEq, Eq)]
 pub enum NumberKind {
     Bool,
@@ -26,7 +26,7 @@ pub enum NumberKind {
     Float,
 }
 
-/// The number that a type is; an enum is a `u16`, and `None` stands for what is no number.
+/// The number type that a type has; an enum is a `u16`. `None` for other types.
 pub fn number_of(base: Base) -> Option<Number> {
     let (type_name, width, code, kind) = match base {
         Base::Bool => ("bool", 1, 1, NumberKind::Bool),
@@ -59,7 +59,7 @@ pub struct Stored {
 }
 
 impl Stored {
-    /// What a clause says of its value: what its bits say, each changed where the default has a one.
+    /// What a clause says of its value: the value of its bits, XORed with those of the default.
     pub fn clause(&self, alloc: Global) -> Result<String, AllocError> {
         let width = self.number.width;
         let offset = self.offset;
@@ -95,7 +95,7 @@ impl Stored {
         format!(in alloc; "self.fields.get_data_field_mask({offset}, {default})")
     }
 
-    // The code that reads a float that has a default, by its bits, since a default may be no number.
+    // The code that reads a float that has a default, by its bits, since a default may be a NaN.
     fn float_call(&self, alloc: Global) -> Result<String, AllocError> {
         let (bits, all) = if self.number.width == 32 {
             ("u32", "bits as u64")

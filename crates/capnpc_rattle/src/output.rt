@@ -32,14 +32,14 @@ pub fn outputs_of(alloc: Global, request: &Request) -> Result<Vec<Output>> {
     Ok(outputs)
 }
 
-// The name of the file that is written of a schema.
+// The name of the file that is written for a schema.
 fn output_name(alloc: Global, schema: &str) -> Result<String, AllocError> {
     let module = file_module(alloc, schema)?;
     let module = module.as_str();
     format!(in alloc; "{module}.rt")
 }
 
-// Rejects the name of a file that is written already.
+// Fails for the name of a file that is written already.
 fn expect_new(outputs: &[Output], name: &str) -> Result<()> {
     for output in outputs {
         if output.name.as_str() == name {

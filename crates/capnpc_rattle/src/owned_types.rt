@@ -5,8 +5,8 @@ use crate::paths::path_to;
 use crate::schema::{Base, Type};
 use std::alloc::{AllocError, Global};
 
-/// The type of the orphans that a pointer of this type may lead to, as the module of a site names it. It is
-/// not asked of interfaces, which have no setters.
+/// The type of the orphans that a pointer of this type may lead to, as the module of a site names
+/// it. It is not called for interfaces, which have no setters.
 pub fn owned_type(alloc: Global, site: Site<'_>, of: Type) -> Result<String, AllocError> {
     let inner = inner_type(alloc, site, of)?;
     let count = pointer_lists(of);
@@ -48,7 +48,7 @@ fn inner_type(alloc: Global, site: Site<'_>, of: Type) -> Result<String, AllocEr
     }
 }
 
-// The type of a list of numbers, of bools or of nothing.
+// The type of a list of numbers, of bools or of `Void`.
 fn number_list(alloc: Global, base: Base) -> Result<String, AllocError> {
     let element = match number_of(base) {
         Some(number) => number.type_name,

@@ -1,13 +1,13 @@
-//! The struct whose fields the fields of groups are.
+//! The struct to which the fields of groups belong.
 use crate::getters::Site;
 use crate::names::snake;
 use crate::schema::{Body, Field, Node, Slot, Struct};
 use std::alloc::{AllocError, Global};
 
-/// As deep as groups may be in one another.
+/// The most groups that may be nested.
 const MAX_DEPTH: u32 = 64;
 
-/// The struct that the fields of a site are fields of, as the site's setters name it.
+/// The struct to which the fields of a site belong, as the site's setters name it.
 #[derive(Drop)]
 pub struct Owner<'r> {
     pub node: &'r Node,
@@ -16,13 +16,14 @@ pub struct Owner<'r> {
     pub groups: String,
     /// The same as a part of a setter's name, each with a `_` after it.
     pub prefix: String,
-    /// The way from the site's module to the struct's.
+    /// The path from the site's module to the struct's.
     pub path: String,
-    /// Of each union on the way whose member the next group is: where its number is, and the number.
+    /// For each union on the way of which the next group is a member: where its number is, and the
+    /// number.
     pub tags: Vec<(u32, u16)>,
 }
 
-/// The struct that the fields of a site are fields of.
+/// The struct to which the fields of a site belong.
 pub fn owner_of<'r>(alloc: Global, site: Site<'r>) -> Result<Option<Owner<'r>>, AllocError> {
     let mut node = site.node;
     let mut names: Vec<String> = Vec::new(alloc);
@@ -112,7 +113,7 @@ fn prefix_of(alloc: Global, names: &[String]) -> Result<String, AllocError> {
     Ok(prefix)
 }
 
-// The way out of the modules of as many groups.
+// The path out of the modules of this many groups.
 fn path_out(alloc: Global, count: usize) -> Result<String, AllocError> {
     "super::".repeat(alloc, count)
 }

@@ -1,9 +1,9 @@
-//! Paths from the module of one node to what another declares. Files are beside one another.
+//! Paths from the module of one node to what another declares. The files are next to one another.
 use crate::names::{enum_type, file_module, module};
 use crate::schema::{Body, Request};
 use std::alloc::{AllocError, Global};
 
-/// As deep as declarations may be nested; the schema compiler takes no deeper ones.
+/// The most declarations that may be nested; the schema compiler accepts no more.
 const MAX_DEPTH: u32 = 64;
 
 /// The path to the module of a struct, or to the enum, that a node declares, as it is written in the
@@ -18,7 +18,7 @@ pub fn path_to(alloc: Global, request: &Request, site: u64, id: u64) -> Result<S
     path_within(alloc, from.names.as_slice(), to.names.as_slice())
 }
 
-// The path out of as many modules, and out of their file, into another file.
+// The path out of this many modules, and out of their file, into another file.
 fn path_into(
     alloc: Global,
     depth: usize,
@@ -74,7 +74,7 @@ fn chain_of(alloc: Global, request: &Request, id: u64) -> Result<Chain, AllocErr
     Ok(Chain { file, names })
 }
 
-// How many names two chains share in front, but for the last one of the second.
+// How many names two chains share at the front, without the last one of the second.
 fn shared_len(from: &[String], to: &[String]) -> usize {
     let mut shared: usize = 0;
     for (one, other) in from.iter().zip(to) {
@@ -86,7 +86,7 @@ fn shared_len(from: &[String], to: &[String]) -> usize {
     shared
 }
 
-// Adds the way out of a given number of modules.
+// Adds the path out of this many modules.
 fn push_supers(text: &mut String, count: usize) -> Result<(), AllocError> {
     for _ in 0..count {
         text.push_str("super::")?;

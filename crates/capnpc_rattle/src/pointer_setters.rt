@@ -9,7 +9,7 @@ use crate::set_words::{words_clause, words_with};
 use crate::setters::{code_of, field_name, push_comment, tags_of};
 use std::alloc::{AllocError, Global};
 
-/// Adds the setter of a pointer, but of interfaces.
+/// Adds the setter of a pointer, except for interfaces.
 pub fn push_pointer_setter(
     alloc: Global,
     code: &mut Code,
@@ -37,7 +37,8 @@ pub fn push_pointer_setter(
     code.add(POINTER_SETTER, &with_type(alloc, holes, site, place.of))
 }
 
-// With the type of what a pointer is set to. Where it may be any, it is a parameter of the setter.
+// With the type of what a pointer is set to. If that may be any type, it is a parameter of the
+// setter.
 fn with_type(alloc: Global, holes: Holes, site: Site<'_>, of: Type) -> Holes {
     if of.lists == 0 && of.base == Base::AnyPointer {
         return holes.with("generic", "<T>").with("owned", "T");

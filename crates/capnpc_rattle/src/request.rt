@@ -1,5 +1,5 @@
-//! The request that the schema compiler hands to its plugins, read by the types that this compiler has made
-//! of `schema.capnp`.
+//! The request that the schema compiler hands to its plugins, read with the types that this
+//! compiler has made from `schema.capnp`.
 use crate::schema::{Body, Field, Node, Place, Request, RequestedFile, Slot, Struct};
 use crate::types::{read_type, read_value};
 use anyhow::{Result, bail};
@@ -9,7 +9,7 @@ use capnp_wire::text;
 use std::alloc::Global;
 use std::str::from_utf8;
 
-/// The request at the root of a message, of which builders are written, too, or readers alone.
+/// The request at the root of a message, for builders and readers, or for readers only.
 pub fn read_request<S: ReaderSegments>(
     alloc: Global,
     root: &code_generator_request::Reader<'_, S>,
@@ -39,7 +39,7 @@ fn read_nodes<S: ReaderSegments>(
     Ok(nodes)
 }
 
-// The files that code is asked for.
+// The files for which code is asked for.
 fn read_files<S: ReaderSegments>(
     alloc: Global,
     root: &code_generator_request::Reader<'_, S>,
@@ -64,7 +64,7 @@ pub fn read_text(alloc: Global, text: text::Reader<'_>) -> Result<String> {
     }
 }
 
-// A node, without the comments, which are elsewhere in the request.
+// A node, without its comments, which are elsewhere in the request.
 fn read_node<S: ReaderSegments>(alloc: Global, read: &node::Reader<'_, S>) -> Result<Node> {
     let name = read_name(alloc, read)?;
     let nested = read_nested(alloc, read)?;
@@ -80,7 +80,7 @@ fn read_node<S: ReaderSegments>(alloc: Global, read: &node::Reader<'_, S>) -> Re
     })
 }
 
-// The name of a node in what it is declared in.
+// The name of a node within the node in which it is declared.
 fn read_name<S: ReaderSegments>(alloc: Global, read: &node::Reader<'_, S>) -> Result<String> {
     let shown = read_text(alloc, read.get_display_name()?)?;
     let shown = shown.as_str();
@@ -166,7 +166,7 @@ fn read_field<S: ReaderSegments>(alloc: Global, read: &field::Reader<'_, S>) -> 
     })
 }
 
-// Where a field is.
+// Where a field is in its struct.
 fn read_slot<S: ReaderSegments>(alloc: Global, read: &field::Reader<'_, S>) -> Result<Slot> {
     match read.which() {
         field::Which::Slot(slot) => Ok(Slot::At(Place {
@@ -179,7 +179,7 @@ fn read_slot<S: ReaderSegments>(alloc: Global, read: &field::Reader<'_, S>) -> R
     }
 }
 
-// Adds the comments to the nodes that they are at.
+// Adds the comments to their nodes.
 fn add_comments<S: ReaderSegments>(
     alloc: Global,
     root: &code_generator_request::Reader<'_, S>,

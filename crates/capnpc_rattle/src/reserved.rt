@@ -1,4 +1,4 @@
-//! Names that a schema may have, and that its code can't: a `_` is added to these.
+//! Names that a schema may have, but its code may not: a `_` is added to these.
 use crate::imports::is_definition;
 
 /// Words that are no names of modules: those of the language, crates that the code names, and what the
@@ -76,8 +76,8 @@ const MODULES: &[&str] = &[
     "yield",
 ];
 
-/// Words that are no names of enums: what the module of a struct has, what the code calls by its name alone,
-/// and words of clauses.
+/// Words that are no names of enums: names in the module of a struct, names that the code uses
+/// without a path, and words of clauses.
 const ENUMS: &[&str] = &[
     "Builder",
     "Clone",

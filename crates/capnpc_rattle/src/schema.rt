@@ -1,5 +1,5 @@
-//! A schema, as a request to generate code has it (`schema.capnp` of Cap'n Proto): what the compiler
-//! needs of it.
+//! A schema, as a request to generate code has it (`schema.capnp` of Cap'n Proto), as far as the
+//! compiler needs it.
 
 /// A declaration.
 #[derive(Drop)]
@@ -9,7 +9,7 @@ pub struct Node {
     pub scope: u64,
     /// The name within that node.
     pub name: String,
-    /// The comment that is at it; empty where there is none.
+    /// Its comment; empty if it has none.
     pub comment: String,
     /// The comments of its fields or enumerants, in the order of these.
     pub member_comments: Vec<String>,
@@ -35,8 +35,8 @@ pub enum Body {
 #[derive(Drop)]
 pub struct Struct {
     pub is_group: bool,
-    /// Where the number is that says which member of the union is there, in units of two bytes; none
-    /// where there is no union.
+    /// Where the number is that says which member of the union is set, in units of two bytes; none
+    /// if there is no union.
     pub discriminant: Option<u32>,
     /// How many words its data section has.
     pub data_words: u32,
@@ -49,12 +49,12 @@ pub struct Struct {
 #[derive(Drop)]
 pub struct Field {
     pub name: String,
-    /// Its number among the members of the union, where it is one.
+    /// Its number among the members of the union, if it is one.
     pub member: Option<u16>,
     pub slot: Slot,
 }
 
-/// Where a field is.
+/// Where a field is in its struct.
 #[derive(Drop)]
 pub enum Slot {
     At(Place),
@@ -73,7 +73,8 @@ pub struct Place {
     pub default: Value,
 }
 
-/// A type: what the elements are of lists of lists, to a given depth.
+/// A type: for lists of lists, the type of the innermost elements, and how deep the lists are
+/// nested.
 #[derive(Clone, Copy)]
 pub struct Type {
     /// How many lists there are around the base; 0 for the base itself.
@@ -110,18 +111,18 @@ pub enum Base {
 /// A value of a constant or of a default.
 #[derive(Drop)]
 pub enum Value {
-    /// The bits of a number, a bool or an enum; 0 for nothing.
+    /// The bits of a number, a bool or an enum; 0 for `Void`.
     Bits(u64),
     Text(String),
     Data(Vec<u8>),
     /// A null pointer.
     Null,
-    /// A list, a struct or any pointer that is not null: the words of a message of one segment with it as
-    /// the root.
+    /// A list, a struct or any pointer that is not null, as the words of a message of one segment
+    /// whose root it is.
     Object(Vec<u8>),
 }
 
-/// A file that code is asked for.
+/// A file for which code is asked for.
 #[derive(Drop)]
 pub struct RequestedFile {
     pub id: u64,
@@ -133,7 +134,7 @@ pub struct RequestedFile {
 pub struct Request {
     pub nodes: Vec<Node>,
     pub files: Vec<RequestedFile>,
-    /// Whether builders are written, beside readers.
+    /// Whether builders are written, too.
     pub has_builders: bool,
 }
 

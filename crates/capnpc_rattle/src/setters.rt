@@ -11,7 +11,7 @@ use crate::set_words::{number_clause, words_clause, words_with};
 use std::alloc::{AllocError, Global};
 use std::fmt::Write;
 
-/// Whether a field is in the data section, or is nothing.
+/// Whether a field is in the data section, or of type `Void`.
 pub fn is_data(field: &Field) -> bool {
     match &field.slot {
         Slot::At(place) => {
@@ -22,7 +22,8 @@ pub fn is_data(field: &Field) -> bool {
     }
 }
 
-/// Whether a field has a setter: not nothing that is no member of a union, and no interface.
+/// Whether a field has a setter: an interface has none, nor has `Void` that is no member of a
+/// union.
 pub fn has_setter(owner: &Owner<'_>, site: Site<'_>, field: &Field) -> bool {
     let Slot::At(place) = &field.slot else {
         return false;
@@ -49,7 +50,7 @@ pub fn tags_of(
     Ok(tags)
 }
 
-/// The code that sets these numbers, a line for each, and then a field by this call.
+/// The code that sets these numbers, a line for each, and then sets a field with this call.
 pub fn code_of(alloc: Global, tags: &[(u32, u16)], call: &str) -> Result<String, AllocError> {
     let mut text = String::new(alloc);
     for (offset, number) in tags {
@@ -68,7 +69,7 @@ pub fn code_of(alloc: Global, tags: &[(u32, u16)], call: &str) -> Result<String,
     Ok(text)
 }
 
-/// Adds what the schema says of a field that is set; where it says nothing, its name.
+/// Adds what the schema says of a field that is set; its name if that is nothing.
 pub fn push_comment(code: &mut Code, field: &Field, comment: &str) -> Result<(), AllocError> {
     if !code.text.is_empty() {
         code.add_gap()?;
@@ -88,7 +89,7 @@ pub fn field_name(alloc: Global, owner: &Owner<'_>, field: &Field) -> Result<Str
     Ok(name)
 }
 
-/// Adds the setter of a field in the data section; of nothing, where a union says that it is there.
+/// Adds the setter of a field in the data section; of `Void`, if it is a member of a union.
 pub fn push_data_setter(
     alloc: Global,
     code: &mut Code,
@@ -120,7 +121,7 @@ pub fn push_data_setter(
     }
 }
 
-// Adds the setter of nothing, by which a union has it as its member.
+// Adds the setter of `Void` that is a member of a union.
 fn push_void_setter(
     alloc: Global,
     code: &mut Code,
@@ -190,7 +191,7 @@ fn call_of(alloc: Global, number: Number, place: &Place) -> Result<String, Alloc
     format!(in alloc; "self.draft.set_data_field_mask({offset}, {value}, {default});")
 }
 
-// The call that sets a float that has a default, by its bits, since a default may be no number.
+// The call that sets a float that has a default, by its bits, since a default may be a NaN.
 fn float_call(
     alloc: Global,
     number: Number,

@@ -2,7 +2,7 @@
 use std::alloc::{AllocError, Global};
 use std::fmt::Write;
 
-/// As wide as a line may be, where it can be broken.
+/// The most columns of a line that can be broken.
 pub const WIDTH: usize = 100;
 
 /// The head of a getter with this parameter, at some depth of modules: on one line, or broken as `rt fmt`
@@ -23,7 +23,7 @@ pub fn signature(
     Ok(head)
 }
 
-// Whether a line of this width is narrow enough at some depth.
+// Whether a line of this width is narrow enough at this depth.
 fn fits(depth: usize, width: usize) -> bool {
     depth.saturating_mul(4).saturating_add(width) <= WIDTH
 }

@@ -13,7 +13,7 @@ use crate::templates::{FROM_POINTER, GROUP_IMPL, GROUP_READER, READER, READER_IM
 use crate::unions::{Members, push_members, push_which};
 use std::alloc::{AllocError, Global};
 
-/// Opens the module of a struct, or of a group, and adds all of it but the modules in it.
+/// Opens the module of a struct, or of a group, and adds everything except the modules in it.
 pub fn push_struct(
     alloc: Global,
     code: &mut Code,

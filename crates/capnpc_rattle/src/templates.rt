@@ -1,6 +1,6 @@
-//! The code that is written of structs, groups and enums, with `@name@` for what differs.
+//! Templates of the code of structs, groups and enums, with `@name@` for what differs.
 
-/// What is at the head of each file.
+/// The head of each file.
 pub const FILE: &str =
     "//! Types of `@file@`, made by `capnpc-rattle`: change that file, and make them again.
 ";
@@ -21,7 +21,7 @@ pub struct Reader<'a, S: ReaderSegments> {
 }
 ";
 
-/// What is before the getters of a struct.
+/// What comes before the getters of a struct.
 pub const READER_IMPL: &str = "
 impl<'a, S: ReaderSegments> Reader<'a, S> {
 ";
@@ -35,7 +35,7 @@ pub struct Reader<'b, 'a, S: ReaderSegments> {
 }
 ";
 
-/// What is before the getters of a group.
+/// What comes before the getters of a group.
 pub const GROUP_IMPL: &str = "
 impl<'b, 'a, S: ReaderSegments> Reader<'b, 'a, S> {
 ";
@@ -124,7 +124,7 @@ pub const GETTER: &str = "@signature@
 }
 ";
 
-/// The getter of nothing.
+/// The getter of `Void`.
 pub const VOID: &str = "pub fn get_@name@(&self) {}
 ";
 
@@ -150,7 +150,7 @@ pub const DEFAULT_FACT: &str = "let pointer = pointer_in fields @offset@ in
 × (Denotes pointer nothing → (let pointer = root_of @default@ in
 @fact@))";
 
-/// What it says where a view is bound to the segments that it reads.
+/// The same for a view that is bound to the segments that it reads.
 pub const OR_DEFAULT_FACT: &str = "let pointer = pointer_in fields @offset@ in
 elim @value@ [
   | OrDefault.Stored view ↦ (Denotes pointer nothing → ⊥) ×
@@ -172,7 +172,7 @@ if pointer.is_null() {
     FromPointerReader::get_from_pointer(pointer)
 }";
 
-/// How it is read where a view is bound to the segments that it reads.
+/// How a view is read that is bound to the segments that it reads.
 pub const OR_DEFAULT_BODY: &str = "let pointer = self.fields.get_pointer(@offset@);
 if pointer.is_null() {
     OrDefault::Default(get_@name@_default())
@@ -204,7 +204,7 @@ pub const ANY_POINTER_FACT: &str = "pointer_of S.segments @value@ ≡ pointer_in
 /// How a pointer is read that may lead to anything.
 pub const ANY_POINTER_BODY: &str = "self.fields.get_pointer(@offset@)";
 
-/// How a float is read that has a default, by its bits, since a default may be no number.
+/// How a float is read that has a default, by its bits, since a default may be a NaN.
 pub const FLOAT_BODY: &str =
     "let bits: @bits@ = self.fields.get_data_field_mask(@offset@, @default@);
 PrimitiveElement::from_bits(@all@)";
@@ -254,7 +254,7 @@ impl @type@ {
 }
 ";
 
-/// Which member of a union is there.
+/// Which member of a union is set.
 pub const WHICH: &str = "
 /// Which member of the union is there, and its value.
 pub fn which(&self) -> Which@arguments@
@@ -274,7 +274,7 @@ pub fn which(&self) -> Which@arguments@
 pub const CASE: &str = "  | Which.@variant@ value ↦ (number ≡ @number@) × (@fact@)
 ";
 
-/// That case where the fact has some lines.
+/// The same case for a fact of several lines.
 pub const LONG_CASE: &str = "  | Which.@variant@ value ↦ (number ≡ @number@) ×
       (@fact@)
 ";

@@ -19,7 +19,7 @@ use std::num::{f32_to_bits_with_nan, f64_to_bits_with_nan};
 /// How many lists of lists a type may have.
 const MAX_LISTS: u32 = 64;
 
-/// A type. Of a list the type of its elements is read, and the list is counted.
+/// A type. For a list the type of its elements is read, and the list is counted.
 pub fn read_type<S: ReaderSegments>(read: &type_::Reader<'_, S>) -> Result<Type> {
     let Some(mut element) = element_of(read)? else {
         return Ok(Type {
@@ -107,7 +107,7 @@ pub fn read_value<S: ReaderSegments>(alloc: Global, read: &value::Reader<'_, S>)
     })
 }
 
-// What a pointer leads to: the bytes of a message of one segment with it as the root.
+// What a pointer leads to: the bytes of a message of one segment whose root it is.
 fn read_object<S: ReaderSegments>(
     alloc: Global,
     pointer: &any_pointer::Reader<'_, S>,
@@ -123,8 +123,8 @@ fn read_object<S: ReaderSegments>(
     Ok(Value::Object(bytes))
 }
 
-// Writes what a pointer leads to into zeros of just its words, and returns the pointer to it, which is
-// just before these.
+// Writes what a pointer leads to into zeros of exactly its words, and returns the pointer to it
+// from just before these.
 fn write_object<S: ReaderSegments>(pointer: &any_pointer::Reader<'_, S>, block: &mut [u8]) -> u64
     requires words { (words : ℕ)
         × HasWords (LeadsToTree (pointer_of S.segments pointer.now)) false words

@@ -1,4 +1,4 @@
-//! Unions: which member is there, as an enum.
+//! Unions: which member is set, as an enum.
 use crate::code::{Code, Holes, fill_with};
 use crate::getters::{Shown, Site};
 use crate::names::{snake, variant};
@@ -128,7 +128,7 @@ fn push_parameter(text: &mut String, parameter: &str) -> Result<(), AllocError> 
     text.push_str(parameter)
 }
 
-/// Adds the method that says which member is there, of the union whose number is at this offset.
+/// Adds the method that returns which member is set, for the union whose number is at this offset.
 pub fn push_which(
     alloc: Global,
     code: &mut Code,

@@ -23,7 +23,7 @@ pub const MESSAGE: Lender = Lender {
     segments_of: "S.segments",
 };
 
-/// A constant or a default, where `@size@` stands for the number of its bytes.
+/// A constant or a default; `@size@` stands for the number of its bytes.
 pub const CONSTANT: Lender = Lender {
     lifetime: "'static",
     segments: "Words<@size@>",
@@ -37,14 +37,14 @@ pub struct View {
     pub type_name: String,
     /// What it shows of a pointer.
     pub shows: String,
-    /// Which forms it takes.
+    /// Which forms it accepts.
     pub takes: String,
     /// How it declines the others.
     pub declines: String,
 }
 
 impl View {
-    // A view by its parts, unless memory lacks for one of them.
+    // A view by its parts, unless memory is lacking for one of them.
     fn new(
         type_name: Result<String, AllocError>,
         shows: Result<String, AllocError>,
