@@ -34,6 +34,7 @@ mod words;
 use crate::files::show_files;
 use crate::refusals::unwritten_line;
 use capnp::devices::Output;
+use clap::ArgMatches;
 use std::env;
 use std::process::ExitCode;
 
@@ -47,14 +48,19 @@ fn main(rt: HostRuntime) -> anyhow::Result<ExitCode> {
         }
     };
     let command = arguments::command(alloc)?;
-    let matches = match command.try_get_matches_from(words.as_slice()) {
-        Ok(matches) => matches,
+    match command.try_get_matches_from(words.as_slice()) {
+        Ok(matches) => show(rt, &matches),
         Err(error) => {
             error.print(&rt)?;
-            return Ok(exit_code(error.exit_code() == 0, 2));
+            Ok(exit_code(error.exit_code() == 0, 2))
         }
-    };
-    let settings = arguments::settings_of(&matches);
+    }
+}
+
+// Shows the files that the arguments name, as they ask for it.
+fn show(rt: HostRuntime, matches: &ArgMatches<'_>) -> anyhow::Result<ExitCode> {
+    let alloc = rt.alloc();
+    let settings = arguments::settings_of(matches);
     let names = matches.get_strs("FILE").unwrap_or_default();
     let mut sink = Output::new(alloc, 0, rt.stdout())?;
     match show_files(rt, settings, names, &mut sink) {

@@ -1,8 +1,8 @@
 //! The messages of an input, shown one by one.
-ghost use Rattle.std.specs.Prelude.{◌≡◌, None, IfOk, IfSome, OnOk};
+ghost use Rattle.std.specs.Prelude.{◌≡◌, ◌-◌, ◌^◌, None, IfOk, IfSome, OnOk, length, min, take};
 ghost use Rattle.std.specs.List.{AllByRecursion};
 ghost use Rattle.capnp_frame.specs.Limits.{IsWithin};
-ghost use Rattle.capnp_frame.specs.Message.{IsWholeWords};
+ghost use Rattle.capnp_frame.specs.Message.{IsWholeWords, size_in_words};
 ghost use Rattle.capnp_frame.specs.Sink.{Adds};
 ghost use Rattle.capnp_frame.specs.Source.{IfKnown};
 ghost use Rattle.capnp_frame.specs.Streams.{ReadsStream, next_in};
@@ -139,6 +139,21 @@ fn next_message<R: BufRead>(
 fn listed<S: ReaderSegments>(index: u64, offset: u64, bytes: u64, segments: &S) -> Listed
     ensures { Lists index offset bytes (S.segments segments.now) result }
 {
+    let (segments, words) = segments_and_words(segments);
+    Listed {
+        index,
+        offset,
+        bytes,
+        segments,
+        words,
+    }
+}
+
+// How many segments a message has, 512 at most, and the words of these.
+fn segments_and_words<S: ReaderSegments>(segments: &S) -> (u64, u64)
+    ensures segments { result.0 ≡ min (length (S.segments segments.now)) 512 }
+    ensures words { result.1 ≡ min (size_in_words (take 512 (S.segments segments.now))) (2 ^ 64 - 1) }
+{
     let mut count: u64 = 0;
     let mut words: u64 = 0;
     for id in 0..512 {
@@ -148,11 +163,5 @@ fn listed<S: ReaderSegments>(index: u64, offset: u64, bytes: u64, segments: &S) 
         count = count.saturating_add(1);
         words = words.saturating_add((segment.len() / 8) as u64);
     }
-    Listed {
-        index,
-        offset,
-        bytes,
-        segments: count,
-        words,
-    }
+    (count, words)
 }

@@ -1,7 +1,7 @@
 -- So far as many segments are counted as are gone over, and their words.
 use Rattle.std.proofs.Common.{◌≡◌, ◌≤◌, ◌-◌, ◌^◌, length, min, take}
 use Rattle.capnp_frame.specs.Message.{size_in_words}
-use Rattle.capnp_show.proofs.messages.listed.Given as goal
+use Rattle.capnp_show.proofs.messages.segments_and_words.Given as goal
 
 abbrev pub invariant-loop-id : goal.invariant-loop-id
 invariant-loop-id g l = (l.count ≡ l.id) × (l.id ≤ length (g.S.ReaderSegments.segments l.fn.segments))

@@ -1,9 +1,9 @@
 -- The next segment counts one more, and its words; where none follows, or 512 are counted, the others are not listed.
-use Rattle.std.proofs.Common.{◌≡◌, ◌<◌, ◌≤◌, ◌-◌, ◌^◌, ℕ, List, None, Some, inl, inr, length, slice_get, take, min, refl, sym, ap, subst, ◌∙◌, arith, take_all}
+use Rattle.std.proofs.Common.{◌≡◌, ◌<◌, ◌≤◌, ◌-◌, ◌^◌, ℕ, List, None, Some, inl, inr, length, slice_get, take, min, sym, ap, subst, ◌∙◌, arith, take_all}
 use Rattle.std.proofs.lemmas.Option.{slice_get_within, slice_get_cases, none-some}
 use Rattle.capnp_frame.specs.Message.{size_in_words}
 use Rattle.capnp_wire.proofs.objects.FieldLemmas.{size_next}
-use Rattle.capnp_show.proofs.messages.listed.Goals as goal
+use Rattle.capnp_show.proofs.messages.segments_and_words.Goals as goal
 
 none_follows : (segments : List (List ℕ)) (i : ℕ) → None ≡ slice_get segments i → length segments ≤ i
 none_follows segments i none =
@@ -27,26 +27,26 @@ loop-id-preserved g c =
       omega (arith, c.loop-id-test.true),
     )
 
-pub returns-in_default : goal.returns-in_default
-returns-in_default g c =
-    let segments = g.S.ReaderSegments.segments c.args.segments.now in
-    let past = none_follows segments c.loop-id.id c.in_default.ensures in
-    let before = c.loop-id.invariant in record {
-      index = refl;
-      offset = refl;
-      bytes = refl;
-      segments = omega (arith, before.0, before.1, before.3, past);
-      words = all_gone segments c.loop-id.id _ past before.3 before.2;
-    }
+pub returns-in_default-clause-segments : goal.returns-in_default-clause-segments
+returns-in_default-clause-segments g c =
+    let before = c.loop-id.invariant in
+    let past = none_follows (g.S.ReaderSegments.segments c.args.segments.now) c.loop-id.id c.in_default.ensures in
+    omega (arith, before.0, before.1, before.3, past)
 
-pub returns-after-loop-id : goal.returns-after-loop-id
-returns-after-loop-id g c =
+pub returns-in_default-clause-words : goal.returns-in_default-clause-words
+returns-in_default-clause-words g c =
     let segments = g.S.ReaderSegments.segments c.args.segments.now in
     let before = c.loop-id.invariant in
-    let all : c.loop-id.id ≡ 512 = omega (arith, before.3, c.loop-id-test.false) in record {
-      index = refl;
-      offset = refl;
-      bytes = refl;
-      segments = omega (arith, before.0, before.1, all);
-      words = subst (λ (n : ℕ). c.loop-id.words ≡ min (size_in_words (take n segments)) (2 ^ 64 - 1)) all before.2;
-    }
+    all_gone segments c.loop-id.id _ (none_follows segments c.loop-id.id c.in_default.ensures) before.3 before.2
+
+pub returns-after-loop-id-clause-segments : goal.returns-after-loop-id-clause-segments
+returns-after-loop-id-clause-segments g c =
+    let before = c.loop-id.invariant in
+    omega (arith, before.0, before.1, before.3, c.loop-id-test.false)
+
+pub returns-after-loop-id-clause-words : goal.returns-after-loop-id-clause-words
+returns-after-loop-id-clause-words g c =
+    let segments = g.S.ReaderSegments.segments c.args.segments.now in
+    let before = c.loop-id.invariant in
+    let all : c.loop-id.id ≡ 512 = omega (arith, before.3, c.loop-id-test.false) in
+    subst (λ (n : ℕ). c.loop-id.words ≡ min (size_in_words (take n segments)) (2 ^ 64 - 1)) all before.2
