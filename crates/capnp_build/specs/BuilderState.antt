@@ -70,4 +70,4 @@ pub record IsAppendedAt {A : Type 0} (has_tree : Trees → Type 0) (canonical : 
   pub block : List ℕ
   pub len : length block ≡ 8 * words
   pub holds : IsBlockOf has_tree canonical word block
-  pub children : new ≡ with_space old index (with_more (space_at old.spaces index) block)
+  pub state_is : new ≡ with_space old index (with_more (space_at old.spaces index) block)

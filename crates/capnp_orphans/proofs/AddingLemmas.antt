@@ -65,7 +65,7 @@ adds_one holds words old new word number object is appends same = record {
 pub appended : (holds : List ℕ → List ℕ → ℕ → Type 0) (words : ℕ) (old new : Segment) (block : List ℕ) (word : ℕ) → IsSegment old → new.bytes ≡ old.bytes ++ block → length block ≡ 8 * words
     → new.most ≡ old.most → ¬ (ExceedsMost words old) → old.capacity ≤ new.capacity → length new.bytes ≤ new.capacity
     → ((body : List ℕ) → length old.bytes / 8 ≡ 1 + length body → holds body (body ++ words_of block) word) → AppendsObject holds words old new (Ok word)
-appended holds words old new block word is bytes_are len most room memory children h = record {
+appended holds words old new block word is bytes_are len most room memory fits h = record {
   appended = record { block = block; len = len; bytes_are = bytes_are; body_is = body_after old block new.bytes is bytes_are };
   holds_is = subst (λ (l : List ℕ). holds (body_of old) l word) (sym (body_after old block new.bytes is bytes_are)) (h (body_of old) (length-body_of old is));
   unchanged = tt;
@@ -74,18 +74,18 @@ appended holds words old new block word is bytes_are len most room memory childr
   lacks = room;
   most = most;
   memory = memory;
-  children = children;
+  within_memory = fits;
 }
 
 -- over the bytes after the used ones
 pub over_appended : (holds : List ℕ → List ℕ → ℕ → Type 0) (words used : ℕ) (old new : Segment) (bytes over : List ℕ) (word : ℕ) → IsSegment old → take used bytes ≡ old.bytes → used ≤ length bytes
     → IsWrittenOver used words holds word bytes over → new.bytes ≡ take (used + 8 * words) over → new.most ≡ old.most → ¬ (ExceedsMost words old) → old.capacity ≤ new.capacity
     → length bytes ≤ new.capacity → AppendsObject holds words old new (Ok word)
-over_appended holds words used old new bytes over word is old_is within written new_is most room memory children =
+over_appended holds words used old new bytes over word is old_is within written new_is most room memory fits =
     let used_long : length old.bytes ≡ used = omega (arith, ap (λ (l : List ℕ). length l) old_is, length-take used bytes, within) in
     let whole : new.bytes ≡ old.bytes ++ written.block = new_is ∙ written.bytes_are ∙ ap (λ (l : List ℕ). l ++ written.block) old_is in
     let short : length new.bytes ≤ length bytes = omega (arith, ap (λ (l : List ℕ). length l) new_is, length-take (used + 8 * words) over, written.len) in
-    appended holds words old new written.block word is whole written.block_long most room memory (omega (arith, short, children))
+    appended holds words old new written.block word is whole written.block_long most room memory (omega (arith, short, fits))
     (λ body start. written.holds_is body (ap (λ (n : ℕ). n / 8) (sym used_long) ∙ start))
 
 -- a region of which the first bytes are used
@@ -123,11 +123,11 @@ heap_appended holds words used size capacity more old bytes longer seen new word
 pub adds_root : (takes : ℕ → Type 0) (holds : List ℕ → ℕ → Type 0) (old between new : Segment) (word : ℕ) → Keeps old between → holds (body_of between) word
     → ((words : ℕ) × takes words × Appends words old between) → between.most ≡ old.most → old.capacity ≤ between.capacity → length between.bytes ≤ between.capacity → SetsRoot word between new
     → AddsRoot takes holds old new (Ok tt)
-adds_root takes holds old between new word keeps children long most memory filled sets = record {
+adds_root takes holds old between new word keeps object_is long most memory filled sets = record {
   keeps = λ w form inner h. subst (λ (l : List ℕ). IsOrphan l w form inner) (sym sets.body_is) (keeps w form inner h);
   root_is = (
     word,
-    subst (λ (l : List ℕ). holds l word) (sym sets.body_is) children,
+    subst (λ (l : List ℕ). holds l word) (sym sets.body_is) object_is,
     λ form inner h. sets.root_is form inner (subst (λ (l : List ℕ). IsOrphan l word form inner) sets.body_is h),
     sets.words_are ∙ ap (λ (l : List ℕ). link word 0 ∷ l) (sym sets.body_is),
   );
@@ -144,5 +144,5 @@ adds_root takes holds old between new word keeps children long most memory fille
   unchanged = tt;
   most = sets.most ∙ most;
   memory = omega (arith, memory, sets.memory);
-  children = omega (arith, filled, sets.memory, sets.len);
+  within_memory = omega (arith, filled, sets.memory, sets.len);
 }

@@ -56,7 +56,7 @@ pub record Writes {T : Type 0} (takes : ℕ → Type 0) (refuses : ErrorKind →
   pub most : new.most ≡ old.most
   -- the memory stays, and the bytes are in it
   pub memory : old.capacity ≤ new.capacity
-  pub children : OnOk result (length new.bytes ≤ new.capacity)
+  pub within_memory : OnOk result (length new.bytes ≤ new.capacity)
 
 -- What setting the root to the orphan of this word keeps.
 pub record SetsRoot (word : ℕ) (old new : Segment) : Type 0 where
@@ -88,4 +88,4 @@ pub record AddsRoot (takes : ℕ → Type 0) (holds : List ℕ → ℕ → Type 
   pub most : new.most ≡ old.most
   -- the memory stays, and the bytes are in it
   pub memory : old.capacity ≤ new.capacity
-  pub children : OnOk result (length new.bytes ≤ new.capacity)
+  pub within_memory : OnOk result (length new.bytes ≤ new.capacity)

@@ -59,7 +59,7 @@ pub record AppendsObject (holds : List ℕ → List ℕ → ℕ → Type 0) (wor
   pub lacks : ExceedsMost words old → IsErrAnd result (λ error. error.kind ≡ AllocationTooLarge words)
   pub most : new.most ≡ old.most
   pub memory : old.capacity ≤ new.capacity
-  pub children : OnOk result (length new.bytes ≤ new.capacity)
+  pub within_memory : OnOk result (length new.bytes ≤ new.capacity)
 
 -- the root's word is replaced by this one
 pub record PutsRoot (word : ℕ) (old new : Segment) : Type 0 where

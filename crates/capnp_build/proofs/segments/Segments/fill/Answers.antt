@@ -24,10 +24,10 @@ returns-clause-body g c =
       children = r.children;
       same = r.same;
       body_is = block_there c.args.self.now.spaces c.append-word.new.self.spaces c.args.segment c.words-start.result c.args.words c.from_le_bytes.result a.block r.form r.children
-          c.requires.within (ap (λ (h : BuilderState g.row.A.Denot). h.spaces) a.children) c.words-start.ensures.words (omega (arith, c.requires.following, c.words-start.ensures.words))
+          c.requires.within (ap (λ (h : BuilderState g.row.A.Denot). h.spaces) a.state_is) c.words-start.ensures.words (omega (arith, c.requires.following, c.words-start.ensures.words))
           c.words-start.ensures.bound a.len r.size r.few r.rooms tag r.body_is;
     }
 
 pub returns-clause-longer : goal.returns-clause-longer
 returns-clause-longer g c =
-    let a = c.append-word.ensures in longer_by c.args.self.now c.append-word.new.self c.args.segment c.args.words a.block c.requires.within a.len a.children
+    let a = c.append-word.ensures in longer_by c.args.self.now c.append-word.new.self c.args.segment c.args.words a.block c.requires.within a.len a.state_is

@@ -9,4 +9,4 @@ returns-clause-adds g c =
     let a = c.in_ok-root.ensures.adds in
     let w = c.in_ok-root.ensures.writes in
     adds_root (TakesStruct g.row.D g.row.P) (HoldsStruct (body_of c.args.self.now) c.args.draft.now.words c.args.draft.now.pointers) c.args.self.now c.add.new.self c.set_root.new.self c.in_ok-root.root.word
-    a.keeps a.orphan w.appended w.most w.memory w.children c.set_root.ensures
+    a.keeps a.orphan w.appended w.most w.memory w.within_memory c.set_root.ensures
