@@ -93,9 +93,11 @@ class Case:
         return different
 
     def is_same_in_c(self, made, framed, canonical):
-        """Whether the library for C makes this canonical form of a message, and packs it as the C++ tool does."""
-        same = (by_library_for_c("canonical", framed) == canonical
-                and by_library_for_c("pack", framed) == self.convert("binary:packed", made, framed))
+        """Whether the library for C makes this canonical form of a message, and packs it as something that it unpacks
+        to the same bytes, and that the C++ tool reads as the same text."""
+        packed = by_library_for_c("pack", framed)
+        same = (by_library_for_c("canonical", framed) == canonical and by_library_for_c("unpack", packed) == framed
+                and self.convert("packed:text", made, packed) == self.convert("binary:text", made, framed))
         if not same:
             print("schema%d.capnp, %s: the library for C differs" % (self.index, made.name))
         return same
