@@ -117,8 +117,27 @@ impl<S: GrowingSegment> Orphanage<S> {
     }
 
     // Writes an object.
+    //
+    // Speed: where the memory needs no preparation the call can't fail, so no result goes by memory
+    // (`tools/time-building built`, `table`).
     #[inline(always)]
     fn write<T, O: Object>(&mut self, object: &O) -> Result<Orphan<T>>
+        ensures adds { Adds (O.holds object.now (body_of self.old)) self.old self.new
+            word_of result }
+        ensures writes { Writes (O.takes object.now) (O.refuses object.now) self.old self.new
+            result }
+    {
+        let words = object.measure()?;
+        if let Some(word) = self.segment.append_within(object, words) {
+            return Ok(Orphan::of_word(word));
+        }
+        self.write_anew(object)
+    }
+
+    // Writes an object, for which the memory may need preparation.
+    #[cold]
+    #[inline(never)]
+    fn write_anew<T, O: Object>(&mut self, object: &O) -> Result<Orphan<T>>
         ensures adds { Adds (O.holds object.now (body_of self.old)) self.old self.new
             word_of result }
         ensures writes { Writes (O.takes object.now) (O.refuses object.now) self.old self.new
@@ -204,7 +223,13 @@ impl<S: GrowingSegment> Orphanage<S> {
             self.old self.new word_of result }
         ensures writes { Writes (TakesStruct D P) (ExceedsPointer D P) self.old self.new result }
     {
-        self.write(draft)
+        // Speed: as `write`. For all else the draft is copied, so that it need not be in memory itself
+        // (`tools/time-building built`, `tree`).
+        let words = draft.measure()?;
+        if let Some(word) = self.segment.append_within(draft, words) {
+            return Ok(Orphan::of_word(word));
+        }
+        self.write_anew(&StructDraft::<T, D, P>::of_words(draft.words, draft.pointers))
     }
 
     /// Writes a list of the pointers to some orphans ("Lists"): of texts, of data, of lists, or of
