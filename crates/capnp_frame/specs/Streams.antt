@@ -14,7 +14,7 @@ use Rattle.capnp_frame.specs.Limits.{IsWithin}
 use Rattle.capnp_frame.specs.Requests.{MessageStands}
 use Rattle.capnp_frame.specs.Source.{Giving, Refusing, IfKnown, Advances, Fails}
 use Rattle.capnp_frame.specs.Errors.{FailsWith}
-use Rattle.capnp_frame.specs.Refusals.{RefusesStream, TakesMemory, IsReaderKind, IsProvidedReaderKind}
+use Rattle.capnp_frame.specs.Refusals.{RefusesStream, TakesMemory, TakesForLengths, IsReaderKind, IsProvidedReaderKind}
 
 -- A message is at the front of `raw`, and `rest` after it, as a relation:
 -- `stands segments raw rest`.
@@ -54,6 +54,10 @@ framed_rules rule gives refuses = record {
   kinds = IsReaderKind rule refuses;
   provided_kinds = IsProvidedReaderKind rule refuses;
 }
+
+-- Framed messages whose segments are skipped: memory is taken for the lengths alone, where they are more than `kept`.
+abbrev pub skipping_rules : Padding → Giving → Refusing → ℕ → StreamRules
+skipping_rules rule gives refuses kept = record (framed_rules rule gives refuses) { takes_memory = λ limit. TakesForLengths kept gives }
 
 -- What each reader of a stream that allocates returns. `source` is what is seen of the source (the
 -- members of the trait Read), `old` and `new` are the source before the call and after it.

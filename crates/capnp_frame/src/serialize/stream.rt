@@ -11,7 +11,7 @@ ghost use Rattle.capnp_frame.specs.Asking.{Asked, FailsOr};
 ghost use Rattle.capnp_frame.specs.Streams.{framed_rules, ReadsStream};
 ghost use Rattle.capnp_frame.specs.Steps.{AsksNext, ReadsLengths, RefusesComplete};
 ghost use Rattle.capnp_frame.specs.Requests.{TableStands, MessageStands};
-ghost use Rattle.capnp_frame.specs.Refusals.{DeclaresAccepted, RefusesTable, RefusesStream, CountStands, TakesMemory, IsReaderKind};
+ghost use Rattle.capnp_frame.specs.Refusals.{DeclaresAccepted, RefusesTable, RefusesStream, TakesMemory, TakesForLengths, IsReaderKind};
 ghost use Rattle.capnp_frame.specs.declared.error.ErrorKind.{ErrorKind};
 
 use crate::error::{Error, ErrorKind, Result};
@@ -159,7 +159,8 @@ pub(crate) fn read_table<R: Read>(
         IfKnown (R.unread source.old) (R.unread source.new) (TableStands rule R.gives ns))) }
     ensures within { IfOk result (λ found. IfSome found (λ ns. AreWithin ns limit)) }
     ensures bound { IfOk result (λ found. IfSome found (λ ns. sum ns < 2 ^ 42)) }
-    ensures asks { AsksNext R.Read source.old source.new rule (CountStands R.gives)
+    ensures asks { AsksNext R.Read source.old source.new rule
+        (TakesForLengths (length memory.items) R.gives)
         (RefusesTable rule R.gives R.refuses limit None) result }
 {
     let Some(first) = read_first(source)? else {
