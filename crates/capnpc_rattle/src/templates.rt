@@ -40,7 +40,7 @@ pub const GROUP_IMPL: &str = "
 impl<'b, 'a, S: ReaderSegments> Reader<'b, 'a, S> {
 ";
 
-/// How a struct is read from a pointer, and a list of such structs.
+/// How a struct is read from a pointer.
 pub const FROM_POINTER: &str = "
 impl<'a, S: ReaderSegments> FromPointerReader<'a, S> for Reader<'a, S> {
     ghost shows = { λ pointer view. IsStruct pointer (struct_of S.segments view.fields) };
@@ -59,56 +59,6 @@ impl<'a, S: ReaderSegments> FromPointerReader<'a, S> for Reader<'a, S> {
     {
         match StructReader::get_from_pointer(reader) {
             Ok(fields) => Ok(Reader { fields }),
-            Err(error) => Err(error),
-        }
-    }
-}
-
-/// A list of such structs in a message; their first fields alone, where an older writer had these.
-#[derive(Drop)]
-pub struct ListReader<'a, S: ReaderSegments> {
-    /// The list whose elements these are.
-    pub elements: upgraded::StructList<'a, S>,
-}
-
-impl<'a, S: ReaderSegments> ListReader<'a, S> {
-    /// The number of elements.
-    pub fn len(&self) -> u32
-        ensures { result ≡ length (upgraded_structs_of S.segments self.now.elements).rows }
-    {
-        self.elements.len()
-    }
-
-    /// The element of this index.
-    pub fn get(&self, index: u32) -> Reader<'a, S>
-        requires { index < length (upgraded_structs_of S.segments self.now.elements).rows }
-        ensures { struct_of S.segments result.fields
-            ≡ element_of (upgraded_structs_of S.segments self.now.elements) index }
-    {
-        Reader {
-            fields: self.elements.get(index),
-        }
-    }
-}
-
-impl<'a, S: ReaderSegments> FromPointerReader<'a, S> for ListReader<'a, S> {
-    ghost shows = { λ pointer view.
-        IsUpgradedStructs pointer (upgraded_structs_of S.segments view.elements) };
-
-    ghost accepts = { λ pointer. Accepts pointer TakesRows };
-
-    ghost refuses = { λ pointer kind. Refuses pointer DeclinesRows kind };
-
-    ghost declines = { λ pointer kind. Declines pointer DeclinesRows kind };
-
-    fn get_from_pointer(reader: any_pointer::Reader<'a, S>) -> Result<Self>
-        ensures { let pointer = pointer_of S.segments reader.entry in IsViewOf pointer
-            (λ view. IsUpgradedStructs pointer (upgraded_structs_of S.segments view.elements))
-            (Accepts pointer TakesRows) (Refuses pointer DeclinesRows)
-            (Declines pointer DeclinesRows) result }
-    {
-        match upgraded::StructList::get_from_pointer(reader) {
-            Ok(elements) => Ok(ListReader { elements }),
             Err(error) => Err(error),
         }
     }

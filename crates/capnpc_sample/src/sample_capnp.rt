@@ -10,11 +10,12 @@ ghost use Rattle.capnp_orphans.specs.Segments.{body_of};
 ghost use Rattle.capnp_values.specs.DataSections.{with_field};
 ghost use Rattle.capnp_wire.specs.Fields.{field};
 ghost use Rattle.capnp_wire.specs.ListViews.{element_of};
+ghost use Rattle.capnp_wire.specs.Lists.{FindsElement, IsIterator};
 ghost use Rattle.capnp_wire.specs.Object.{nothing};
 ghost use Rattle.capnp_wire.specs.Readers.{struct_of, pointer_of};
 ghost use Rattle.capnp_wire.specs.UpgradedReaders.{upgraded_structs_of, upgraded_numbers_of};
 ghost use Rattle.capnp_wire.specs.UpgradedViews.{IsUpgradedStructs, ReadsAsNumbers, TakesRows, TakesFields, DeclinesRows, DeclinesFields};
-ghost use Rattle.capnp_wire.specs.Views.{IsViewOf, IsStruct, IsText, IsData, Accepts, Refuses, Declines, Denotes, Reads, TakesStruct, TakesText, TakesNumbers, DeclinesStruct, DeclinesText, DeclinesNumbers, pointer_in};
+ghost use Rattle.capnp_wire.specs.Views.{Struct, IsViewOf, IsStruct, IsText, IsData, Accepts, Refuses, Declines, Denotes, Reads, TakesStruct, TakesText, TakesNumbers, DeclinesStruct, DeclinesText, DeclinesNumbers, pointer_in};
 
 use capnp_constant::Words;
 use capnp_frame::Result;
@@ -44,7 +45,7 @@ pub mod point {
     use capnp_frame::message::ReaderSegments;
     use capnp_orphans::{Draft, Drafts, GrowingSegment, Orphan, Orphanage, StructDraft};
     use capnp_wire::any_struct::StructReader;
-    use capnp_wire::traits::{self, FromPointerReader};
+    use capnp_wire::traits::{self, FromPointerReader, IndexMove, ListIter};
     use capnp_wire::{any_pointer, upgraded};
 
     /// The type of the schema.
@@ -125,6 +126,43 @@ pub mod point {
             Reader {
                 fields: self.elements.get(index),
             }
+        }
+
+        /// The element of this index, or `None` where there are no more elements than it.
+        pub fn try_get(&self, index: u32) -> Option<Reader<'a, S>>
+            ensures { let list = upgraded_structs_of S.segments self.now.elements in
+                FindsElement (length list.rows) index
+                (λ item. struct_of S.segments item.fields ≡ element_of list index) result }
+        {
+            self.try_index_move(index)
+        }
+
+        /// An iterator over the elements.
+        pub fn iter(&self) -> ListIter<'_, Self>
+            ensures { IsIterator self.now result }
+        {
+            ListIter::new(self)
+        }
+    }
+
+    impl<'a, S: ReaderSegments> IndexMove for ListReader<'a, S> {
+        type Item = Reader<'a, S>;
+
+        ghost Element = { Struct };
+
+        ghost seen = { λ item. struct_of S.segments item.fields };
+
+        ghost size = { λ list. length (upgraded_structs_of S.segments list.elements).rows };
+
+        ghost element = { λ list index.
+            element_of (upgraded_structs_of S.segments list.elements) index };
+
+        fn len(&self) -> u32 {
+            self.len()
+        }
+
+        fn index_move(&self, index: u32) -> Reader<'a, S> {
+            self.get(index)
         }
     }
 
@@ -295,7 +333,7 @@ pub mod tree {
     use capnp_frame::message::ReaderSegments;
     use capnp_orphans::{Draft, Drafts, GrowingSegment, Orphan, Orphanage, StructDraft};
     use capnp_wire::any_struct::StructReader;
-    use capnp_wire::traits::{self, FromPointerReader};
+    use capnp_wire::traits::{self, FromPointerReader, IndexMove, ListIter};
     use capnp_wire::{any_pointer, upgraded};
 
     /// The type of the schema.
@@ -408,6 +446,43 @@ pub mod tree {
             Reader {
                 fields: self.elements.get(index),
             }
+        }
+
+        /// The element of this index, or `None` where there are no more elements than it.
+        pub fn try_get(&self, index: u32) -> Option<Reader<'a, S>>
+            ensures { let list = upgraded_structs_of S.segments self.now.elements in
+                FindsElement (length list.rows) index
+                (λ item. struct_of S.segments item.fields ≡ element_of list index) result }
+        {
+            self.try_index_move(index)
+        }
+
+        /// An iterator over the elements.
+        pub fn iter(&self) -> ListIter<'_, Self>
+            ensures { IsIterator self.now result }
+        {
+            ListIter::new(self)
+        }
+    }
+
+    impl<'a, S: ReaderSegments> IndexMove for ListReader<'a, S> {
+        type Item = Reader<'a, S>;
+
+        ghost Element = { Struct };
+
+        ghost seen = { λ item. struct_of S.segments item.fields };
+
+        ghost size = { λ list. length (upgraded_structs_of S.segments list.elements).rows };
+
+        ghost element = { λ list index.
+            element_of (upgraded_structs_of S.segments list.elements) index };
+
+        fn len(&self) -> u32 {
+            self.len()
+        }
+
+        fn index_move(&self, index: u32) -> Reader<'a, S> {
+            self.get(index)
         }
     }
 
@@ -616,6 +691,18 @@ impl Color {
     }
 }
 
+impl capnp_wire::upgraded::EnumElement for Color {
+    ghost of_number = { λ number.
+        if number == 0 then Color.Red else
+        if number == 1 then Color.Green else
+        if number == 2 then Color.DeepBlue else
+        Color.NotInSchema number };
+
+    fn from_number(number: u16) -> Color {
+        Color::from_number(number)
+    }
+}
+
 impl Color {
     /// Its number.
     pub fn to_number(self) -> u16
@@ -644,7 +731,7 @@ pub mod sample {
     use capnp_orphans::{Draft, Drafts, GrowingSegment, Orphan, Orphanage, StructDraft};
     use capnp_wire::any_struct::StructReader;
     use capnp_wire::primitive_element::PrimitiveElement;
-    use capnp_wire::traits::{self, FromPointerReader};
+    use capnp_wire::traits::{self, FromPointerReader, IndexMove, ListIter};
     use capnp_wire::{any_pointer, text, upgraded};
 
     /// The type of the schema.
@@ -1013,6 +1100,43 @@ pub mod sample {
             Reader {
                 fields: self.elements.get(index),
             }
+        }
+
+        /// The element of this index, or `None` where there are no more elements than it.
+        pub fn try_get(&self, index: u32) -> Option<Reader<'a, S>>
+            ensures { let list = upgraded_structs_of S.segments self.now.elements in
+                FindsElement (length list.rows) index
+                (λ item. struct_of S.segments item.fields ≡ element_of list index) result }
+        {
+            self.try_index_move(index)
+        }
+
+        /// An iterator over the elements.
+        pub fn iter(&self) -> ListIter<'_, Self>
+            ensures { IsIterator self.now result }
+        {
+            ListIter::new(self)
+        }
+    }
+
+    impl<'a, S: ReaderSegments> IndexMove for ListReader<'a, S> {
+        type Item = Reader<'a, S>;
+
+        ghost Element = { Struct };
+
+        ghost seen = { λ item. struct_of S.segments item.fields };
+
+        ghost size = { λ list. length (upgraded_structs_of S.segments list.elements).rows };
+
+        ghost element = { λ list index.
+            element_of (upgraded_structs_of S.segments list.elements) index };
+
+        fn len(&self) -> u32 {
+            self.len()
+        }
+
+        fn index_move(&self, index: u32) -> Reader<'a, S> {
+            self.get(index)
         }
     }
 
@@ -1523,7 +1647,7 @@ pub mod shape {
     use capnp_frame::message::ReaderSegments;
     use capnp_orphans::{Draft, Drafts, GrowingSegment, Orphan, Orphanage, StructDraft};
     use capnp_wire::any_struct::StructReader;
-    use capnp_wire::traits::{self, FromPointerReader};
+    use capnp_wire::traits::{self, FromPointerReader, IndexMove, ListIter};
     use capnp_wire::{any_pointer, upgraded};
 
     /// The type of the schema.
@@ -1632,6 +1756,43 @@ pub mod shape {
             Reader {
                 fields: self.elements.get(index),
             }
+        }
+
+        /// The element of this index, or `None` where there are no more elements than it.
+        pub fn try_get(&self, index: u32) -> Option<Reader<'a, S>>
+            ensures { let list = upgraded_structs_of S.segments self.now.elements in
+                FindsElement (length list.rows) index
+                (λ item. struct_of S.segments item.fields ≡ element_of list index) result }
+        {
+            self.try_index_move(index)
+        }
+
+        /// An iterator over the elements.
+        pub fn iter(&self) -> ListIter<'_, Self>
+            ensures { IsIterator self.now result }
+        {
+            ListIter::new(self)
+        }
+    }
+
+    impl<'a, S: ReaderSegments> IndexMove for ListReader<'a, S> {
+        type Item = Reader<'a, S>;
+
+        ghost Element = { Struct };
+
+        ghost seen = { λ item. struct_of S.segments item.fields };
+
+        ghost size = { λ list. length (upgraded_structs_of S.segments list.elements).rows };
+
+        ghost element = { λ list index.
+            element_of (upgraded_structs_of S.segments list.elements) index };
+
+        fn len(&self) -> u32 {
+            self.len()
+        }
+
+        fn index_move(&self, index: u32) -> Reader<'a, S> {
+            self.get(index)
         }
     }
 
