@@ -33,7 +33,7 @@ const DEFINITIONS: &[(&str, &[&str])] = &[
     ),
     (
         "capnp_constant.specs.Constants",
-        &["segments_of", "root_of"],
+        &["segments_of", "root_of", "IsDefaultData"],
     ),
     (
         "capnp_orphans.specs.Adding",

@@ -100,6 +100,15 @@ pub const DEFAULT_FACT: &str = "let pointer = pointer_in fields @offset@ in
 × (Denotes pointer nothing → (let pointer = root_of @default@ in
 @fact@))";
 
+/// What it says of a struct whose default sets no pointers.
+pub const DEFAULT_DATA_FACT: &str = "let pointer = pointer_in fields @offset@ in
+((Denotes pointer nothing → ⊥) → @stored@)
+× (Denotes pointer nothing → (let constant = root_of @default@ in
+IsViewOf constant
+(λ view. IsDefaultData constant pointer (struct_of S.segments view.fields))
+(Accepts constant TakesStruct) (Refuses constant DeclinesStruct)
+(Declines constant DeclinesStruct) @value@))";
+
 /// The same for a view that is bound to the segments that it reads.
 pub const OR_DEFAULT_FACT: &str = "let pointer = pointer_in fields @offset@ in
 elim @value@ [
@@ -118,6 +127,17 @@ pub const VIEW_BODY: &str =
 pub const DEFAULT_BODY: &str = "let pointer = self.fields.get_pointer(@offset@);
 if pointer.is_null() {
     get_@name@_default()
+} else {
+    FromPointerReader::get_from_pointer(pointer)
+}";
+
+/// How a struct is read whose default sets no pointers.
+pub const DEFAULT_DATA_BODY: &str = "let pointer = self.fields.get_pointer(@offset@);
+if pointer.is_null() {
+    match capnp_constant::default_data(&pointer, &@default@) {
+        Ok(fields) => Ok(@path@::Reader { fields }),
+        Err(error) => Err(error),
+    }
 } else {
     FromPointerReader::get_from_pointer(pointer)
 }";

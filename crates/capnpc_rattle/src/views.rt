@@ -233,7 +233,7 @@ fn list_of_enums(
     view_from(
         alloc,
         name.as_str(),
-        "Reads pointer (λ form. ReadsAsNumbers 3 form (upgraded_numbers_of 3 view.numbers))",
+        "Reads pointer (λ form.\nReadsAsNumbers 3 form (upgraded_numbers_of 3 view.numbers))",
         "(TakesFields 3)",
         "(DeclinesFields 3)",
     )
