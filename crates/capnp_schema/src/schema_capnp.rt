@@ -4307,17 +4307,6 @@ impl ElementSize {
 }
 
 impl capnp_wire::upgraded::EnumElement for ElementSize {
-    ghost of_number = { λ number.
-        if number == 0 then ElementSize.Empty else
-        if number == 1 then ElementSize.Bit else
-        if number == 2 then ElementSize.Byte else
-        if number == 3 then ElementSize.TwoBytes else
-        if number == 4 then ElementSize.FourBytes else
-        if number == 5 then ElementSize.EightBytes else
-        if number == 6 then ElementSize.Pointer else
-        if number == 7 then ElementSize.InlineComposite else
-        ElementSize.NotInSchema number };
-
     fn from_number(number: u16) -> ElementSize {
         ElementSize::from_number(number)
     }

@@ -1,29 +1,8 @@
-//! The numbers of enumerants: the value of a number, for lists, and the number of a value.
+//! The numbers of enumerants.
 use crate::builder_templates::ENUM_NUMBER;
 use crate::code::{Code, Holes};
 use crate::enums::rows_of;
-use crate::list_templates::ENUM_ELEMENT;
 use std::alloc::{AllocError, Global};
-
-/// Adds how a list's element is read as a value of an enum.
-pub fn push_enum_element(
-    alloc: Global,
-    code: &mut Code,
-    type_name: &str,
-    names: &[String],
-) -> Result<(), AllocError> {
-    let holes = Holes::new(alloc)
-        .with("type", type_name)
-        .holding("cases", value_cases(alloc, type_name, names));
-    code.add(ENUM_ELEMENT, &holes)
-}
-
-// The value of a number, as clauses name it.
-fn value_cases(alloc: Global, type_name: &str, names: &[String]) -> Result<String, AllocError> {
-    let row = "if number == @count@ then @cited@.@variant@ else";
-    let last = "@cited@.NotInSchema number";
-    rows_of(alloc, type_name, names, row, last)
-}
 
 /// Adds the number of an enumerant.
 pub fn push_to_number(
@@ -41,8 +20,8 @@ pub fn push_to_number(
 
 // The cases of a clause that says which number each variant has.
 fn number_cases(alloc: Global, type_name: &str, names: &[String]) -> Result<String, AllocError> {
-    let row = "  | @cited@.@variant@ ↦ result ≡ @count@";
-    let last = "  | @cited@.NotInSchema unknown ↦ result ≡ unknown";
+    let row = "  | @type@.@variant@ ↦ result ≡ @count@";
+    let last = "  | @type@.NotInSchema unknown ↦ result ≡ unknown";
     rows_of(alloc, type_name, names, row, last)
 }
 

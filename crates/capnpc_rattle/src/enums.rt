@@ -1,8 +1,9 @@
 //! Enums.
 use crate::code::{Code, Holes};
-use crate::enum_numbers::{push_enum_element, push_to_number};
+use crate::enum_numbers::push_to_number;
 use crate::getters::Site;
-use crate::names::{cited, enum_type, scope_name, variant};
+use crate::list_templates::ENUM_ELEMENT;
+use crate::names::{enum_type, scope_name, variant};
 use crate::paths::path_to;
 use crate::schema::{Base, Body, Field, Node, Request, Slot};
 use crate::templates::{ENUM_END, ENUM_HEAD};
@@ -20,14 +21,13 @@ pub fn cases_of(
         alloc,
         type_name,
         enumerants_of(request, id),
-        "  | @cited@.@variant@ ↦ number ≡ @count@",
-        "  | @cited@.NotInSchema unknown ↦ (unknown ≡ number) × (@count@ ≤ number)",
+        "  | @type@.@variant@ ↦ number ≡ @count@",
+        "  | @type@.NotInSchema unknown ↦ (unknown ≡ number) × (@count@ ≤ number)",
     )
 }
 
 /// A row for each enumerant, and then the last one, with no end of a line after it. In their templates `@type@`
-/// stands for the enum in code and `@cited@` in a clause, `@variant@` for the variant, and `@count@` for its
-/// number, or for how many there are.
+/// stands for the enum, `@variant@` for the variant, and `@count@` for its number, or for how many there are.
 pub fn rows_of(
     alloc: Global,
     type_name: &str,
@@ -54,7 +54,6 @@ pub fn rows_of(
 fn row_holes(alloc: Global, type_name: &str, count: u32) -> Holes {
     Holes::new(alloc)
         .with("type", type_name)
-        .holding("cited", cited(alloc, type_name))
         .holding("count", format!(in alloc; "{count}"))
 }
 
@@ -233,7 +232,7 @@ pub fn push_enum(
         .holding("cases", cases_of(alloc, request, node.id, type_name))
         .holding("arms", variant_arms(alloc, type_name, names));
     code.add(ENUM_END, &holes)?;
-    push_enum_element(alloc, code, type_name, names)?;
+    code.add_with(ENUM_ELEMENT, "type", type_name)?;
     if request.has_builders {
         push_to_number(alloc, code, type_name, names)?;
     }

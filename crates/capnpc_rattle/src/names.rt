@@ -45,14 +45,6 @@ pub fn enum_type(alloc: Global, name: &str) -> Result<String, AllocError> {
     Ok(text)
 }
 
-/// The name of an enum as clauses have it: in `«»` where it is a word of theirs.
-pub fn cited(alloc: Global, type_name: &str) -> Result<String, AllocError> {
-    if type_name == "Type" {
-        return String::from_str(alloc, "«Type»");
-    }
-    String::from_str(alloc, type_name)
-}
-
 /// The name of a variant, of an enumerant or of a member of a union.
 pub fn variant(alloc: Global, name: &str) -> Result<String, AllocError> {
     let mut text = camel(alloc, name)?;

@@ -89,6 +89,6 @@ fn enum_case(
     let bits = bits_of(alloc, number, value, default_bits(&place.default))?;
     let bits = bits.as_str();
     format!(in alloc;
-        "  | @cited@.{variant} ↦ self.new.draft.words ≡ with_field words 16 {offset} {bits}"
+        "  | @type@.{variant} ↦ self.new.draft.words ≡ with_field words 16 {offset} {bits}"
     )
 }

@@ -604,10 +604,10 @@ pub mod person {
                 ensures { let fields = struct_of S.segments self.now.fields in
                     let number = field fields.words 16 0 in
                     elim result [
-                      | «Type».Mobile ↦ number ≡ 0
-                      | «Type».Home ↦ number ≡ 1
-                      | «Type».Work ↦ number ≡ 2
-                      | «Type».NotInSchema unknown ↦ (unknown ≡ number) × (3 ≤ number)
+                      | Type.Mobile ↦ number ≡ 0
+                      | Type.Home ↦ number ≡ 1
+                      | Type.Work ↦ number ≡ 2
+                      | Type.NotInSchema unknown ↦ (unknown ≡ number) × (3 ≤ number)
                     ] }
             {
                 Type::from_number(self.fields.get_data_field(0))
@@ -848,10 +848,10 @@ pub mod person {
             pub fn set_type(&mut self, value: Type)
                 ensures words { let words = self.old.draft.words in
                     elim value [
-                      | «Type».Mobile ↦ self.new.draft.words ≡ with_field words 16 0 0
-                      | «Type».Home ↦ self.new.draft.words ≡ with_field words 16 0 1
-                      | «Type».Work ↦ self.new.draft.words ≡ with_field words 16 0 2
-                      | «Type».NotInSchema unknown ↦ self.new.draft.words ≡ with_field words 16 0 unknown
+                      | Type.Mobile ↦ self.new.draft.words ≡ with_field words 16 0 0
+                      | Type.Home ↦ self.new.draft.words ≡ with_field words 16 0 1
+                      | Type.Work ↦ self.new.draft.words ≡ with_field words 16 0 2
+                      | Type.NotInSchema unknown ↦ self.new.draft.words ≡ with_field words 16 0 unknown
                     ] }
                 ensures pointers { self.new.draft.pointers ≡ self.old.draft.pointers }
             {
@@ -863,10 +863,10 @@ pub mod person {
                 ensures { let fields = self.now.draft in
                     let number = field fields.words 16 0 in
                     elim result [
-                      | «Type».Mobile ↦ number ≡ 0
-                      | «Type».Home ↦ number ≡ 1
-                      | «Type».Work ↦ number ≡ 2
-                      | «Type».NotInSchema unknown ↦ (unknown ≡ number) × (3 ≤ number)
+                      | Type.Mobile ↦ number ≡ 0
+                      | Type.Home ↦ number ≡ 1
+                      | Type.Work ↦ number ≡ 2
+                      | Type.NotInSchema unknown ↦ (unknown ≡ number) × (3 ≤ number)
                     ] }
             {
                 Type::from_number(self.draft.get_data_field(0))
@@ -886,10 +886,10 @@ pub mod person {
             /// The enumerant of this number.
             pub fn from_number(number: u16) -> Type
                 ensures { elim result [
-                  | «Type».Mobile ↦ number ≡ 0
-                  | «Type».Home ↦ number ≡ 1
-                  | «Type».Work ↦ number ≡ 2
-                  | «Type».NotInSchema unknown ↦ (unknown ≡ number) × (3 ≤ number)
+                  | Type.Mobile ↦ number ≡ 0
+                  | Type.Home ↦ number ≡ 1
+                  | Type.Work ↦ number ≡ 2
+                  | Type.NotInSchema unknown ↦ (unknown ≡ number) × (3 ≤ number)
                 ] }
             {
                 match number {
@@ -902,12 +902,6 @@ pub mod person {
         }
 
         impl capnp_wire::upgraded::EnumElement for Type {
-            ghost of_number = { λ number.
-                if number == 0 then «Type».Mobile else
-                if number == 1 then «Type».Home else
-                if number == 2 then «Type».Work else
-                «Type».NotInSchema number };
-
             fn from_number(number: u16) -> Type {
                 Type::from_number(number)
             }
@@ -917,10 +911,10 @@ pub mod person {
             /// Its number.
             pub fn to_number(self) -> u16
                 ensures { elim self [
-                  | «Type».Mobile ↦ result ≡ 0
-                  | «Type».Home ↦ result ≡ 1
-                  | «Type».Work ↦ result ≡ 2
-                  | «Type».NotInSchema unknown ↦ result ≡ unknown
+                  | Type.Mobile ↦ result ≡ 0
+                  | Type.Home ↦ result ≡ 1
+                  | Type.Work ↦ result ≡ 2
+                  | Type.NotInSchema unknown ↦ result ≡ unknown
                 ] }
             {
                 match self {

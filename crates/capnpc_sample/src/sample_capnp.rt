@@ -692,12 +692,6 @@ impl Color {
 }
 
 impl capnp_wire::upgraded::EnumElement for Color {
-    ghost of_number = { λ number.
-        if number == 0 then Color.Red else
-        if number == 1 then Color.Green else
-        if number == 2 then Color.DeepBlue else
-        Color.NotInSchema number };
-
     fn from_number(number: u16) -> Color {
         Color::from_number(number)
     }
