@@ -1,5 +1,5 @@
 //! Lists that are read as lists of an enum's values.
-ghost use Rattle.std.specs.Prelude.{◌≡◌, ◌<◌, length};
+ghost use Rattle.std.specs.Prelude.{◌≡◌, ◌<◌, ⊤, length};
 
 use crate::any_pointer;
 use crate::traits::{FromPointerReader, IndexMove, ListIter};
@@ -52,7 +52,7 @@ impl<'a, E: EnumElement> EnumList<'a, E> {
     /// The element of this index, or `None` where there are no more elements than it.
     pub fn try_get(&self, index: u32) -> Option<E>
         ensures { FindsElement (length (upgraded_numbers_of 3 self.now.numbers)) index
-            (λ item. tt ≡ tt) result }
+            (λ item. ⊤) result }
     {
         self.try_index_move(index)
     }
@@ -67,7 +67,6 @@ impl<'a, E: EnumElement> EnumList<'a, E> {
 
 // What is seen of an element is that there is one.
 impl<'a, E: EnumElement> IndexMove for EnumList<'a, E> {
-    ghost use Rattle.std.specs.Prelude.{⊤};
     ghost use Rattle.capnp_wire.specs.UpgradedReaders.{upgraded_numbers_of};
 
     type Item = E;
