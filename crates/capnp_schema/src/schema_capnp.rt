@@ -1,5 +1,5 @@
 //! Types of `schema.capnp`, made by `capnpc-rattle`: change that file, and make them again.
-ghost use Rattle.std.specs.Prelude.{◌≡◌, ◌≤◌, ◌<◌, ◌==◌, ◌↔◌, if◌then◌else◌, IsTrue, bit_xor, from_bits, length};
+ghost use Rattle.std.specs.Prelude.{◌≡◌, ◌≤◌, ◌<◌, ◌==◌, ◌↔◌, IsTrue, bit_xor, from_bits, length};
 ghost use Rattle.std.specs.Float.{binary32, binary64};
 ghost use Rattle.std.specs.Int.{w8, w16, w32, w64, cast_signed};
 ghost use Rattle.capnp_wire.specs.Fields.{field};
