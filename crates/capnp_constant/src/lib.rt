@@ -65,7 +65,8 @@ pub fn default_data<'a, S: ReaderSegments, C: Constant>(
         (Accepts constant TakesStruct) (Refuses constant DeclinesStruct)
         (Declines constant DeclinesStruct) result }
 {
-    match StructReader::get_from_pointer(words.constant_root()) {
+    let found: Result<StructReader<'a, C>> = view_of(words);
+    match found {
         Ok(fields) => Ok(fields.data_at(pointer)),
         Err(error) => Err(error),
     }
