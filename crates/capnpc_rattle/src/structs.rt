@@ -7,6 +7,7 @@ use crate::enums::enum_uses;
 use crate::fields::push_field;
 use crate::getters::{Shown, Site, shown_of};
 use crate::imports::push_imports;
+use crate::list_templates::LIST_READER;
 use crate::names::module;
 use crate::schema::{Field, Node, Request, Struct};
 use crate::templates::{FROM_POINTER, GROUP_IMPL, GROUP_READER, READER, READER_IMPL};
@@ -71,6 +72,7 @@ fn push_reader(
     }
     if !body.is_group {
         code.add_lines(FROM_POINTER)?;
+        code.add_lines(LIST_READER)?;
     }
     if site.request.has_builders {
         push_builder(alloc, code, site, body)?;

@@ -13,6 +13,8 @@ mod changed;
 #[cfg(test)]
 mod fields;
 #[cfg(test)]
+mod lists;
+#[cfg(test)]
 mod people;
 #[cfg(test)]
 mod read;
