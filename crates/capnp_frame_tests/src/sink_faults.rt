@@ -40,7 +40,7 @@ fn written(sink: &FaultySink) -> &[u8] {
         .unwrap_or(&[1; 99])
 }
 
-// Whether the sink took each chunk. A growth that was rejected is handed back.
+// Whether the sink took each chunk. A growth that failed is handed back.
 fn is_taken(rt: &impl Abort, returned: Result<()>, at: At<'_>) -> Result<bool> {
     let refusal = kind_of(returned)?;
     assert_holds(

@@ -12,8 +12,8 @@ use capnp_frame_tests::retried;
 use std::alloc::Global;
 use std::process::Abort;
 
-// What stops a run, if anything does, with the index of the message, how much is unread then, and what
-// is written.
+// What stops a run, if anything does, with the index of the message, how much is unread then, and
+// what is written.
 #[derive(Clone, Copy)]
 struct Ended {
     stop: Option<(u64, ErrorKind)>,
@@ -85,8 +85,8 @@ const ROWS: [Row; 7] = [
         strict: CUT_AFTER_TWO,
         lenient: CUT_AFTER_TWO,
     },
-    // Both ways reject a padding that isn't zero, and nothing is written of its message. Their lenient
-    // forms write the text of zero padding.
+    // Both ways fail for a padding that isn't zero, and nothing is written of its message. Their
+    // lenient forms write the text of zero padding.
     Row {
         name: "another padding, packed",
         way: Way::Pack,

@@ -38,8 +38,8 @@ fn read_each(
     Ok(())
 }
 
-// A framed encoding is rejected wherever it is cut, and all of it is consumed. A row is told with both its
-// length and how many bytes the source shows.
+// Reading a framed encoding fails wherever it is cut, and consumes all of it. A row is reported
+// with its length and with the number of bytes that the source shows.
 fn read_framed(
     rt: &(impl Abort + AllocGlobal),
     call: Call,

@@ -14,7 +14,7 @@ use std::process::Abort;
 
 pub const WAYS: [Way; 2] = [Way::Pack, Way::Unpack];
 
-/// The error, where there is one. A growth that was rejected is handed back.
+/// The error, where there is one. A growth that failed is handed back.
 pub fn transcoded<R: BufRead, W: Write>(
     rt: &impl AllocGlobal,
     way: Way,
@@ -87,8 +87,9 @@ fn a_sink_that_fails(rt: HostRuntime) -> Result<()> {
     Ok(())
 }
 
-// How many bytes are where the run meets the fault. The texts of the messages before the fault are
-// whole, and a front of the next: just the message that was read last is not written as a whole.
+// How many bytes are in the sink where the run meets the fault. The encodings of the messages
+// before the fault are whole, and a front of the next one follows: only the message that was read
+// last is not written completely.
 fn write_to(rt: &(impl Abort + AllocGlobal), way: Way, at: At<'_>) -> Result<Option<usize>> {
     let packs = way == Way::Pack;
     let input = texts_of(rt.alloc(), !packs)?;

@@ -1,7 +1,7 @@
 //! A type over structs, as a schema has them: an account with a number and a name.
 //!
-//! `struct Account { id @0 :UInt64; name @1 :Text; }` has one data word and one pointer (Cap'n Proto's
-//! encoding, "Structs").
+//! `struct Account { id @0 :UInt64; name @1 :Text; }` has one data word and one pointer (Cap'n
+//! Proto's encoding, "Structs").
 ghost use Rattle.std.specs.Prelude.{◌≡◌, ◌<◌, ◌==◌, length, slice_index, MatchResult};
 ghost use Rattle.std.specs.List.{find};
 ghost use Rattle.std.specs.Option.{option_map};

@@ -26,8 +26,9 @@ pub fn cases_of(
     )
 }
 
-/// A row for each enumerant, and then the last one, with no end of a line after it. In their templates `@type@`
-/// stands for the enum, `@variant@` for the variant, and `@count@` for its number, or for how many there are.
+/// A row for each enumerant, and then the last one, with no end of a line after it. In their
+/// templates `@type@` stands for the enum, `@variant@` for the variant, and `@count@` for its
+/// number, or for how many there are.
 pub fn rows_of(
     alloc: Global,
     type_name: &str,
@@ -96,7 +97,8 @@ fn scoped_name(
     Ok(longer)
 }
 
-// Whether another enum has this name in the module: one that is declared there, or that of a field before.
+// Whether another enum has this name in the module: one that is declared there, or that of a field
+// before.
 fn is_other(alloc: Global, site: Site<'_>, node: &Node, name: &str) -> Result<bool, AllocError> {
     if node.scope == site.node.id {
         return Ok(false);
@@ -155,8 +157,8 @@ fn enum_of(field: &Field) -> Option<u64> {
     }
 }
 
-/// The lines that bring the enums of a struct's fields into its module, so that clauses may name their
-/// variants.
+/// The lines that bring the enums of a struct's fields into its module, so that clauses may name
+/// their variants.
 pub fn enum_uses(alloc: Global, site: Site<'_>) -> Result<Vec<String>, AllocError> {
     let mut lines: Vec<(String, String)> = Vec::new(alloc);
     for id in enums_of(alloc, site.node)?.as_slice() {

@@ -222,7 +222,8 @@ fn push_name(list: &mut String, name: &str) -> Result<(), AllocError> {
     list.push_str(name)
 }
 
-/// Adds the lines that import what a module has: enums by these lines, and what is named in its text.
+/// Adds the lines that import what a module has: enums by these lines, and what is named in its
+/// text.
 pub fn push_imports(
     alloc: Global,
     code: &mut Code,

@@ -48,7 +48,8 @@ pub fn close_module(code: &mut Code) -> Result<(), AllocError> {
     code.add_lines("}")
 }
 
-// Adds the reader, the members of the union where there is one, and how it is read where it is no group.
+// Adds the reader, the members of the union where there is one, and how it is read where it is no
+// group.
 fn push_reader(
     alloc: Global,
     code: &mut Code,

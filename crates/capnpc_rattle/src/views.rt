@@ -70,8 +70,8 @@ impl View {
     }
 }
 
-/// The view of a type at a site, of what a lender has; `None` for what has no view: numbers by themselves,
-/// interfaces, and any pointer by itself, whose getter never fails.
+/// The view of a type at a site, of what a lender has; `None` for what has no view: numbers by
+/// themselves, interfaces, and any pointer by itself, whose getter never fails.
 pub fn view_of(
     alloc: Global,
     request: &Request,

@@ -32,8 +32,8 @@ pub fn sets_no_pointers(value: &Value) -> bool {
     }
 }
 
-// A message whose root is a list of bytes (encoding document, "Lists"), with a zero byte after them where it
-// is a text.
+// A message whose root is a list of bytes (encoding document, "Lists"), with a zero byte after them
+// where it is a text.
 fn list_of_bytes(alloc: Global, bytes: &[u8], is_text: bool) -> Result<Vec<u8>, AllocError> {
     let count = (bytes.len() as u64).saturating_add(is_text as u64);
     let root = 1u64

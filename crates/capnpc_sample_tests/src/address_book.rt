@@ -68,7 +68,8 @@ pub fn people<S: GrowingSegment>(
     person::Builder::add_list(people.as_slice(), objects)
 }
 
-/// Appends a framed message for each name. The orphanage is used again, so it takes no memory for most.
+/// Appends a framed message for each name. The orphanage is used again, so it takes no memory for
+/// most.
 pub fn append_people(alloc: Global, log: &mut Vec<u8>, names: &[&str]) -> Result<()> {
     let mut objects = Orphanage::new(alloc)?;
     let mut id: u32 = 0;

@@ -100,7 +100,7 @@ bad_landing_pad_leads_nowhere m place word kind c e k (capability_tag {tag = a} 
 pub words_for_pointers : (n code : ℕ) → code ≡ 6 → words_for n (width code) ≡ n
 words_for_pointers n code six = let whole : words_for n 64 ≡ n = omega arith in ap (λ (c : ℕ). words_for n (width c)) six ∙ whole
 
--- a size that fits is not rejected
+-- a size that fits is accepted
 fits_or_not : (words : List ℕ) (start : Place) (pointer : ℕ) (kind : ErrorKind) (s : Shape) → RejectsSize words start.word pointer kind → ShapeStands words start pointer s → ⊥
 fits_or_not words start pointer kind s (struct_outside k l) (a_struct j f) = omega arith
 fits_or_not words start pointer kind s (struct_outside k l) (some_numbers j _ _) = omega arith
