@@ -10,7 +10,7 @@ ghost use Rattle.capnp_wire.specs.Copy.{output_body_of, IsNarrower};
 ghost use Rattle.capnp_wire.specs.declared.layout.object.Body.{Body};
 
 use crate::layout::block::used;
-use crate::layout::landing::land_local;
+use crate::layout::landing::resolve_local;
 use crate::layout::number_list::NumberList;
 use crate::layout::object::{Body, Object, fits, words_fit};
 use crate::layout::output_size::output_size;
@@ -68,7 +68,7 @@ pub(crate) fn local_list(segment: &[u8], place: Place, nesting: u32) -> Option<N
     let LocalShape::Numbers(size, count) = local.shape else {
         return None;
     };
-    let landing = land_local(segment, place, local, 0);
+    let landing = resolve_local(segment, place, local, 0);
     let start = landing.start?;
     let bits = size.bits_of_list(count);
     if nesting == 0 || !fits(segment, start, bits.div_ceil(64)) {
@@ -104,7 +104,7 @@ pub(crate) fn local_struct(segment: &[u8], place: Place, nesting: u32) -> Option
     let LocalShape::Struct(size) = local.shape else {
         return None;
     };
-    let landing = land_local(segment, place, local, 0);
+    let landing = resolve_local(segment, place, local, 0);
     let start = landing.start?;
     if nesting == 0 || !fits(segment, start, size.words()) {
         return None;
@@ -134,7 +134,7 @@ pub(crate) fn local_pointers(segment: &[u8], place: Place, nesting: u32) -> Opti
     let LocalShape::Pointers(count) = local.shape else {
         return None;
     };
-    let landing = land_local(segment, place, local, 0);
+    let landing = resolve_local(segment, place, local, 0);
     let start = landing.start?;
     if nesting == 0 || !fits(segment, start, count as u64) {
         return None;

@@ -59,7 +59,7 @@ pub(crate) struct Elements {
 #[derive(Clone, Copy)]
 pub(crate) struct FarPointer {
     pub landing_pad: Place,
-    pub is_wide: bool,
+    pub is_double_far: bool,
 }
 
 // Speed: all of these are inlined. Most have few instructions; `PointerWord::read` and `list_shape`
@@ -85,7 +85,7 @@ impl PointerWord {
                     segment: (word / (1 << 32)) as u32,
                     word: (word / 8 % (1 << 29)) as usize,
                 },
-                is_wide: word / 4 % 2 == 1,
+                is_double_far: word / 4 % 2 == 1,
             }),
             _ => PointerWord::Other,
         }

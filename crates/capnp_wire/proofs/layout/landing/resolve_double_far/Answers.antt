@@ -8,9 +8,9 @@ use Rattle.capnp_frame.specs.declared.error.ErrorKind.TheVariants.{InvalidSegmen
 use Rattle.capnp_wire.proofs.words.MessageLemmas.{segment_stands, no_segment_stands}
 use Rattle.capnp_frame.proofs.AskLemmas.{passed_on}
 use Rattle.capnp_wire.proofs.pointers.LandingPadLemmas.{wide_refused, is_far_word, not_far_word, wide_landing, content_place}
-use Rattle.capnp_wire.proofs.layout.landing.land_wide.Given as given
-use Rattle.capnp_wire.proofs.layout.landing.land_wide.Goals as goal
-use Rattle.capnp_wire.proofs.layout.landing.land_wide.Goals.{In_ok-content}
+use Rattle.capnp_wire.proofs.layout.landing.resolve_double_far.Given as given
+use Rattle.capnp_wire.proofs.layout.landing.resolve_double_far.Goals as goal
+use Rattle.capnp_wire.proofs.layout.landing.resolve_double_far.Goals.{In_ok-content}
 
 -- the first word says where the content is
 record Content (g : given.Over) (c : In_ok-content g) : Type 0 where
