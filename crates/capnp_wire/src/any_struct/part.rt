@@ -15,7 +15,7 @@ pub(crate) struct WordPart {
 
 /// A data word of a struct, from the word that it is in: all of that word, or the struct's own part
 /// in the low bits.
-pub(crate) fn own_bits(part: Option<WordPart>, word: u64) -> u64
+pub(crate) fn data_word_of(part: Option<WordPart>, word: u64) -> u64
     ensures { result ≡ own_part part word }
 {
     match part {

@@ -50,7 +50,7 @@ impl<'a, S: ReaderSegments> StructReader<'a, S> {
     {
         if index < self.size.data_words {
             match word(self.segment, self.start.word + index as usize) {
-                Some(word) => part::own_bits(self.part, word),
+                Some(word) => part::data_word_of(self.part, word),
                 None => 0,
             }
         } else {

@@ -50,7 +50,7 @@ pub(crate) fn measure<S: ReaderSegments>(
 {
     // For the prover: each word is below 2^64, and so is the number of bytes.
     words_fit(segment);
-    let kept = kept_elements(segment, first, elements, canonical);
+    let kept = output_elements(segment, first, elements, canonical);
     let mut walk = Walk::new(limit);
     walk.count(1 + kept.words());
     let size = elements.size.row_size();
@@ -91,7 +91,7 @@ pub(crate) fn write<S: ReaderSegments>(
 {
     // For the prover: each word is below 2^64, and so is the number of bytes.
     words_fit(segment);
-    let kept = kept_elements(segment, first, elements, canonical);
+    let kept = output_elements(segment, first, elements, canonical);
     let tag = struct_word(kept.count as u64, kept.size.data_words, kept.size.pointers);
     put_word(block, next, tag);
     let slots = next + 1;
@@ -107,7 +107,7 @@ pub(crate) fn write<S: ReaderSegments>(
 
 // The size of the elements in the copy: in canonical form without trailing words that are zero in
 // all elements.
-fn kept_elements(segment: &[u8], first: Place, elements: Elements, canonical: bool) -> Elements
+fn output_elements(segment: &[u8], first: Place, elements: Elements, canonical: bool) -> Elements
     requires { first.word + elements.count * (elements.size.data_words + elements.size.pointers)
         ≤ length segment.now / 8 }
     ensures size { result.size ≡ (if canonical then

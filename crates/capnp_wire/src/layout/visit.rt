@@ -68,7 +68,7 @@ impl Walk {
 
     /// Enters a list of numbers, which has no pointers.
     #[inline(always)]
-    pub(crate) fn visit_list(&mut self, list: &NumberList<'_>) -> Result<()>
+    pub(crate) fn visit_numbers(&mut self, list: &NumberList<'_>) -> Result<()>
         ensures found { (m : List (List ℕ)) (canonical : Bool) (place : Place) (nesting : ℕ) →
             IsObject m place (object_of list.now) → 0 < nesting →
             OnOk result (Walked m canonical place nesting

@@ -268,7 +268,7 @@ impl Walk {
                     return Ok(Some(found.pointers()));
                 }
             } else if let Some(list) = local_list(segment, place, nesting) {
-                self.visit_list(&list)?;
+                self.visit_numbers(&list)?;
             } else {
                 self.walk_object(segments, segment, place, nesting, canonical)?;
             }

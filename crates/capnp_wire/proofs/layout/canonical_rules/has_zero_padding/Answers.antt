@@ -7,7 +7,7 @@ use Rattle.capnp_wire.proofs.words.WordLemmas.{length-words_of}
 use Rattle.capnp_wire.proofs.forms.TruncatedLemmas.{or_there, there_or}
 use Rattle.capnp_wire.proofs.objects.ElementLemmas.{all_words_below}
 use Rattle.capnp_wire.proofs.objects.PaddedLemmas.{whole_is_padded, part_is_padded, no_bits_after}
-use Rattle.capnp_wire.proofs.layout.canonical_rules.is_padded.Goals as goal
+use Rattle.capnp_wire.proofs.layout.canonical_rules.has_zero_padding.Goals as goal
 
 pub returns-then-following-eq0 : goal.returns-then-following-eq0
 returns-then-following-eq0 c room =

@@ -4,7 +4,7 @@ use Rattle.std.proofs.Common.{◌∙◌}
 use Rattle.capnp_wire.proofs.pointers.LocalLemmas.{number_list_walked}
 use Rattle.capnp_frame.proofs.AskLemmas.{passed_on}
 use Rattle.capnp_wire.proofs.walks.StopLemmas.{exceeds_stops}
-use Rattle.capnp_wire.proofs.layout.walk.Walk.visit_list.Goals as goal
+use Rattle.capnp_wire.proofs.layout.walk.Walk.visit_numbers.Goals as goal
 
 pub returns-in_err-count_traversed-clause-refused : goal.returns-in_err-count_traversed-clause-refused
 returns-in_err-count_traversed-clause-refused c m place nesting is deep =
