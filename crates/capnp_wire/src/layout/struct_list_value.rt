@@ -10,6 +10,7 @@ ghost use Rattle.capnp_wire.specs.ListValues.{IsListTree, StopsInList, pointers_
 
 use crate::layout::block::put_word;
 use crate::layout::copy::Copied;
+use crate::layout::copy_cursor::CopyCursor;
 use crate::layout::copy_rows::copy_rows;
 use crate::layout::data_words::put_rows;
 use crate::layout::object::words_fit;
@@ -17,7 +18,6 @@ use crate::layout::output_size::output_size;
 use crate::layout::place::Place;
 use crate::layout::pointer::Elements;
 use crate::layout::pointer_slots::PointerSlots;
-use crate::layout::row_pair::RowPair;
 use crate::layout::value::checked_word_count;
 use crate::layout::walk::Walk;
 use crate::pointer_word::{list_word, struct_word};
@@ -98,7 +98,7 @@ pub(crate) fn write<S: ReaderSegments>(
     let step = elements.size.words() as usize;
     put_rows(block, slots, kept, segment, first.word, step);
     let end = slots + kept.words() as usize;
-    let rows = RowPair::elements(first, elements.size, kept, slots);
+    let rows = CopyCursor::elements(first, elements.size, kept, slots);
     Copied {
         pointer: list_word((next - following) as u64, 7, kept.words()),
         next: copy_rows(segments, segment, rows, nesting, canonical, block, end),

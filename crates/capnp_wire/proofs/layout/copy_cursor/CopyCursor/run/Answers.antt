@@ -2,7 +2,7 @@
 use Rattle.std.proofs.Common.{◌∙◌, ap, sym, length, arith}
 use Rattle.capnp_wire.proofs.layouts.CopyLemmas.{paired}
 use Rattle.capnp_wire.proofs.objects.FieldLemmas.{length-places}
-use Rattle.capnp_wire.proofs.layout.row_pair.RowPair.run.Goals as goal
+use Rattle.capnp_wire.proofs.layout.copy_cursor.CopyCursor.run.Goals as goal
 
 pub returns : goal.returns
 returns c =

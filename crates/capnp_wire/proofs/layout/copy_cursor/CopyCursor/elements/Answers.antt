@@ -2,7 +2,7 @@
 use Rattle.std.proofs.Common.{◌∙◌, ap, sym, refl, length}
 use Rattle.capnp_wire.proofs.layouts.CopyLemmas.{paired}
 use Rattle.capnp_wire.proofs.layouts.CopiedLemmas.{kept_many}
-use Rattle.capnp_wire.proofs.layout.row_pair.RowPair.elements.Goals as goal
+use Rattle.capnp_wire.proofs.layout.copy_cursor.CopyCursor.elements.Goals as goal
 
 pub returns : goal.returns
 returns c =

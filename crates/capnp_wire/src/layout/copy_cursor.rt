@@ -13,16 +13,16 @@ use crate::layout::pointer_slots::PointerSlots;
 
 /// The pointers that are left to copy, and the slots in the copy for each of them.
 #[derive(Drop)]
-pub(crate) struct RowPair {
+pub(crate) struct CopyCursor {
     from: PointerSlots,
     to: PointerSlots,
 }
 
-impl RowPair {
+impl CopyCursor {
     /// The pointers of an object that are kept in its copy, which begins at the word `next` of a
     /// block.
     #[inline(always)]
-    pub(crate) fn of(object: &Object<'_>, copied: Body, next: usize) -> RowPair
+    pub(crate) fn of(object: &Object<'_>, copied: Body, next: usize) -> CopyCursor
         requires narrower { IsNarrower object.now.body copied }
         requires room { object.now.start.word + room_of object.now.body
             ≤ length object.now.segment.now / 8 }
@@ -41,12 +41,12 @@ impl RowPair {
         };
         let from = PointerSlots::of(object.start, object.body, kept);
         let to = PointerSlots::of(begin, copied, kept);
-        RowPair { from, to }
+        CopyCursor { from, to }
     }
 
     /// Some consecutive pointers, whose slots are consecutive, too.
     #[inline(always)]
-    pub(crate) fn run(first: Place, count: u32, slot: usize) -> RowPair
+    pub(crate) fn run(first: Place, count: u32, slot: usize) -> CopyCursor
         requires there { first.word + count < 2 ^ 61 }
         requires room { slot + count < 2 ^ 61 }
         ensures { ArePaired result (places first.segment first.word count)
@@ -58,13 +58,18 @@ impl RowPair {
         };
         let from = PointerSlots::run(first, count);
         let to = PointerSlots::run(begin, count);
-        RowPair { from, to }
+        CopyCursor { from, to }
     }
 
     /// The pointers that are kept in copies of structs, by the first of these structs and their
     /// size, and their slots in the copies, which begin at a word of a block.
     #[inline(always)]
-    pub(crate) fn elements(first: Place, size: StructSize, kept: Elements, slots: usize) -> RowPair
+    pub(crate) fn elements(
+        first: Place,
+        size: StructSize,
+        kept: Elements,
+        slots: usize,
+    ) -> CopyCursor
         requires pointers { kept.size.pointers ≤ size.pointers }
         requires there { first.word + kept.count * (size.data_words + size.pointers) < 2 ^ 61 }
         requires room { slots + kept.count * (kept.size.data_words + kept.size.pointers) < 2 ^ 61 }
@@ -81,7 +86,7 @@ impl RowPair {
         let rows = kept.size.row_size();
         let from = PointerSlots::new(first, size.row_size(), rows.pointers, kept.count);
         let to = PointerSlots::new(begin, rows, rows.pointers, kept.count);
-        RowPair { from, to }
+        CopyCursor { from, to }
     }
 
     /// Whether no pointer is left.

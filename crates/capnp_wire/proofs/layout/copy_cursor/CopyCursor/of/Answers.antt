@@ -3,7 +3,7 @@ use Rattle.std.proofs.Common.{◌∙◌, ap, sym, length, arith}
 use Rattle.capnp_wire.specs.declared.layout.pointer_slots.RowSize.{RowSize}
 use Rattle.capnp_wire.proofs.layouts.CopyLemmas.{paired}
 use Rattle.capnp_wire.proofs.layouts.CopiedLemmas.{fewer_pointers, as_many}
-use Rattle.capnp_wire.proofs.layout.row_pair.RowPair.of.Goals as goal
+use Rattle.capnp_wire.proofs.layout.copy_cursor.CopyCursor.of.Goals as goal
 
 pub of-from-requires-clause-kept : goal.of-from-requires-clause-kept
 of-from-requires-clause-kept c = rw c.row_size-kept.ensures (fewer_pointers _ _ c.requires.narrower).0
