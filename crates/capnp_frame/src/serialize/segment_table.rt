@@ -121,7 +121,7 @@ pub(crate) fn lengths_total(table: &[u8], count: usize) -> usize
 
 /// Fills in where each segment begins and ends, in words, by the lengths in a table of as many
 /// segments, and returns the sum of the lengths.
-pub(crate) fn fill_indices(indices: &mut [(usize, usize)], table: &[u8]) -> usize
+pub(crate) fn fill_segment_ranges(indices: &mut [(usize, usize)], table: &[u8]) -> usize
     requires few { length indices.old < SEGMENTS_COUNT_LIMIT }
     requires room { 4 * (length indices.old + 1) ≤ length table.now }
     ensures declared { map range_len indices.new ≡ declared_lengths (length indices.new) table.now }

@@ -21,7 +21,7 @@ use crate::serialize::owned_segments::OwnedSegments;
 use crate::serialize::segment_lengths::SegmentLengthsBuilder;
 use crate::serialize::segment_table::{
     LONGEST_TABLE, Padding, SEGMENTS_COUNT_LIMIT, accepted_count, check_limit, check_padding,
-    fill_indices, table_len,
+    fill_segment_ranges, table_len,
 };
 use std::alloc::Global;
 
@@ -240,7 +240,7 @@ fn fill_lengths(
     ensures within { OnOk result (KeepsLimit (map range_len indices.new) limit) }
     ensures refused { IfErr result (λ error. RefusesComplete rule limit error.kind table.now) }
 {
-    let total = fill_indices(indices, table);
+    let total = fill_segment_ranges(indices, table);
     check_limit(total, limit)?;
     check_padding(table, indices.len(), rule)?;
     Ok(total)

@@ -2,7 +2,7 @@
 use Rattle.std.proofs.Common.{◌≡◌, ◌*◌, ◌≤◌, ◌^◌, map, take}
 use Rattle.capnp_frame.specs.Front.{declared_lengths, SpellsLengths}
 use Rattle.capnp_frame.specs.SegmentLengths.{range_len, AreRanges}
-use Rattle.capnp_frame.proofs.serialize.segment_table.fill_indices.Given as goal
+use Rattle.capnp_frame.proofs.serialize.segment_table.fill_segment_ranges.Given as goal
 
 abbrev pub invariant-loop-index : goal.invariant-loop-index
 invariant-loop-index l = record {
