@@ -51,7 +51,7 @@ impl<A: Allocator> Segments<A> {
             segment,
             start,
             words,
-            tag: u64::from_le_bytes(word.bytes()),
+            pointer_word: u64::from_le_bytes(word.bytes()),
         }
     }
 
@@ -61,7 +61,7 @@ impl<A: Allocator> Segments<A> {
         requires body { HasSomeBody self.old.spaces location }
         ensures { PointsRoot location self.old self.new }
     {
-        let pointer = moved(location.tag, location.start - 1);
+        let pointer = moved(location.pointer_word, location.start - 1);
         self.write_at(0, 0, &pointer.to_le_bytes());
     }
 
@@ -78,7 +78,7 @@ impl<A: Allocator> Segments<A> {
         self.write_at(
             location.segment,
             8 * landing_pad as usize,
-            &location.tag.to_le_bytes(),
+            &location.pointer_word.to_le_bytes(),
         );
         let pointer = far_word(location.segment, landing_pad);
         self.write_at(0, 0, &pointer.to_le_bytes());

@@ -5,5 +5,5 @@ pub struct RootLocation {
     pub segment: u32,
     pub start: u32,
     pub words: u32,
-    pub tag: u64,
+    pub pointer_word: u64,
 }
