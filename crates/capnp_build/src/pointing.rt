@@ -30,7 +30,7 @@ impl<A: Allocator> Segments<A> {
     }
 
     /// Writes a value into a block after the used words of a segment, and returns where it is.
-    pub fn fill<T, V: SetterInput<T>>(
+    pub fn append_value<T, V: SetterInput<T>>(
         &mut self,
         segment: u32,
         canonical: bool,

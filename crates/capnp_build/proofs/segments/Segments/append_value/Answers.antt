@@ -8,7 +8,7 @@ use Rattle.capnp_build.specs.BuilderState.{BuilderState}
 use Rattle.capnp_wire.proofs.words.WordLemmas.{number_of_eight}
 use Rattle.capnp_build.proofs.PointLemmas.{block_there, longer_by}
 use Rattle.capnp_build.proofs.ReadyLemmas.{ready}
-use Rattle.capnp_build.proofs.segments.Segments.fill.Goals as goal
+use Rattle.capnp_build.proofs.segments.Segments.append_value.Goals as goal
 
 pub returns-clause-body : goal.returns-clause-body
 returns-clause-body g c =
