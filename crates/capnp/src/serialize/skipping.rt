@@ -29,7 +29,7 @@ pub fn try_skip_message<R: BufRead>(
     try_skip_segments(source, options, spare)
 }
 
-/// Skips the next message as `try_skip_message` does, but accepts any padding.
+/// Skips the next message as `try_skip_message` does, but accepts any padding in the segment table.
 pub fn try_skip_message_lenient<R: BufRead>(
     source: &mut R,
     options: ReaderOptions,

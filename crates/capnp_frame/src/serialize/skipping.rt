@@ -44,7 +44,8 @@ pub fn try_skip_segments<R: BufRead>(
     )
 }
 
-/// Skips the next message as `try_skip_segments` does, but accepts any padding.
+/// Skips the next message as `try_skip_segments` does, but accepts any padding in the segment
+/// table.
 pub fn try_skip_segments_lenient<R: BufRead>(
     source: &mut R,
     options: ReaderOptions,

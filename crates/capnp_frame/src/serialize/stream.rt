@@ -53,7 +53,8 @@ pub fn try_read_segments<R: Read>(
     )
 }
 
-/// Reads the next message as `try_read_segments` does, but accepts any padding.
+/// Reads the next message as `try_read_segments` does, but accepts any padding in the segment
+/// table.
 pub fn try_read_segments_lenient<R: Read>(
     alloc: Global,
     source: &mut R,
@@ -91,7 +92,8 @@ pub fn try_read_segments_reusing<R: Read>(
     )
 }
 
-/// Reads the next message as `try_read_segments_reusing` does, but accepts any padding.
+/// Reads the next message as `try_read_segments_reusing` does, but accepts any padding in the
+/// segment table.
 pub fn try_read_segments_reusing_lenient<R: Read>(
     source: &mut R,
     options: ReaderOptions,
