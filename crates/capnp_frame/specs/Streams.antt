@@ -35,9 +35,9 @@ pub record StreamRules : Type 1 where
   -- where a reader that allocates takes memory, within a limit of words: `takes_memory limit raw
   -- left`
   pub takes_memory : Option ℕ → List ℕ → List ℕ → Type 0
-  -- the table of errors, within a limit of words and the bytes of a caller-provided buffer: the
-  -- first line that holds fails with this kind, and leaves `left` unread:
-  -- `refuses limit room kind raw left`
+  -- the table of errors: `refuses limit room kind raw left` says that within a limit of words, and
+  -- the bytes of a caller-provided buffer, reading fails with `kind` and leaves `left` unread, by the
+  -- first line that holds
   pub refuses : Option ℕ → Option ℕ → ErrorKind → List ℕ → List ℕ → Type 0
   -- the kinds with which a reader that allocates may fail, also where the unread bytes aren't known
   pub kinds : ErrorKind → Type 0
