@@ -217,6 +217,7 @@ impl CanonicalWalk {
 }
 
 /// Whether the one segment of a message is the canonical form of its root tree.
+///
 /// Speed: it is a call, so that few instructions decide that a message has more segments (workload
 /// `roots`).
 #[inline(never)]

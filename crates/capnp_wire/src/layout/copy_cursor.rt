@@ -11,7 +11,8 @@ use crate::layout::place::Place;
 use crate::layout::pointer::{Elements, StructSize};
 use crate::layout::pointer_slots::PointerSlots;
 
-/// The pointers that are left to copy, and the slots in the copy for each of them.
+/// Where a copy of an object's pointers is: at the next pointer that is left to copy, and at its
+/// slot, the word of the copy that the pointer there is put into.
 #[derive(Drop)]
 pub(crate) struct CopyCursor {
     from: PointerSlots,

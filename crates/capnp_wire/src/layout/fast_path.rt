@@ -151,7 +151,8 @@ pub(crate) fn local_pointers(segment: &[u8], place: Place, nesting: u32) -> Opti
     })
 }
 
-/// A struct.
+/// A struct in the segment of its pointer, which has no landing pad.
+///
 /// Speed: a type of its own, since an object whose kind the compiler doesn't know is kept in memory
 /// (`tools/time-building`).
 #[derive(Drop)]
@@ -222,6 +223,7 @@ impl<'a> LocalStruct<'a> {
     }
 
     /// Whether its first `count` pointers are null.
+    ///
     /// Speed: a struct of null pointers is walked and copied as words, without a call
     /// (`tools/time-building`).
     #[inline(always)]
@@ -253,7 +255,7 @@ impl<'a> NumberList<'a> {
 }
 
 impl<'a> PointerRun<'a> {
-    /// These pointers, for a walk.
+    /// A cursor over these pointers, for a walk.
     #[inline(always)]
     pub(crate) fn rows(&self) -> PointerSlots
         ensures places { places_in result

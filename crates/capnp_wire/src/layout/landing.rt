@@ -15,13 +15,16 @@ use capnp_frame::message::ReaderSegments;
 use capnp_frame::{Error, ErrorKind, Result};
 
 /// Where an object begins, unless its pointer leads to a word before the segment, and the shape
-/// that its tag gives it.
+/// that the struct or list pointer to it gives it: its own, or one in a landing pad.
 #[derive(Drop)]
 pub(crate) struct Landing<'a> {
+    /// The segment that the object is in.
     pub segment: &'a [u8],
+    /// That segment's id.
     pub number: u32,
     pub start: Option<usize>,
     pub shape: LocalShape,
+    /// The words of the landing pad: 0 without one, 2 for a double-far pointer.
     pub landing_pads: u64,
 }
 
@@ -96,7 +99,8 @@ fn resolve_far<S: ReaderSegments>(segments: &S, far: FarPointer) -> Result<Landi
     resolve_double_far(segments, first, tag)
 }
 
-// Where a far pointer leads through a landing pad of these two words.
+// Where a double-far pointer leads, through a landing pad of these two words: a far pointer to the
+// object, and its tag word.
 fn resolve_double_far<S: ReaderSegments>(segments: &S, first: u64, tag: u64) -> Result<Landing<'_>>
     ensures found { let m = message_of (S.segments segments.now) in
         IfOk result (λ landing. (place : Place) (word : ℕ) → word_at m place ≡ Some word →
