@@ -126,7 +126,7 @@ fn word_of_numbers<N: PrimitiveElement + Copy>(items: &[N]) -> u64
     word
 }
 
-// The bits of one number, below those of the others.
+// The bits of one number, below those of the others: it is prepended to their list.
 fn prepend_bits(bits: u64, others: u64, each: u64) -> u64
     requires each { each < 65 }
     requires room { bits + 2 ^ each * others < 2 ^ 64 }
