@@ -42,7 +42,7 @@ impl<'a, E: EnumElement> EnumList<'a, E> {
         self.numbers.len()
     }
 
-    /// The element of this index.
+    /// The element of this index, which must be below `len`; `try_get` takes any.
     pub fn get(&self, index: u32) -> E
         requires { index < length (upgraded_numbers_of 3 self.now.numbers) }
     {
