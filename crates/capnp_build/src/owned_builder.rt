@@ -9,7 +9,8 @@ use crate::object::NewBody;
 use crate::root_kind::RootKind;
 use capnp_frame::Result;
 
-/// A type of a schema that can be built.
+/// A type of a schema whose objects can be built in place, at the root of a message: which new
+/// object is made for a length, and which objects have a view of this type.
 pub trait OwnedBuilder {
     /// The object that is made for this length.
     ghost inits: { ℕ → Form → Type 0 };

@@ -13,7 +13,8 @@ use capnp_wire::pointer_word::{far_word, moved};
 use capnp_wire::traits::SetterInput;
 
 impl<A: Allocator> Segments<A> {
-    /// Makes the root's word zero, and the object that it leads to.
+    /// Makes the root null: zeroes its pointer word, and the words of the object that it leads to,
+    /// where there is one.
     pub fn zero_root(&mut self, location: Option<RootLocation>)
         requires there { 0 < length self.old.spaces }
         requires built { IsBuilt self.old.spaces location }
@@ -29,7 +30,7 @@ impl<A: Allocator> Segments<A> {
         self.zero(0, 0, 8);
     }
 
-    /// Writes a value into a block after the used words of a segment, and returns where it is.
+    /// Appends a value to a segment, in the words after the used ones, and returns where it is.
     pub fn append_value<T, V: SetterInput<T>>(
         &mut self,
         segment: u32,
