@@ -164,7 +164,7 @@ const FRAME_AND_MORE: [u8; 56] = [
     9, 9, 9, 9, 9, 9, 9, 9, 8, 7, 6, 5, 4, 3, 2, 1,
 ];
 
-// The text of that message as it is written, in a buffer of ones.
+// The encoding of that message as it is written, in a buffer of ones.
 #[rattlefmt::skip]
 const TEXT_AND_ROOM: [u8; 48] = [
     1, 0, 0, 0, 1, 0, 0, 0, 2, 0, 0, 0, 0, 0, 0, 0,

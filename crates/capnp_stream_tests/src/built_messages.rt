@@ -12,8 +12,8 @@ use capnp_frame_tests::sinks::FaultySink;
 use std::alloc::Global;
 use std::process::Abort;
 
-// A root text, whether the first segment has room for the root's word alone, both texts, and the
-// words in all.
+// A root text, whether the first segment has room for the root's word alone, both encodings, and
+// the words in all.
 #[derive(Drop)]
 struct Built {
     text: &'static str,

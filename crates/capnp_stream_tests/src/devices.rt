@@ -6,7 +6,7 @@ use capnp_frame::Result;
 use std::alloc::Global;
 use std::io;
 
-/// Gives its text a few bytes a read. Its first reads are interrupted, and the read `bad_read`,
+/// Gives a few of its bytes a read. Its first reads are interrupted, and the read `bad_read`,
 /// counted from 1, fails.
 #[derive(Drop)]
 struct ChoppyReader<'a> {

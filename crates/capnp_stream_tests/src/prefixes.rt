@@ -1,4 +1,4 @@
-//! Messages that are cut: no prefix of a text is a message, and each fails with one kind.
+//! Messages that are cut: no prefix of an encoding is a message, and each fails with one kind.
 use crate::assertions::At;
 use crate::calls_declared::{assert_call, assert_form, assert_left, both};
 use crate::flat::{FORMS, Form, RULES, find};
