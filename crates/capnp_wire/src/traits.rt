@@ -17,7 +17,7 @@ pub use crate::list_iter::{IndexMove, ListIter};
 use capnp_frame::Result;
 use capnp_frame::message::ReaderSegments;
 
-/// A type of views, as `text::Reader`: each shows what a pointer leads to.
+/// A type of views of what a pointer leads to, as `text::Reader` is one.
 pub trait FromPointerReader<'a, S: ReaderSegments>: Sized {
     /// The view shows what the pointer leads to.
     ghost shows: { Pointer → Self → Type 0 };
