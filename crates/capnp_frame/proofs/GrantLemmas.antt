@@ -18,7 +18,7 @@ use Rattle.capnp_frame.proofs.WritingLemmas.{take-next}
 abbrev pub StaysGranted : {S : Type 0} → (S → ℕ → Type 0) → S → S → ℕ → Type 0
 StaysGranted grants a b n = (more : ℕ) → grants a (n + more) → grants b more
 
--- a sink doesn't grant so many bytes
+-- a sink doesn't grant this many bytes
 abbrev pub IsNeverGranted : {S : Type 0} → (S → ℕ → Type 0) → S → ℕ → Type 0
 IsNeverGranted grants a n = (more : ℕ) → grants a (n + more) → ⊥
 
@@ -58,7 +58,7 @@ granted_first grants a b n m lacks other part wider takes more given =
     let stopped = takes ((m - n) + more) (subst (grants a) parts given) in
     (wider stopped.0, stopped.1)
 
--- A sink that grants so many bytes rejects none of them
+-- A sink that grants this many bytes rejects none of them
 
 -- a chunk that is rejected wasn't granted
 pub never_one : {S : Type 0} (grants : S → ℕ → Type 0) (a b : S) (n : ℕ) → ((more : ℕ) → grants a (n + more) → (false ≡ true) × grants b more) → IsNeverGranted grants a n
