@@ -22,7 +22,8 @@ pub enum RootKind {
 
 /// The kind of the object that a pointer word leads to.
 pub(crate) fn read_pointer_word(word: u64) -> RootKind
-    ensures { (form : Form) (n : ℕ) → HasRoom form n → word ≡ pointer form n 0 → ShowsRoot result form }
+    ensures { (form : Form) (n : ℕ) → HasRoom form n → word ≡ pointer form n 0 →
+        ShowsRoot result form }
 {
     if word == 0 {
         return RootKind::Null;

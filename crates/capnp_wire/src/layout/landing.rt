@@ -123,7 +123,8 @@ fn resolve_double_far<S: ReaderSegments>(segments: &S, first: u64, tag: u64) -> 
 
 // Where the content is, by the first word of a landing pad of two words.
 fn content_pointer(first: u64) -> Result<Place>
-    ensures { let is_far = λ (far : FarPointer). IsFarPointer first far × (far.is_double_far ≡ false) in
+    ensures { let is_far = λ (far : FarPointer).
+        IsFarPointer first far × (far.is_double_far ≡ false) in
         MatchResult result (λ place. (far : FarPointer) × is_far far × (place ≡ far.landing_pad))
         (λ error. ((far : FarPointer) → is_far far → ⊥)
         × (error.kind ≡ ErrorKind.PointerOutOfBounds)) }
