@@ -26,9 +26,9 @@ pub struct Reader<'a, S> {
 }
 
 impl<'a, S: ReaderSegments> Reader<'a, S> {
-    /// The root pointer of segments that are trusted, as those of a message that is being built, read
-    /// under no traversal limit, and under a nesting limit of 2^31 - 1. It is null where there is no
-    /// first segment.
+    /// The root pointer of segments that are trusted, as those of a message that is being built,
+    /// read under no traversal limit, and under a nesting limit of 2^31 - 1. It is null where there
+    /// is no first segment.
     pub fn root_of(segments: &'a S) -> Reader<'a, S>
         ensures { pointer_of S.segments result ≡ unlimited_root (S.segments segments.now) }
     {

@@ -46,8 +46,8 @@ impl Walk {
         Ok(Some(object))
     }
 
-    /// Counts a struct against the traversal limit, and the words of its copy, without following its
-    /// pointers. Returns whether all of them are null.
+    /// Counts a struct against the traversal limit, and the words of its copy, without following
+    /// its pointers. Returns whether all of them are null.
     #[inline(always)]
     pub(crate) fn visit_struct(&mut self, found: &LocalStruct<'_>, canonical: bool) -> Result<bool>
         requires room { found.now.start.word + (found.now.size.data_words + found.now.size.pointers)

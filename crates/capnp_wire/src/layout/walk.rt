@@ -94,8 +94,8 @@ impl Walk {
         Ok(())
     }
 
-    /// Adds words to those of the objects, and counts them against no limit: words of an object that
-    /// was counted before, as one that a view shows.
+    /// Adds words to those of the objects, and counts them against no limit: words of an object
+    /// that was counted before, as one that a view shows.
     #[inline(always)]
     pub(crate) fn count(&mut self, more: u64)
         ensures words { CountsMore (counted self.old) (counted self.new) more }
@@ -234,9 +234,9 @@ impl Walk {
         Ok(())
     }
 
-    // Takes these pointers one by one, and walks over what each leads to, until one leads to a struct
-    // with pointers that aren't null: that struct is entered, and its pointers are returned, to be
-    // walked over next. `None` once no pointer is left.
+    // Takes these pointers one by one, and walks over what each leads to, until one leads to a
+    // struct with pointers that aren't null: that struct is entered, and its pointers are returned,
+    // to be walked over next. `None` once no pointer is left.
     #[inline(always)]
     #[cycle(walk)]
     fn next_parent<'a, S: ReaderSegments>(
