@@ -65,3 +65,9 @@ struct Shape {
     }
   }
 }
+
+struct Palette {
+  # Colors, and a name for each.
+  colors @0 :List(Color);
+  names @1 :List(Text) = ["none"];
+}

@@ -1,4 +1,4 @@
--- A log that is cut within a record: by which kinds its reader fails.
+-- A log that is cut within a record: with which kinds its reader fails.
 use Rattle.std.proofs.Common.{◌≡◌, ◌⊎◌, inl, inr, ℕ, ◌+◌, ◌<◌, ◌*◌, ◌/◌, Option, Some, None, List, [], ◌++◌, length, sum, refl, sym, ap, ◌∙◌, arith, append_assoc, length-append}
 use Rattle.std.proofs.lemmas.List.{append-nil, nil_from_length}
 use Rattle.capnp_frame.specs.declared.serialize.segment_table.Padding.TheVariants.{Zero}

@@ -7,29 +7,37 @@ use Rattle.capnp_frame.specs.declared.error.ErrorKind.TheVariants.{DeviceFailed,
 use Rattle.capnp_frame.specs.declared.io.Read.{Ghosts}
 use Rattle.capnp_frame.specs.Limits.{IsWithin}
 use Rattle.capnp_frame.specs.Source.{Giving, Refusing, Splits, RunsShort, IfKnown, Advances, Fails}
-use Rattle.capnp_frame.specs.Refusals.{RefusesStream, TakesMemory, IsReaderKind}
+use Rattle.capnp_frame.specs.Refusals.{CountStands, RefusesStream, TakesMemory, TakesForLengths, IsReaderKind}
 use Rattle.capnp_frame.specs.Requests.{MessageStands}
 use Rattle.capnp_frame.specs.Skipping.{SkipsMessage}
-use Rattle.capnp_frame.specs.Streams.{StreamRules, framed_rules, ReadsStream}
+use Rattle.capnp_frame.specs.Streams.{StreamRules, framed_rules, skipping_rules, ReadsStream}
 use Rattle.capnp_frame.proofs.SourceLemmas.{IfKnown-weaker}
 use Rattle.capnp_frame.proofs.RefusalLemmas.{RefusesStream-map}
 use Rattle.capnp.specs.declared.streams.Format.{Format}
 use Rattle.capnp.specs.declared.streams.Format.TheVariants.{Framed}
 use Rattle.capnp.specs.Headline.{OrFailsAtEnd}
-use Rattle.capnp.specs.Streams.{IsPlainSource, rules_of, StandsNext}
+use Rattle.capnp.specs.Streams.{IsPlainSource, rules_of, skipping_rules_of, StandsNext}
 use Rattle.capnp.specs.Runs.{IsReadingFault}
 use Rattle.capnp.proofs.ReaderLemmas.{frames_requested}
 
-TakesMemory-map : (rule : Padding) {gives others : Giving}
-    (given : (raw : List ℕ) (n : ℕ) (bytes rest : List ℕ) → gives raw n bytes rest → others raw n bytes rest)
-    (limit : Option ℕ) (raw left : List ℕ) → TakesMemory rule gives limit raw left → TakesMemory rule others limit raw left
-TakesMemory-map rule given limit raw left (inl count) = inl (record {
+CountStands-map : {gives others : Giving} (given : (raw : List ℕ) (n : ℕ) (bytes rest : List ℕ) → gives raw n bytes rest → others raw n bytes rest)
+    (raw left : List ℕ) → CountStands gives raw left → CountStands others raw left
+CountStands-map given raw left count = record {
   word = count.word;
   count = count.count;
   given = given raw 8 count.word left count.given;
   declared = count.declared;
   accepted = count.accepted;
-})
+}
+
+TakesForLengths-map : (kept : ℕ) {gives others : Giving} (given : (raw : List ℕ) (n : ℕ) (bytes rest : List ℕ) → gives raw n bytes rest → others raw n bytes rest)
+    (raw left : List ℕ) → TakesForLengths kept gives raw left → TakesForLengths kept others raw left
+TakesForLengths-map kept given raw left (count, more) = (CountStands-map given raw left count, more)
+
+TakesMemory-map : (rule : Padding) {gives others : Giving}
+    (given : (raw : List ℕ) (n : ℕ) (bytes rest : List ℕ) → gives raw n bytes rest → others raw n bytes rest)
+    (limit : Option ℕ) (raw left : List ℕ) → TakesMemory rule gives limit raw left → TakesMemory rule others limit raw left
+TakesMemory-map rule given limit raw left (inl count) = inl (CountStands-map given raw left count)
 TakesMemory-map rule given limit raw left (inr (lengths, table, within)) = inr (
   lengths,
   record {
@@ -67,18 +75,18 @@ module _ {S : Type 0} (rule : Padding) (source : Ghosts S) (plain : IsPlainSourc
   texts_accepted F None accepted = tt
   texts_accepted F (Some raw) accepted = λ m rest stands within. accepted m rest ((frames_requested rule _ _ plain m raw rest).1 stands) within
 
-  texts_refused : (old new : Option (List ℕ)) (r : Result (Option (List (List ℕ))) Error)
+  texts_refused : (takes also : List ℕ → List ℕ → Type 0) → ((raw left : List ℕ) → takes raw left → also raw left)
+      → (old new : Option (List ℕ)) (r : Result (Option (List (List ℕ))) Error)
       → IfErr r (λ error. (error.kind ≡ DeviceFailed)
-      ⊎ ((error.kind ≡ OutOfMemory) × IfKnown old new (TakesMemory rule source.gives limit))
+      ⊎ ((error.kind ≡ OutOfMemory) × IfKnown old new takes)
       ⊎ IfKnown old new (RefusesStream rule source.gives source.refuses limit None error.kind))
       → IfErr r (λ error. (error.kind ≡ DeviceFailed)
-      ⊎ ((error.kind ≡ OutOfMemory) × IfKnown old new (TakesMemory rule Splits limit))
+      ⊎ ((error.kind ≡ OutOfMemory) × IfKnown old new also)
       ⊎ IfKnown old new (RefusesStream rule Splits RunsShort limit None error.kind))
-  texts_refused old new (Ok found) refused = tt
-  texts_refused old new (Err e) (inl device) = inl device
-  texts_refused old new (Err e) (inr (inl (memory, takes))) =
-      inr (inl (memory, IfKnown-weaker old new (TakesMemory-map rule (λ w n b t. (plain.given w n b t).1) limit) takes))
-  texts_refused old new (Err e) (inr (inr line)) = inr (inr (IfKnown-weaker old new
+  texts_refused takes also wider old new (Ok found) refused = tt
+  texts_refused takes also wider old new (Err e) (inl device) = inl device
+  texts_refused takes also wider old new (Err e) (inr (inl (memory, taken))) = inr (inl (memory, IfKnown-weaker old new wider taken))
+  texts_refused takes also wider old new (Err e) (inr (inr line)) = inr (inr (IfKnown-weaker old new
       (RefusesStream-map rule (λ w n b t. (plain.given w n b t).1) (λ w n k. (plain.refused w n k).1) limit None e.kind) line))
 
   texts_exact : (F : ErrorKind → Type 0) (old : Option (List ℕ))
@@ -93,29 +101,42 @@ module _ {S : Type 0} (rule : Padding) (source : Ghosts S) (plain : IsPlainSourc
   texts_kinds (Ok found) kinds = tt
   texts_kinds (Err e) kinds = kinds_of rule (λ w n k. (plain.refused w n k).1) e.kind kinds
 
-  pub plain_reads : (old new : S) (r : Result (Option (List (List ℕ))) Error)
-      → ReadsStream source old new (framed_rules rule source.gives source.refuses) limit r
-      → ReadsStream source old new (rules_of rule Framed) limit r
-  plain_reads old new r reads = record {
+  plain_reads_taking : (takes also : Option ℕ → List ℕ → List ℕ → Type 0) → ((raw left : List ℕ) → takes limit raw left → also limit raw left)
+      → (old new : S) (r : Result (Option (List (List ℕ))) Error)
+      → ReadsStream source old new (record (framed_rules rule source.gives source.refuses) { takes_memory = takes }) limit r
+      → ReadsStream source old new (record (rules_of rule Framed) { takes_memory = also }) limit r
+  plain_reads_taking takes also wider old new r reads = record {
     found = texts_found _ _ r reads.found;
     within = reads.within;
     whole = reads.whole;
     none = reads.none;
     accepted = texts_accepted _ _ reads.accepted;
     end = reads.end;
-    refused = texts_refused _ _ r reads.refused;
+    refused = texts_refused (takes limit) (also limit) wider _ _ r reads.refused;
     exact = texts_exact _ _ reads.exact;
     kinds = texts_kinds r reads.kinds;
     failed = reads.failed;
     advances = reads.advances;
   }
 
-  pub plain_skips : (old new : S) (r : Result (Option (List ℕ)) Error)
-      → SkipsMessage (ReadsStream source old new (framed_rules rule source.gives source.refuses) limit) r
-      → SkipsMessage (ReadsStream source old new (rules_of rule Framed) limit) r
-  plain_skips old new (Ok (Some ns)) (message, same, reads) = (message, same, plain_reads old new (Ok (Some message)) reads)
-  plain_skips old new (Ok None) reads = plain_reads old new (Ok None) reads
-  plain_skips old new (Err error) reads = plain_reads old new (Err error) reads
+  pub plain_reads : (old new : S) (r : Result (Option (List (List ℕ))) Error)
+      → ReadsStream source old new (framed_rules rule source.gives source.refuses) limit r
+      → ReadsStream source old new (rules_of rule Framed) limit r
+  plain_reads old new r reads = plain_reads_taking (TakesMemory rule source.gives) (TakesMemory rule Splits)
+      (TakesMemory-map rule (λ w n b t. (plain.given w n b t).1) limit) old new r reads
+
+  plain_skips_each : (kept : ℕ) (old new : S) (r : Result (Option (List (List ℕ))) Error)
+      → ReadsStream source old new (skipping_rules rule source.gives source.refuses kept) limit r
+      → ReadsStream source old new (skipping_rules_of rule kept) limit r
+  plain_skips_each kept old new r reads = plain_reads_taking (λ most. TakesForLengths kept source.gives) (λ most. TakesForLengths kept Splits)
+      (TakesForLengths-map kept (λ w n b t. (plain.given w n b t).1)) old new r reads
+
+  pub plain_skips : (kept : ℕ) (old new : S) (r : Result (Option (List ℕ)) Error)
+      → SkipsMessage (ReadsStream source old new (skipping_rules rule source.gives source.refuses kept) limit) r
+      → SkipsMessage (ReadsStream source old new (skipping_rules_of rule kept) limit) r
+  plain_skips kept old new (Ok (Some ns)) (message, same, reads) = (message, same, plain_skips_each kept old new (Ok (Some message)) reads)
+  plain_skips kept old new (Ok None) reads = plain_skips_each kept old new (Ok None) reads
+  plain_skips kept old new (Err error) reads = plain_skips_each kept old new (Err error) reads
 
 -- what holds of the form that may return None, carried over
 pub or_fails_map : {P Q : Result (Option (List (List ℕ))) Error → Type 0} (r : Result (Option (List (List ℕ))) Error)
@@ -153,3 +174,11 @@ pub reading_fault : (rule : Padding) (format : Format) (limit : Option ℕ) (kin
 reading_fault rule format limit kind old new (inl device) = inl device
 reading_fault rule format limit kind old new (inr (inl memory)) = inr (inl memory)
 reading_fault rule format limit kind old new (inr (inr line)) = inr (inr line)
+
+-- as is a failure of a call that skips a message, which takes memory for the lengths alone
+pub skipping_fault : (rule : Padding) (kept : ℕ) (limit : Option ℕ) (kind : ErrorKind) (old new : Option (List ℕ))
+    → (kind ≡ DeviceFailed) ⊎ ((kind ≡ OutOfMemory) × IfKnown old new ((skipping_rules_of rule kept).takes_memory limit))
+    ⊎ IfKnown old new ((skipping_rules_of rule kept).refuses limit None kind) → IsReadingFault rule Framed limit kind old new
+skipping_fault rule kept limit kind old new (inl device) = inl device
+skipping_fault rule kept limit kind old new (inr (inl memory)) = inr (inl (memory.0, IfKnown-weaker old new (λ raw left takes. inl takes.0) memory.1))
+skipping_fault rule kept limit kind old new (inr (inr line)) = inr (inr line)

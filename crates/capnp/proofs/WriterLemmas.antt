@@ -95,6 +95,7 @@ frame_written sink old new message r declared = record {
   untouched = declared.parts.untouched;
   failed = declared.parts.failed;
   grows = declared.parts.grows;
+  granted = λ framed. declared.granted;
 }
 
 -- what stays of a packer stays of its sink
@@ -104,6 +105,9 @@ kept_below see Declines old new (Ok x) declared = tt
 kept_below see Declines old new (Err e) (inl failed) = inl failed
 kept_below see Declines old new (Err e) (inr (inl declined)) = inr (inl declined)
 kept_below see Declines old new (Err e) (inr (inr same)) = inr (inr (ap see same))
+
+packed_is_not_framed : Packed ≡ Framed → ⊥
+packed_is_not_framed same = cc
 
 -- and packed, by a packer in which the sink is seen
 pub packed_written : {S P X : Type 0} (sink : Ghosts S) (see : P → S) (old new : P) (message : List (List ℕ)) (r : Result X Error)
@@ -123,4 +127,5 @@ packed_written sink see old new message r count unwritten written left refused u
   untouched = kept_below see (DeclinesSome (DeclinesPacked sink.refuses) (chunks message)) old new r untouched;
   failed = failed;
   grows = grows;
+  granted = λ framed. absurd (packed_is_not_framed framed);
 }

@@ -5,7 +5,7 @@ use Rattle.capnp_frame.specs.declared.serialize.segment_table.Padding.{Padding}
 use Rattle.capnp_frame.specs.Frame.{IsFrame}
 use Rattle.capnp_frame.specs.Source.{Giving, Refusing, Splits, RunsShort}
 use Rattle.capnp_frame.specs.Texts.{Grammar, BeginsWith, AreEncodings, EndsEncodings}
-use Rattle.capnp_frame.specs.Refusals.{RefusesStream, TakesMemory, IsReaderKind, IsProvidedReaderKind}
+use Rattle.capnp_frame.specs.Refusals.{RefusesStream, TakesMemory, TakesForLengths, IsReaderKind, IsProvidedReaderKind}
 use Rattle.capnp_frame.specs.Streams.{StreamRules}
 use Rattle.capnp_pack.specs.PackedFrame.{IsPackedFrame}
 use Rattle.capnp_pack.specs.PackedSource.{Unpacks, RefusesChunk}
@@ -48,6 +48,10 @@ rules_of rule format = record {
   kinds = IsReaderKind rule (refuses_of format);
   provided_kinds = IsProvidedReaderKind rule (refuses_of format);
 }
+
+-- framed messages whose segments are skipped: memory is taken for the lengths alone, where they are more than `kept`
+abbrev pub skipping_rules_of : Padding → ℕ → StreamRules
+skipping_rules_of rule kept = record (rules_of rule Framed) { takes_memory = λ limit. TakesForLengths kept Splits }
 
 -- an encoding of the message in this format is at the front, and the message is within the limit
 abbrev pub StandsNext : Padding → Format → Option ℕ → List (List ℕ) → List ℕ → List ℕ → Type 0

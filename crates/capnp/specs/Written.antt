@@ -1,6 +1,6 @@
 -- What writers add to sinks.
 use Rattle.std.specs.List.{AllByRecursion}
-use Rattle.std.specs.Prelude.{◌≡◌, ◌⊎◌, ℕ, List, [], ◌∷◌, ◌++◌, map, Result, OnOk, OnErr, IfErr}
+use Rattle.std.specs.Prelude.{◌≡◌, ◌⊎◌, ℕ, ◌*◌, List, [], ◌∷◌, ◌++◌, map, Result, OnOk, OnErr, IfErr}
 use Rattle.capnp_frame.specs.declared.error.Error.{Error}
 use Rattle.capnp_frame.specs.declared.error.ErrorKind.{ErrorKind}
 use Rattle.capnp_frame.specs.declared.error.ErrorKind.TheVariants.{DeviceFailed}
@@ -9,8 +9,8 @@ use Rattle.capnp_frame.specs.Asking.{FailsOr}
 use Rattle.capnp_frame.specs.Frame.{frame_bytes}
 use Rattle.capnp_frame.specs.Sink.{Appending, Leaving, Declining, DeclinesSome, Adds, AppendsAll, LeavesSome, Grows}
 use Rattle.capnp_frame.specs.Source.{IfKnown, Fails}
-use Rattle.capnp_frame.specs.Writers.{KeepsCount, RefusesUnwritten}
-use Rattle.capnp_frame.specs.Writing.{IsWithinSegmentLimit, ExceedsSegmentLimit, RefusesMany, chunks}
+use Rattle.capnp_frame.specs.Writers.{TakesGranted, KeepsCount, RefusesUnwritten}
+use Rattle.capnp_frame.specs.Writing.{IsWithinSegmentLimit, ExceedsSegmentLimit, RefusesMany, chunks, serialized_words}
 use Rattle.capnp_build.specs.Built.{Built}
 use Rattle.capnp_build.specs.BuilderState.{used_of}
 use Rattle.capnp_pack.specs.PackedFrame.{IsPackedEncoding}
@@ -84,6 +84,8 @@ pub record WritesMessage {S X : Type 0} (format : Format) (sink : Ghosts S) (old
   pub failed : IfErr result (λ error. error.kind ≡ DeviceFailed → Fails (sink.failures old) (sink.failures new))
   -- what was written before stays at the front, also where the call fails
   pub grows : Grows sink.written sink.failures sink.same old new
+  -- where the sink grants all bytes of the framed encoding, it is written, but for what is lacked before it
+  pub granted : format ≡ Framed → TakesGranted sink.grants old new (8 * serialized_words message) (RefusesUnwritten message) result
 
 -- one of these messages has more segments than a reader accepts, and the failure carries their
 -- number

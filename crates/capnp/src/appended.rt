@@ -31,7 +31,7 @@ pub struct ReadBack {
 }
 
 /// Writes messages to a vector, one after the other, and reads them back: as many as were written,
-/// and then what follows them.
+/// and then what follows them. `roots::write_and_read_back` does so with one message that is built.
 ///
 /// Fails with `InvalidNumberOfSegments` for a message of more than 511 segments, and else with
 /// `OutOfMemory` alone.

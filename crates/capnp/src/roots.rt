@@ -52,7 +52,7 @@ pub fn set_and_read_back<T, V: SetterInput<T> + Drop, A: Allocator>(
 }
 
 /// Writes a message that is built to a vector, and reads it back: the segments are those that were
-/// written.
+/// written. `appended::write_and_read_back` does so with several messages of any kind.
 ///
 /// Fails with `InvalidNumberOfSegments` for more than 511 segments, with `MessageTooLarge` past the
 /// limit of words, and else with `OutOfMemory` alone.

@@ -39,7 +39,7 @@ pub enum Format {
 /// Where a run over the messages of a stream stopped.
 #[derive(Debug, Drop)]
 pub struct StoppedAt {
-    /// How many messages were written before it stopped.
+    /// How many messages were written completely: the index of the one at which it stopped, from 0.
     pub message: u64,
     /// Why the next one was not read, or not written completely.
     pub error: Error,

@@ -79,8 +79,8 @@ pub fn transcode<R: BufRead, W: Write>(
     transcode_by(alloc, Padding::Zero, way, source, sink, options)
 }
 
-/// Writes each message as `transcode` does, but accepts any padding, which older writers may have
-/// left. What is written has zero padding.
+/// Writes each message as `transcode` does, but accepts any padding in the segment table, which
+/// older writers may have left. What is written has zero padding.
 pub fn transcode_lenient<R: BufRead, W: Write>(
     alloc: Global,
     way: Way,

@@ -51,8 +51,8 @@ pub fn text_words(length: u64) -> u64
     length / 8 + 1
 }
 
-/// Adds the words of a record: a struct of three numbers, two texts and, one time in four, a list of
-/// numbers. They are the only segment of a message.
+/// Adds the words of a record: a struct of three numbers, two texts and, one time in four, a list
+/// of numbers. They are the only segment of a message.
 pub fn push_record(words: &mut Vec<u8>, random: &mut Random) -> Result<()> {
     let name = 3 + random.below(14);
     let note = 5 + random.below(40);
@@ -90,8 +90,8 @@ pub fn push_framed(stream: &mut Vec<u8>, segment: &[u8]) -> Result<()> {
     Ok(())
 }
 
-/// Adds the words of a table of this many rows, a tree of as many nodes and a list of as many lists:
-/// the only segment of a message.
+/// Adds the words of a table of this many rows, a tree of as many nodes and a list of as many
+/// lists: the only segment of a message.
 pub fn push_large(words: &mut Vec<u8>, random: &mut Random, rows: u64) -> Result<()> {
     let table = rows.wrapping_mul(10).wrapping_add(1);
     let tree = rows.wrapping_mul(3);
@@ -105,8 +105,8 @@ pub fn push_large(words: &mut Vec<u8>, random: &mut Random, rows: u64) -> Result
     push_lists(words, random, rows)
 }
 
-/// Adds the rows of a table, structs of two numbers, a text and a list, and then what each leads to:
-/// three words of text and three of numbers.
+/// Adds the rows of a table, structs of two numbers, a text and a list, and then what each leads
+/// to: three words of text and three of numbers.
 fn push_rows(words: &mut Vec<u8>, random: &mut Random, rows: u64) -> Result<()> {
     for row in 0..rows {
         let after = (rows - row)

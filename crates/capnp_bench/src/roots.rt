@@ -12,8 +12,8 @@ use std::alloc::Global;
 /// Room for a copy of a small message.
 const REGION_BYTES: usize = 2048;
 
-/// Each kind of root, with its name, and how many times as many messages of it are handled: each kind
-/// takes about as long as another.
+/// Each kind of root, with its name, and how many times as many messages of it are handled: each
+/// kind takes about as long as another.
 const ROOTS: [(&str, Root, u32); 8] = [
     ("struct", Root::Tree(Kind::Struct), 2),
     ("pointers", Root::Tree(Kind::Pointers), 1),

@@ -106,8 +106,8 @@ fn root_in_turn(index: u32) -> Root {
 }
 
 /// Adds an object without its pointer, and returns the pointer to it from the word before it.
-/// Numbers and texts lead to nothing: in the place of depths they have up to 4, 16, 64 and 256 bytes,
-/// numbers in whole words.
+/// Numbers and texts lead to nothing: in the place of depths they have up to 4, 16, 64 and 256
+/// bytes, numbers in whole words.
 fn push_object(words: &mut Vec<u8>, random: &mut Random, root: Root, depth: u32) -> Result<u64> {
     let most = 1_u32 << (2 * depth.min(4));
     match root {

@@ -69,8 +69,8 @@ enum Words {
     Small,
 }
 
-/// Reads and packs this many messages of each stream, or of that of a name, at each size, or at that
-/// of a name.
+/// Reads and packs this many messages of each stream, or of that of a name, at each size, or at
+/// that of a name.
 pub fn digest_of(
     alloc: Global,
     seed: u32,

@@ -60,7 +60,7 @@ content : (spaces : List Space) (i : ℕ) → i < length spaces → slice_get (m
 content spaces i within = segment_stands (map used_of spaces) i (space_at spaces i).used (used_at spaces i within)
 
 -- the tree is at the root, as readers define it
-rooted : (spaces : List Space) (k start n tag : ℕ) (form : Form) (children : Trees) → (let location : RootLocation = record { segment = k; start = start; words = n; tag = tag } in IsLaid spaces location form children)
+rooted : (spaces : List Space) (k start n tag : ℕ) (form : Form) (children : Trees) → (let location : RootLocation = record { segment = k; start = start; words = n; pointer_word = tag } in IsLaid spaces location form children)
     → (traversed : ℕ) × At (message spaces) (root ∷ []) (tree form children none) traversed
 rooted spaces zero start n tag form children r =
     let back : start ≡ 0 + 1 + (start - 1) = omega (arith, r.body_is.following) in
@@ -81,7 +81,7 @@ rooted spaces (suc k) start n tag form children r =
     (subst (λ (x : ℕ). Laid words x (tree form children none)) back r.body_is.laid)
 
 pub laid_root : (spaces : List Space) (location : RootLocation) (form : Form) (children : Trees) → IsLaid spaces location form children → (traversed : ℕ) × At (message spaces) (root ∷ []) (tree form children none) traversed
-laid_root spaces location form children r = rooted spaces location.segment location.start location.words location.tag form children r
+laid_root spaces location form children r = rooted spaces location.segment location.start location.words location.pointer_word form children r
 
 -- the root's word once it is a far pointer
 pub far_root_is : (spaces last : List Space) (i landing_pad word : ℕ) (v : List ℕ) → 0 < length last → 8 ≤ length (space_at spaces 0).used → (space_at last 0).used ≡ written (space_at spaces 0).used 0 v

@@ -12,11 +12,11 @@ use Rattle.capnp_wire.specs.Copy.{IsCopied}
 use Rattle.capnp_wire.specs.Values.{HasWords, HasRoomAt, IsFreeFrom}
 use Rattle.capnp_wire.proofs.layouts.FreeLemmas.{body_long}
 use Rattle.capnp_wire.proofs.layouts.LayoutLemmas.{if_positive}
-use Rattle.capnp_build.specs.Body.{words_of_body, Fits, body_tag, zero_form, output_new_object}
-use Rattle.capnp_build.specs.declared.object.Body.{Body}
-use Rattle.capnp_build.specs.declared.object.Body.TheVariants.{Bytes, Words, Struct}
+use Rattle.capnp_build.specs.NewBody.{words_of_body, Fits, body_pointer_word, zero_form, output_new_object}
+use Rattle.capnp_build.specs.declared.object.NewBody.{NewBody}
+use Rattle.capnp_build.specs.declared.object.NewBody.TheVariants.{Bytes, Words, Struct}
 
-abbrev pub new_tree : Body → Trees
+abbrev pub new_tree : NewBody → Trees
 new_tree b = tree (zero_form b) none none
 
 long : (n : ℕ) → length {A = ℕ} (replicate n 0) ≡ n
@@ -26,7 +26,7 @@ cut_all : (d : ℕ) → cut_zeros (replicate d 0) ≡ []
 cut_all zero = refl
 cut_all (suc d) = ap (λ (l : List ℕ). keep_word l 0) (cut_all d)
 
-pub output_new : (c : Bool) (b : Body) → output c (new_tree b) ≡ new_tree (output_new_object c b)
+pub output_new : (c : Bool) (b : NewBody) → output c (new_tree b) ≡ new_tree (output_new_object c b)
 output_new true (Bytes n) = refl
 output_new true (Words n) = refl
 output_new true (Struct d) = ap (λ (l : List ℕ). tree (struct l) none none) (cut_all d)
@@ -51,7 +51,7 @@ body_of_bytes n = digits (2 ^ 64) (words_for (length {A = ℕ} (replicate n 0)) 
 abbrev body_of_words : ℕ → List ℕ
 body_of_words n = digits (2 ^ 64) (words_for (length {A = ℕ} (replicate n 0)) 64) (number_of (2 ^ 64) (replicate n 0))
 
-zero_body : (b : Body) → body (new_tree b) ≡ replicate (words_of_body b) 0
+zero_body : (b : NewBody) → body (new_tree b) ≡ replicate (words_of_body b) 0
 zero_body (Bytes n) =
     append-nil (body_of_bytes n ++ []) ∙ append-nil (body_of_bytes n) ∙ zero_digits (2 ^ 8) (words_for (length {A = ℕ} (replicate n 0)) 8) n (no_number (2 ^ 8) n)
     ∙ ap (λ (k : ℕ). replicate (words_for k 8) 0) (long n)
@@ -60,21 +60,21 @@ zero_body (Words n) =
     ∙ ap (λ (k : ℕ). replicate k 0) (omega (arith, long n))
 zero_body (Struct d) = append-nil ((replicate d 0 ++ []) ++ []) ∙ append-nil (replicate d 0 ++ []) ∙ append-nil (replicate d 0)
 
-struct_tag_at : (gap d : ℕ) → struct_pointer (if d + 0 == 0 then minus_one else gap) d 0 ≡ body_tag gap (Struct d)
+struct_tag_at : (gap d : ℕ) → struct_pointer (if d + 0 == 0 then minus_one else gap) d 0 ≡ body_pointer_word gap (Struct d)
 struct_tag_at gap zero = omega arith
 struct_tag_at gap (suc d) = let a = if_positive (suc d + 0) minus_one gap (omega arith) in omega (arith, a)
 
-pub zero_total : (b : Body) → total_words (new_tree b) ≡ words_of_body b
+pub zero_total : (b : NewBody) → total_words (new_tree b) ≡ words_of_body b
 zero_total (Bytes n) = omega (arith, ap (λ (k : ℕ). words_for k 8) (long n))
 zero_total (Words n) = omega (arith, long n)
 zero_total (Struct d) = omega (arith, long d)
 
-zero_rooms : (b : Body) → Fits b → AllHaveRoom (new_tree b)
+zero_rooms : (b : NewBody) → Fits b → AllHaveRoom (new_tree b)
 zero_rooms (Bytes n) fits = ((omega arith, omega (arith, long n, fits), refl, All-replicate (λ (v : ℕ). v < 2 ^ 8) n 0 (omega arith)), tt, tt)
 zero_rooms (Words n) fits = ((omega arith, omega (arith, long n, fits), refl, All-replicate (λ (v : ℕ). v < 2 ^ 64) n 0 (omega arith)), tt, tt)
 zero_rooms (Struct d) fits = ((omega (arith, long d, fits), omega arith, All-replicate (λ (v : ℕ). v < 2 ^ 64) d 0 (omega arith)), tt, tt)
 
-pub new_object_words : (b : Body) (c : Bool) (n : ℕ) → Fits b → n ≡ words_of_body (output_new_object c b) → n < 2 ^ 29 → HasWords (λ trees. trees ≡ new_tree b) c n
+pub new_object_words : (b : NewBody) (c : Bool) (n : ℕ) → Fits b → n ≡ words_of_body (output_new_object c b) → n < 2 ^ 29 → HasWords (λ trees. trees ≡ new_tree b) c n
 new_object_words b c n fits is few = record {
   trees = new_tree b;
   tree_is = refl;
@@ -83,7 +83,7 @@ new_object_words b c n fits is few = record {
   few = few;
 }
 
-body_tag_at : (gap : ℕ) (b : Body) → pointer (zero_form b) 0 gap ≡ body_tag gap b
+body_tag_at : (gap : ℕ) (b : NewBody) → pointer (zero_form b) 0 gap ≡ body_pointer_word gap b
 body_tag_at gap (Bytes n) = omega (arith, long n)
 body_tag_at gap (Words n) = omega (arith, long n)
 body_tag_at gap (Struct d) = ap (λ (k : ℕ). struct_pointer (if k + 0 == 0 then minus_one else gap) k 0) (long d) ∙ struct_tag_at gap d
@@ -101,11 +101,11 @@ zeros_put n next ws zeros room =
     ∙ ap (λ (l : List ℕ). take next ws ++ l) (replicate-append-replicate n (length ws - next - n) 0 ∙ ap (λ (k : ℕ). replicate k 0) left ∙ sym zeros)
     ∙ take-append-drop next ws
 
-pub new_object_written : (b : Body) (c : Bool) (gap next tag end : ℕ) (block : List ℕ) → HasRoomAt (λ trees. trees ≡ new_tree b) c next (length (words_of block)) → IsFreeFrom next block
-    → tag ≡ body_tag gap (output_new_object c b) → end ≡ next + words_of_body (output_new_object c b) → (trees : Trees) → trees ≡ new_tree b
+pub new_object_written : (b : NewBody) (c : Bool) (gap next tag end : ℕ) (block : List ℕ) → HasRoomAt (λ trees. trees ≡ new_tree b) c next (length (words_of block)) → IsFreeFrom next block
+    → tag ≡ body_pointer_word gap (output_new_object c b) → end ≡ next + words_of_body (output_new_object c b) → (trees : Trees) → trees ≡ new_tree b
     → IsCopied (output c trees) gap next (words_of block) (words_of block) (record { pointer = tag; next = end })
 new_object_written b c gap next tag end block w f tag_is end_is trees is =
-    let made : Body = output_new_object c b in
+    let made : NewBody = output_new_object c b in
     let total : total_words (output c w.trees) ≡ words_of_body (output_new_object c b) = ap (λ (t : Trees). total_words (output c t)) w.tree_is ∙ ap total_words (output_new c b) ∙ zero_total (output_new_object c b) in
     subst (λ (t : Trees). IsCopied t gap next (words_of block) (words_of block) (record { pointer = tag; next = end })) (sym (ap (output c) is ∙ output_new c b)) (record {
       words_are = sym (ap (λ (l : List ℕ). put next l (words_of block)) (zero_body made) ∙ zeros_put (words_of_body made) next (words_of block) f.zero (omega (arith, w.fits, total)));
@@ -113,6 +113,6 @@ new_object_written b c gap next tag end block w f tag_is end_is trees is =
       next_is = end_is ∙ ap (λ (n : ℕ). next + n) (sym (zero_total made));
     })
 
-pub new_object_long : (b : Body) (c : Bool) (next room : ℕ) → HasRoomAt (λ trees. trees ≡ new_tree b) c next room → (trees : Trees) → trees ≡ new_tree b
+pub new_object_long : (b : NewBody) (c : Bool) (next room : ℕ) → HasRoomAt (λ trees. trees ≡ new_tree b) c next room → (trees : Trees) → trees ≡ new_tree b
     → length (body (output c trees)) ≡ total_words (output c trees)
 new_object_long b c next room w = body_long (λ trees. trees ≡ new_tree b) c next room (λ x y p q. p ∙ sym q) w

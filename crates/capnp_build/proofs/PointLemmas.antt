@@ -22,14 +22,14 @@ use Rattle.capnp_build.proofs.SpaceLemmas.{set_used, set_apart, set_room, size_s
 use Rattle.capnp_build.proofs.LaidLemmas.{pointer_small, laid_after, far_root_is}
 
 laid_of : (spaces : List Space) (location : RootLocation) (form : Form) (children : Trees) → HasBody spaces location form children → word_at (message spaces) root ≡ Some (root_word location.segment location.start form children)
-    → (0 < location.segment → (0 < location.words) × (word_at (message spaces) (landing_pad_of location) ≡ Some location.tag)) → IsLaid spaces location form children
+    → (0 < location.segment → (0 < location.words) × (word_at (message spaces) (landing_pad_of location) ≡ Some location.pointer_word)) → IsLaid spaces location form children
 laid_of spaces location form children b root_is landing_pad_is = record { body_is = b; root_is = root_is; landing_pad_is = landing_pad_is }
 
 -- a block after the used words is a body
 pub block_there : (spaces last : List Space) (i start n tag : ℕ) (block : List ℕ) (form : Form) (children : Trees) → i < length spaces → last ≡ slice_set spaces i (with_more (space_at spaces i) block)
     → 8 * start ≡ length (space_at spaces i).used → 0 < start → start ≤ 2 ^ 29 → length block ≡ 8 * n → n ≡ total_words (tree form children none) → n < 2 ^ 29 → AllHaveRoom (tree form children none)
     → tag ≡ pointer form (count children) 0 → words_of block ≡ body (tree form children none)
-    → (let location : RootLocation = record { segment = i; start = start; words = n; tag = tag } in HasBody last location form children)
+    → (let location : RootLocation = record { segment = i; start = start; words = n; pointer_word = tag } in HasBody last location form children)
 block_there spaces last i start n tag block form children within e start_is following local long size few rooms tag_is body_is =
     let old : List ℕ = (space_at spaces i).used in
     let s = set_used spaces last i (with_more (space_at spaces i) block) within e in
@@ -119,7 +119,7 @@ far_word (suc k) start form children other = refl
 
 -- the word before a body in another segment is its landing pad, and the root's word leads there
 pub far_points : (spaces mid last : List Space) (location : RootLocation) (form : Form) (children : Trees) (word : ℕ) (w v : List ℕ) → 0 < location.segment → 0 < location.words → location.segment < 2 ^ 32
-    → HasBody spaces location form children → 8 ≤ length (space_at spaces 0).used → w ≡ to_le_bytes w64 location.tag → length w ≡ 8
+    → HasBody spaces location form children → 8 ≤ length (space_at spaces 0).used → w ≡ to_le_bytes w64 location.pointer_word → length w ≡ 8
     → mid ≡ slice_set spaces location.segment (with_bytes (space_at spaces location.segment) (8 * (location.start - 1)) w) → word ≡ far_pointer location.segment (location.start - 1)
     → v ≡ to_le_bytes w64 word → length v ≡ 8 → last ≡ slice_set mid 0 (with_bytes (space_at mid 0) 0 v) → IsLaid last location form children
 far_points spaces mid last location form children word w v other some few b room is eight e word_is is_too eight_too f =
@@ -137,7 +137,7 @@ far_points spaces mid last location form children word w v other some few b room
     ap (λ (l : List Space). (space_at l location.segment).used) f ∙ ap (λ (x : Space). x.used) (set_apart mid 0 location.segment (with_bytes (space_at mid 0) 0 v) apart)
     ∙ ap (λ (x : Space). x.used) s.1 in
     let long : length (space_at last location.segment).used ≡ length old = ap length used ∙ written_length (8 * (location.start - 1)) old w (omega (arith, eight, b.following, b.room)) in
-    let small : location.tag < 2 ^ 64 = omega (arith, b.tag, pointer_small form (count children) 0 b.rooms.0 (omega arith)) in
+    let small : location.pointer_word < 2 ^ 64 = omega (arith, b.tag, pointer_small form (count children) 0 b.rooms.0 (omega arith)) in
     let front : take 8 (drop (8 * (location.start - 1)) (space_at last location.segment).used) ≡ w =
     ap (λ (l : List ℕ). take 8 (drop (8 * (location.start - 1)) l)) used ∙ eight_here (8 * (location.start - 1)) old w (omega (arith, b.room)) eight in
     laid_of last location form children two
@@ -146,7 +146,7 @@ far_points spaces mid last location form children word w v other some few b room
     (λ p. (
       some,
       word_there last (landing_pad_of location) two.within (omega (arith, long, b.room, b.following)) ∙ ap (λ (l : List ℕ). Some (number_of 256 l)) front
-          ∙ ap Some (word_back location.tag w small is eight),
+          ∙ ap Some (word_back location.pointer_word w small is eight),
     ))
 
 -- the first segment has room for the root's word

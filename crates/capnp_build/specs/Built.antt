@@ -67,7 +67,7 @@ pub record HasBody (spaces : List Space) (location : RootLocation) (form : Form)
   pub rooms : AllHaveRoom (tree form children none)
   pub size : location.words ≡ total_words (tree form children none)
   pub few : location.words < 2 ^ 29
-  pub tag : location.tag ≡ pointer form (count children) 0
+  pub tag : location.pointer_word ≡ pointer form (count children) 0
   pub laid : Laid (words_of (space_at spaces location.segment).used) location.start (tree form children none)
 
 -- the body of some tree is at this location
@@ -87,7 +87,7 @@ pub record HasValue (has_tree : Trees → Type 0) (canonical : Bool) (spaces : L
 pub record IsLaid (spaces : List Space) (location : RootLocation) (form : Form) (children : Trees) : Type 0 where
   pub body_is : HasBody spaces location form children
   pub root_is : word_at (message spaces) root ≡ Some (root_word location.segment location.start form children)
-  pub landing_pad_is : 0 < location.segment → (0 < location.words) × (word_at (message spaces) (landing_pad_of location) ≡ Some location.tag)
+  pub landing_pad_is : 0 < location.segment → (0 < location.words) × (word_at (message spaces) (landing_pad_of location) ≡ Some location.pointer_word)
 
 -- the used bytes of these segments stay, except for the root's word
 abbrev pub KeepsBytes : List Space → List Space → Type 0

@@ -3,7 +3,7 @@ pub mod Out
 pub mod Allocating
 pub mod Filled
 pub mod BuilderState
-pub mod Body
+pub mod NewBody
 pub mod RootKind
 pub mod Built
 pub mod Placed

@@ -12,8 +12,8 @@ use capnp_frame::Result;
 /// Hands out segments, and takes them back.
 ///
 /// For implementers: `out` says which segments may be out, each by its length in bytes and whether
-/// it is caller-provided. `same` is what every call leaves the same, as the caller-provided region
-/// of an allocator. `grants` says which requests have to be granted, where an allocator can promise
+/// it is caller-provided. `same` is what no call changes, as the caller-provided region of an
+/// allocator. `grants` says which requests have to be granted, where an allocator can promise
 /// that: memory is never sure to be there. `refuses` says with which kinds a request may fail, and
 /// `returns` what taking a segment back does, by the segment and its used words. An allocator for
 /// which nothing depends on the last two may leave them open: code over any allocator still shows
@@ -26,7 +26,7 @@ pub trait Allocator: Drop {
     /// Which segments may be out of the allocator.
     ghost out: { Self → List Out → Type 0 };
 
-    /// What every call leaves the same.
+    /// What no call changes.
     ghost same: { Self → Self → Type 0 };
 
     /// Which requests have to be granted: of this many words, by a segment of that many words.
@@ -56,7 +56,7 @@ pub trait Allocator: Drop {
             (record { length = length (Self.Segment.content segment); is_provided = Self.Segment.is_provided segment })
             words_used self.old self.new };
 
-    /// What every call leaves the same, several calls do, too.
+    /// What no call changes, several calls don't change, either.
     ghost keeps: { IsPreorder same };
 
     /// Some list of segments, which may be empty, is out.

@@ -6,7 +6,7 @@ ghost use Rattle.capnp_build.specs.Placed.{DeclinesRoot};
 ghost use Rattle.capnp_build.specs.Outcomes.{SetsRoot, InitsRoot};
 ghost use Rattle.capnp_build.specs.RootViews.{InitsView, SizesRoot};
 
-use crate::object::Body;
+use crate::object::NewBody;
 use crate::owned_builder::OwnedBuilder;
 use crate::root_kind::RootKind;
 use crate::view::{Building, View, accept, init};
@@ -23,7 +23,7 @@ impl OwnedBuilder for Owned {
 
     ghost refuses = { λ n kind. ⊥ };
 
-    fn object(n: u32) -> Result<Option<Body>> {
+    fn object(n: u32) -> Result<Option<NewBody>> {
         Ok(None)
     }
 

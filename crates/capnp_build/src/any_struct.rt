@@ -7,7 +7,7 @@ ghost use Rattle.capnp_build.specs.Built.{ForRoot};
 ghost use Rattle.capnp_build.specs.Written.{HasField, IsFieldSet};
 ghost use Rattle.capnp_build.specs.RootViews.{WritesView};
 
-use crate::object::Body;
+use crate::object::NewBody;
 use crate::owned_builder::OwnedBuilder;
 use crate::root_kind::{RootKind, word_at};
 use crate::view::{Building, View};
@@ -22,11 +22,11 @@ impl OwnedBuilder for Owned {
 
     ghost refuses = { λ n kind. (2 ^ 16 ≤ n) × (kind ≡ AllocationTooLarge n) };
 
-    fn object(n: u32) -> Result<Option<Body>> {
+    fn object(n: u32) -> Result<Option<NewBody>> {
         if n > 65535 {
             return Err(Error::from_kind(ErrorKind::AllocationTooLarge(n)));
         }
-        Ok(Some(Body::Struct(n)))
+        Ok(Some(NewBody::Struct(n)))
     }
 
     ghost takes = { TakesStruct };

@@ -8,7 +8,7 @@ ghost use Rattle.capnp_build.specs.Built.{ForRoot};
 ghost use Rattle.capnp_build.specs.Written.{HasBytes, IsBytesSet};
 ghost use Rattle.capnp_build.specs.RootViews.{WritesView};
 
-use crate::object::Body;
+use crate::object::NewBody;
 use crate::owned_builder::OwnedBuilder;
 use crate::root_kind::RootKind;
 use crate::view::{Building, View};
@@ -23,11 +23,11 @@ impl OwnedBuilder for Owned {
 
     ghost refuses = { λ n kind. (2 ^ 29 - 1 < n) × (kind ≡ AllocationTooLarge (words_for n 8)) };
 
-    fn object(n: u32) -> Result<Option<Body>> {
+    fn object(n: u32) -> Result<Option<NewBody>> {
         if n > (1 << 29) - 1 {
             return Err(Error::from_kind(ErrorKind::AllocationTooLarge(n.div_ceil(8))));
         }
-        Ok(Some(Body::Bytes(n)))
+        Ok(Some(NewBody::Bytes(n)))
     }
 
     ghost takes = { TakesNumbers 2 };

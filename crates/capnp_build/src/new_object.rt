@@ -1,11 +1,11 @@
 //! New objects, as values that the root is set to.
 ghost use Rattle.std.specs.Prelude.{◌≡◌};
 ghost use Rattle.capnp_wire.specs.Tree.{none, tree, count};
-ghost use Rattle.capnp_build.specs.Body.{Fits, zero_form, output_new_object};
+ghost use Rattle.capnp_build.specs.NewBody.{Fits, zero_form, output_new_object};
 ghost use Rattle.capnp_wire.specs.Values.{HasWords};
 ghost use Rattle.std.specs.Prelude.{false};
 
-use crate::object::Body;
+use crate::object::NewBody;
 use capnp_frame::Result;
 use capnp_wire::traits::{Copied, SetterInput};
 use std::marker::Model;
@@ -16,14 +16,14 @@ pub struct Owned;
 /// A new object, all zero.
 #[derive(Drop)]
 pub struct NewObject {
-    body: Body,
+    body: NewBody,
 }
 
 impl Model for NewObject {
-    ghost use Rattle.capnp_build.specs.Body.{Fits};
-    ghost use Rattle.capnp_build.specs.declared.object.Body.{Body};
+    ghost use Rattle.capnp_build.specs.NewBody.{Fits};
+    ghost use Rattle.capnp_build.specs.declared.object.NewBody.{NewBody};
 
-    ghost Value = { Body };
+    ghost Value = { NewBody };
 
     ghost view = { λ new_object. new_object.body };
 
@@ -31,7 +31,7 @@ impl Model for NewObject {
 }
 
 impl NewObject {
-    pub fn new(body: Body) -> NewObject
+    pub fn new(body: NewBody) -> NewObject
         requires { Fits body }
         ensures { result ≡ body }
     {
@@ -46,13 +46,13 @@ impl NewObject {
         body.words()
     }
 
-    fn output(&self, canonical: bool) -> Body
+    fn output(&self, canonical: bool) -> NewBody
         ensures fits { Fits result }
         ensures body { result ≡ output_new_object canonical self.now }
         ensures whole { Fits self.now }
     {
         match self.body {
-            Body::Struct(_) if canonical => Body::Struct(0),
+            NewBody::Struct(_) if canonical => NewBody::Struct(0),
             body => body,
         }
     }
@@ -79,7 +79,7 @@ impl SetterInput<Owned> for NewObject {
     fn write(&self, canonical: bool, _block: &mut [u8], following: usize, next: usize) -> Copied {
         let body = self.output(canonical);
         Copied {
-            pointer: body.tag((next - following) as u32),
+            pointer: body.pointer_word((next - following) as u32),
             next: next + body.words() as usize,
         }
     }

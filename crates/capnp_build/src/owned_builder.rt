@@ -2,14 +2,15 @@
 ghost use Rattle.std.specs.Prelude.{◌≡◌, ℕ, List, IfOk, IfErr, OnOk};
 ghost use Rattle.capnp_frame.specs.declared.error.ErrorKind.{ErrorKind};
 ghost use Rattle.capnp_wire.specs.Tree.{Form};
-ghost use Rattle.capnp_build.specs.Body.{new_form, OptionFits};
+ghost use Rattle.capnp_build.specs.NewBody.{new_form, OptionFits};
 ghost use Rattle.capnp_build.specs.RootKind.{ShowsRoot, HoldsForm};
 
-use crate::object::Body;
+use crate::object::NewBody;
 use crate::root_kind::RootKind;
 use capnp_frame::Result;
 
-/// A type of a schema that can be built.
+/// A type of a schema whose objects can be built in place, at the root of a message: which new
+/// object is made for a length, and which objects have a view of this type.
 pub trait OwnedBuilder {
     /// The object that is made for this length.
     ghost inits: { ℕ → Form → Type 0 };
@@ -19,7 +20,7 @@ pub trait OwnedBuilder {
 
     /// The object that is made for length `n`; `None` for null. Fails with a kind that `refuses`
     /// names.
-    fn object(n: u32) -> Result<Option<Body>>
+    fn object(n: u32) -> Result<Option<NewBody>>
         ensures inits { IfOk result (λ body. inits n (new_form body)) }
         ensures fits { IfOk result OptionFits }
         ensures refused { IfErr result (λ error. refuses n error.kind) };

@@ -13,7 +13,8 @@ use capnp_wire::pointer_word::{far_word, moved};
 use capnp_wire::traits::SetterInput;
 
 impl<A: Allocator> Segments<A> {
-    /// Makes the root's word zero, and the object that it leads to.
+    /// Makes the root null: zeroes its pointer word, and the words of the object that it leads to,
+    /// where there is one.
     pub fn zero_root(&mut self, location: Option<RootLocation>)
         requires there { 0 < length self.old.spaces }
         requires built { IsBuilt self.old.spaces location }
@@ -29,8 +30,8 @@ impl<A: Allocator> Segments<A> {
         self.zero(0, 0, 8);
     }
 
-    /// Writes a value into a block after the used words of a segment, and returns where it is.
-    pub fn fill<T, V: SetterInput<T>>(
+    /// Appends a value to a segment, in the words after the used ones, and returns where it is.
+    pub fn append_value<T, V: SetterInput<T>>(
         &mut self,
         segment: u32,
         canonical: bool,
@@ -51,7 +52,7 @@ impl<A: Allocator> Segments<A> {
             segment,
             start,
             words,
-            tag: u64::from_le_bytes(word.bytes()),
+            pointer_word: u64::from_le_bytes(word.bytes()),
         }
     }
 
@@ -61,7 +62,7 @@ impl<A: Allocator> Segments<A> {
         requires body { HasSomeBody self.old.spaces location }
         ensures { PointsRoot location self.old self.new }
     {
-        let pointer = moved(location.tag, location.start - 1);
+        let pointer = moved(location.pointer_word, location.start - 1);
         self.write_at(0, 0, &pointer.to_le_bytes());
     }
 
@@ -78,7 +79,7 @@ impl<A: Allocator> Segments<A> {
         self.write_at(
             location.segment,
             8 * landing_pad as usize,
-            &location.tag.to_le_bytes(),
+            &location.pointer_word.to_le_bytes(),
         );
         let pointer = far_word(location.segment, landing_pad);
         self.write_at(0, 0, &pointer.to_le_bytes());

@@ -7,7 +7,7 @@ ghost use Rattle.capnp_build.specs.Built.{ForRoot};
 ghost use Rattle.capnp_build.specs.Written.{HasNumber, IsNumberSet};
 ghost use Rattle.capnp_build.specs.RootViews.{WritesView};
 
-use crate::object::Body;
+use crate::object::NewBody;
 use crate::owned_builder::OwnedBuilder;
 use crate::root_kind::{RootKind, word_at};
 use crate::view::{Building, View};
@@ -22,11 +22,11 @@ impl OwnedBuilder for Owned<u64> {
 
     ghost refuses = { λ n kind. (2 ^ 29 - 1 < n) × (kind ≡ AllocationTooLarge n) };
 
-    fn object(n: u32) -> Result<Option<Body>> {
+    fn object(n: u32) -> Result<Option<NewBody>> {
         if n > (1 << 29) - 1 {
             return Err(Error::from_kind(ErrorKind::AllocationTooLarge(n)));
         }
-        Ok(Some(Body::Words(n)))
+        Ok(Some(NewBody::Words(n)))
     }
 
     ghost takes = { TakesNumbers 5 };

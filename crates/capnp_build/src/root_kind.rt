@@ -20,14 +20,15 @@ pub enum RootKind {
     Other,
 }
 
-/// The kind of the object by its pointer word.
-pub(crate) fn read_tag(tag: u64) -> RootKind
-    ensures { (form : Form) (n : ℕ) → HasRoom form n → tag ≡ pointer form n 0 → ShowsRoot result form }
+/// The kind of the object that a pointer word leads to.
+pub(crate) fn read_pointer_word(word: u64) -> RootKind
+    ensures { (form : Form) (n : ℕ) → HasRoom form n → word ≡ pointer form n 0 →
+        ShowsRoot result form }
 {
-    if tag == 0 {
+    if word == 0 {
         return RootKind::Null;
     }
-    match local_shape(tag) {
+    match local_shape(word) {
         Some(LocalShape::Struct(size)) => RootKind::Struct(size.data_words),
         Some(LocalShape::Numbers(size, count)) => match size.code() {
             2 => RootKind::Bytes(count),

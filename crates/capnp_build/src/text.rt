@@ -7,7 +7,7 @@ ghost use Rattle.capnp_build.specs.Built.{ForRoot};
 ghost use Rattle.capnp_build.specs.Written.{HasBytes, IsBytesSet};
 ghost use Rattle.capnp_build.specs.RootViews.{WritesView};
 
-use crate::object::Body;
+use crate::object::NewBody;
 use crate::owned_builder::OwnedBuilder;
 use crate::root_kind::RootKind;
 use crate::view::{Building, View};
@@ -22,11 +22,11 @@ impl OwnedBuilder for Owned {
 
     ghost refuses = { λ n kind. (2 ^ 29 - 2 < n) × (kind ≡ AllocationTooLarge (n / 8 + 1)) };
 
-    fn object(n: u32) -> Result<Option<Body>> {
+    fn object(n: u32) -> Result<Option<NewBody>> {
         if n > (1 << 29) - 2 {
             return Err(Error::from_kind(ErrorKind::AllocationTooLarge(n / 8 + 1)));
         }
-        Ok(Some(Body::Bytes(n + 1)))
+        Ok(Some(NewBody::Bytes(n + 1)))
     }
 
     ghost takes = { TakesText };

@@ -17,11 +17,13 @@ use capnp_wire::MessageSize;
 use capnp_wire::traits::SetterInput;
 use std::marker::PhantomData;
 
-/// A message that is built: an arena, or a type that has one inside.
+/// A message that is built, as views of its root see it: a `BuilderArena`, or a type that has one
+/// inside, as `Builder` of `capnp_message`.
 pub trait Building: Drop {
+    /// What hands out its segments.
     type Allocator: Allocator;
 
-    /// The message.
+    /// The segments and the allocator of the message.
     ghost built: { Self → Built Self.Allocator };
 
     /// The kind of the object at the root.

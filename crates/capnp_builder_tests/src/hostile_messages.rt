@@ -36,12 +36,13 @@ pub fn set_canonical<A: Allocator>(message: &mut Builder<A>, reader: &Source<'_>
     )
 }
 
-/// Whether the one word of the message is a null root; where there was no root to set, there is none.
+/// Whether the one word of the message is a null root; where there was no root to set, there is
+/// none.
 pub fn is_null<A: Allocator>(message: &Builder<A>) -> bool {
     message.is_empty() || message.size_in_words() == 1 && has_segments(message, &[&[0; 8]])
 }
 
-// Messages that are rejected: by `canonicalize`, by `set_root`, and by `set_root_canonical`.
+// Messages that fail: by `canonicalize`, by `set_root`, and by `set_root_canonical`.
 fn refuse(
     rt: &(impl Abort + AllocGlobal),
     segments: &[&[u8]],
@@ -68,7 +69,7 @@ const DEEP: ErrorKind = ErrorKind::NestingLimitExceeded;
 
 const TOO_LARGE: ErrorKind = ErrorKind::CanonicalTooLarge;
 
-// Rejected roots, each by one kind in all three calls.
+// Roots that fail, each with one kind in all three calls.
 #[rattlefmt::skip]
 const ROOTS: [(&[&[u8]], ErrorKind); 10] = [
     (&[], ErrorKind::InvalidSegmentId(0)),
@@ -137,9 +138,9 @@ fn follow_chains(rt: &(impl Abort + AllocGlobal)) -> Result<()> {
     refuse(rt, &[bytes.as_slice()], DEFAULT_LIMIT, [DEEP; 3])
 }
 
-// A tree of 2^40 - 1 structs in 81 words ends at the limit. At the default one, of 8,388,608 words, it
-// does in a fraction of a second (tools/fuzz), but takes a minute in a build with checks: there each
-// struct has 256 words.
+// A tree of 2^40 - 1 structs in 81 words ends at the limit. At the default one, of 8,388,608 words,
+// it does in a fraction of a second (tools/fuzz), but takes a minute in a build with checks: there
+// each struct has 256 words.
 #[test]
 fn doublings_end_at_the_limit(rt: HostRuntime) -> Result<()> {
     retried!(refuse_doublings(&rt))

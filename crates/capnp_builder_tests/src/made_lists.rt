@@ -1,5 +1,5 @@
-//! Lists whose elements are made when they are asked for, set at the root of a message, by bytes worked
-//! from the encoding document, "Lists" and "Canonicalization".
+//! Lists whose elements are made when they are asked for, set at the root of a message, by bytes
+//! worked from the encoding document, "Lists" and "Canonicalization".
 use crate::values::{compare_by_each, compare_canonical};
 use capnp_frame::Result;
 use capnp_values::{
@@ -7,9 +7,9 @@ use capnp_values::{
 };
 use capnp_wire::{any_struct, struct_list, text, text_list};
 
-// A tag for three structs of a data word and a pointer, the three, and their texts of four bytes, of
-// eight and of the zero byte alone: each pointer leads over the structs after it and the texts before
-// its own.
+// A tag for three structs of a data word and a pointer, the three, and their texts of four bytes,
+// of eight and of the zero byte alone: each pointer leads over the structs after it and the texts
+// before its own.
 #[rattlefmt::skip]
 const PHONES: &[u8] = b"\x01\0\0\0\x37\0\0\0\x0c\0\0\0\x01\0\x01\0\
     \x01\0\0\0\0\0\0\0\x11\0\0\0\x22\0\0\0\
@@ -27,8 +27,8 @@ const NO_PHONES: &[u8] = b"\x01\0\0\0\x07\0\0\0\0\0\0\0\x01\0\x01\0";
 
 const NO_STRUCTS: &[u8] = b"\x01\0\0\0\x07\0\0\0\0\0\0\0\0\0\0\0";
 
-// Three pointers, each over those after it and the texts before its own: of four bytes, of nine, which
-// take two words, and of the zero byte alone.
+// Three pointers, each over those after it and the texts before its own: of four bytes, of nine,
+// which take two words, and of the zero byte alone.
 #[rattlefmt::skip]
 const NAMES: &[u8] = b"\x01\0\0\0\x1e\0\0\0\
     \x09\0\0\0\x22\0\0\0\x09\0\0\0\x4a\0\0\0\x0d\0\0\0\x0a\0\0\0\

@@ -1,5 +1,5 @@
-//! Lists that were read from one message and are set in another, by worked bytes: what no contract says,
-//! above all that they succeed.
+//! Lists that were read from one message and are set in another, by worked bytes: what no contract
+//! says, above all that they succeed.
 use crate::fixtures::expect;
 use crate::value_lists::{LISTS, NARROW, NO_STRUCTS, PHONES, WIDE};
 use crate::values::{GROUP, NAMES, NO_POINTERS, compare_by_each, compare_canonical, measured};
@@ -18,7 +18,8 @@ use std::process::Abort;
 const TWO_NAMES: &[u8] = b"\x01\0\0\0\x16\0\0\0\
     \x05\0\0\0\x22\0\0\0\x05\0\0\0\x1a\0\0\0Ann\0\0\0\0\0Bo\0\0\0\0\0\0";
 
-// A far pointer, and in its segment the pointer to a list of one struct, after which all is.
+// A far pointer, and in its segment the pointer to a list of one struct, which everything else
+// follows.
 const FAR: &[u8] = b"\x02\0\0\0\x01\0\0\0";
 
 #[rattlefmt::skip]

@@ -1,4 +1,4 @@
-//! Regions that come home from builders, and heaps whose growth fails.
+//! Regions that come back from builders, and heaps whose growth fails.
 use crate::building::{expect_segments, expect_zeros, set_canonical_text, set_text, text_of};
 use crate::fixtures::expect;
 use crate::hostile_messages::{is_null, set, set_canonical};
@@ -58,7 +58,7 @@ fn set_past_a_region(rt: &(impl Abort + AllocGlobal)) -> Result<()> {
     let mut region = [7; 16];
     let mut scratch = ScratchSpaceHeapAllocator::new(rt.alloc(), &mut region);
     let mut message = Builder::new(rt.alloc(), &mut scratch);
-    // The list of segments and the heap's segment are made, or one of them is rejected.
+    // The list of segments and the heap's segment are made, or one of them fails.
     if let Some(kind) = kind_of(set_text(&mut message, LONG)) {
         assert!(rt; kind == ErrorKind::OutOfMemory);
         assert!(rt; is_null(&message) && !message.is_empty());
@@ -101,14 +101,15 @@ fn set_what_is_too_large(rt: &(impl Abort + AllocGlobal)) -> Result<()> {
     Ok(())
 }
 
-// Requests of a heap whose first segment has 16 words, in words, and the segments that it hands out.
+// Requests of a heap whose first segment has 16 words, in words, and the segments that it hands
+// out.
 const HANDED_OUT: [(u32, &[u8]); 3] = [(1, &[0; 128]), (1, &[0; 256]), (100, &[0; 800])];
 
 fn next_segment(heap: &mut HeapAllocator, words: u32) -> Result<Vec<u8>> {
     heap.allocate_segment(words)
 }
 
-// A growth that is rejected changes nothing: the next request has the same size, and the one after it
+// A growth that fails changes nothing: the next request has the same size, and the one after it
 // twice that.
 #[test]
 fn a_heap_that_is_refused(rt: HostRuntime) -> Result<()> {

@@ -1,5 +1,5 @@
-//! Composed values that are set at the root of a message, by bytes worked from the encoding document,
-//! "Structs", "Lists" and "Canonicalization".
+//! Composed values that are set at the root of a message, by bytes worked from the encoding
+//! document, "Structs", "Lists" and "Canonicalization".
 use crate::building::{expect_segments, far_message};
 use crate::fixtures::expect;
 use capnp_build::allocator::Allocator;
@@ -16,8 +16,8 @@ use std::process::Abort;
 // A number and a name: the root's pointer, the number, the pointer to four bytes, and these.
 const NAMED: &[u8] = b"\0\0\0\0\x01\0\x01\0\x07\0\0\0\0\0\0\0\x01\0\0\0\x22\0\0\0Ann\0\0\0\0\0";
 
-// A number, and pointers to such a struct, to nothing and to a text: the first leads over the two after
-// it, the last over the struct with its name.
+// A number, and pointers to such a struct, to nothing and to a text: the first leads over the two
+// after it, the last over the struct with its name.
 #[rattlefmt::skip]
 const NESTED: &[u8] = b"\0\0\0\0\x01\0\x03\0\x09\0\0\0\0\0\0\0\
     \x08\0\0\0\x01\0\x01\0\0\0\0\0\0\0\0\0\x0d\0\0\0\x1a\0\0\0\
@@ -34,8 +34,8 @@ const LOOSE: &[u8] = b"\0\0\0\0\x02\0\x03\0\x07\0\0\0\0\0\0\0\0\0\0\0\0\0\0\0\
 const TIGHT: &[u8] = b"\0\0\0\0\x01\0\x02\0\x07\0\0\0\0\0\0\0\
     \xfc\xff\xff\xff\0\0\0\0\x01\0\0\0\x22\0\0\0Ann\0\0\0\0\0";
 
-/// A list of three pointers, each over those after it and the texts before its own: of four bytes, of
-/// the zero byte alone, and of three.
+/// A list of three pointers, each over those after it and the texts before its own: of four bytes,
+/// of the zero byte alone, and of three.
 #[rattlefmt::skip]
 pub(crate) const NAMES: &[u8] = b"\x01\0\0\0\x1e\0\0\0\
     \x09\0\0\0\x22\0\0\0\x09\0\0\0\x0a\0\0\0\x09\0\0\0\x1a\0\0\0\
@@ -113,8 +113,8 @@ pub(crate) fn compare_by_each<T, V: SetterInput<T>>(
     compare_in_regions::<T, V>(rt, value, expected)
 }
 
-// A heap whose first segment has the root alone has the value in the next one, after a landing pad that
-// is as the root's pointer would be.
+// A heap whose first segment has the root alone has the value in the next one, after a landing pad
+// that is as the root's pointer would be.
 fn compare_in_heaps<T, V: SetterInput<T>>(
     rt: &(impl Abort + AllocGlobal),
     value: &V,
@@ -211,7 +211,7 @@ pub(crate) fn measured<T, V: SetterInput<T>>(value: &V, canonical: bool) -> Walk
     }
 }
 
-/// What is told of a struct of more data words than a pointer can tell.
+/// What is returned for a struct of more data words than a pointer can say.
 pub(crate) fn expect_too_large<T, V: SetterInput<T>>(rt: &impl Abort, value: &V) {
     let refused = Err(ErrorKind::AllocationTooLarge(65536));
     expect(rt, "65,536 words", measured::<T, V>(value, true), refused);

@@ -1,11 +1,11 @@
-//! Builds messages from the bottom up, of numbers that a seed determines, and prints a digest of their
-//! segments.
+//! Builds messages from the bottom up, of numbers that a seed determines, and prints a digest of
+//! their segments.
 //!
 //! Its words are the job, the seed, how many records, rows, nodes or texts are made, and how many
 //! times they are, in the memory of the first time: `capnp_built table 1 100000 20`. Once is meant
 //! where the last is left out, and the digest is of the last time. `all` runs each job in turn, and
-//! a job that there isn't is an error. With one word more, `write`, it writes the messages framed to
-//! standard output instead.
+//! a job that there isn't is an error. With one word more, `write`, it writes the messages framed
+//! to standard output instead.
 #![tactic(auto)]
 
 mod digest;

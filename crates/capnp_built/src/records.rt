@@ -1,5 +1,5 @@
-//! Records of three numbers, a text, and in some of them a list of numbers: a message each, in the memory
-//! of the one before.
+//! Records of three numbers, a text, and in some of them a list of numbers: a message each, in the
+//! memory of the one before.
 use crate::job::Job;
 use crate::output::Output;
 use crate::random::Random;

@@ -1,7 +1,7 @@
 -- Constants and defaults, as messages of one segment (src/lib.rt).
-use Rattle.std.specs.Prelude.{ℕ, List, [], ◌∷◌}
+use Rattle.std.specs.Prelude.{◌≡◌, ℕ, List, [], ◌∷◌}
 use Rattle.capnp_wire.specs.Readers.{unlimited_root}
-use Rattle.capnp_wire.specs.Views.{Pointer}
+use Rattle.capnp_wire.specs.Views.{Pointer, Struct, IsStruct, data_struct}
 use Rattle.capnp_constant.specs.declared.Words.{Words}
 
 -- the one segment
@@ -11,3 +11,7 @@ segments_of words = words.bytes ∷ []
 -- the root pointer, which is read without limits; a proof that needs its place unfolds it, and no other one reads its words
 unfoldable pub root_of : {size : ℕ} → Words size → Pointer
 root_of words = unlimited_root (segments_of words)
+
+-- the data words of a default's struct, as a struct with no pointers in the place of what a pointer of a message leads to
+abbrev pub IsDefaultData : Pointer → Pointer → Struct → Type 0
+IsDefaultData constant pointer fields = (there : Struct) × IsStruct constant there × (fields ≡ data_struct pointer there.words)

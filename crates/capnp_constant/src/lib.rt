@@ -5,12 +5,14 @@
 #![tactic(auto)]
 
 ghost use Rattle.std.specs.Prelude.{◌≡◌, ◌∷◌, []};
-ghost use Rattle.capnp_wire.specs.Readers.{pointer_of};
-ghost use Rattle.capnp_wire.specs.Views.{Pointer, IsViewOf};
+ghost use Rattle.capnp_constant.specs.Constants.{IsDefaultData};
+ghost use Rattle.capnp_wire.specs.Readers.{pointer_of, struct_of};
+ghost use Rattle.capnp_wire.specs.Views.{Pointer, IsViewOf, Accepts, Refuses, Declines, TakesStruct, DeclinesStruct};
 
 use capnp_frame::Result;
 use capnp_frame::message::ReaderSegments;
 use capnp_wire::any_pointer;
+use capnp_wire::any_struct::StructReader;
 use capnp_wire::traits::FromPointerReader;
 
 /// The words of a message of one segment, for a `static`.
@@ -51,6 +53,25 @@ pub fn view_of<'a, C: Constant, T: FromPointerReader<'a, C>>(constant: &'a C) ->
     T::get_from_pointer(constant.constant_root())
 }
 
+/// The struct of a default that sets no pointers, in the place of what a null pointer of a message
+/// leads to. It fails as a view of the default does.
+pub fn default_data<'a, S: ReaderSegments, C: Constant>(
+    pointer: &any_pointer::Reader<'a, S>,
+    words: &'a C,
+) -> Result<StructReader<'a, S>>
+    ensures { let constant = C.root words.now in IsViewOf constant
+        (λ view. IsDefaultData constant (pointer_of S.segments pointer.now)
+        (struct_of S.segments view))
+        (Accepts constant TakesStruct) (Refuses constant DeclinesStruct)
+        (Declines constant DeclinesStruct) result }
+{
+    let found: Result<StructReader<'a, C>> = view_of(words);
+    match found {
+        Ok(fields) => Ok(fields.data_at(pointer)),
+        Err(error) => Err(error),
+    }
+}
+
 impl<const N: usize> Constant for Words<N> {
     ghost use Rattle.capnp_constant.specs.Constants.{root_of};
 
@@ -74,8 +95,9 @@ impl<const N: usize> Words<N> {
     }
 }
 
-/// What the getter of a pointer with a default returns where a view is bound to the segments that
-/// it reads: the view of what the message holds, or of the default where its pointer is null.
+/// What the getter of a pointer with a default returns where a view follows pointers in the segments
+/// that its type names: the view of what the message holds, or of the default where its pointer is
+/// null.
 #[derive(Drop)]
 pub enum OrDefault<M, D> {
     Stored(Result<M>),

@@ -7,8 +7,8 @@ use capnp_uses::account;
 use capnp_uses::account_list::{NewAccount, accounts_are_read_back, list_of_accounts};
 use std::test::Fail;
 
-// The root leads over the two names, "A" and none, to the list: a tag, then 7 and 8, each of which leads
-// back to its name.
+// The root leads over the two names, "A" and none, to the list: a tag, then 7 and 8, each of which
+// leads back to its name.
 const BUILT: &[u8] = b"\x09\0\0\0\x27\0\0\0\
     A\0\0\0\0\0\0\0\
     \0\0\0\0\0\0\0\0\

@@ -1,4 +1,4 @@
-//! The callers that build a root: what they read back, and the words that are then.
+//! The callers that build a root: what they read back, and the words that the segment then has.
 use crate::fixtures::{expect, roomy_message};
 use capnp::Result;
 use capnp::message::{Allocator, Builder, HeapAllocator, SingleSegmentAllocator};
@@ -191,8 +191,8 @@ fn declared(refusal: u8) -> Declared {
     if refusal == 0 { Ok(true) } else { Err(refusal) }
 }
 
-// What is told of a root that is built over a region, and of one in the next message over it; and
-// whether a null root is read back there then.
+// What is returned for a root that is built over a region, and of one in the next message over it;
+// and whether a null root is read back there then.
 fn two_in_a_region(
     rt: &(impl Abort + AllocGlobal),
     region: &mut [u8],

@@ -80,7 +80,7 @@ fn declared(read: &StreamRead) -> (usize, usize, u8) {
     (read.messages.len(), read.end, number)
 }
 
-/// What is told of all messages of a stream.
+/// What is returned for all messages of a stream.
 pub fn declared_of(
     alloc: Global,
     format: Format,
@@ -90,7 +90,7 @@ pub fn declared_of(
     declared(&every_message(alloc, format, Padding::Zero, options, stream))
 }
 
-/// What is told of all records of a log.
+/// What is returned for all records of a log.
 pub fn declared_of_log(alloc: Global, log: &[u8], options: ReaderOptions) -> (usize, usize, u8) {
     declared(&read_log(alloc, log, options))
 }

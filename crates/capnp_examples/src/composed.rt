@@ -1,4 +1,5 @@
-//! The callers that read back values that are composed, by worked bytes (encoding document, "Lists").
+//! The callers that read back values that are composed, by worked bytes (encoding document,
+//! "Lists").
 use crate::fixtures::expect;
 use capnp::Result;
 use capnp::any_struct::StructReader;
@@ -13,8 +14,8 @@ use capnp_uses::values::{contact_is_read_back, person_is_read_back, phone};
 const PERSON: &[u8] = b"\0\0\0\0\x01\0\x02\0\x09\0\0\0\0\0\0\0\
     \x05\0\0\0\x22\0\0\0\x04\0\0\0\0\0\x01\0Ann\0\0\0\0\0\x01\0\0\0\x2a\0\0\0Bonn\0\0\0\0";
 
-// A number, pointers to two texts and to a list, and what these lead to: the list's tag, two structs of
-// a word and a pointer each, and their texts.
+// A number, pointers to two texts and to a list, and what these lead to: the list's tag, two
+// structs of a word and a pointer each, and their texts.
 #[rattlefmt::skip]
 const CONTACT: &[u8] = b"\0\0\0\0\x01\0\x03\0\x09\0\0\0\0\0\0\0\
     \x09\0\0\0\x22\0\0\0\x09\0\0\0\x22\0\0\0\x09\0\0\0\x27\0\0\0\

@@ -5,8 +5,8 @@ use capnp::{Result, struct_list};
 use capnp_uses::entries;
 use std::process::Abort;
 
-// Two entries of one word and one pointer after the list's tag: -500, not paid, "rent"; and 40, paid,
-// without a note.
+// Two entries of one word and one pointer after the list's tag: -500, not paid, "rent"; and 40,
+// paid, without a note.
 const LEDGER: &[u8] = b"\x01\0\0\0\x27\0\0\0\
     \x08\0\0\0\x01\0\x01\0\
     \x0c\xfe\xff\xff\x01\0\0\0\x09\0\0\0\x2a\0\0\0\

@@ -123,7 +123,7 @@ fn set_data(message: &mut Builder<HeapAllocator>, bytes: &[u8]) -> Result<()> {
     message.set_root::<data::Owned, &[u8]>(bytes)
 }
 
-// Whether data that is set is as this segment, and whether it is viewed as it was set.
+// Whether setting this data makes this segment, and whether the data is viewed as it was set.
 fn stands_and_is_viewed(alloc: Global, segment: &[u8], bytes: &[u8]) -> Result<(bool, bool)> {
     let mut message = Builder::new_default(alloc);
     set_data(&mut message, bytes)?;
@@ -142,9 +142,9 @@ fn data_that_is_set(rt: HostRuntime) -> Result<()> {
 }
 
 // 40 structs of two pointers, both of which lead to the next struct: a tree of 2^40 - 1 structs,
-// which a walk enters 4,194,304 times before the default limit of 8,388,608 words is met. In a build
-// with checks (`rt try`) that takes longer than the minute of a test, in one that is proved (`rt
-// test`) a moment.
+// which a walk enters 4,194,304 times before the default limit of 8,388,608 words is met. In a
+// build with checks (`rt try`) that takes longer than the minute of a test, in one that is proved
+// (`rt test`) a moment.
 fn doublings() -> [u8; 648] {
     let mut bytes = [0; 648];
     bytes[6] = 2;

@@ -71,9 +71,10 @@ fn a_million_packed_words_are_unpacked(rt: HostRuntime) -> Result<()> {
     unpack(&rt, &packed_million(rt.alloc())?, &framed)
 }
 
-// The packed encoding of a segment of 2^20 words whose root is data of sevens: the table's word, the root's
-// with its three zero bytes left out, and then literal runs: each a word by its tag and up to 255 words
-// as they are, 256 words together. Of 2^20 - 1 words 4,095 runs are full, and the last has 255 words.
+// The packed encoding of a segment of 2^20 words whose root is data of sevens: the table's word,
+// the root's with its three zero bytes left out, and then literal runs: each a word by its tag and
+// up to 255 words as they are, 256 words together. Of 2^20 - 1 words 4,095 runs are full, and the
+// last has 255 words.
 fn packed_million(alloc: Global) -> Result<Vec<u8>> {
     let mut packed = [0x40, 0x10, 0xf1, 1, 0xc2, 0xff, 0xff, 3].to_vec(alloc)?;
     let words = [7u8; 255 * 8];

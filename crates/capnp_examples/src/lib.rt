@@ -1,5 +1,5 @@
-//! The examples that are at public items, the callers of `capnp_uses` by worked bytes, and messages
-//! and limits of many words. It holds tests alone.
+//! The examples of public items, the callers of `capnp_uses` by worked bytes, and messages and
+//! limits of many words. It holds tests alone.
 #![tactic(auto)]
 
 #[cfg(test)]

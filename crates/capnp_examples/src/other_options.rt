@@ -1,4 +1,4 @@
-//! The callers over other limits than the default ones, and over what is rejected.
+//! The callers over other limits than the default ones, and over what fails.
 use crate::callers::{FRAMED, both, declared_of, declared_of_log};
 use crate::examples::PACKED as PACKED_HELLO;
 use crate::fixtures::{expect, limited};
@@ -67,7 +67,7 @@ fn skip(
 // Formats, the bytes of their second message, and the error where its last byte is missing.
 const SKIPPED: [(Format, usize, u8); 2] = [(Format::Framed, 32, 1), (Format::Packed, 21, 10)];
 
-// Each call goes over one message, and a rejected one tells why; a stream that is cut has no end.
+// Each call goes over one message, and one that fails says why; a stream that is cut has no end.
 #[test]
 fn messages_are_skipped(rt: HostRuntime) -> std::result::Result<(), AllocError> {
     for (format, second, cut) in &SKIPPED {

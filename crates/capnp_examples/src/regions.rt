@@ -1,5 +1,5 @@
-//! The callers that build over a region, and those that set a root and read it back, by the words that
-//! are then.
+//! The callers that build over a region, and those that set a root and read it back, by the words
+//! that the segment then has.
 use crate::fixtures::{Message, expect, message_of, roomy_message};
 use capnp::message::{Allocator, Builder, HeapAllocator, ReaderOptions};
 use capnp::{Result, text};

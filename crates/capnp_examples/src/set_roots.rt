@@ -1,4 +1,5 @@
-//! The callers that set a root to what another message holds, by the words that are then.
+//! The callers that set a root to what another message holds, by the words that the segment then
+//! has.
 use crate::fixtures::{Message, Source, expect, message_of, roomy_message};
 use capnp::Result;
 use capnp::message::{Builder, HeapAllocator, ReaderOptions};
@@ -22,8 +23,8 @@ const SHARED: &[&[u8]] = &[
 
 const NULL: &[&[u8]] = &[b"\0\0\0\0\0\0\0\0"];
 
-// Segments; what a root that is set to theirs is as, the same with a first data word of 9, and the
-// canonical form.
+// Segments; the segment of a root that is set to theirs, the same with a first data word of 9, and
+// the canonical form.
 #[rattlefmt::skip]
 const FORMS: [(&[&[u8]], [&[u8]; 3]); 3] = [
     (FAR, [

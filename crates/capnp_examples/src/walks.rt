@@ -1,4 +1,5 @@
-//! What the traversal limit counts while a message is walked over: views alone, from where they were.
+//! What the traversal limit counts while a message is walked over: views alone, from where they
+//! were.
 use crate::fixtures::{
     Message, Source, canonical_text, expect, limited, message_of, set_root, set_root_canonical,
 };
@@ -66,8 +67,9 @@ fn view_refusal(reader: &Message<'_>) -> u8 {
     refusal(reader.get_root::<text::Reader<'_>>())
 }
 
-// A text of two words, which may be viewed twice within four. A walk counts its own two from none: it
-// counts nothing against the traversal limit, gives nothing back, and goes on where all are used.
+// A text of two words, which may be viewed twice within four. A walk counts its own two from none:
+// it counts nothing against the traversal limit, gives nothing back, and goes on where all are
+// used.
 #[test]
 fn walks_between_views(rt: HostRuntime) -> Result<()> {
     let segments: [&[u8]; 1] = [b"\x01\0\0\0\x72\0\0\0Hello, World!\0\0\0"];

@@ -1,4 +1,4 @@
--- The two forms of reading a slice reject the same bytes.
+-- The two forms of reading a slice fail for the same bytes.
 use Rattle.std.proofs.Common.{◌≡◌, ℕ, ◌+◌, ◌-◌, ◌*◌, ◌/◌, ◌%◌, ◌<◌, ◌≤◌, ◌^◌, zero, suc, Option, Some, None, ◌⊎◌, inl, inr, ◌↔◌, List, [], ◌∷◌, length, refl, sym, ap, ◌∙◌, subst, arith}
 use Rattle.std.specs.Prelude.{sum, slice_get, IsSome}
 use Rattle.std.specs.List.{AllByRecursion}

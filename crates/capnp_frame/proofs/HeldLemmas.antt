@@ -14,7 +14,7 @@ use Rattle.capnp_frame.specs.SegmentLengths.{ranges, range_len, cut}
 use Rattle.capnp_frame.specs.Limits.{KeepsLimit, AreWithin, IsWithin}
 use Rattle.capnp_frame.specs.Source.{Splits, RunsShort, IfKnown, Fails}
 use Rattle.capnp_frame.specs.Requests.{TableStands}
-use Rattle.capnp_frame.specs.Refusals.{CountStands, RefusesTable}
+use Rattle.capnp_frame.specs.Refusals.{TakesForLengths, RefusesTable}
 use Rattle.capnp_frame.specs.Front.{HasFrame, IsDescribed, HaveSameNumbers, number, declared_lengths, declared_padding, declared_segments, HoldsMessage}
 use Rattle.capnp_frame.specs.FlatRefusals.{by_words, by_fields, AcceptsCount, RefusesFlat}
 use Rattle.capnp_frame.proofs.AskLemmas.{never_fails}
@@ -60,14 +60,14 @@ keeps_declared bytes ns limit declared within = subst (λ l. KeepsLimit l limit)
 
 -- the stream reader's table over a slice
 
-pub slice_refused : (empty : ErrorKind) (rule : Padding) (limit : Option ℕ) (kind : ErrorKind) (bytes left : List ℕ)
+pub slice_refused : (empty : ErrorKind) (rule : Padding) (kept : ℕ) (limit : Option ℕ) (kind : ErrorKind) (bytes left : List ℕ)
     → (kind ≡ DeviceFailed → Fails 0 0) → (kind ≡ DeviceFailed)
-    ⊎ ((kind ≡ OutOfMemory) × IfKnown (Some bytes) (Some left) (CountStands Splits))
+    ⊎ ((kind ≡ OutOfMemory) × IfKnown (Some bytes) (Some left) (TakesForLengths kept Splits))
     ⊎ IfKnown (Some bytes) (Some left) (RefusesTable rule Splits RunsShort limit None kind)
     → ((kind ≡ OutOfMemory) × AcceptsCount (by_words empty) bytes) ⊎ RefusesFlat (by_words empty) rule limit kind bytes
-slice_refused empty rule limit kind bytes left failed (inl device) = absurd (never_fails kind failed device)
-slice_refused empty rule limit kind bytes left failed (inr (inl memory)) = inl (memory.0, count_accepted empty bytes left memory.1)
-slice_refused empty rule limit kind bytes left failed (inr (inr met)) = inr (words_refused empty rule limit kind bytes left met)
+slice_refused empty rule kept limit kind bytes left failed (inl device) = absurd (never_fails kind failed device)
+slice_refused empty rule kept limit kind bytes left failed (inr (inl memory)) = inl (memory.0, count_accepted empty bytes left memory.1.0)
+slice_refused empty rule kept limit kind bytes left failed (inr (inr met)) = inr (words_refused empty rule limit kind bytes left met)
 
 pub slice_holds : (rule : Padding) (bytes ns left : List ℕ) (limit : Option ℕ) (total : ℕ) → TableStands rule Splits ns bytes left
     → AreWithin ns limit → total ≡ sum ns → 8 * total ≤ length left → HoldsMessage bytes (length ns)

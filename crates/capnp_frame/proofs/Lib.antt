@@ -17,6 +17,7 @@ pub mod WritingLemmas
 pub mod SizeLemmas
 pub mod DeclaredTables
 pub mod FrontMessages
+pub mod GrantLemmas
 pub mod FlatLemmas
 pub mod HeldLemmas
 pub mod FlatReaderLemmas

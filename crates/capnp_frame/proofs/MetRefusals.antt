@@ -10,7 +10,7 @@ use Rattle.capnp_frame.specs.Front.{declared_lengths, declared_padding, Declares
 use Rattle.capnp_frame.specs.Limits.{KeepsLimit, AreWithin}
 use Rattle.capnp_frame.specs.Source.{Giving, Refusing, IsSource, IfKnown, IsTail, IsRefused}
 use Rattle.capnp_frame.specs.Requests.{TableStands}
-use Rattle.capnp_frame.specs.Refusals.{Tells, DeclaresAccepted, CountStands, TakesMemory, IsTooLarge, LacksRoom, IsTableKind, IsReaderKind, IsProvidedReaderKind}
+use Rattle.capnp_frame.specs.Refusals.{Tells, DeclaresAccepted, TakesMemory, TakesForLengths, IsTooLarge, LacksRoom, IsTableKind, IsReaderKind, IsProvidedReaderKind}
 use Rattle.capnp_frame.specs.Refusals.{RefusesAtLimit, RefusesTable, RefusesStream}
 use Rattle.capnp_frame.specs.Steps.{StopsAtTable, RefusesComplete}
 use Rattle.capnp_frame.proofs.SourceLemmas.{IfKnown-join, IfKnown-weaker, IfKnown-refused}
@@ -165,10 +165,26 @@ pub or_memory : {F G R : Type 0} → F ⊎ R → F ⊎ G ⊎ R
 or_memory (inl p) = inl p
 or_memory (inr p) = inr (inr p)
 
-pub table_met_growing : (rule : Padding) (F M : Type 0) (gives : Giving) (refuses : Refusing) (limit : Option ℕ) (kind : ErrorKind)
-    (old new : Option (List ℕ)) → F ⊎ (M × IfKnown old new (CountStands gives))
+-- want of memory for the lengths, once their number is accepted
+pub lengths_taken : (gives : Giving) (kept count : ℕ) (word : List ℕ) (old new : Option (List ℕ)) → DeclaresAccepted word count → kept < count
+    → IfKnown old new (λ raw rest. gives raw 8 word rest) → IfKnown old new (TakesForLengths kept gives)
+lengths_taken gives kept count word old new accepted more given = IfKnown-weaker old new (λ raw rest here. (
+  record { word = word; count = count; given = here; declared = Tells-accepted word count accepted; accepted = in_range count accepted.some accepted.few },
+  more,
+)) given
+
+-- want of memory stays what it is
+pub table_met_skipping : (rule : Padding) (F M : Type 0) (gives : Giving) (refuses : Refusing) (limit : Option ℕ) (kind : ErrorKind)
+    (old new : Option (List ℕ)) → F ⊎ M ⊎ IfKnown old new (RefusesTable rule gives refuses limit None kind) → F
+    ⊎ M ⊎ IfKnown old new (RefusesStream rule gives refuses limit None kind)
+table_met_skipping rule F M gives refuses limit kind old new (inl p) = inl p
+table_met_skipping rule F M gives refuses limit kind old new (inr (inl p)) = inr (inl p)
+table_met_skipping rule F M gives refuses limit kind old new (inr (inr p)) = or_memory (table_met rule F gives refuses limit None kind old new (inr p))
+
+pub table_met_growing : (rule : Padding) (kept : ℕ) (F M : Type 0) (gives : Giving) (refuses : Refusing) (limit : Option ℕ) (kind : ErrorKind)
+    (old new : Option (List ℕ)) → F ⊎ (M × IfKnown old new (TakesForLengths kept gives))
     ⊎ IfKnown old new (RefusesTable rule gives refuses limit None kind) → F
     ⊎ (M × IfKnown old new (TakesMemory rule gives limit)) ⊎ IfKnown old new (RefusesStream rule gives refuses limit None kind)
-table_met_growing rule F M gives refuses limit kind old new (inl p) = inl p
-table_met_growing rule F M gives refuses limit kind old new (inr (inl p)) = inr (inl (p.0, IfKnown-weaker old new (λ raw left. inl) p.1))
-table_met_growing rule F M gives refuses limit kind old new (inr (inr p)) = or_memory (table_met rule F gives refuses limit None kind old new (inr p))
+table_met_growing rule kept F M gives refuses limit kind old new (inl p) = inl p
+table_met_growing rule kept F M gives refuses limit kind old new (inr (inl p)) = inr (inl (p.0, IfKnown-weaker old new (λ raw left takes. inl takes.0) p.1))
+table_met_growing rule kept F M gives refuses limit kind old new (inr (inr p)) = or_memory (table_met rule F gives refuses limit None kind old new (inr p))

@@ -88,5 +88,8 @@ first_shows (Some r) (x ∷ xs) b none e = (λ h. cc, λ h. cc)
 pub AreRanges-pushed : (indices more : List (ℕ × ℕ)) (total n end : ℕ) → AreRanges indices total → end ≡ total + n → more ≡ indices ++ (total, end) ∷ [] → AreRanges more end
 AreRanges-pushed indices more total n end are at pushed = rw (pushed, at) (AreRanges-push indices total n are)
 
+pub length-ranges : (ns : List ℕ) → length (ranges ns) ≡ length ns
+length-ranges ns = sym (length-map (ranges ns) range_len) ∙ ap length (widths 0 ns)
+
 pub length-shown : (indices : List (ℕ × ℕ)) (bytes : List ℕ) (segments : List (List ℕ)) → cut (map range_len indices) bytes ≡ segments → length indices ≡ length segments
 length-shown indices bytes segments view = omega (arith, length-map indices range_len, length-cut (map range_len indices) bytes, ap length view)

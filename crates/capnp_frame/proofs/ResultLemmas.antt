@@ -49,15 +49,15 @@ exact rule M laws limit (Some raw) new (Err e) found within none (inr (inl p)) =
 exact rule M laws limit (Some raw) None (Err e) found within none (inr (inr p)) = absurd p
 exact rule M laws limit (Some raw) (Some left) (Err e) found within none (inr (inr p)) = λ kind rest q. inr (inr (RefusesStream-once rule laws limit None e.kind kind raw left rest p q))
 
--- a reader that allocates keeps all of it, once these are known of its call
-pub reads_stream : {S : Type 0} (rule : Padding) (source : Ghosts S) (laws : IsSource source.gives source.refuses) (old new : S)
-    (limit : Option ℕ) (r : Result (Option (List (List ℕ))) Error)
+-- a reader that allocates so keeps all of it, once these are known of its call
+pub reads_taking : {S : Type 0} (rule : Padding) (source : Ghosts S) (laws : IsSource source.gives source.refuses) (old new : S)
+    (takes : Option ℕ → List ℕ → List ℕ → Type 0) (limit : Option ℕ) (r : Result (Option (List (List ℕ))) Error)
     → IfOk r (λ found. IfSome found (λ segments. IfKnown (source.unread old) (source.unread new) (MessageStands rule source.gives segments)))
     → IfOk r (λ found. IfSome found (λ segments. IsWithin segments limit))
     → IfOk r (λ found. IfSome found (AllByRecursion IsWholeWords))
-    → AsksNext source old new rule (TakesMemory rule source.gives limit) (RefusesStream rule source.gives source.refuses limit None) r
-    → ReadsStream source old new (framed_rules rule source.gives source.refuses) limit r
-reads_stream rule source laws old new limit r found within whole asks = record {
+    → AsksNext source old new rule (takes limit) (RefusesStream rule source.gives source.refuses limit None) r
+    → ReadsStream source old new (record (framed_rules rule source.gives source.refuses) { takes_memory = takes }) limit r
+reads_taking rule source laws old new takes limit r found within whole asks = record {
   found = found;
   within = within;
   whole = whole;
@@ -70,3 +70,13 @@ reads_stream rule source laws old new limit r found within whole asks = record {
   failed = asks.asked.failed;
   advances = asks.asked.advances;
 }
+
+-- and one that grows
+pub reads_stream : {S : Type 0} (rule : Padding) (source : Ghosts S) (laws : IsSource source.gives source.refuses) (old new : S)
+    (limit : Option ℕ) (r : Result (Option (List (List ℕ))) Error)
+    → IfOk r (λ found. IfSome found (λ segments. IfKnown (source.unread old) (source.unread new) (MessageStands rule source.gives segments)))
+    → IfOk r (λ found. IfSome found (λ segments. IsWithin segments limit))
+    → IfOk r (λ found. IfSome found (AllByRecursion IsWholeWords))
+    → AsksNext source old new rule (TakesMemory rule source.gives limit) (RefusesStream rule source.gives source.refuses limit None) r
+    → ReadsStream source old new (framed_rules rule source.gives source.refuses) limit r
+reads_stream rule source laws old new limit r found within whole asks = reads_taking rule source laws old new (TakesMemory rule source.gives) limit r found within whole asks

@@ -1,5 +1,5 @@
 -- Chunks that are written to a sink, one call after another.
-use Rattle.std.proofs.Common.{◌≡◌, ℕ, ◌+◌, ◌⊎◌, inl, inr, List, [], ◌∷◌, ◌++◌, length, take, drop, Result, Ok, Err, OnOk, OnErr, IfErr, Option, Some, refl, sym, ap, ◌∙◌, subst, arith, append_assoc}
+use Rattle.std.proofs.Common.{◌≡◌, ℕ, ◌+◌, ◌*◌, ◌⊎◌, inl, inr, List, [], ◌∷◌, ◌++◌, length, take, drop, Result, Ok, Err, OnOk, OnErr, IfErr, Option, Some, refl, sym, ap, ◌∙◌, subst, arith, append_assoc}
 use Rattle.std.proofs.lemmas.List.{append-nil, take-append-drop}
 use Rattle.std.specs.Prelude.{slice_get}
 use Rattle.std.specs.List.{concat}
@@ -10,8 +10,8 @@ use Rattle.capnp_frame.specs.declared.error.ErrorKind.TheVariants.{DeviceFailed,
 use Rattle.capnp_frame.specs.Asking.{FailsOr}
 use Rattle.capnp_frame.specs.Source.{IfKnown, IsFront, IsPreorder, Fails}
 use Rattle.capnp_frame.specs.Sink.{Appending, Leaving, AppendsSame, Adds, AppendsAll, LeavesSome, DeclinesSome, Grows}
-use Rattle.capnp_frame.specs.Writers.{WritesTo, WritesChunks, WritesSegments, KeepsCount, RefusesUnwritten}
-use Rattle.capnp_frame.specs.Writing.{IsWithinSegmentLimit, RefusesMany, chunks}
+use Rattle.capnp_frame.specs.Writers.{WritesTo, WritesChunks, WritesSegments, TakesGranted, KeepsCount, RefusesUnwritten}
+use Rattle.capnp_frame.specs.Writing.{IsWithinSegmentLimit, RefusesMany, chunks, serialized_words}
 use Rattle.capnp_frame.proofs.SourceLemmas.{IfKnown-join, IfKnown-weaker, IfKnown-refl, Grows-join, Grows-refl, Fails-join}
 use Rattle.capnp_frame.proofs.WritingLemmas.{take-next, written_more, written_one, DeclinesSome-front, DeclinesSome-back, refused_at}
 
@@ -174,8 +174,9 @@ count_kept segments (Err e) few = record { few = tt; many = λ many. absurd (ome
 
 -- so only its chunks stop it
 pub few_written : {S X : Type 0} (sink : Ghosts S) (old new : S) (segments : List (List ℕ)) (r : Result X Error) → IsWithinSegmentLimit segments
-    → WritesChunks sink old new (chunks segments) (RefusesUnwritten segments) r → WritesSegments sink old new segments r
-few_written sink old new segments r few declared = record { count = count_kept segments r few; unwritten = λ many. absurd (omega arith); parts = declared }
+    → WritesChunks sink old new (chunks segments) (RefusesUnwritten segments) r
+    → TakesGranted sink.grants old new (8 * serialized_words segments) (RefusesUnwritten segments) r → WritesSegments sink old new segments r
+few_written sink old new segments r few declared granted = record { count = count_kept segments r few; unwritten = λ many. absurd (omega arith); parts = declared; granted = granted }
 
 -- and one with more fails before the sink is asked
 pub many_refused : {S X : Type 0} (sink : Ghosts S) (keeps : IsPreorder sink.same) (same : S) (segments : List (List ℕ)) (e : Error)
@@ -191,4 +192,5 @@ many_refused sink keeps same segments e many = record {
     failed = λ device. let never : InvalidNumberOfSegments (length segments) ≡ DeviceFailed = sym many.1 ∙ device in cc;
     grows = Grows-refl same (keeps.reflexive same);
   };
+  granted = λ more given. (inl many, refl);
 }

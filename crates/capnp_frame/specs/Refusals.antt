@@ -101,6 +101,11 @@ abbrev pub TakesMemory : Padding → Giving → Option ℕ → List ℕ → List
 TakesMemory rule gives limit raw left = CountStands gives raw left
     ⊎ ((lengths : List ℕ) × TableStands rule gives lengths raw left × AreWithin lengths limit)
 
+-- Where memory is taken for the lengths alone, and never for segments: their number is accepted, and is more than `kept`, so
+-- many are in the memory that is handed in. The first word of the table is consumed, and no more.
+abbrev pub TakesForLengths : ℕ → Giving → List ℕ → List ℕ → Type 0
+TakesForLengths kept gives raw left = (stands : CountStands gives raw left) × (kept < stands.count)
+
 -- the kind of a padding that the rule does not accept
 abbrev pub IsPaddingKind : Padding → ErrorKind → Type 0
 IsPaddingKind rule kind = (rule ≡ Zero) × (kind ≡ NonZeroPadding)

@@ -14,7 +14,7 @@ use Rattle.capnp_frame.specs.Limits.{IsWithin}
 use Rattle.capnp_frame.specs.Requests.{MessageStands}
 use Rattle.capnp_frame.specs.Source.{Giving, Refusing, IfKnown, Advances, Fails}
 use Rattle.capnp_frame.specs.Errors.{FailsWith}
-use Rattle.capnp_frame.specs.Refusals.{RefusesStream, TakesMemory, IsReaderKind, IsProvidedReaderKind}
+use Rattle.capnp_frame.specs.Refusals.{RefusesStream, TakesMemory, TakesForLengths, IsReaderKind, IsProvidedReaderKind}
 
 -- A message is at the front of `raw`, and `rest` after it, as a relation:
 -- `stands segments raw rest`.
@@ -35,9 +35,9 @@ pub record StreamRules : Type 1 where
   -- where a reader that allocates takes memory, within a limit of words: `takes_memory limit raw
   -- left`
   pub takes_memory : Option ℕ → List ℕ → List ℕ → Type 0
-  -- the table of errors, within a limit of words and the bytes of a caller-provided buffer: the
-  -- first line that holds fails with this kind, and leaves `left` unread:
-  -- `refuses limit room kind raw left`
+  -- the table of errors: `refuses limit room kind raw left` says that within a limit of words, and
+  -- the bytes of a caller-provided buffer, reading fails with `kind` and leaves `left` unread, by the
+  -- first line that holds
   pub refuses : Option ℕ → Option ℕ → ErrorKind → List ℕ → List ℕ → Type 0
   -- the kinds with which a reader that allocates may fail, also where the unread bytes aren't known
   pub kinds : ErrorKind → Type 0
@@ -54,6 +54,10 @@ framed_rules rule gives refuses = record {
   kinds = IsReaderKind rule refuses;
   provided_kinds = IsProvidedReaderKind rule refuses;
 }
+
+-- Framed messages whose segments are skipped: memory is taken for the lengths alone, where they are more than `kept`.
+abbrev pub skipping_rules : Padding → Giving → Refusing → ℕ → StreamRules
+skipping_rules rule gives refuses kept = record (framed_rules rule gives refuses) { takes_memory = λ limit. TakesForLengths kept gives }
 
 -- What each reader of a stream that allocates returns. `source` is what is seen of the source (the
 -- members of the trait Read), `old` and `new` are the source before the call and after it.

@@ -1,5 +1,5 @@
 -- What the functions that write keep (src/serialize/writing.rt).
-use Rattle.std.specs.Prelude.{◌≡◌, ℕ, ◌^◌, ◌≤◌, ◌⊎◌, ◌↔◌, List, length, Result, IfOk, OnOk, OnErr, IfErr}
+use Rattle.std.specs.Prelude.{◌≡◌, ℕ, ◌+◌, ◌*◌, ◌^◌, ◌≤◌, ◌⊎◌, ◌↔◌, List, length, Result, IfOk, OnOk, OnErr, IfErr, MatchResult}
 use Rattle.capnp_frame.specs.declared.error.Error.{Error}
 use Rattle.capnp_frame.specs.declared.error.ErrorKind.{ErrorKind}
 use Rattle.capnp_frame.specs.declared.error.ErrorKind.TheVariants.{DeviceFailed, OutOfMemory, MessageSizeOverflow, InvalidNumberOfSegments}
@@ -47,6 +47,16 @@ pub record WritesChunks {S X : Type 0} (sink : Ghosts S) (old new : S) (chunks :
   -- what was written before stays at the front, also where the call fails
   pub grows : Grows sink.written sink.failures sink.same old new
 
+-- Where a sink grants this many bytes and more, the call succeeds, and the more stays granted; or it fails with a kind that is
+-- lacked, and the sink is as it was.
+abbrev pub TakesGranted : {S X : Type 0} → (S → ℕ → Type 0) → S → S → ℕ → (ErrorKind → Type 0) → Result X Error → Type 0
+TakesGranted grants old new bytes lacks result = (more : ℕ) → grants old (bytes + more)
+    → MatchResult result (λ written. grants new more) (λ error. lacks error.kind × (new ≡ old))
+
+-- nothing is lacked
+abbrev pub LacksNothing : ErrorKind → Type 0
+LacksNothing kind = ⊥
+
 -- from four segments on, the call may lack memory for the table
 abbrev pub LacksTable : List (List ℕ) → ErrorKind → Type 0
 LacksTable segments kind = (4 ≤ length segments) × (kind ≡ OutOfMemory)
@@ -70,6 +80,8 @@ pub record WritesSegments {S X : Type 0} (sink : Ghosts S) (old new : S) (segmen
   pub unwritten : ExceedsSegmentLimit segments → new ≡ old
   -- else the chunks of the message are written, one after the other
   pub parts : WritesChunks sink old new (chunks segments) (RefusesUnwritten segments) result
+  -- where the sink grants all bytes of the framed encoding, the message is written, but for what is lacked before it
+  pub granted : TakesGranted sink.grants old new (8 * serialized_words segments) (RefusesUnwritten segments) result
 
 -- What each function keeps that returns the framed encoding of a message; `bytes` is how the
 -- encoding is seen in the result.

@@ -13,7 +13,7 @@ pub type Result<T> = std::result::Result<T, Error>;
 /// A kind is displayed as its name, with its numbers after it in parentheses.
 #[derive(Clone, Copy, Debug, PartialEq, Eq, thiserror::Error)]
 pub enum ErrorKind {
-    /// The source ended within a chunk.
+    /// The source ended before a read had all the bytes that it asked for.
     #[error("FailedToFillTheWholeBuffer")]
     FailedToFillTheWholeBuffer,
     /// A caller-provided buffer has too few bytes for what was to be put there.
@@ -57,7 +57,8 @@ pub enum ErrorKind {
     /// The length of a chunk to be packed or unpacked is not a multiple of eight bytes.
     #[error("NotWholeWords")]
     NotWholeWords,
-    /// An object or a segment of this many words is too large, or has no room.
+    /// An object or a segment of this many words is too large, or has no room. 4294967295 is said
+    /// of more words, too, and 65536 of a struct with more data words or pointers than fit.
     #[error("AllocationTooLarge({0})")]
     AllocationTooLarge(u32),
     /// The allocator's one segment is handed out already.

@@ -34,7 +34,7 @@ pub trait Read {
     /// With which kind a request fails.
     ghost refuses: { Refusing };
 
-    /// What every call leaves the same, for example the reference that a source reads from.
+    /// What no call changes, for example the reference that a source reads from.
     ghost same: { Self → Self → Type 0 };
 
     /// Reads some bytes into the front of `buffer`, and returns how many: 0 only where nothing is
@@ -141,10 +141,10 @@ pub trait Write {
     /// With which kinds a chunk may fail, beside the device's.
     ghost refuses: { Declining };
 
-    /// How many further bytes the sink is sure to take, in any chunks.
+    /// The sink is sure to take this many further bytes, however they are cut into chunks.
     ghost grants: { Self → ℕ → Type 0 };
 
-    /// What every call leaves the same, for example the reference that a sink writes to.
+    /// What no call changes, for example the reference that a sink writes to.
     ghost same: { Self → Self → Type 0 };
 
     /// Writes all of `chunk`. A call that fails adds at most a part of it: what `leaves` says.

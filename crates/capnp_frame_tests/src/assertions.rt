@@ -6,8 +6,8 @@
 use capnp_frame::{ErrorKind, Result};
 use std::process::Abort;
 
-/// A row of a table, and the number that a test counts through at it: how many bytes a source shows,
-/// or which call fails.
+/// A row of a table, and the number that a test counts through at it: how many bytes a source
+/// shows, or which call fails.
 #[derive(Clone, Copy)]
 pub struct At<'a> {
     pub row: &'a str,
@@ -55,7 +55,7 @@ pub fn assert_calls(rt: &impl Abort, found: u64, wanted: u64, at: At<'_>) {
     );
 }
 
-/// A call was rejected, and by this kind.
+/// A call failed, with this kind.
 pub fn assert_refused<T: Drop>(rt: &impl Abort, returned: Result<T>, kind: ErrorKind, at: At<'_>) {
     let At { row, number } = at;
     match returned {
@@ -67,7 +67,7 @@ pub fn assert_refused<T: Drop>(rt: &impl Abort, returned: Result<T>, kind: Error
     }
 }
 
-/// A call was rejected by this kind, or by none.
+/// A call failed with this kind, or, where there is none, did not fail.
 pub fn assert_kind(
     rt: &impl Abort,
     found: Option<ErrorKind>,

@@ -6,9 +6,9 @@ pub struct Packed {
     pub name: &'static str,
     pub chunks: &'static [&'static [u8]],
     pub text: &'static [u8],
-    /// In how many chunks the text is handed to the sink, where that is known.
+    /// In how many chunks the encoding is handed to the sink, where that is known.
     pub handed: Option<u64>,
-    /// Whether this packer writes the text.
+    /// Whether this packer writes the encoding.
     pub is_written: bool,
 }
 
@@ -130,7 +130,7 @@ pub const PACKED: [Packed; 21] = [
         handed: Some(1),
         ..NONE
     },
-    // Texts that this packer does not write, or that go on after a cut.
+    // Encodings that this packer does not write, or that go on after a cut.
     Packed { name: "marked-zero", chunks: &[&[0; 8]], text: &[1, 0], is_written: false, ..NONE },
     Packed {
         name: "literal-cut",

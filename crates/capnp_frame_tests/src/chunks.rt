@@ -10,7 +10,7 @@ use crate::sources::{Faulty, Trickle};
 use capnp_frame::{ErrorKind, Result};
 use std::process::Abort;
 
-// The text of each row's chunks where this packer writes it, and the chunks of its text.
+// The encoding of each row's chunks where this packer writes it, and the chunks of its encoding.
 #[test]
 fn chunks_after_one_another(rt: HostRuntime) -> Result<()> {
     for row in &PACKED {
@@ -32,7 +32,7 @@ fn pack_row(rt: &(impl Abort + AllocGlobal), row: &Packed) -> Result<()> {
     Ok(())
 }
 
-// The source shows or returns at most a given number of bytes, and at last each text whole.
+// The source shows or returns at most a given number of bytes, and at last each encoding whole.
 fn unpack_each(rt: &impl Abort, row: &Packed) -> Result<()> {
     for most in 1..=24 {
         unpack_row(rt, row, most)?;
@@ -80,7 +80,7 @@ fn unpack_chunk(
     Ok(())
 }
 
-// Texts, how many bytes are asked for, and the kind.
+// Encodings, how many bytes are asked for, and the kind.
 #[rattlefmt::skip]
 const REFUSED: [(&str, &[u8], usize, ErrorKind); 11] = [
     ("chunk-refusals, a cut literal run", &[0xff, 1, 2, 3, 4, 5, 6, 7, 8, 1, 1, 2], 16,

@@ -1,4 +1,4 @@
-//! What a test does where `rt try --test --fail-alloc N` rejects one growth of it.
+//! What a test does where `rt try --test --fail-alloc N` makes one growth of it fail.
 use capnp_frame::{ErrorKind, Result};
 
 /// What a body returns, or returns when it is run once more.
@@ -12,7 +12,7 @@ macro_rules! retried {
     };
 }
 
-/// Whether a call was rejected for want of memory.
+/// Whether a call failed for want of memory.
 pub fn lacks_memory<T>(returned: &Result<T>) -> bool {
     returned
         .as_ref()

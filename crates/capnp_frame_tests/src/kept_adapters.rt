@@ -12,7 +12,7 @@ use std::process::Abort;
 // Chunks, and the kind of each one's error.
 type Chunk = (&'static [u8], Option<ErrorKind>);
 
-// A part of a word is rejected, and then the sink rejects a chunk, which is its second.
+// A part of a word fails, and then the sink fails for a chunk, which is its second.
 const CHUNKS: [Chunk; 5] = [
     (&[5, 0, 0, 0, 0, 0, 0, 0], None),
     (&[1; 7], Some(ErrorKind::NotWholeWords)),
@@ -47,7 +47,7 @@ fn write_each<W: Write>(rt: &impl Abort, packed: &mut W) -> Result<()> {
 // read.
 type Request = (usize, Option<ErrorKind>, u8);
 
-// A part of a word is rejected, and then the source fails, at its second call.
+// A part of a word fails, and then the source fails, at its second call.
 const REQUESTS: [Request; 5] = [
     (8, None, 5),
     (7, Some(ErrorKind::NotWholeWords), 0xaa),

@@ -52,7 +52,7 @@ const LENGTHS: [Lengths; 5] = [
         indices: &[(0, 77), (77, 100), (100, 101), (101, 200)],
         total: 200,
     },
-    // After a rejected push the same one is added.
+    // After a push that failed, the same one is added.
     Lengths {
         name: "nine segments",
         capacity: 0,
@@ -170,7 +170,7 @@ fn has_written(segments: &OwnedSegments) -> bool {
     segments.get_segment(u32::MAX).is_none()
 }
 
-// A length, and the kind by which its segment is rejected. Of these no allocator is asked.
+// A length, and the kind with which its segment fails. Of these no allocator is asked.
 const TOO_LONG: [(usize, ErrorKind); 3] = [
     (1 << 60, ErrorKind::OutOfMemory),
     (1 << 61, ErrorKind::MessageSizeOverflow),

@@ -1,8 +1,8 @@
-//! Worked rows over framing and packing, their calls, and what all tests share: messages, sources and
-//! sinks, limits, errors, and what a test does where a growth fails.
+//! Worked rows over framing and packing, their calls, and what all tests share: messages, sources
+//! and sinks, limits, errors, and what a test does where a growth fails.
 //!
 //! Expected values come from the [encoding document] and from rows worked by hand, never from what
-//! the calls return. `rt try --test --fail-alloc N` rejects one growth of each test: a body that
+//! the calls return. `rt try --test --fail-alloc N` makes one growth of each test fail: a body that
 //! returns an error is run once more, and has to succeed then. Only the tests of a module `calls`,
 //! which read whole results, may fail.
 //!

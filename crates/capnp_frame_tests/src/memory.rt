@@ -1,8 +1,8 @@
-//! Growths that are rejected.
+//! Growths that fail.
 //!
-//! `rt try --test --fail-alloc N` rejects the Nth growth of each test, and no other. So each test
-//! asks of a result that it is the right one, or `OutOfMemory` with nothing else changed, and that
-//! the call returns rightly when it is made again.
+//! `rt try --test --fail-alloc N` makes the Nth growth of each test fail, and no other. So each
+//! test asks of a result that it is the right one, or `OutOfMemory` with nothing else changed, and
+//! that the call returns rightly when it is made again.
 use crate::assertions::{At, assert_bytes, assert_count, assert_holds};
 use crate::framing::{Found, read_by};
 use crate::growths::lacks_memory;
@@ -98,7 +98,7 @@ const ASKING: [Asking; 8] = [
         asks: &[16],
         ..NONE
     },
-    // What is rejected before the number of segments is accepted takes no memory, nor does the end.
+    // What fails before the number of segments is accepted takes no memory, nor does the end.
     Asking {
         name: "count-bounds, 512",
         bytes: &[255, 1, 0, 0, 0, 0, 0, 0],

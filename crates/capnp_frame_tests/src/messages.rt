@@ -1,7 +1,7 @@
 //! Messages, and what is written of them.
 use capnp_frame::message::ReaderSegments;
 
-/// A message, its texts, and how many words it takes framed.
+/// A message, its encodings, and how many words it takes framed.
 #[derive(Clone, Copy)]
 pub struct Message {
     pub name: &'static str,

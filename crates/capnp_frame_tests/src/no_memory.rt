@@ -132,7 +132,7 @@ fn chunks_are_unpacked(rt: HostRuntime) -> Result<()> {
     Ok(())
 }
 
-// A packed message that is rejected before its number of segments is accepted.
+// A packed message that fails before its number of segments is accepted.
 #[rattlefmt::skip]
 const REFUSED: [(&str, &[u8], ErrorKind); 3] = [
     ("512 segments", &[3, 255, 1], ErrorKind::InvalidNumberOfSegments(512)),
@@ -164,7 +164,7 @@ const FRAME_AND_MORE: [u8; 56] = [
     9, 9, 9, 9, 9, 9, 9, 9, 8, 7, 6, 5, 4, 3, 2, 1,
 ];
 
-// The text of that message as it is written, in a buffer of ones.
+// The encoding of that message as it is written, in a buffer of ones.
 #[rattlefmt::skip]
 const TEXT_AND_ROOM: [u8; 48] = [
     1, 0, 0, 0, 1, 0, 0, 0, 2, 0, 0, 0, 0, 0, 0, 0,
@@ -189,8 +189,8 @@ fn a_text_in_a_buffer(rt: HostRuntime) -> Result<()> {
     Ok(())
 }
 
-// A message of one word of nines and a byte after it, and its framed encoding in a buffer that is a byte
-// longer.
+// A message of one word of nines and a byte after it, and its framed encoding in a buffer that is a
+// byte longer.
 const PACKED_NINES: [u8; 13] = [0x10, 1, 0xff, 9, 9, 9, 9, 9, 9, 9, 9, 0, 7];
 
 const NINES_AND_ROOM: [u8; 17] = [0, 0, 0, 0, 1, 0, 0, 0, 9, 9, 9, 9, 9, 9, 9, 9, 1];

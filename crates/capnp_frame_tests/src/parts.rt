@@ -12,8 +12,8 @@ const SEVEN: [u8; 8] = [7, 0, 0, 0, 0, 0, 0, 0];
 
 const ZERO: [u8; 8] = [0; 8];
 
-/// Words, their packed encoding, and in how many parts it is handed on at least: a literal run's words
-/// are a part by themselves, and no more than 64 bytes are collected for another.
+/// Words, their packed encoding, and in how many parts it is handed on at least: a literal run's
+/// words are a part by themselves, and no more than 64 bytes are collected for another.
 #[derive(Drop)]
 pub struct Parts {
     pub name: &'static str,

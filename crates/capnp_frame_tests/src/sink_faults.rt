@@ -40,7 +40,7 @@ fn written(sink: &FaultySink) -> &[u8] {
         .unwrap_or(&[1; 99])
 }
 
-// Whether the sink took each chunk. A growth that was rejected is handed back.
+// Whether the sink took each chunk. A growth that failed is handed back.
 fn is_taken(rt: &impl Abort, returned: Result<()>, at: At<'_>) -> Result<bool> {
     let refusal = kind_of(returned)?;
     assert_holds(
@@ -137,8 +137,8 @@ fn pack_to(rt: &(impl Abort + AllocGlobal), row: &Parts, fails_at: u64) -> Resul
     is_front(rt, returned, &sink, row.text, At::new(row.name, fails_at))
 }
 
-// Whether the run meets no fault. What was written stays at the front, and a front of the text is
-// after it, which is not the whole.
+// Whether the run meets no fault. What was written stays at the front, and a front of the encoding
+// is after it, which is not the whole.
 fn is_front(
     rt: &impl Abort,
     returned: Result<()>,

@@ -42,7 +42,7 @@ fn a_slice_is_read(rt: HostRuntime) -> Result<()> {
     Ok(())
 }
 
-// A reference to a source is one, and moves what it depends on.
+// A reference to a source is a source, and moves the source that it refers to.
 #[test]
 fn a_reference_is_read(rt: HostRuntime) -> Result<()> {
     let mut source = Trickle::new(&BYTES, 3);

@@ -2,7 +2,7 @@
 ghost use Rattle.std.specs.Prelude.{◌≡◌, ◌<◌, ◌⊎◌, ◌^◌, ℕ, List, [], length, Option, None, Err, IfSome, IfOk, OnOk, OnErr, IfErr};
 ghost use Rattle.capnp.specs.Passed.{ErrorKind, IsReaderKind, IfKnown, Advances, Fails, Adds, Grows, SkipsMessage, ReadsStream, default_limit};
 ghost use Rattle.capnp.specs.declared.streams.Format.{Format};
-ghost use Rattle.capnp.specs.Streams.{refuses_of, rules_of};
+ghost use Rattle.capnp.specs.Streams.{refuses_of, skipping_rules_of};
 ghost use Rattle.capnp.specs.Runs.{IsRunFault, HasWritten, HasWrittenNext, HasRun, WritesEach};
 ghost use Rattle.capnp_ls.specs.declared.command.Command.{Command};
 ghost use Rattle.capnp_ls.specs.Output.{line_of, Prints, DeclinesPrinted};
@@ -115,8 +115,8 @@ fn skip_next<R: BufRead>(
     source: &mut R,
     spare: SegmentLengthsBuilder,
 ) -> Result<Option<SegmentLengthsBuilder>>
-    ensures { SkipsMessage (ReadsStream R.Read source.old source.new (rules_of padding Format.Framed)
-        default_limit) result }
+    ensures { SkipsMessage (ReadsStream R.Read source.old source.new
+        (skipping_rules_of padding (length spare)) default_limit) result }
 {
     match padding {
         Padding::Zero => try_skip_message(source, DEFAULT_READER_OPTIONS, spare),

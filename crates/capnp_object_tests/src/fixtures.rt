@@ -65,8 +65,8 @@ pub fn has_text<S: ReaderSegments>(
     }
 }
 
-/// The errors as text, as data, as a list of words and as a struct, each of an arena of which nothing
-/// has been read.
+/// The errors as text, as data, as a list of words and as a struct, each of an arena of which
+/// nothing has been read.
 pub fn refusals_of(
     segments: &[&[u8]],
     limit: Option<usize>,

@@ -75,7 +75,7 @@ fn expect_refused(rt: &impl Abort, row: &Refused) {
     expect(rt, (segments, nesting), found, (Err(kind), canonical));
 }
 
-// Row read-limit: each read is counted against the traversal limit, and a rejected one counts
+// Row read-limit: each read is counted against the traversal limit, and one that fails counts
 // nothing; a pointer that is only looked at, and a walk, are not counted against the traversal
 // limit.
 #[test]

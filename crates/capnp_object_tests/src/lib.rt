@@ -1,5 +1,5 @@
-//! Worked rows over objects that are read: hostile pointers, and the calls of views; and what the tests
-//! of builders share with them. It holds tests by the rules of `capnp_frame_tests`.
+//! Worked rows over objects that are read: hostile pointers, and the calls of views; and what the
+//! tests of builders share with them. It holds tests by the rules of `capnp_frame_tests`.
 #![tactic(auto)]
 
 pub mod arenas;

@@ -4,8 +4,8 @@ use capnp_frame::ErrorKind;
 use capnp_frame_tests::limits::{DEFAULT_LIMIT, NO_LIMIT};
 
 /// Segments and a traversal limit; and of an arena of which nothing has been read the errors as
-/// text, as data, as a list of words and as a struct, the bytes of the text and of the data, the words
-/// of the target, and whether it is canonical.
+/// text, as data, as a list of words and as a struct, the bytes of the text and of the data, the
+/// words of the target, and whether it is canonical.
 pub type Root = (
     &'static [&'static [u8]],
     Option<usize>,
@@ -167,8 +167,8 @@ pub const REFUSED: [Refused; 32] = [
     // A capability, and a landing pad that is one.
     (&[b"\x03\0\0\0\0\0\0\0"], 64, NO_CAPABILITY, Err(NO_CAPABILITY)),
     (&[b"\x0a\0\0\0\0\0\0\0\x03\0\0\0\0\0\0\0"], 64, NO_CAPABILITY, Ok(false)),
-    // A struct of no words past the end, one before the start, one as far as an offset leads, a list
-    // that is cut.
+    // A struct of no words past the end, one before the start, one as far as an offset leads, a
+    // list that is cut.
     (&[b"\x04\0\0\0\0\0\0\0"], 64, OUT, Err(OUT)),
     (&[b"\xf8\xff\xff\xff\0\0\0\0"], 64, OUT, Err(OUT)),
     (&[b"\xfc\xff\xff\x7f\0\0\0\0"], 64, OUT, Err(OUT)),

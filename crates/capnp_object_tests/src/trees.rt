@@ -23,8 +23,8 @@ pub fn chain(alloc: Global, length: usize) -> Result<Vec<u8>> {
     Ok(bytes)
 }
 
-/// Structs of a given number of data words and two pointers, each of which leads to the next struct:
-/// a tree of 2^40 - 1 structs.
+/// Structs of a given number of data words and two pointers, each of which leads to the next
+/// struct: a tree of 2^40 - 1 structs.
 pub fn doublings(alloc: Global, data_words: u16) -> Result<Vec<u8>> {
     let next = TWO + ((data_words as u64) << 32);
     let mut bytes: Vec<u8> = Vec::new(alloc);

@@ -1,4 +1,4 @@
-//! What is rejected: the error that the page says, and what was before still is.
+//! Calls that fail: with the error that the page says, and what was there before is still there.
 use crate::built::{Built, build};
 use crate::fixtures::{Fields, Pointer, empty, expect, message_of, text_at};
 use capnp_frame::{ErrorKind, Result};
@@ -54,7 +54,7 @@ impl DraftSource<any_struct::Owned, 1, 0> for Many {
     }
 }
 
-/// Why a call was rejected, if it was.
+/// Why a call failed, if it was.
 pub(crate) fn refusal<T: Drop>(returned: Result<T>) -> Option<ErrorKind> {
     returned.err().map(|error| error.kind)
 }
@@ -109,11 +109,11 @@ fn refusal_of_words(objects: &mut Orphanage, count: usize) -> Option<ErrorKind> 
     refusal(objects.lazy_struct_list::<any_struct::Owned, 1, 0, Many>(&many))
 }
 
-// Structs of no words, how many, and the number that is told.
+// Structs of no words, how many, and the number that the error carries.
 const TOO_MANY: [(usize, u32); 3] = [(1 << 29, 1 << 29), (1 << 30, 1 << 30), (1 << 32, u32::MAX)];
 
-// Structs of a word, and the words that are told: with the tag 2^29, and one more than the segment
-// has room for after its two words.
+// Structs of a word, and the words that the error carries: with the tag 2^29, and one more than the
+// segment has room for after its two words.
 const TOO_LONG: [(usize, u32); 2] = [((1 << 29) - 1, 1 << 29), ((1 << 29) - 3, (1 << 29) - 2)];
 
 #[test]
@@ -187,7 +187,7 @@ fn strange(rt: &impl AllocGlobal) -> Result<Orphanage> {
     retried!(with_strange(rt, strange))
 }
 
-// The pointer of an orphan of another orphanage leads past the end, and is rejected where it is read.
+// The pointer of an orphan of another orphanage leads past the end, and fails where it is read.
 #[test]
 fn orphans_of_others_do_no_harm(rt: HostRuntime) -> Result<()> {
     let objects = strange(&rt)?;
@@ -200,7 +200,7 @@ fn orphans_of_others_do_no_harm(rt: HostRuntime) -> Result<()> {
     Ok(())
 }
 
-// As the root it is rejected where it is read, and the root may be set again to its own orphan.
+// As the root it fails where it is read, and the root may be set again to its own orphan.
 #[test]
 fn roots_of_others_do_no_harm(rt: HostRuntime) -> Result<()> {
     let strange: Orphan<text::Owned> = retried!(strange_orphan(&rt))?;
@@ -222,7 +222,7 @@ fn refusal_of_view(objects: &mut Orphanage, view: &Pointer<'_, '_>) -> Option<Er
     refusal(objects.set::<any_pointer::Owned, Pointer<'_, '_>>(view))
 }
 
-// A view of what is rejected is rejected alike, and nothing is written.
+// A view of what can't be made fails alike, and nothing is written.
 #[test]
 fn a_refused_view_changes_nothing(rt: HostRuntime) -> Result<()> {
     let others = strange(&rt)?;
@@ -233,7 +233,7 @@ fn a_refused_view_changes_nothing(rt: HostRuntime) -> Result<()> {
     expect_alice(&rt, &objects)
 }
 
-// Where an orphan of before the last `clear` was, other objects are.
+// Where an orphan of before the last `clear` was, there are other objects.
 fn with_cleared(rt: &impl AllocGlobal) -> Result<Orphanage> {
     let mut objects = empty(rt)?;
     let before = objects.text("Alice")?;
@@ -249,8 +249,8 @@ fn orphans_of_before_do_no_harm(rt: HostRuntime) -> Result<()> {
     shows(&rt, &objects, "Bob\0\0")
 }
 
-// `rt try --test --fail-alloc N` rejects the Nth growth: the call returns `OutOfMemory`, what was
-// before still is, and the same call succeeds when it is made again.
+// `rt try --test --fail-alloc N` makes the Nth growth fail: the call returns `OutOfMemory`, what
+// was there before is still there, and the same call succeeds when it is made again.
 #[test]
 fn refused_memory_is_taken_later(rt: HostRuntime) -> Result<()> {
     let mut objects = alice(&rt)?;
@@ -269,8 +269,8 @@ fn add_data(objects: &mut Orphanage) -> Result<()> {
     Ok(())
 }
 
-// Each object in turn after those before it: where a growth fails, what was before still is,
-// and the same object is built when it is asked for again.
+// Each object in turn after those before it: where a growth fails, what was there before is still
+// there, and the same object is built when it is asked for again.
 #[test]
 fn each_growth_is_taken_later(rt: HostRuntime) -> Result<()> {
     let mut objects = alice(&rt)?;

@@ -24,7 +24,7 @@ const ONE: &[u8] = b"\0\0\0\0\0\0\0\0\x01\0\0\0\0\0\0\0";
 const BOTH: &[u8] = b"\0\0\0\0\0\0\0\0\x01\0\0\0\0\0\0\0\
     \x02\x02\x02\x02\x02\x02\x02\x02\x02\x02\x02\x02\x02\x02\x02\x02";
 
-// How data is rejected in a region.
+// How data fails in a region.
 fn data_refusal(objects: &mut Orphanage<Region<'_>>, bytes: &[u8]) -> Option<ErrorKind> {
     refusal(objects.data(bytes))
 }

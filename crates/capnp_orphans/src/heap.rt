@@ -15,11 +15,11 @@ use std::marker::Model;
 #[derive(Drop)]
 pub struct Heap {
     bytes: Vec<u8>,
-    used: usize,
+    used: u32,
 }
 
 impl Model for Heap {
-    ghost use Rattle.std.specs.Prelude.{◌≤◌, length, take, None};
+    ghost use Rattle.std.specs.Prelude.{◌≤◌, ◌<◌, ◌^◌, length, take, None};
     ghost use Rattle.capnp_orphans.specs.Segments.{Segment};
 
     ghost Value = { Segment };
@@ -31,7 +31,8 @@ impl Model for Heap {
     } };
 
     ghost invariant = { λ heap. (heap.used ≤ length heap.bytes.items)
-        × (length heap.bytes.items ≤ heap.bytes.cap) };
+        × (length heap.bytes.items ≤ heap.bytes.cap)
+        × (length heap.bytes.items < 2 ^ 32) };
 }
 
 impl Heap {
@@ -52,23 +53,34 @@ impl GrowingSegment for Heap {
     ghost state = { λ heap. heap };
 
     fn bytes(&self) -> &[u8] {
-        &self.bytes.as_slice()[..self.used]
+        &self.bytes.as_slice()[..self.used as usize]
     }
 
     #[inline(always)]
     fn append<O: Object>(&mut self, object: &O, words: u32) -> Result<u64> {
-        let from = self.used;
+        let from = self.used as usize;
         let end = from + 8 * words as usize;
         if end > self.bytes.len() && !grown(&mut self.bytes, end) {
             return Err(Error::from_kind(ErrorKind::OutOfMemory));
         }
         let word = write_over(self.bytes.as_mut_slice(), from, words, object);
-        self.used = end;
+        self.used = end as u32;
         Ok(word)
     }
 
+    #[inline(always)]
+    fn append_within<O: Object>(&mut self, object: &O, words: u32) -> Option<u64> {
+        let end = self.used as usize + 8 * words as usize;
+        if end > self.bytes.len() {
+            return None;
+        }
+        let word = write_over(self.bytes.as_mut_slice(), self.used as usize, words, object);
+        self.used = end as u32;
+        Some(word)
+    }
+
     fn set_root_word(&mut self, word: u64) {
-        put_first(self.bytes.as_mut_slice(), self.used, word);
+        put_first(self.bytes.as_mut_slice(), self.used as usize, word);
     }
 
     fn clear(&mut self) {
@@ -89,6 +101,7 @@ fn grown(bytes: &mut Vec<u8>, end: usize) -> bool
     ensures items { (zeros : ℕ) × (bytes.new.items ≡ bytes.old.items ++ replicate zeros 0) }
     ensures long { IsTrue result → end ≤ length bytes.new.items }
     ensures room { IsTrue result → length bytes.new.items ≤ bytes.new.cap }
+    ensures short { IsTrue result → length bytes.new.items < 2 ^ 32 }
     ensures capacity { bytes.old.cap ≤ bytes.new.cap }
     ensures full { result ≡ false → bytes.old.cap < end }
     ensures same { result ≡ false → bytes.new.items ≡ bytes.old.items }
@@ -98,6 +111,6 @@ fn grown(bytes: &mut Vec<u8>, end: usize) -> bool
     if bytes.reserve(end - len).is_err() {
         return false;
     }
-    let all = bytes.capacity().min(end + 512);
+    let all = bytes.capacity().min(end + 512).min(u32::MAX as usize);
     bytes.resize(all, 0).is_ok()
 }

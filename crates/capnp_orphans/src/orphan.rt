@@ -78,7 +78,7 @@ impl OrphanWord for u64 {
     }
 }
 
-/// The pointer to an orphan, to be put into this word of the segment.
+/// The pointer to an orphan from the word at `place` of its segment, which it is to be put into.
 #[inline(always)]
 pub(crate) fn link(word: u64, place: u32) -> u64
     requires { place < 2 ^ 29 }

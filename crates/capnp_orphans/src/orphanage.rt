@@ -117,8 +117,27 @@ impl<S: GrowingSegment> Orphanage<S> {
     }
 
     // Writes an object.
+    //
+    // Speed: where the memory needs no preparation the call can't fail, so no result goes by memory
+    // (`tools/time-building built`, `table`).
     #[inline(always)]
     fn write<T, O: Object>(&mut self, object: &O) -> Result<Orphan<T>>
+        ensures adds { Adds (O.holds object.now (body_of self.old)) self.old self.new
+            word_of result }
+        ensures writes { Writes (O.takes object.now) (O.refuses object.now) self.old self.new
+            result }
+    {
+        let words = object.measure()?;
+        if let Some(word) = self.segment.append_within(object, words) {
+            return Ok(Orphan::of_word(word));
+        }
+        self.write_anew(object)
+    }
+
+    // Writes an object, for which the memory may need preparation.
+    #[cold]
+    #[inline(never)]
+    fn write_anew<T, O: Object>(&mut self, object: &O) -> Result<Orphan<T>>
         ensures adds { Adds (O.holds object.now (body_of self.old)) self.old self.new
             word_of result }
         ensures writes { Writes (O.takes object.now) (O.refuses object.now) self.old self.new
@@ -133,9 +152,9 @@ impl<S: GrowingSegment> Orphanage<S> {
         Ok(Orphan::of_word(word))
     }
 
-    /// Writes a value that a pointer can be set to: one that is composed (`capnp_values`), or what
-    /// a view of another message shows. What a pointer leads to there, a list too, is copied when
-    /// it is given as the view `any_pointer::Reader`.
+    /// Adds an orphan: the object of a value that a pointer can be set to. The value is composed
+    /// (`capnp_values`), or it is what a view of another message shows. What a pointer leads to
+    /// there, a list too, is copied when it is given as the view `any_pointer::Reader`.
     ///
     /// Fails for 2^29 words and more with `AllocationTooLarge` of the value's words, at most
     /// 2^32 - 1; as its view does for what can't be read; and for want of room as `Orphanage` says.
@@ -192,7 +211,8 @@ impl<S: GrowingSegment> Orphanage<S> {
         self.set::<primitive_list::Owned<N>, NumberList<'_, N>>(&list)
     }
 
-    /// Writes a struct ("Structs"). The pointer to an orphan of another orphanage is written, too.
+    /// Adds an orphan: the struct of this draft ("Structs"). The pointer to an orphan of another
+    /// orphanage is written, too.
     ///
     /// Fails for 2^16 data words or pointers and more with `AllocationTooLarge(65536)`, and for
     /// want of room as `Orphanage` says.
@@ -204,7 +224,13 @@ impl<S: GrowingSegment> Orphanage<S> {
             self.old self.new word_of result }
         ensures writes { Writes (TakesStruct D P) (ExceedsPointer D P) self.old self.new result }
     {
-        self.write(draft)
+        // Speed: as `write`. For all else the draft is copied, so that it need not be in memory itself
+        // (`tools/time-building built`, `tree`).
+        let words = draft.measure()?;
+        if let Some(word) = self.segment.append_within(draft, words) {
+            return Ok(Orphan::of_word(word));
+        }
+        self.write_anew(&StructDraft::<T, D, P>::of_words(draft.words, draft.pointers))
     }
 
     /// Writes a list of the pointers to some orphans ("Lists"): of texts, of data, of lists, or of
@@ -258,7 +284,7 @@ impl<S: GrowingSegment> Orphanage<S> {
         self.segment.set_root_word(link(root.word, 0));
     }
 
-    /// Writes a struct and makes it the root. Fails as `add` does, and the root then stays as it
+    /// Adds a struct and makes it the root. Fails as `add` does, and the root then stays as it
     /// was.
     pub fn add_root<T, const D: usize, const P: usize>(
         &mut self,

@@ -12,7 +12,7 @@ use std::marker::Model;
 #[derive(Drop)]
 pub struct Region<'a> {
     bytes: &'a mut [u8],
-    used: usize,
+    used: u32,
 }
 
 impl<'a> Model for Region<'a> {
@@ -51,23 +51,34 @@ impl<'a> GrowingSegment for Region<'a> {
     ghost state = { λ region. region };
 
     fn bytes(&self) -> &[u8] {
-        &self.bytes[..self.used]
+        &self.bytes[..self.used as usize]
     }
 
     #[inline(always)]
     fn append<O: Object>(&mut self, object: &O, words: u32) -> Result<u64> {
-        let from = self.used;
+        let from = self.used as usize;
         let end = from + 8 * words as usize;
         if end > self.bytes.len() {
             return Err(Error::from_kind(ErrorKind::AllocationTooLarge(words)));
         }
         let word = write_over(self.bytes, from, words, object);
-        self.used = end;
+        self.used = end as u32;
         Ok(word)
     }
 
+    #[inline(always)]
+    fn append_within<O: Object>(&mut self, object: &O, words: u32) -> Option<u64> {
+        let end = self.used as usize + 8 * words as usize;
+        if end > self.bytes.len() || end >= 1 << 32 {
+            return None;
+        }
+        let word = write_over(self.bytes, self.used as usize, words, object);
+        self.used = end as u32;
+        Some(word)
+    }
+
     fn set_root_word(&mut self, word: u64) {
-        put_first(self.bytes, self.used, word);
+        put_first(self.bytes, self.used as usize, word);
     }
 
     fn clear(&mut self) {

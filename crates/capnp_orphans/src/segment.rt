@@ -1,5 +1,5 @@
 //! Segments that grow at their end.
-ghost use Rattle.std.specs.Prelude.{◌≡◌, ◌+◌, ◌*◌, ◌/◌, ◌%◌, ◌^◌, ◌<◌, ◌≤◌, IsTrue, length, take, drop, replicate, ◌∷◌};
+ghost use Rattle.std.specs.Prelude.{◌≡◌, ◌+◌, ◌*◌, ◌/◌, ◌%◌, ◌^◌, ◌<◌, ◌≤◌, IsTrue, length, take, drop, replicate, ◌∷◌, Ok, MatchOption};
 ghost use Rattle.capnp_wire.specs.Pointer.{words_of};
 ghost use Rattle.capnp_orphans.specs.Segments.{Segment, IsSegment, AppendsObject, PutsRoot, IsWrittenOver, with_root_alone};
 
@@ -27,6 +27,16 @@ pub trait GrowingSegment: Drop {
         requires few { length (state self.old).bytes / 8 + words < 2 ^ 29 }
         ensures { AppendsObject (O.holds object.now) words (state self.old) (state self.new)
             result };
+
+    /// Writes an object as `append` does, where the memory that is there needs no preparation for it.
+    /// Where it does, nothing is written.
+    fn append_within<O: Object>(&mut self, object: &O, words: u32) -> Option<u64>
+        requires segment { IsSegment (state self.old) }
+        requires takes { O.takes object.now words }
+        ensures { MatchOption result (state self.new ≡ state self.old)
+            (λ word. (length (state self.old).bytes / 8 + words < 2 ^ 29)
+            × AppendsObject (O.holds object.now) words (state self.old) (state self.new)
+            (Ok word)) };
 
     /// Sets the root's word.
     fn set_root_word(&mut self, word: u64)

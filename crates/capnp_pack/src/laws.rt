@@ -63,7 +63,7 @@ pub fn words_have_a_packed_encoding()
 {}
 
 /// Whole words have only one packed encoding.
-pub fn packed_encoding_is_one()
+pub fn packed_encoding_is_unique()
     ensures { (bytes text other : List ℕ) → Packs bytes text → Packs bytes other → text ≡ other }
 {}
 

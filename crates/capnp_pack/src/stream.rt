@@ -34,7 +34,8 @@ pub fn try_read_packed_segments<R: BufRead>(
     try_read_segments(alloc, &mut packed, options)
 }
 
-/// Reads the next packed message as `try_read_packed_segments` does, but accepts any padding.
+/// Reads the next packed message as `try_read_packed_segments` does, but accepts any padding in the
+/// segment table.
 pub fn try_read_packed_segments_lenient<R: BufRead>(
     alloc: Global,
     source: &mut R,
@@ -62,7 +63,7 @@ pub fn try_read_packed_segments_reusing<R: BufRead>(
 }
 
 /// Reads the next packed message as `try_read_packed_segments_reusing` does, but accepts any
-/// padding.
+/// padding in the segment table.
 pub fn try_read_packed_segments_reusing_lenient<R: BufRead>(
     source: &mut R,
     options: ReaderOptions,

@@ -4,17 +4,18 @@ ghost use Rattle.std.specs.Float.{binary32, binary64};
 ghost use Rattle.std.specs.Int.{w8, w16, w32, w64, cast_signed};
 ghost use Rattle.capnp_wire.specs.Fields.{field};
 ghost use Rattle.capnp_wire.specs.ListViews.{element_of};
+ghost use Rattle.capnp_wire.specs.Lists.{FindsElement, IsIterator};
 ghost use Rattle.capnp_wire.specs.Object.{nothing};
 ghost use Rattle.capnp_wire.specs.Readers.{struct_of, pointer_of};
 ghost use Rattle.capnp_wire.specs.UpgradedReaders.{upgraded_structs_of};
 ghost use Rattle.capnp_wire.specs.UpgradedViews.{IsUpgradedStructs, TakesRows, DeclinesRows};
-ghost use Rattle.capnp_wire.specs.Views.{IsViewOf, IsStruct, IsText, IsData, Accepts, Refuses, Declines, Denotes, Reads, TakesStruct, TakesText, TakesNumbers, DeclinesStruct, DeclinesText, DeclinesNumbers, pointer_in};
+ghost use Rattle.capnp_wire.specs.Views.{Struct, IsViewOf, IsStruct, IsText, IsData, Accepts, Refuses, Declines, Denotes, Reads, TakesStruct, TakesText, TakesNumbers, DeclinesStruct, DeclinesText, DeclinesNumbers, pointer_in};
 
 pub mod node {
     use capnp_frame::Result;
     use capnp_frame::message::ReaderSegments;
     use capnp_wire::any_struct::StructReader;
-    use capnp_wire::traits::{self, FromPointerReader};
+    use capnp_wire::traits::{self, FromPointerReader, IndexMove, ListIter};
     use capnp_wire::{any_pointer, text, upgraded};
 
     /// The type of the schema.
@@ -291,6 +292,43 @@ pub mod node {
             Reader {
                 fields: self.elements.get(index),
             }
+        }
+
+        /// The element of this index, or `None` where there are no more elements than it.
+        pub fn try_get(&self, index: u32) -> Option<Reader<'a, S>>
+            ensures { let list = upgraded_structs_of S.segments self.now.elements in
+                FindsElement (length list.rows) index
+                (λ item. struct_of S.segments item.fields ≡ element_of list index) result }
+        {
+            self.try_index_move(index)
+        }
+
+        /// An iterator over the elements.
+        pub fn iter(&self) -> ListIter<'_, Self>
+            ensures { IsIterator self.now result }
+        {
+            ListIter::new(self)
+        }
+    }
+
+    impl<'a, S: ReaderSegments> IndexMove for ListReader<'a, S> {
+        type Item = Reader<'a, S>;
+
+        ghost Element = { Struct };
+
+        ghost seen = { λ item. struct_of S.segments item.fields };
+
+        ghost size = { λ list. length (upgraded_structs_of S.segments list.elements).rows };
+
+        ghost element = { λ list index.
+            element_of (upgraded_structs_of S.segments list.elements) index };
+
+        fn len(&self) -> u32 {
+            self.len()
+        }
+
+        fn index_move(&self, index: u32) -> Reader<'a, S> {
+            self.get(index)
         }
     }
 
@@ -727,7 +765,7 @@ pub mod node {
         use capnp_frame::Result;
         use capnp_frame::message::ReaderSegments;
         use capnp_wire::any_struct::StructReader;
-        use capnp_wire::traits::{self, FromPointerReader};
+        use capnp_wire::traits::{self, FromPointerReader, IndexMove, ListIter};
         use capnp_wire::{any_pointer, text, upgraded};
 
         /// The type of the schema.
@@ -813,6 +851,43 @@ pub mod node {
                     fields: self.elements.get(index),
                 }
             }
+
+            /// The element of this index, or `None` where there are no more elements than it.
+            pub fn try_get(&self, index: u32) -> Option<Reader<'a, S>>
+                ensures { let list = upgraded_structs_of S.segments self.now.elements in
+                    FindsElement (length list.rows) index
+                    (λ item. struct_of S.segments item.fields ≡ element_of list index) result }
+            {
+                self.try_index_move(index)
+            }
+
+            /// An iterator over the elements.
+            pub fn iter(&self) -> ListIter<'_, Self>
+                ensures { IsIterator self.now result }
+            {
+                ListIter::new(self)
+            }
+        }
+
+        impl<'a, S: ReaderSegments> IndexMove for ListReader<'a, S> {
+            type Item = Reader<'a, S>;
+
+            ghost Element = { Struct };
+
+            ghost seen = { λ item. struct_of S.segments item.fields };
+
+            ghost size = { λ list. length (upgraded_structs_of S.segments list.elements).rows };
+
+            ghost element = { λ list index.
+                element_of (upgraded_structs_of S.segments list.elements) index };
+
+            fn len(&self) -> u32 {
+                self.len()
+            }
+
+            fn index_move(&self, index: u32) -> Reader<'a, S> {
+                self.get(index)
+            }
         }
 
         impl<'a, S: ReaderSegments> FromPointerReader<'a, S> for ListReader<'a, S> {
@@ -843,7 +918,7 @@ pub mod node {
         use capnp_frame::Result;
         use capnp_frame::message::ReaderSegments;
         use capnp_wire::any_struct::StructReader;
-        use capnp_wire::traits::{self, FromPointerReader};
+        use capnp_wire::traits::{self, FromPointerReader, IndexMove, ListIter};
         use capnp_wire::{any_pointer, text, upgraded};
 
         /// The type of the schema.
@@ -940,6 +1015,43 @@ pub mod node {
                     fields: self.elements.get(index),
                 }
             }
+
+            /// The element of this index, or `None` where there are no more elements than it.
+            pub fn try_get(&self, index: u32) -> Option<Reader<'a, S>>
+                ensures { let list = upgraded_structs_of S.segments self.now.elements in
+                    FindsElement (length list.rows) index
+                    (λ item. struct_of S.segments item.fields ≡ element_of list index) result }
+            {
+                self.try_index_move(index)
+            }
+
+            /// An iterator over the elements.
+            pub fn iter(&self) -> ListIter<'_, Self>
+                ensures { IsIterator self.now result }
+            {
+                ListIter::new(self)
+            }
+        }
+
+        impl<'a, S: ReaderSegments> IndexMove for ListReader<'a, S> {
+            type Item = Reader<'a, S>;
+
+            ghost Element = { Struct };
+
+            ghost seen = { λ item. struct_of S.segments item.fields };
+
+            ghost size = { λ list. length (upgraded_structs_of S.segments list.elements).rows };
+
+            ghost element = { λ list index.
+                element_of (upgraded_structs_of S.segments list.elements) index };
+
+            fn len(&self) -> u32 {
+                self.len()
+            }
+
+            fn index_move(&self, index: u32) -> Reader<'a, S> {
+                self.get(index)
+            }
         }
 
         impl<'a, S: ReaderSegments> FromPointerReader<'a, S> for ListReader<'a, S> {
@@ -974,7 +1086,7 @@ pub mod node {
         use capnp_frame::Result;
         use capnp_frame::message::ReaderSegments;
         use capnp_wire::any_struct::StructReader;
-        use capnp_wire::traits::{self, FromPointerReader};
+        use capnp_wire::traits::{self, FromPointerReader, IndexMove, ListIter};
         use capnp_wire::{any_pointer, text, upgraded};
 
         /// The type of the schema.
@@ -1092,6 +1204,43 @@ pub mod node {
                     fields: self.elements.get(index),
                 }
             }
+
+            /// The element of this index, or `None` where there are no more elements than it.
+            pub fn try_get(&self, index: u32) -> Option<Reader<'a, S>>
+                ensures { let list = upgraded_structs_of S.segments self.now.elements in
+                    FindsElement (length list.rows) index
+                    (λ item. struct_of S.segments item.fields ≡ element_of list index) result }
+            {
+                self.try_index_move(index)
+            }
+
+            /// An iterator over the elements.
+            pub fn iter(&self) -> ListIter<'_, Self>
+                ensures { IsIterator self.now result }
+            {
+                ListIter::new(self)
+            }
+        }
+
+        impl<'a, S: ReaderSegments> IndexMove for ListReader<'a, S> {
+            type Item = Reader<'a, S>;
+
+            ghost Element = { Struct };
+
+            ghost seen = { λ item. struct_of S.segments item.fields };
+
+            ghost size = { λ list. length (upgraded_structs_of S.segments list.elements).rows };
+
+            ghost element = { λ list index.
+                element_of (upgraded_structs_of S.segments list.elements) index };
+
+            fn len(&self) -> u32 {
+                self.len()
+            }
+
+            fn index_move(&self, index: u32) -> Reader<'a, S> {
+                self.get(index)
+            }
         }
 
         impl<'a, S: ReaderSegments> FromPointerReader<'a, S> for ListReader<'a, S> {
@@ -1121,7 +1270,7 @@ pub mod node {
             use capnp_frame::Result;
             use capnp_frame::message::ReaderSegments;
             use capnp_wire::any_struct::StructReader;
-            use capnp_wire::traits::{self, FromPointerReader};
+            use capnp_wire::traits::{self, FromPointerReader, IndexMove, ListIter};
             use capnp_wire::{any_pointer, text, upgraded};
 
             /// The type of the schema.
@@ -1207,6 +1356,43 @@ pub mod node {
                         fields: self.elements.get(index),
                     }
                 }
+
+                /// The element of this index, or `None` where there are no more elements than it.
+                pub fn try_get(&self, index: u32) -> Option<Reader<'a, S>>
+                    ensures { let list = upgraded_structs_of S.segments self.now.elements in
+                        FindsElement (length list.rows) index
+                        (λ item. struct_of S.segments item.fields ≡ element_of list index) result }
+                {
+                    self.try_index_move(index)
+                }
+
+                /// An iterator over the elements.
+                pub fn iter(&self) -> ListIter<'_, Self>
+                    ensures { IsIterator self.now result }
+                {
+                    ListIter::new(self)
+                }
+            }
+
+            impl<'a, S: ReaderSegments> IndexMove for ListReader<'a, S> {
+                type Item = Reader<'a, S>;
+
+                ghost Element = { Struct };
+
+                ghost seen = { λ item. struct_of S.segments item.fields };
+
+                ghost size = { λ list. length (upgraded_structs_of S.segments list.elements).rows };
+
+                ghost element = { λ list index.
+                    element_of (upgraded_structs_of S.segments list.elements) index };
+
+                fn len(&self) -> u32 {
+                    self.len()
+                }
+
+                fn index_move(&self, index: u32) -> Reader<'a, S> {
+                    self.get(index)
+                }
             }
 
             impl<'a, S: ReaderSegments> FromPointerReader<'a, S> for ListReader<'a, S> {
@@ -1240,7 +1426,7 @@ pub mod field {
     use capnp_frame::Result;
     use capnp_frame::message::ReaderSegments;
     use capnp_wire::any_struct::StructReader;
-    use capnp_wire::traits::{self, FromPointerReader};
+    use capnp_wire::traits::{self, FromPointerReader, IndexMove, ListIter};
     use capnp_wire::{any_pointer, text, upgraded};
 
     /// The type of the schema.
@@ -1423,6 +1609,43 @@ pub mod field {
             Reader {
                 fields: self.elements.get(index),
             }
+        }
+
+        /// The element of this index, or `None` where there are no more elements than it.
+        pub fn try_get(&self, index: u32) -> Option<Reader<'a, S>>
+            ensures { let list = upgraded_structs_of S.segments self.now.elements in
+                FindsElement (length list.rows) index
+                (λ item. struct_of S.segments item.fields ≡ element_of list index) result }
+        {
+            self.try_index_move(index)
+        }
+
+        /// An iterator over the elements.
+        pub fn iter(&self) -> ListIter<'_, Self>
+            ensures { IsIterator self.now result }
+        {
+            ListIter::new(self)
+        }
+    }
+
+    impl<'a, S: ReaderSegments> IndexMove for ListReader<'a, S> {
+        type Item = Reader<'a, S>;
+
+        ghost Element = { Struct };
+
+        ghost seen = { λ item. struct_of S.segments item.fields };
+
+        ghost size = { λ list. length (upgraded_structs_of S.segments list.elements).rows };
+
+        ghost element = { λ list index.
+            element_of (upgraded_structs_of S.segments list.elements) index };
+
+        fn len(&self) -> u32 {
+            self.len()
+        }
+
+        fn index_move(&self, index: u32) -> Reader<'a, S> {
+            self.get(index)
         }
     }
 
@@ -1612,7 +1835,7 @@ pub mod enumerant {
     use capnp_frame::Result;
     use capnp_frame::message::ReaderSegments;
     use capnp_wire::any_struct::StructReader;
-    use capnp_wire::traits::{self, FromPointerReader};
+    use capnp_wire::traits::{self, FromPointerReader, IndexMove, ListIter};
     use capnp_wire::{any_pointer, text, upgraded};
 
     /// The type of the schema.
@@ -1727,6 +1950,43 @@ pub mod enumerant {
                 fields: self.elements.get(index),
             }
         }
+
+        /// The element of this index, or `None` where there are no more elements than it.
+        pub fn try_get(&self, index: u32) -> Option<Reader<'a, S>>
+            ensures { let list = upgraded_structs_of S.segments self.now.elements in
+                FindsElement (length list.rows) index
+                (λ item. struct_of S.segments item.fields ≡ element_of list index) result }
+        {
+            self.try_index_move(index)
+        }
+
+        /// An iterator over the elements.
+        pub fn iter(&self) -> ListIter<'_, Self>
+            ensures { IsIterator self.now result }
+        {
+            ListIter::new(self)
+        }
+    }
+
+    impl<'a, S: ReaderSegments> IndexMove for ListReader<'a, S> {
+        type Item = Reader<'a, S>;
+
+        ghost Element = { Struct };
+
+        ghost seen = { λ item. struct_of S.segments item.fields };
+
+        ghost size = { λ list. length (upgraded_structs_of S.segments list.elements).rows };
+
+        ghost element = { λ list index.
+            element_of (upgraded_structs_of S.segments list.elements) index };
+
+        fn len(&self) -> u32 {
+            self.len()
+        }
+
+        fn index_move(&self, index: u32) -> Reader<'a, S> {
+            self.get(index)
+        }
     }
 
     impl<'a, S: ReaderSegments> FromPointerReader<'a, S> for ListReader<'a, S> {
@@ -1757,7 +2017,7 @@ pub mod superclass {
     use capnp_frame::Result;
     use capnp_frame::message::ReaderSegments;
     use capnp_wire::any_struct::StructReader;
-    use capnp_wire::traits::{self, FromPointerReader};
+    use capnp_wire::traits::{self, FromPointerReader, IndexMove, ListIter};
     use capnp_wire::{any_pointer, upgraded};
 
     /// The type of the schema.
@@ -1851,6 +2111,43 @@ pub mod superclass {
                 fields: self.elements.get(index),
             }
         }
+
+        /// The element of this index, or `None` where there are no more elements than it.
+        pub fn try_get(&self, index: u32) -> Option<Reader<'a, S>>
+            ensures { let list = upgraded_structs_of S.segments self.now.elements in
+                FindsElement (length list.rows) index
+                (λ item. struct_of S.segments item.fields ≡ element_of list index) result }
+        {
+            self.try_index_move(index)
+        }
+
+        /// An iterator over the elements.
+        pub fn iter(&self) -> ListIter<'_, Self>
+            ensures { IsIterator self.now result }
+        {
+            ListIter::new(self)
+        }
+    }
+
+    impl<'a, S: ReaderSegments> IndexMove for ListReader<'a, S> {
+        type Item = Reader<'a, S>;
+
+        ghost Element = { Struct };
+
+        ghost seen = { λ item. struct_of S.segments item.fields };
+
+        ghost size = { λ list. length (upgraded_structs_of S.segments list.elements).rows };
+
+        ghost element = { λ list index.
+            element_of (upgraded_structs_of S.segments list.elements) index };
+
+        fn len(&self) -> u32 {
+            self.len()
+        }
+
+        fn index_move(&self, index: u32) -> Reader<'a, S> {
+            self.get(index)
+        }
     }
 
     impl<'a, S: ReaderSegments> FromPointerReader<'a, S> for ListReader<'a, S> {
@@ -1882,7 +2179,7 @@ pub mod method {
     use capnp_frame::Result;
     use capnp_frame::message::ReaderSegments;
     use capnp_wire::any_struct::StructReader;
-    use capnp_wire::traits::{self, FromPointerReader};
+    use capnp_wire::traits::{self, FromPointerReader, IndexMove, ListIter};
     use capnp_wire::{any_pointer, text, upgraded};
 
     /// The type of the schema.
@@ -2080,6 +2377,43 @@ pub mod method {
                 fields: self.elements.get(index),
             }
         }
+
+        /// The element of this index, or `None` where there are no more elements than it.
+        pub fn try_get(&self, index: u32) -> Option<Reader<'a, S>>
+            ensures { let list = upgraded_structs_of S.segments self.now.elements in
+                FindsElement (length list.rows) index
+                (λ item. struct_of S.segments item.fields ≡ element_of list index) result }
+        {
+            self.try_index_move(index)
+        }
+
+        /// An iterator over the elements.
+        pub fn iter(&self) -> ListIter<'_, Self>
+            ensures { IsIterator self.now result }
+        {
+            ListIter::new(self)
+        }
+    }
+
+    impl<'a, S: ReaderSegments> IndexMove for ListReader<'a, S> {
+        type Item = Reader<'a, S>;
+
+        ghost Element = { Struct };
+
+        ghost seen = { λ item. struct_of S.segments item.fields };
+
+        ghost size = { λ list. length (upgraded_structs_of S.segments list.elements).rows };
+
+        ghost element = { λ list index.
+            element_of (upgraded_structs_of S.segments list.elements) index };
+
+        fn len(&self) -> u32 {
+            self.len()
+        }
+
+        fn index_move(&self, index: u32) -> Reader<'a, S> {
+            self.get(index)
+        }
     }
 
     impl<'a, S: ReaderSegments> FromPointerReader<'a, S> for ListReader<'a, S> {
@@ -2111,7 +2445,7 @@ pub mod type_ {
     use capnp_frame::Result;
     use capnp_frame::message::ReaderSegments;
     use capnp_wire::any_struct::StructReader;
-    use capnp_wire::traits::{self, FromPointerReader};
+    use capnp_wire::traits::{self, FromPointerReader, IndexMove, ListIter};
     use capnp_wire::{any_pointer, upgraded};
 
     /// The type of the schema.
@@ -2345,6 +2679,43 @@ pub mod type_ {
             Reader {
                 fields: self.elements.get(index),
             }
+        }
+
+        /// The element of this index, or `None` where there are no more elements than it.
+        pub fn try_get(&self, index: u32) -> Option<Reader<'a, S>>
+            ensures { let list = upgraded_structs_of S.segments self.now.elements in
+                FindsElement (length list.rows) index
+                (λ item. struct_of S.segments item.fields ≡ element_of list index) result }
+        {
+            self.try_index_move(index)
+        }
+
+        /// An iterator over the elements.
+        pub fn iter(&self) -> ListIter<'_, Self>
+            ensures { IsIterator self.now result }
+        {
+            ListIter::new(self)
+        }
+    }
+
+    impl<'a, S: ReaderSegments> IndexMove for ListReader<'a, S> {
+        type Item = Reader<'a, S>;
+
+        ghost Element = { Struct };
+
+        ghost seen = { λ item. struct_of S.segments item.fields };
+
+        ghost size = { λ list. length (upgraded_structs_of S.segments list.elements).rows };
+
+        ghost element = { λ list index.
+            element_of (upgraded_structs_of S.segments list.elements) index };
+
+        fn len(&self) -> u32 {
+            self.len()
+        }
+
+        fn index_move(&self, index: u32) -> Reader<'a, S> {
+            self.get(index)
         }
     }
 
@@ -2745,7 +3116,7 @@ pub mod brand {
     use capnp_frame::Result;
     use capnp_frame::message::ReaderSegments;
     use capnp_wire::any_struct::StructReader;
-    use capnp_wire::traits::{self, FromPointerReader};
+    use capnp_wire::traits::{self, FromPointerReader, IndexMove, ListIter};
     use capnp_wire::{any_pointer, upgraded};
 
     /// The type of the schema.
@@ -2833,6 +3204,43 @@ pub mod brand {
                 fields: self.elements.get(index),
             }
         }
+
+        /// The element of this index, or `None` where there are no more elements than it.
+        pub fn try_get(&self, index: u32) -> Option<Reader<'a, S>>
+            ensures { let list = upgraded_structs_of S.segments self.now.elements in
+                FindsElement (length list.rows) index
+                (λ item. struct_of S.segments item.fields ≡ element_of list index) result }
+        {
+            self.try_index_move(index)
+        }
+
+        /// An iterator over the elements.
+        pub fn iter(&self) -> ListIter<'_, Self>
+            ensures { IsIterator self.now result }
+        {
+            ListIter::new(self)
+        }
+    }
+
+    impl<'a, S: ReaderSegments> IndexMove for ListReader<'a, S> {
+        type Item = Reader<'a, S>;
+
+        ghost Element = { Struct };
+
+        ghost seen = { λ item. struct_of S.segments item.fields };
+
+        ghost size = { λ list. length (upgraded_structs_of S.segments list.elements).rows };
+
+        ghost element = { λ list index.
+            element_of (upgraded_structs_of S.segments list.elements) index };
+
+        fn len(&self) -> u32 {
+            self.len()
+        }
+
+        fn index_move(&self, index: u32) -> Reader<'a, S> {
+            self.get(index)
+        }
     }
 
     impl<'a, S: ReaderSegments> FromPointerReader<'a, S> for ListReader<'a, S> {
@@ -2862,7 +3270,7 @@ pub mod brand {
         use capnp_frame::Result;
         use capnp_frame::message::ReaderSegments;
         use capnp_wire::any_struct::StructReader;
-        use capnp_wire::traits::{self, FromPointerReader};
+        use capnp_wire::traits::{self, FromPointerReader, IndexMove, ListIter};
         use capnp_wire::{any_pointer, upgraded};
 
         /// The type of the schema.
@@ -3004,6 +3412,43 @@ pub mod brand {
                     fields: self.elements.get(index),
                 }
             }
+
+            /// The element of this index, or `None` where there are no more elements than it.
+            pub fn try_get(&self, index: u32) -> Option<Reader<'a, S>>
+                ensures { let list = upgraded_structs_of S.segments self.now.elements in
+                    FindsElement (length list.rows) index
+                    (λ item. struct_of S.segments item.fields ≡ element_of list index) result }
+            {
+                self.try_index_move(index)
+            }
+
+            /// An iterator over the elements.
+            pub fn iter(&self) -> ListIter<'_, Self>
+                ensures { IsIterator self.now result }
+            {
+                ListIter::new(self)
+            }
+        }
+
+        impl<'a, S: ReaderSegments> IndexMove for ListReader<'a, S> {
+            type Item = Reader<'a, S>;
+
+            ghost Element = { Struct };
+
+            ghost seen = { λ item. struct_of S.segments item.fields };
+
+            ghost size = { λ list. length (upgraded_structs_of S.segments list.elements).rows };
+
+            ghost element = { λ list index.
+                element_of (upgraded_structs_of S.segments list.elements) index };
+
+            fn len(&self) -> u32 {
+                self.len()
+            }
+
+            fn index_move(&self, index: u32) -> Reader<'a, S> {
+                self.get(index)
+            }
         }
 
         impl<'a, S: ReaderSegments> FromPointerReader<'a, S> for ListReader<'a, S> {
@@ -3034,7 +3479,7 @@ pub mod brand {
         use capnp_frame::Result;
         use capnp_frame::message::ReaderSegments;
         use capnp_wire::any_struct::StructReader;
-        use capnp_wire::traits::{self, FromPointerReader};
+        use capnp_wire::traits::{self, FromPointerReader, IndexMove, ListIter};
         use capnp_wire::{any_pointer, upgraded};
 
         /// The type of the schema.
@@ -3154,6 +3599,43 @@ pub mod brand {
                     fields: self.elements.get(index),
                 }
             }
+
+            /// The element of this index, or `None` where there are no more elements than it.
+            pub fn try_get(&self, index: u32) -> Option<Reader<'a, S>>
+                ensures { let list = upgraded_structs_of S.segments self.now.elements in
+                    FindsElement (length list.rows) index
+                    (λ item. struct_of S.segments item.fields ≡ element_of list index) result }
+            {
+                self.try_index_move(index)
+            }
+
+            /// An iterator over the elements.
+            pub fn iter(&self) -> ListIter<'_, Self>
+                ensures { IsIterator self.now result }
+            {
+                ListIter::new(self)
+            }
+        }
+
+        impl<'a, S: ReaderSegments> IndexMove for ListReader<'a, S> {
+            type Item = Reader<'a, S>;
+
+            ghost Element = { Struct };
+
+            ghost seen = { λ item. struct_of S.segments item.fields };
+
+            ghost size = { λ list. length (upgraded_structs_of S.segments list.elements).rows };
+
+            ghost element = { λ list index.
+                element_of (upgraded_structs_of S.segments list.elements) index };
+
+            fn len(&self) -> u32 {
+                self.len()
+            }
+
+            fn index_move(&self, index: u32) -> Reader<'a, S> {
+                self.get(index)
+            }
         }
 
         impl<'a, S: ReaderSegments> FromPointerReader<'a, S> for ListReader<'a, S> {
@@ -3186,7 +3668,7 @@ pub mod value {
     use capnp_frame::Result;
     use capnp_frame::message::ReaderSegments;
     use capnp_wire::any_struct::StructReader;
-    use capnp_wire::traits::{self, FromPointerReader};
+    use capnp_wire::traits::{self, FromPointerReader, IndexMove, ListIter};
     use capnp_wire::{any_pointer, text, upgraded};
 
     /// The type of the schema.
@@ -3530,6 +4012,43 @@ pub mod value {
                 fields: self.elements.get(index),
             }
         }
+
+        /// The element of this index, or `None` where there are no more elements than it.
+        pub fn try_get(&self, index: u32) -> Option<Reader<'a, S>>
+            ensures { let list = upgraded_structs_of S.segments self.now.elements in
+                FindsElement (length list.rows) index
+                (λ item. struct_of S.segments item.fields ≡ element_of list index) result }
+        {
+            self.try_index_move(index)
+        }
+
+        /// An iterator over the elements.
+        pub fn iter(&self) -> ListIter<'_, Self>
+            ensures { IsIterator self.now result }
+        {
+            ListIter::new(self)
+        }
+    }
+
+    impl<'a, S: ReaderSegments> IndexMove for ListReader<'a, S> {
+        type Item = Reader<'a, S>;
+
+        ghost Element = { Struct };
+
+        ghost seen = { λ item. struct_of S.segments item.fields };
+
+        ghost size = { λ list. length (upgraded_structs_of S.segments list.elements).rows };
+
+        ghost element = { λ list index.
+            element_of (upgraded_structs_of S.segments list.elements) index };
+
+        fn len(&self) -> u32 {
+            self.len()
+        }
+
+        fn index_move(&self, index: u32) -> Reader<'a, S> {
+            self.get(index)
+        }
     }
 
     impl<'a, S: ReaderSegments> FromPointerReader<'a, S> for ListReader<'a, S> {
@@ -3562,7 +4081,7 @@ pub mod annotation {
     use capnp_frame::Result;
     use capnp_frame::message::ReaderSegments;
     use capnp_wire::any_struct::StructReader;
-    use capnp_wire::traits::{self, FromPointerReader};
+    use capnp_wire::traits::{self, FromPointerReader, IndexMove, ListIter};
     use capnp_wire::{any_pointer, upgraded};
 
     /// The type of the schema.
@@ -3678,6 +4197,43 @@ pub mod annotation {
                 fields: self.elements.get(index),
             }
         }
+
+        /// The element of this index, or `None` where there are no more elements than it.
+        pub fn try_get(&self, index: u32) -> Option<Reader<'a, S>>
+            ensures { let list = upgraded_structs_of S.segments self.now.elements in
+                FindsElement (length list.rows) index
+                (λ item. struct_of S.segments item.fields ≡ element_of list index) result }
+        {
+            self.try_index_move(index)
+        }
+
+        /// An iterator over the elements.
+        pub fn iter(&self) -> ListIter<'_, Self>
+            ensures { IsIterator self.now result }
+        {
+            ListIter::new(self)
+        }
+    }
+
+    impl<'a, S: ReaderSegments> IndexMove for ListReader<'a, S> {
+        type Item = Reader<'a, S>;
+
+        ghost Element = { Struct };
+
+        ghost seen = { λ item. struct_of S.segments item.fields };
+
+        ghost size = { λ list. length (upgraded_structs_of S.segments list.elements).rows };
+
+        ghost element = { λ list index.
+            element_of (upgraded_structs_of S.segments list.elements) index };
+
+        fn len(&self) -> u32 {
+            self.len()
+        }
+
+        fn index_move(&self, index: u32) -> Reader<'a, S> {
+            self.get(index)
+        }
     }
 
     impl<'a, S: ReaderSegments> FromPointerReader<'a, S> for ListReader<'a, S> {
@@ -3750,11 +4306,17 @@ impl ElementSize {
     }
 }
 
+impl capnp_wire::upgraded::EnumElement for ElementSize {
+    fn from_number(number: u16) -> ElementSize {
+        ElementSize::from_number(number)
+    }
+}
+
 pub mod capnp_version {
     use capnp_frame::Result;
     use capnp_frame::message::ReaderSegments;
     use capnp_wire::any_struct::StructReader;
-    use capnp_wire::traits::{self, FromPointerReader};
+    use capnp_wire::traits::{self, FromPointerReader, IndexMove, ListIter};
     use capnp_wire::{any_pointer, upgraded};
 
     /// The type of the schema.
@@ -3844,6 +4406,43 @@ pub mod capnp_version {
                 fields: self.elements.get(index),
             }
         }
+
+        /// The element of this index, or `None` where there are no more elements than it.
+        pub fn try_get(&self, index: u32) -> Option<Reader<'a, S>>
+            ensures { let list = upgraded_structs_of S.segments self.now.elements in
+                FindsElement (length list.rows) index
+                (λ item. struct_of S.segments item.fields ≡ element_of list index) result }
+        {
+            self.try_index_move(index)
+        }
+
+        /// An iterator over the elements.
+        pub fn iter(&self) -> ListIter<'_, Self>
+            ensures { IsIterator self.now result }
+        {
+            ListIter::new(self)
+        }
+    }
+
+    impl<'a, S: ReaderSegments> IndexMove for ListReader<'a, S> {
+        type Item = Reader<'a, S>;
+
+        ghost Element = { Struct };
+
+        ghost seen = { λ item. struct_of S.segments item.fields };
+
+        ghost size = { λ list. length (upgraded_structs_of S.segments list.elements).rows };
+
+        ghost element = { λ list index.
+            element_of (upgraded_structs_of S.segments list.elements) index };
+
+        fn len(&self) -> u32 {
+            self.len()
+        }
+
+        fn index_move(&self, index: u32) -> Reader<'a, S> {
+            self.get(index)
+        }
     }
 
     impl<'a, S: ReaderSegments> FromPointerReader<'a, S> for ListReader<'a, S> {
@@ -3874,7 +4473,7 @@ pub mod code_generator_request {
     use capnp_frame::Result;
     use capnp_frame::message::ReaderSegments;
     use capnp_wire::any_struct::StructReader;
-    use capnp_wire::traits::{self, FromPointerReader};
+    use capnp_wire::traits::{self, FromPointerReader, IndexMove, ListIter};
     use capnp_wire::{any_pointer, upgraded};
 
     /// The type of the schema.
@@ -4027,6 +4626,43 @@ pub mod code_generator_request {
                 fields: self.elements.get(index),
             }
         }
+
+        /// The element of this index, or `None` where there are no more elements than it.
+        pub fn try_get(&self, index: u32) -> Option<Reader<'a, S>>
+            ensures { let list = upgraded_structs_of S.segments self.now.elements in
+                FindsElement (length list.rows) index
+                (λ item. struct_of S.segments item.fields ≡ element_of list index) result }
+        {
+            self.try_index_move(index)
+        }
+
+        /// An iterator over the elements.
+        pub fn iter(&self) -> ListIter<'_, Self>
+            ensures { IsIterator self.now result }
+        {
+            ListIter::new(self)
+        }
+    }
+
+    impl<'a, S: ReaderSegments> IndexMove for ListReader<'a, S> {
+        type Item = Reader<'a, S>;
+
+        ghost Element = { Struct };
+
+        ghost seen = { λ item. struct_of S.segments item.fields };
+
+        ghost size = { λ list. length (upgraded_structs_of S.segments list.elements).rows };
+
+        ghost element = { λ list index.
+            element_of (upgraded_structs_of S.segments list.elements) index };
+
+        fn len(&self) -> u32 {
+            self.len()
+        }
+
+        fn index_move(&self, index: u32) -> Reader<'a, S> {
+            self.get(index)
+        }
     }
 
     impl<'a, S: ReaderSegments> FromPointerReader<'a, S> for ListReader<'a, S> {
@@ -4056,7 +4692,7 @@ pub mod code_generator_request {
         use capnp_frame::Result;
         use capnp_frame::message::ReaderSegments;
         use capnp_wire::any_struct::StructReader;
-        use capnp_wire::traits::{self, FromPointerReader};
+        use capnp_wire::traits::{self, FromPointerReader, IndexMove, ListIter};
         use capnp_wire::{any_pointer, text, upgraded};
 
         /// The type of the schema.
@@ -4171,6 +4807,43 @@ pub mod code_generator_request {
                     fields: self.elements.get(index),
                 }
             }
+
+            /// The element of this index, or `None` where there are no more elements than it.
+            pub fn try_get(&self, index: u32) -> Option<Reader<'a, S>>
+                ensures { let list = upgraded_structs_of S.segments self.now.elements in
+                    FindsElement (length list.rows) index
+                    (λ item. struct_of S.segments item.fields ≡ element_of list index) result }
+            {
+                self.try_index_move(index)
+            }
+
+            /// An iterator over the elements.
+            pub fn iter(&self) -> ListIter<'_, Self>
+                ensures { IsIterator self.now result }
+            {
+                ListIter::new(self)
+            }
+        }
+
+        impl<'a, S: ReaderSegments> IndexMove for ListReader<'a, S> {
+            type Item = Reader<'a, S>;
+
+            ghost Element = { Struct };
+
+            ghost seen = { λ item. struct_of S.segments item.fields };
+
+            ghost size = { λ list. length (upgraded_structs_of S.segments list.elements).rows };
+
+            ghost element = { λ list index.
+                element_of (upgraded_structs_of S.segments list.elements) index };
+
+            fn len(&self) -> u32 {
+                self.len()
+            }
+
+            fn index_move(&self, index: u32) -> Reader<'a, S> {
+                self.get(index)
+            }
         }
 
         impl<'a, S: ReaderSegments> FromPointerReader<'a, S> for ListReader<'a, S> {
@@ -4200,7 +4873,7 @@ pub mod code_generator_request {
             use capnp_frame::Result;
             use capnp_frame::message::ReaderSegments;
             use capnp_wire::any_struct::StructReader;
-            use capnp_wire::traits::{self, FromPointerReader};
+            use capnp_wire::traits::{self, FromPointerReader, IndexMove, ListIter};
             use capnp_wire::{any_pointer, text, upgraded};
 
             /// The type of the schema.
@@ -4298,6 +4971,43 @@ pub mod code_generator_request {
                     Reader {
                         fields: self.elements.get(index),
                     }
+                }
+
+                /// The element of this index, or `None` where there are no more elements than it.
+                pub fn try_get(&self, index: u32) -> Option<Reader<'a, S>>
+                    ensures { let list = upgraded_structs_of S.segments self.now.elements in
+                        FindsElement (length list.rows) index
+                        (λ item. struct_of S.segments item.fields ≡ element_of list index) result }
+                {
+                    self.try_index_move(index)
+                }
+
+                /// An iterator over the elements.
+                pub fn iter(&self) -> ListIter<'_, Self>
+                    ensures { IsIterator self.now result }
+                {
+                    ListIter::new(self)
+                }
+            }
+
+            impl<'a, S: ReaderSegments> IndexMove for ListReader<'a, S> {
+                type Item = Reader<'a, S>;
+
+                ghost Element = { Struct };
+
+                ghost seen = { λ item. struct_of S.segments item.fields };
+
+                ghost size = { λ list. length (upgraded_structs_of S.segments list.elements).rows };
+
+                ghost element = { λ list index.
+                    element_of (upgraded_structs_of S.segments list.elements) index };
+
+                fn len(&self) -> u32 {
+                    self.len()
+                }
+
+                fn index_move(&self, index: u32) -> Reader<'a, S> {
+                    self.get(index)
                 }
             }
 

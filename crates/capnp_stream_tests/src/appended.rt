@@ -22,7 +22,7 @@ const TWO: &[&[u8]] = &[&[], &[1, 2, 3, 4, 5, 6, 7, 8]];
 
 const EMPTY: &[&[u8]] = &[&[]];
 
-// The three messages' texts after one another.
+// The three messages' encodings after one another.
 fn text_of(format: Format) -> &'static [u8] {
     match format {
         Format::Framed => THREE,
@@ -54,7 +54,7 @@ fn write_three<W: Write>(
     write_messages(rt.alloc(), format, sink, &messages)
 }
 
-// Reads as many messages of what is unread of the three texts.
+// Reads as many messages of what is unread of the three encodings.
 fn read(
     rt: &impl AllocGlobal,
     format: Format,
@@ -134,7 +134,7 @@ fn write_two(rt: &(impl Abort + AllocGlobal), format: Format) -> Result<()> {
     Ok(())
 }
 
-// No messages have no text, and none are read.
+// No messages have an empty encoding, and none are read.
 fn write_none(rt: &(impl Abort + AllocGlobal), format: Format) -> Result<()> {
     let at = name_of(format);
     let none: [SegmentArray<'_>; 0] = [];
@@ -187,7 +187,7 @@ fn read_too_many(
     Ok(())
 }
 
-// A sink that fails at its nth chunk, and would take those after it, has a front of the texts.
+// A sink that fails at its nth chunk, and would take those after it, has a front of the encodings.
 // Framed they have ten chunks: four of each of the first two, of which one is of no bytes, and two
 // of the last.
 #[test]

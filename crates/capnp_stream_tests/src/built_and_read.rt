@@ -69,8 +69,8 @@ fn read_struct(rt: &(impl Abort + AllocGlobal)) -> Result<()> {
     Ok(())
 }
 
-// A segment of one word for the root, and one more for each text that is set: 511 are written and read
-// back, 512 fail for their number.
+// A segment of one word for the root, and one more for each text that is set: 511 are written and
+// read back, 512 fail for their number.
 #[test]
 fn more_segments_than_a_reader_accepts(rt: HostRuntime) -> Result<()> {
     retried!(write_many(&rt))?;

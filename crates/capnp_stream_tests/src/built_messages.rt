@@ -12,8 +12,8 @@ use capnp_frame_tests::sinks::FaultySink;
 use std::alloc::Global;
 use std::process::Abort;
 
-// A root text, whether the first segment has room for the root's word alone, both texts, and the words
-// in all.
+// A root text, whether the first segment has room for the root's word alone, both encodings, and
+// the words in all.
 #[derive(Drop)]
 struct Built {
     text: &'static str,
@@ -123,11 +123,11 @@ fn write_packed(rt: &(impl Abort + AllocGlobal), row: &Built) -> Result<()> {
     Ok(())
 }
 
-// How many bytes are written before each of the chunks of the framed encoding, and after the last: the
-// table's first word and its rest, the root's word, and the text after its landing pad.
+// How many bytes are written before each of the chunks of the framed encoding, and after the last:
+// the table's first word and its rest, the root's word, and the text after its landing pad.
 const ENDS: [usize; 5] = [0, 8, 16, 24, 48];
 
-// Where a chunk fails a front of the text is, and no chunk follows.
+// Where a chunk fails, a front of the encoding is in the sink, and no chunk follows.
 #[test]
 fn a_sink_that_fails_at_each_chunk(rt: HostRuntime) -> Result<()> {
     for (fails_at, end) in (1..).zip(&ENDS) {

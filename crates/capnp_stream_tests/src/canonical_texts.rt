@@ -33,7 +33,7 @@ const EXPECTED: [(&[&[u8]], Expected); 8] = [
     (&[], Err(ErrorKind::InvalidSegmentId(0))),
 ];
 
-// Writes a message's form. A growth that was rejected is handed back.
+// Writes a message's form. A growth that failed is handed back.
 fn write<W: Write, S: ReaderSegments>(
     rt: &impl AllocGlobal,
     sink: &mut W,
@@ -83,7 +83,7 @@ fn a_form_of_a_packed_message(rt: HostRuntime) -> Result<()> {
     retried!(write_packed(&rt))
 }
 
-// What a reader of packed messages returns has a form, too; a sink that is too short rejects it.
+// What a reader of packed messages returns has a form, too; a sink that is too short fails.
 fn write_packed(rt: &(impl Abort + AllocGlobal)) -> Result<()> {
     let at = At::row("a form of a packed message");
     let mut source = PACKED_HELLO;

@@ -6,7 +6,7 @@ use capnp_frame::Result;
 use std::alloc::Global;
 use std::io;
 
-/// Gives its text a few bytes a read. Its first reads are interrupted, and the read `bad_read`,
+/// Gives a few of its bytes a read. Its first reads are interrupted, and the read `bad_read`,
 /// counted from 1, fails.
 #[derive(Drop)]
 struct ChoppyReader<'a> {
@@ -46,9 +46,9 @@ impl io::Read for ChoppyReader<'_> {
     }
 }
 
-/// How a device that is written behaves: it takes `most` bytes a write; its first writes and its first
-/// flushes are interrupted, and the write `bad_write`, counted from 1, and each flush, where it is so,
-/// fail.
+/// How a device that is written behaves: it takes `most` bytes a write; its first writes and its
+/// first flushes are interrupted, and the write `bad_write`, counted from 1, and each flush, where
+/// it is so, fail.
 #[derive(Clone, Copy)]
 struct Ways {
     most: usize,

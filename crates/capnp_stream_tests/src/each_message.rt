@@ -12,8 +12,8 @@ use capnp_frame_tests::retried;
 use std::alloc::Global;
 use std::process::Abort;
 
-// What stops a run, if anything does, with the index of the message, how much is unread then, and what
-// is written.
+// What stops a run, if anything does, with the index of the message, how much is unread then, and
+// what is written.
 #[derive(Clone, Copy)]
 struct Ended {
     stop: Option<(u64, ErrorKind)>,
@@ -21,7 +21,7 @@ struct Ended {
     written: &'static [u8],
 }
 
-// A way, the texts that are read after one another, and how runs over them end by both rules.
+// A way, the encodings that are read after one another, and how runs over them end by both rules.
 #[derive(Drop)]
 struct Row {
     name: &'static str,
@@ -43,7 +43,7 @@ const FRAMED: &[u8] = &[
 
 const PACKED: &[u8] = &[1, 1, 1, 1, 0xff, 1, 2, 3, 4, 5, 6, 7, 8, 0];
 
-// The texts of an empty segment and of these after one another.
+// The encodings of an empty segment and of these after one another.
 const FRAMED_TEXTS: &[u8] = &[
     0, 0, 0, 0, 0, 0, 0, 0, 1, 0, 0, 0, 0, 0, 0, 0, 1, 0, 0, 0, 0, 0, 0, 0, 1, 2, 3, 4, 5, 6, 7, 8,
 ];
@@ -77,7 +77,7 @@ const ROWS: [Row; 7] = [
         strict: Ended { stop: None, unread: 0, written: FRAMED },
         lenient: Ended { stop: None, unread: 0, written: FRAMED },
     },
-    // The texts of the messages before the place where a run stops are written.
+    // The encodings of the messages before the place where a run stops are written.
     Row {
         name: "packed up to a cut word",
         way: Way::Pack,
@@ -85,8 +85,8 @@ const ROWS: [Row; 7] = [
         strict: CUT_AFTER_TWO,
         lenient: CUT_AFTER_TWO,
     },
-    // Both ways reject a padding that isn't zero, and nothing is written of its message. Their lenient
-    // forms write the text of zero padding.
+    // Both ways fail for a padding that isn't zero, and nothing is written of its message. Their
+    // lenient forms write the encoding of zero padding.
     Row {
         name: "another padding, packed",
         way: Way::Pack,
@@ -128,7 +128,7 @@ fn both_rules(rt: HostRuntime) -> Result<()> {
     Ok(())
 }
 
-// The texts, one after the other.
+// The encodings, one after the other.
 fn joined(alloc: Global, texts: &[&[u8]]) -> Result<Vec<u8>> {
     let mut bytes: Vec<u8> = Vec::new(alloc);
     for text in texts {

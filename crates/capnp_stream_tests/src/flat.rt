@@ -82,8 +82,8 @@ fn segments_of<S: ReaderSegments + Drop>(returned: Result<Reader<S>>) -> Result<
     Ok(returned?.into_segments())
 }
 
-/// Whether the form, of this padding, returns what is wanted of these bytes, and how many of them it
-/// leaves.
+/// Whether the form, of this padding, returns what is wanted of these bytes, and how many of them
+/// it leaves.
 pub fn find(
     rt: &(impl Abort + AllocGlobal),
     (form, rule): (Form, Padding),
@@ -161,7 +161,8 @@ fn find_row(rt: &(impl Abort + AllocGlobal), call: (Form, Padding), row: &FlatRo
     Ok(())
 }
 
-// A table of 2,048 bytes: the low byte of its count, each byte of its lengths, a limit, and the result.
+// A table of 2,048 bytes: the low byte of its count, each byte of its lengths, a limit, and the
+// result.
 type Table = (&'static str, u8, u8, Option<usize>, Wanted<'static>);
 
 #[rattlefmt::skip]
@@ -174,8 +175,8 @@ const TABLES: [Table; 4] = [
      Err(ErrorKind::MessageEndsPrematurely(2194728287745, 0))),
 ];
 
-// As many segments as a reader accepts, all empty, with 3 bytes after them; then one segment more, and
-// lengths that come to more words than the limit, or than are there.
+// As many segments as a reader accepts, all empty, with 3 bytes after them; then one segment more,
+// and lengths that come to more words than the limit, or than are there.
 #[test]
 fn the_longest_tables(rt: HostRuntime) -> Result<()> {
     for rule in &RULES {

@@ -106,7 +106,7 @@ const ROWS: [PaddedRow; 15] = [
     },
 ];
 
-// A slice that is rejected stays as it was.
+// A slice that fails stays as it was.
 #[test]
 fn rows_of_paddings(rt: HostRuntime) -> Result<()> {
     for row in &ROWS {

@@ -25,7 +25,7 @@ pub const FLATTEN: &[&[u8]] = &[
     &[4, 0, 0, 0, 0, 0, 0, 0, 5, 0, 0, 0, 0, 0, 0, 0],
 ];
 
-/// The texts of FLATTEN, of TWO_SEGMENTS and of an empty segment, after one another.
+/// The encodings of FLATTEN, of TWO_SEGMENTS and of an empty segment, after one another.
 pub const THREE: &[u8] = &[
     1, 0, 0, 0, 1, 0, 0, 0, 2, 0, 0, 0, 0, 0, 0, 0, 123, 0, 0, 0, 0, 0, 0, 0, 4, 0, 0, 0, 0, 0, 0,
     0, 5, 0, 0, 0, 0, 0, 0, 0, 1, 0, 0, 0, 0, 0, 0, 0, 1, 0, 0, 0, 0, 0, 0, 0, 1, 2, 3, 4, 5, 6, 7,

@@ -1,5 +1,5 @@
-//! Worked rows over the readers and writers of both formats, and their calls. It holds tests alone, by
-//! the rules of `capnp_frame_tests`.
+//! Worked rows over the readers and writers of both formats, and their calls. It holds tests alone,
+//! by the rules of `capnp_frame_tests`.
 #![tactic(auto)]
 
 #[cfg(test)]

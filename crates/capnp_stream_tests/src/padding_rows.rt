@@ -1,5 +1,5 @@
-//! The worked rows of tables whose padding isn't zero, and of what is beside them, as bytes and
-//! the results of both rules.
+//! The worked rows of tables whose padding isn't zero, and of related faults, as bytes and the
+//! results of both rules.
 use crate::framed_rows::{CUT, TWO_SEGMENTS};
 use crate::packed_rows::CUT_GROUP;
 use crate::streams::{END, Expected, Wanted};

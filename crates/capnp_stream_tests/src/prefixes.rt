@@ -1,4 +1,4 @@
-//! Messages that are cut: no prefix of a text is a message, and each fails with one kind.
+//! Messages that are cut: no prefix of an encoding is a message, and each fails with one kind.
 use crate::assertions::At;
 use crate::calls_declared::{assert_call, assert_form, assert_left, both};
 use crate::flat::{FORMS, Form, RULES, find};
@@ -38,8 +38,8 @@ fn read_each(
     Ok(())
 }
 
-// A framed encoding is rejected wherever it is cut, and all of it is consumed. A row is told with both its
-// length and how many bytes the source shows.
+// Reading a framed encoding fails wherever it is cut, and consumes all of it. A row is reported
+// with its length and with the number of bytes that the source shows.
 fn read_framed(
     rt: &(impl Abort + AllocGlobal),
     call: Call,

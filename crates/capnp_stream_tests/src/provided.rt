@@ -16,7 +16,8 @@ use std::process::Abort;
 /// A caller-provided buffer without room.
 pub const TOO_SMALL: Wanted<'static> = Wanted::Refused(ErrorKind::BufferNotLargeEnough);
 
-/// A buffer's length, the bytes that are unread, a limit, the result, and how many bytes stay unread.
+/// A buffer's length, the bytes that are unread, a limit, the result, and how many bytes stay
+/// unread.
 pub type Row = (usize, &'static [u8], Option<usize>, Wanted<'static>, usize);
 
 const TWO_SEGMENTS: &[u8] = &[

@@ -10,8 +10,8 @@ use capnp_frame_tests::retried;
 use capnp_frame_tests::sources::Counting;
 use std::process::Abort;
 
-// Framed encodings, their segments, and how many chunks of them have bytes: the first word, the table's
-// rest, the segments.
+// Framed encodings, their segments, and how many chunks of them have bytes: the first word, the
+// table's rest, the segments.
 #[rattlefmt::skip]
 const CHUNKS: [(&str, &[u8], Wanted<'static>, u64); 4] = [
     ("an empty segment", &[0, 0, 0, 0, 0, 0, 0, 0], Wanted::Segments(&[&[]]), 1),

@@ -1,7 +1,7 @@
-//! Messages with their two texts.
+//! Messages with their two encodings.
 use crate::framed_rows::HELLO_FAR_SEGMENTS;
 
-/// A message and its texts.
+/// A message and its encodings.
 #[derive(Clone, Copy)]
 pub struct Sample {
     pub name: &'static str,

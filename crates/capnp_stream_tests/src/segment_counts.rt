@@ -48,8 +48,8 @@ fn refuse(rt: &(impl Abort + AllocGlobal), writer: Writer, at: At<'_>) -> Result
     Ok(())
 }
 
-// A list with as many segments as a reader accepts is read back as it was written, and then there is
-// none; one with more in its second message is not written.
+// A list with as many segments as a reader accepts is read back as it was written, and then there
+// is none; one with more in its second message is not written.
 #[test]
 fn lists_of_many_segments(rt: HostRuntime) -> Result<()> {
     for format in &FORMATS {

@@ -60,7 +60,7 @@ fn segments_in_a_slice(rt: HostRuntime) -> Result<()> {
     Ok(())
 }
 
-// Whether a table of these numbers is told to be there, and its segments are found.
+// Whether a table of these numbers is said to be there, and its segments are found.
 fn has_described(text: &[u8], segments: &[&[u8]]) -> bool {
     let info = NoAllocSegmentTableInfo {
         segments_count: 511,

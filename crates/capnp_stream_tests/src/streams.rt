@@ -26,7 +26,7 @@ pub enum Wanted<'a> {
     Refused(ErrorKind),
 }
 
-/// What a call returns, and how many bytes stay unread; where a packed chunk is rejected, that is open.
+/// What a call returns, and how many bytes stay unread; where a packed chunk fails, that is open.
 pub type Expected = (Wanted<'static>, Option<usize>);
 
 /// What the calls return one after another where these bytes are unread.

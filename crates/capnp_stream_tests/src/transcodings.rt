@@ -14,7 +14,7 @@ use std::process::Abort;
 
 pub const WAYS: [Way; 2] = [Way::Pack, Way::Unpack];
 
-/// The error, where there is one. A growth that was rejected is handed back.
+/// The error, where there is one. A growth that failed is handed back.
 pub fn transcoded<R: BufRead, W: Write>(
     rt: &impl AllocGlobal,
     way: Way,
@@ -24,7 +24,7 @@ pub fn transcoded<R: BufRead, W: Write>(
     kind_of(transcode(rt.alloc(), way, source, sink, DEFAULT_READER_OPTIONS))
 }
 
-// The texts of three messages after one another, in a format.
+// The encodings of three messages after one another, in a format.
 fn texts_of(alloc: Global, packed: bool) -> Result<Vec<u8>> {
     let mut texts = text_of(&FLATTEN, packed).to_vec(alloc)?;
     texts.extend_from_slice(text_of(&HELLO, packed))?;
@@ -36,7 +36,7 @@ fn text_of(sample: &Sample, packed: bool) -> &'static [u8] {
     if packed { sample.packed } else { sample.framed }
 }
 
-// How many bytes the first of the three texts take.
+// How many bytes the first of the three encodings take.
 fn length_of(packed: bool, messages: usize) -> usize {
     let first = text_of(&FLATTEN, packed).len();
     match messages {
@@ -87,8 +87,9 @@ fn a_sink_that_fails(rt: HostRuntime) -> Result<()> {
     Ok(())
 }
 
-// How many bytes are where the run meets the fault. The texts of the messages before the fault are
-// whole, and a front of the next: just the message that was read last is not written as a whole.
+// How many bytes are in the sink where the run meets the fault. The encodings of the messages
+// before the fault are whole, and a front of the next one follows: only the message that was read
+// last is not written completely.
 fn write_to(rt: &(impl Abort + AllocGlobal), way: Way, at: At<'_>) -> Result<Option<usize>> {
     let packs = way == Way::Pack;
     let input = texts_of(rt.alloc(), !packs)?;
@@ -118,7 +119,7 @@ fn length_of_all(packed: bool) -> usize {
     length_of(packed, 2).saturating_add(text_of(&FAR, packed).len())
 }
 
-// These are the first bytes of the three texts.
+// These are the first bytes of the three encodings.
 fn assert_is_front(
     rt: &(impl Abort + AllocGlobal),
     written: &[u8],
@@ -135,7 +136,7 @@ fn assert_is_front(
     Ok(())
 }
 
-// A source that fails at its nth call: just the texts of whole messages are written.
+// A source that fails at its nth call: just the encodings of whole messages are written.
 #[test]
 fn a_source_that_fails(rt: HostRuntime) -> Result<()> {
     for way in &WAYS {

@@ -7,7 +7,7 @@ use capnp_frame::serialize::{is_writable, segments_to_words, write_segments};
 use capnp_pack::PackedWrite;
 use std::process::Abort;
 
-/// The calls that write a message's text, of segments and of the crate `capnp`.
+/// The calls that write a message's encoding, of segments and of the crate `capnp`.
 #[derive(Clone, Copy, Debug)]
 pub enum Writer {
     Framed,
@@ -37,7 +37,7 @@ impl Writer {
     }
 }
 
-/// Appends a message's text.
+/// Appends a message's encoding.
 pub fn write<S: ReaderSegments>(
     rt: &(impl Abort + AllocGlobal),
     writer: Writer,

@@ -18,7 +18,7 @@ use capnp_frame_tests::retried;
 use std::alloc::Global;
 use std::process::Abort;
 
-// Each call writes the message's text, whatever holds its segments.
+// Each call writes the message's encoding, whatever holds its segments.
 fn write_message<S: ReaderSegments>(
     rt: &(impl Abort + AllocGlobal),
     writer: Writer,
@@ -142,7 +142,7 @@ fn as_many_segments_as_a_reader_accepts(rt: HostRuntime) -> Result<()> {
 }
 
 // 511 empty segments: a table of 256 words, of which only the first isn't zero. Readers' rows have
-// these texts, too.
+// these encodings, too.
 fn write_empty_segments(rt: &(impl Abort + AllocGlobal), writer: Writer) -> Result<()> {
     let mut text: Vec<u8> = Vec::new(rt.alloc());
     write(rt, writer, &mut text, &SegmentArray::new(&NO_WORDS))?;

@@ -1,4 +1,4 @@
--- Nothing is out of a region that is at home.
+-- Nothing is out of a region that is available.
 use Rattle.std.proofs.Common.{◌≡◌, inl, inr, ℕ, ◌+◌, ◌/◌, ◌≤◌, [], Option, Some, None, refl, arith}
 use Rattle.std.specs.Prelude.{IsSome}
 use Rattle.capnp_frame.specs.declared.error.ErrorKind.{ErrorKind}

@@ -12,7 +12,7 @@ use Rattle.capnp_wire.specs.Traversed.{Within}
 use Rattle.capnp_wire.specs.Readers.{unlimited_root}
 use Rattle.capnp_wire.proofs.objects.ObjectLemmas.{one_object}
 use Rattle.capnp_wire.proofs.views.ViewLemmas.{one_denoted}
-use Rattle.capnp_wire.proofs.pointers.FaultLemmas.{word_of_object, no_word_there, refused_has_no_object}
+use Rattle.capnp_wire.proofs.pointers.FaultLemmas.{word_of_object, no_word_there, invalid_pointer_has_no_object}
 use Rattle.capnp_wire.proofs.forms.FullLemmas.{null_is_zero}
 use Rattle.capnp_wire.proofs.pointers.NullLemmas.{null_by_word}
 use Rattle.capnp_build.specs.Bytes.{Space}
@@ -80,7 +80,7 @@ root_meets_limit pointer form declines kind is (traversed, at {shape = shape} po
     absurd (word_of_object pointer.message root shape (no_word_there pointer.message root kind absent) points)
 root_meets_limit pointer form declines kind is (traversed, at {shape = shape} points inside others) deep takes (inr (inl (inl (place, there, fault)))) =
     let same : place ≡ root = cc in
-    absurd (refused_has_no_object pointer.message root pointer.nesting kind shape (subst (λ at. Fault pointer.message at pointer.nesting kind) same fault) points (λ some. deep))
+    absurd (invalid_pointer_has_no_object pointer.message root pointer.nesting kind shape (subst (λ at. Fault pointer.message at pointer.nesting kind) same fault) points (λ some. deep))
 root_meets_limit pointer form declines kind is stands deep takes (inr (inl (inr limit))) = limit
 root_meets_limit pointer form declines kind is (traversed, at {shape = shape} points inside others) deep takes (inr (inr (other, denotes, declined))) =
     absurd (takes (subst (λ s. declines s.form kind) (denotes_root pointer shape other is denotes points) declined))

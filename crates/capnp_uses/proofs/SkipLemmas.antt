@@ -1,4 +1,4 @@
--- Whether there was a message is told by what was read.
+-- What was read determines whether there was a message.
 use Rattle.std.proofs.Common.{◌≡◌, ℕ, List, Option, Some, None, IfSome, Bool, true, false, is_some, Ok, Err, sym, ◌∙◌}
 use Rattle.std.specs.Prelude.{IsTrue}
 use Rattle.std.specs.Option.{option_map}

@@ -1,14 +1,17 @@
 //! A type over structs, as a schema has them: an account with a number and a name.
 //!
-//! `struct Account { id @0 :UInt64; name @1 :Text; }` has one data word and one pointer (Cap'n Proto's
-//! encoding, "Structs").
-ghost use Rattle.std.specs.Prelude.{◌≡◌, ◌<◌, length, slice_index, MatchResult};
+//! `struct Account { id @0 :UInt64; name @1 :Text; }` has one data word and one pointer (Cap'n
+//! Proto's encoding, "Structs").
+ghost use Rattle.std.specs.Prelude.{◌≡◌, ◌<◌, ◌==◌, length, slice_index, MatchResult};
+ghost use Rattle.std.specs.List.{find};
+ghost use Rattle.std.specs.Option.{option_map};
+ghost use Rattle.capnp_wire.specs.Lists.{IsIterator, all_structs};
 ghost use Rattle.capnp_wire.specs.Readers.{struct_of, pointer_of};
 ghost use Rattle.capnp_wire.specs.ListViews.{struct_list_of, element_of, IsStructList, TakesStructs, DeclinesStructs};
-ghost use Rattle.capnp_wire.specs.Views.{IsViewOf, IsText, IsStruct, Accepts, Refuses, Declines, Reads, TakesStruct, DeclinesStruct, DeclinesText, pointer_in};
+ghost use Rattle.capnp_wire.specs.Views.{Struct, IsViewOf, IsText, IsStruct, Accepts, Refuses, Declines, Reads, TakesStruct, DeclinesStruct, DeclinesText, pointer_in};
 
 use capnp::any_struct::StructReader;
-use capnp::traits::{self, FromPointerReader};
+use capnp::traits::{self, FromPointerReader, IndexMove, ListIter};
 use capnp::{Result, any_pointer, struct_list, text};
 use capnp_frame::message::ReaderSegments;
 
@@ -94,6 +97,42 @@ impl<'a, S: ReaderSegments> ListReader<'a, S> {
         Reader {
             fields: self.accounts.get(index),
         }
+    }
+
+    /// An iterator over the accounts.
+    pub fn iter(&self) -> ListIter<'_, Self>
+        ensures { IsIterator self.now result }
+    {
+        ListIter::new(self)
+    }
+
+    /// The first account of this number.
+    pub fn first_with_id(&self, id: u64) -> Option<Reader<'a, S>>
+        ensures { option_map (λ account. struct_of S.segments account.fields) result
+            ≡ find (λ account. slice_index account.words 0 == id)
+            (all_structs (struct_list_of S.segments self.now.accounts)) }
+    {
+        self.iter().find(|account| account.id() == id)
+    }
+}
+
+impl<'a, S: ReaderSegments> IndexMove for ListReader<'a, S> {
+    type Item = Reader<'a, S>;
+
+    ghost Element = { Struct };
+
+    ghost seen = { λ account. struct_of S.segments account.fields };
+
+    ghost size = { λ list. length (struct_list_of S.segments list.accounts).rows };
+
+    ghost element = { λ list index. element_of (struct_list_of S.segments list.accounts) index };
+
+    fn len(&self) -> u32 {
+        self.len()
+    }
+
+    fn index_move(&self, index: u32) -> Reader<'a, S> {
+        self.get(index)
     }
 }
 

@@ -1,8 +1,8 @@
 //! A list of structs, read by their fields: the entries of a ledger.
 //!
-//! `struct Entry { amount @0 :Int32; paid @1 :Bool = true; note @2 :Text; }` has one data word, in which
-//! the amount is in the low four bytes and `paid` in the bit after them, and one pointer (Cap'n
-//! Proto's encoding, "Structs" and "Lists").
+//! `struct Entry { amount @0 :Int32; paid @1 :Bool = true; note @2 :Text; }` has one data word, in
+//! which the amount is in the low four bytes and `paid` in the bit after them, and one pointer
+//! (Cap'n Proto's encoding, "Structs" and "Lists").
 ghost use Rattle.std.specs.Prelude.{◌≡◌, ◌<◌, ◌≤◌, ◌==◌, length, bit_xor, MatchOption, MatchResult};
 ghost use Rattle.std.specs.Int.{w32, cast_signed};
 ghost use Rattle.capnp_wire.specs.Fields.{field};

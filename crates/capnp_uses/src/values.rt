@@ -37,8 +37,8 @@ pub fn person<'a>(id: u64, name: &'a str, city: &'a str) -> Person<'a>
     StructValue::new([id], Field::new(name, Field::new(address, NoFields)))
 }
 
-/// Sets the root of a message to a person, writes the message framed or packed and reads it back: its
-/// root is that person.
+/// Sets the root of a message to a person, writes the message framed or packed and reads it back:
+/// its root is that person.
 pub fn person_is_read_back<A: Allocator>(
     alloc: Global,
     format: Format,
@@ -105,8 +105,8 @@ pub fn contact<'a>(id: u64, name: &'a str, mail: &'a str, phones: &'a [Phone<'a>
     StructValue::new([id], Field::new(name, after))
 }
 
-/// Sets the root of a message to a contact, writes the message framed or packed and reads it back: its
-/// root is that contact, with these phones in order.
+/// Sets the root of a message to a contact, writes the message framed or packed and reads it back:
+/// its root is that contact, with these phones in order.
 pub fn contact_is_read_back<'a, A: Allocator>(
     alloc: Global,
     format: Format,

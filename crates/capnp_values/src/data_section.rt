@@ -46,6 +46,7 @@ impl<const D: usize, F> StructValue<D, F> {
 }
 
 /// Puts bits into a field of this width, which lies within one word.
+///
 /// Speed: inlined, it is a few instructions where the offset is known.
 #[inline(always)]
 pub fn put_field(words: &mut [u64], width: u64, offset: u32, bits: u64)

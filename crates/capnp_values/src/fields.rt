@@ -29,7 +29,7 @@ pub struct Extent {
 
 /// A row of pointer fields, each set to a value of its own.
 pub trait Fields {
-    /// How many there are.
+    /// How many pointer fields there are.
     ghost size: { ℕ };
 
     /// The trees of the values, in order.
@@ -38,7 +38,8 @@ pub trait Fields {
     /// With which errors the row fails: a value has no tree, or a tree of 2^29 words or more.
     ghost refuses: { Self → ErrorKind → Type 0 };
 
-    /// The number of fields; 2^16, more than a struct may have, where there are more than that.
+    /// The number of pointer fields; 2^16, more than a struct may have, where there are more than
+    /// that.
     fn count() -> u32
         ensures { result ≡ min size (2 ^ 16) };
 

@@ -121,13 +121,13 @@ fn word_of_numbers<N: PrimitiveElement + Copy>(items: &[N]) -> u64
     let mut left = items.len();
     'items: while left > 0 {
         left -= 1;
-        word = in_front(items[left].to_bits(), word, N::size().bits());
+        word = prepend_bits(items[left].to_bits(), word, N::size().bits());
     }
     word
 }
 
-// The bits of one number, below those of the others.
-fn in_front(bits: u64, others: u64, each: u64) -> u64
+// The bits of one number, below those of the others: it is prepended to their list.
+fn prepend_bits(bits: u64, others: u64, each: u64) -> u64
     requires each { each < 65 }
     requires room { bits + 2 ^ each * others < 2 ^ 64 }
     ensures { result ≡ bits + 2 ^ each * others }

@@ -1,5 +1,5 @@
 -- Objects that are copied, as they are or in canonical form (src/layout/copy.rt, and pending.rt,
--- copy_rows.rt and row_pair.rt beside it).
+-- copy_rows.rt and copy_cursor.rt beside it).
 use Rattle.std.specs.Prelude.{◌≡◌, ◌≢◌, ℕ, ◌+◌, ◌-◌, ◌*◌, ◌/◌, ◌<◌, ◌≤◌, ◌^◌, ◌==◌, if◌then◌else◌, Bool, true, List, [], ◌∷◌, length, Some, slice_get}
 use Rattle.capnp_wire.specs.Pointer.{words_of, words_from}
 use Rattle.capnp_wire.specs.Element.{code_of}
@@ -15,7 +15,7 @@ use Rattle.capnp_wire.specs.Reached.{At}
 use Rattle.capnp_wire.specs.declared.layout.place.Place.{Place}
 use Rattle.capnp_wire.specs.declared.layout.pointer.StructSize.{StructSize}
 use Rattle.capnp_wire.specs.declared.layout.copy.Copied.{Copied}
-use Rattle.capnp_wire.specs.declared.layout.row_pair.RowPair.{RowPair}
+use Rattle.capnp_wire.specs.declared.layout.copy_cursor.CopyCursor.{CopyCursor}
 use Rattle.capnp_wire.specs.declared.layout.pending.PendingCopy.{PendingCopy}
 use Rattle.capnp_wire.specs.declared.layout.pending.PendingPointers.{PendingPointers}
 use Rattle.capnp_wire.specs.declared.layout.pending.StructCopy.{StructCopy}
@@ -106,7 +106,7 @@ pub record CopiesAll (m : List (List ℕ)) (at : List Place) (canonical : Bool) 
   pub next_is : (trees : Trees) (traversed : ℕ) → At m at trees traversed → free ≡ next + total_words (output canonical trees)
 
 -- what pointers of a segment lead to can be copied from a word on, after the slots of their copies
-pub record CanCopyRows (m : List (List ℕ)) (words : List ℕ) (rows : RowPair) (nesting : ℕ) (canonical : Bool) (next room : ℕ) : Type 0 where
+pub record CanCopyRows (m : List (List ℕ)) (words : List ℕ) (rows : CopyCursor) (nesting : ℕ) (canonical : Bool) (next room : ℕ) : Type 0 where
   pub there : CanCopy m (places_in rows.from) nesting canonical next room
   pub content : places_in rows.from ≢ [] → slice_get m rows.from.next.segment ≡ Some words
   pub as_many : length (places_in rows.from) ≡ length (places_in rows.to)
@@ -114,14 +114,14 @@ pub record CanCopyRows (m : List (List ℕ)) (words : List ℕ) (rows : RowPair)
 
 -- The rows pair pointers at some places of a segment with some slots, which end before a word: what
 -- the pointers lead to can be copied by the rows, and then is copied.
-pub record ArePaired (rows : RowPair) (at : List Place) (segment : ℕ) (slots : List ℕ) (end : ℕ) : Type 0 where
+pub record ArePaired (rows : CopyCursor) (at : List Place) (segment : ℕ) (slots : List ℕ) (end : ℕ) : Type 0 where
   pub can : (m : List (List ℕ)) (words : List ℕ) (nesting : ℕ) (canonical : Bool) (next room : ℕ) → CanCopy m at nesting canonical next room
       → (at ≢ [] → slice_get m segment ≡ Some words) → end ≤ next → CanCopyRows m words rows nesting canonical next room
   pub copied : (m : List (List ℕ)) (canonical : Bool) (next : ℕ) (old new : List ℕ) (free : ℕ)
       → CopiesAll m (places_in rows.from) canonical (slots_in rows.to) next old new free → CopiesAll m at canonical slots next old new free
 
 -- the first of the pointers that are left is taken, with its slot
-pub record TakesPair (old new : RowPair) (place : Place) (slot : ℕ) : Type 0 where
+pub record TakesPair (old new : CopyCursor) (place : Place) (slot : ℕ) : Type 0 where
   pub from : Takes old.from new.from place
   pub slots_are : slots_in old.to ≡ slot ∷ slots_in new.to
   pub as_many : length (places_in old.to) ≡ length (places_in new.to) + 1

@@ -1,7 +1,9 @@
 -- What iterators over lists that are read return (src/list_iter.rt).
-use Rattle.std.specs.Prelude.{◌≡◌, ℕ, ◌-◌, ◌<◌, ◌≤◌, List, Option, None, MatchOption, IsSomeAnd, map}
+use Rattle.std.specs.Prelude.{◌≡◌, ℕ, ◌-◌, ◌<◌, ◌≤◌, List, Option, None, MatchOption, IsSomeAnd, length, map}
 use Rattle.std.specs.List.{range_with_len}
 use Rattle.std.specs.Iterator.{YieldsFirstBy}
+use Rattle.capnp_wire.specs.Views.{Struct}
+use Rattle.capnp_wire.specs.ListViews.{StructList, element_of}
 use Rattle.capnp_wire.specs.declared.list_iter.ListIter.{ListIter}
 use Rattle.capnp_wire.specs.declared.list_list.view_iter.ViewIter.{ViewIter}
 
@@ -13,6 +15,10 @@ IsIterator list elements = (elements.list.now ≡ list) × (elements.index ≡ 0
 abbrev pub elements_left : {L E : Type 0} → (L → ℕ) → (L → ℕ → E) → ListIter L → List E
 elements_left size element elements =
     map (element elements.list.now) (range_with_len elements.index (size elements.list.now - elements.index))
+
+-- the elements of a list of structs, from the first to the last
+abbrev pub all_structs : StructList → List Struct
+all_structs list = map (element_of list) (range_with_len 0 (length list.rows))
 
 -- the element at an index is found, where a list of this size has one there
 abbrev pub FindsElement : {A : Type 0} → ℕ → ℕ → (A → Type 0) → Option A → Type 0

@@ -35,7 +35,7 @@ pub record IsLocal (word : ℕ) (local : LocalPointer) : Type 0 where
 pub record IsFarPointer (word : ℕ) (far : FarPointer) : Type 0 where
   pub far_kind : pointer_kind word ≡ 2
   pub landing_pad_is : far.landing_pad ≡ landing_pad word
-  pub width : has_wide_landing_pad word ≡ (if far.is_wide then 1 else 0)
+  pub width : has_wide_landing_pad word ≡ (if far.is_double_far then 1 else 0)
 
 abbrev pub IsPointerWord : ℕ → PointerWord → Type 0
 IsPointerWord word (Local local) = IsLocal word local

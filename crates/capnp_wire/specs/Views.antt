@@ -111,6 +111,11 @@ pub record IsStruct (pointer : Pointer) (fields : Struct) : Type 0 where
   pub nesting_below : fields.nesting ≡ pointer.nesting - 1
   pub same_limit : fields.limit ≡ pointer.limit
 
+-- a struct of data words alone, in the place of what a pointer leads to
+abbrev pub data_struct : Pointer → List ℕ → Struct
+data_struct pointer words =
+    record { message = pointer.message; words = words; children = []; nesting = pointer.nesting - 1; limit = pointer.limit }
+
 -- a pointer of a struct; null past its pointers
 abbrev pub pointer_in : Struct → ℕ → Pointer
 pointer_in fields index =

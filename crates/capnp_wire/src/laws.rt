@@ -33,7 +33,7 @@ pub fn cycle_has_no_tree()
 {}
 
 /// Where a pointer is invalid, there is no object within the nesting depth left.
-pub fn refused_has_no_object()
+pub fn invalid_pointer_has_no_object()
     ensures { (m : List (List ℕ)) (place : Place) (nesting : ℕ) (kind : ErrorKind) (shape : Shape) →
         Fault m place nesting kind → PointsTo m place shape →
         (is_null shape.form ≡ false → 0 < nesting) → ⊥ }
@@ -45,8 +45,9 @@ pub fn one_refusal_at_a_place()
         Fault m place nesting kind → Fault m place nesting other → kind ≡ other }
 {}
 
-/// Where a walk stops, there are no trees within its nesting depth and its limit.
-pub fn stopped_walk_has_no_trees()
+/// Where a walk over some pointers fails, they lead to no trees within its nesting depth and its
+/// traversal limit.
+pub fn failed_walk_has_no_trees()
     ensures { (m : List (List ℕ)) (places : List Place) (nesting traversed : ℕ) (limit : Option ℕ)
         (kind : ErrorKind) (trees : Trees) →
         StopsWalk m places nesting limit kind → At m places trees traversed → depth trees ≤ nesting →

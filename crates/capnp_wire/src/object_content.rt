@@ -20,7 +20,8 @@ pub(crate) fn wrong_kind() -> Error
     Error::from_kind(ErrorKind::WrongPointerKind)
 }
 
-/// Returns its argument.
+/// Returns its argument, which the compiler then keeps in registers.
+///
 /// Speed: a value that is built anew keeps the fast path's result in registers, where the one that
 /// `enter` returns in memory would not (`tools/time-reading`).
 #[inline(always)]

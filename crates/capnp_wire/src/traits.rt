@@ -17,7 +17,7 @@ pub use crate::list_iter::{IndexMove, ListIter};
 use capnp_frame::Result;
 use capnp_frame::message::ReaderSegments;
 
-/// A type of views of what a pointer leads to.
+/// A type of views of what a pointer leads to, as `text::Reader` is one.
 pub trait FromPointerReader<'a, S: ReaderSegments>: Sized {
     /// The view shows what the pointer leads to.
     ghost shows: { Pointer → Self → Type 0 };
@@ -47,10 +47,10 @@ pub trait Owned<'a, S: ReaderSegments> {
 /// How many words a value has as a part of another one, without the pointer to it.
 #[derive(Clone, Copy)]
 pub struct PartWords {
-    /// As it is.
+    /// The words of the value as it is.
     pub as_is: u32,
 
-    /// In the form that is written.
+    /// The words of its copy, which may be in canonical form, and then has fewer.
     pub output: u32,
 }
 
@@ -102,9 +102,9 @@ pub trait SetterInput<T> {
     fn is_null(&self) -> bool
         ensures { (trees : Trees) → has_tree self.now trees → result ≡ starts_with_null trees };
 
-    /// Writes the value into a block that is zero from the word `next` on. The pointer to it is to
-    /// be put into the word before `following`. Returns that pointer, and the first word after the
-    /// value.
+    /// Writes the value into a block that is zero from the word `next` on. `following` is the index
+    /// of the word just after the pointer to it. Returns that pointer, which is still to be put
+    /// there, and the index of the first word after the value.
     fn write(&self, canonical: bool, block: &mut [u8], following: usize, next: usize) -> Copied
         requires value { HasRoomAt (has_tree self.now) canonical next (length (words_of block.old)) }
         requires free { IsFreeFrom next block.old }

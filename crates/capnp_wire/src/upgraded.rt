@@ -7,11 +7,13 @@
 //! [`primitive_list`](crate::primitive_list) and [`any_pointer_list`](crate::any_pointer_list)
 //! accept only lists of their own type. A list of bits is never upgraded, and nothing else is read
 //! as bits.
+mod enum_list;
 mod list_list;
 mod number_list;
 mod pointer_list;
 mod struct_list;
 
+pub use enum_list::{EnumElement, EnumList};
 pub use list_list::ListList;
 pub use number_list::NumberList;
 pub use pointer_list::PointerList;

@@ -50,7 +50,8 @@ fn push_groups(left: &mut Vec<u64>, body: &Struct) -> Result<()> {
     Ok(())
 }
 
-// Says which field of a struct has a type that the request doesn't declare, or one that is not known.
+// Says which field of a struct has a type that the request doesn't declare, or one that is not
+// known.
 fn check_fields(request: &Request, node: &Node, body: &Struct) -> Result<()> {
     for field in body.fields.as_slice() {
         let is_known = match &field.slot {

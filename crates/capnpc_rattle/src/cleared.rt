@@ -78,7 +78,8 @@ impl Cleared {
         Ok(words)
     }
 
-    // What a clause says of the words in which these numbers of unions are set, and the fields are zero.
+    // What a clause says of the words in which these numbers of unions are set, and the fields are
+    // zero.
     fn clause(&self, alloc: Global, tags: &[(u32, u16)]) -> Result<String, AllocError> {
         let words = words_with(alloc, tags)?;
         let words = self.words(alloc, words)?;

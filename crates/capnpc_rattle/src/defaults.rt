@@ -3,10 +3,14 @@ use crate::code::{Code, Holes, fill, fill_with};
 use crate::constants::push_view;
 use crate::getters::{Shown, Site};
 use crate::names::{default_name, snake};
+use crate::paths::path_to;
 use crate::schema::{Base, Field, Place, Slot, Struct, Value};
-use crate::templates::{DEFAULT_BODY, DEFAULT_FACT, OR_DEFAULT_BODY, OR_DEFAULT_FACT};
+use crate::templates::{
+    DEFAULT_BODY, DEFAULT_DATA_BODY, DEFAULT_DATA_FACT, DEFAULT_FACT, OR_DEFAULT_BODY,
+    OR_DEFAULT_FACT,
+};
 use crate::views::{CONSTANT, MESSAGE, View, is_plain, view_of};
-use crate::words::words_of;
+use crate::words::{sets_no_pointers, words_of};
 use std::alloc::{AllocError, Global};
 
 /// Whether a pointer has a default other than what null reads as.
@@ -37,9 +41,13 @@ pub fn shown_default(
         return Ok(None);
     };
     if is_plain(place.of) {
-        shown_plain(alloc, field, place, &stored, &default)
-    } else {
-        shown_either(alloc, field, place, &stored, &default)
+        return shown_plain(alloc, field, place, &stored, &default);
+    }
+    match place.of.base {
+        Base::Struct(of) if place.of.lists == 0 && sets_no_pointers(&place.default) => {
+            shown_data(alloc, site, field, place, of, &stored, &default)
+        }
+        _ => shown_either(alloc, field, place, &stored, &default),
     }
 }
 
@@ -56,6 +64,27 @@ fn shown_plain(
         fill_with(alloc, "Result<@view@>", "view", stored.type_name.as_str()),
         fill(alloc, DEFAULT_FACT, &holes),
         fill(alloc, DEFAULT_BODY, &holes),
+    )
+}
+
+// What is returned where the default is a struct, of this node, that sets no pointers.
+fn shown_data(
+    alloc: Global,
+    site: Site<'_>,
+    field: &Field,
+    place: &Place,
+    of: u64,
+    stored: &View,
+    default: &View,
+) -> Result<Option<Shown>, AllocError> {
+    let holes = holes_of(alloc, field, place, "@value@", stored, default).holding(
+        "path",
+        path_to(alloc, site.request, site.node.id, of),
+    );
+    Shown::new(
+        fill_with(alloc, "Result<@view@>", "view", stored.type_name.as_str()),
+        fill(alloc, DEFAULT_DATA_FACT, &holes),
+        fill(alloc, DEFAULT_DATA_BODY, &holes),
     )
 }
 

@@ -1,7 +1,8 @@
 //! Enums.
-use crate::builder_templates::ENUM_NUMBER;
 use crate::code::{Code, Holes};
+use crate::enum_numbers::push_to_number;
 use crate::getters::Site;
+use crate::list_templates::ENUM_ELEMENT;
 use crate::names::{enum_type, scope_name, variant};
 use crate::paths::path_to;
 use crate::schema::{Base, Body, Field, Node, Request, Slot};
@@ -25,8 +26,9 @@ pub fn cases_of(
     )
 }
 
-/// A row for each enumerant, and then the last one, with no end of a line after it. In their templates `@type@`
-/// stands for the enum, `@variant@` for the variant, and `@count@` for its number, or for how many there are.
+/// A row for each enumerant, and then the last one, with no end of a line after it. In their
+/// templates `@type@` stands for the enum, `@variant@` for the variant, and `@count@` for its
+/// number, or for how many there are.
 pub fn rows_of(
     alloc: Global,
     type_name: &str,
@@ -37,19 +39,23 @@ pub fn rows_of(
     let mut rows = Code::new(alloc, 0);
     let mut count: u32 = 0;
     for name in names {
-        let holes = Holes::new(alloc)
-            .with("type", type_name)
-            .holding("variant", variant(alloc, name.as_str()))
-            .holding("count", format!(in alloc; "{count}"));
-        rows.add(row, &holes)?;
+        let holes = row_holes(alloc, type_name, count);
+        rows.add(
+            row,
+            &holes.holding("variant", variant(alloc, name.as_str())),
+        )?;
         count = count.saturating_add(1);
     }
-    let holes = Holes::new(alloc)
-        .with("type", type_name)
-        .holding("count", format!(in alloc; "{count}"));
-    rows.add(last, &holes)?;
+    rows.add(last, &row_holes(alloc, type_name, count))?;
     let _ = rows.text.pop();
     Ok(rows.text)
+}
+
+// What each row of an enum has.
+fn row_holes(alloc: Global, type_name: &str, count: u32) -> Holes {
+    Holes::new(alloc)
+        .with("type", type_name)
+        .holding("count", format!(in alloc; "{count}"))
 }
 
 /// The names of the enumerants of a node.
@@ -91,7 +97,8 @@ fn scoped_name(
     Ok(longer)
 }
 
-// Whether another enum has this name in the module: one that is declared there, or that of a field before.
+// Whether another enum has this name in the module: one that is declared there, or that of a field
+// before.
 fn is_other(alloc: Global, site: Site<'_>, node: &Node, name: &str) -> Result<bool, AllocError> {
     if node.scope == site.node.id {
         return Ok(false);
@@ -150,8 +157,8 @@ fn enum_of(field: &Field) -> Option<u64> {
     }
 }
 
-/// The lines that bring the enums of a struct's fields into its module, so that clauses may name their
-/// variants.
+/// The lines that bring the enums of a struct's fields into its module, so that clauses may name
+/// their variants.
 pub fn enum_uses(alloc: Global, site: Site<'_>) -> Result<Vec<String>, AllocError> {
     let mut lines: Vec<(String, String)> = Vec::new(alloc);
     for id in enums_of(alloc, site.node)?.as_slice() {
@@ -227,6 +234,7 @@ pub fn push_enum(
         .holding("cases", cases_of(alloc, request, node.id, type_name))
         .holding("arms", variant_arms(alloc, type_name, names));
     code.add(ENUM_END, &holes)?;
+    code.add_with(ENUM_ELEMENT, "type", type_name)?;
     if request.has_builders {
         push_to_number(alloc, code, type_name, names)?;
     }
@@ -256,33 +264,5 @@ fn push_variants(
 fn variant_arms(alloc: Global, type_name: &str, names: &[String]) -> Result<String, AllocError> {
     let row = "@count@ => @type@::@variant@,";
     let last = "unknown => @type@::NotInSchema(unknown),";
-    rows_of(alloc, type_name, names, row, last)
-}
-
-// Adds the number of an enumerant.
-fn push_to_number(
-    alloc: Global,
-    code: &mut Code,
-    type_name: &str,
-    names: &[String],
-) -> Result<(), AllocError> {
-    let holes = Holes::new(alloc)
-        .with("type", type_name)
-        .holding("cases", number_cases(alloc, type_name, names))
-        .holding("arms", number_arms(alloc, type_name, names));
-    code.add(ENUM_NUMBER, &holes)
-}
-
-// The cases of a clause that says which number each variant has.
-fn number_cases(alloc: Global, type_name: &str, names: &[String]) -> Result<String, AllocError> {
-    let row = "  | @type@.@variant@ ↦ result ≡ @count@";
-    let last = "  | @type@.NotInSchema unknown ↦ result ≡ unknown";
-    rows_of(alloc, type_name, names, row, last)
-}
-
-// The arms that return the number of a variant.
-fn number_arms(alloc: Global, type_name: &str, names: &[String]) -> Result<String, AllocError> {
-    let row = "@type@::@variant@ => @count@,";
-    let last = "@type@::NotInSchema(unknown) => unknown,";
     rows_of(alloc, type_name, names, row, last)
 }

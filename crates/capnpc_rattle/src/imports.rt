@@ -33,7 +33,7 @@ const DEFINITIONS: &[(&str, &[&str])] = &[
     ),
     (
         "capnp_constant.specs.Constants",
-        &["segments_of", "root_of"],
+        &["segments_of", "root_of", "IsDefaultData"],
     ),
     (
         "capnp_orphans.specs.Adding",
@@ -56,6 +56,7 @@ const DEFINITIONS: &[(&str, &[&str])] = &[
     ("capnp_values.specs.DataSections", &["with_field"]),
     ("capnp_wire.specs.Fields", &["field"]),
     ("capnp_wire.specs.ListViews", &["element_of"]),
+    ("capnp_wire.specs.Lists", &["FindsElement", "IsIterator"]),
     ("capnp_wire.specs.Object", &["nothing"]),
     ("capnp_wire.specs.Readers", &["struct_of", "pointer_of"]),
     (
@@ -83,6 +84,7 @@ const DEFINITIONS: &[(&str, &[&str])] = &[
     (
         "capnp_wire.specs.Views",
         &[
+            "Struct",
             "IsViewOf",
             "IsStruct",
             "IsText",
@@ -125,6 +127,8 @@ const VIEWS: &[(&str, &str)] = &[
 const TRAITS: &[(&str, &str)] = &[
     ("self", "traits::"),
     ("FromPointerReader", "FromPointerReader"),
+    ("IndexMove", "IndexMove for"),
+    ("ListIter", "ListIter<"),
 ];
 
 /// What is imported of the orphans.
@@ -218,7 +222,8 @@ fn push_name(list: &mut String, name: &str) -> Result<(), AllocError> {
     list.push_str(name)
 }
 
-/// Adds the lines that import what a module has: enums by these lines, and what is named in its text.
+/// Adds the lines that import what a module has: enums by these lines, and what is named in its
+/// text.
 pub fn push_imports(
     alloc: Global,
     code: &mut Code,

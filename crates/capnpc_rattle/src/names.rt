@@ -70,7 +70,8 @@ pub fn default_name(alloc: Global, name: &str) -> Result<String, AllocError> {
     Ok(text)
 }
 
-/// The name of a struct, or of a file, as a part of a longer name: `AddressBook` of `dir/address-book.capnp`.
+/// The name of a struct, or of a file, as a part of a longer name: `AddressBook` of
+/// `dir/address-book.capnp`.
 pub fn scope_name(alloc: Global, name: &str) -> Result<String, AllocError> {
     let last = base_name(name);
     let stem = last.strip_suffix(".capnp").unwrap_or(last);

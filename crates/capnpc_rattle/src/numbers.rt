@@ -50,7 +50,8 @@ pub fn number_of(base: Base) -> Option<Number> {
     })
 }
 
-/// A number of the data section: at an offset in units of its own width, with the bits of its default.
+/// A number of the data section: at an offset in units of its own width, with the bits of its
+/// default.
 #[derive(Clone, Copy)]
 pub struct Stored {
     pub number: Number,

@@ -59,7 +59,8 @@ pub fn is_member(site: Site<'_>) -> bool {
     }
 }
 
-// A struct, by the names of the groups down to a site, the outermost first, and the numbers of unions.
+// A struct, by the names of the groups down to a site, the outermost first, and the numbers of
+// unions.
 fn owner_by<'r>(
     alloc: Global,
     node: &'r Node,

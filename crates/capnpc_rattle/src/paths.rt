@@ -6,8 +6,8 @@ use std::alloc::{AllocError, Global};
 /// The most declarations that may be nested; the schema compiler accepts no more.
 const MAX_DEPTH: u32 = 64;
 
-/// The path to the module of a struct, or to the enum, that a node declares, as it is written in the
-/// module of another.
+/// The path to the module of a struct, or to the enum, that a node declares, as it is written in
+/// the module of another.
 pub fn path_to(alloc: Global, request: &Request, site: u64, id: u64) -> Result<String, AllocError> {
     let from = chain_of(alloc, request, site)?;
     let to = chain_of(alloc, request, id)?;

@@ -33,8 +33,8 @@ fn read_nodes<S: ReaderSegments>(
 ) -> Result<Vec<Node>> {
     let mut nodes = Vec::new(alloc);
     let list = root.get_nodes()?;
-    for index in 0..list.len() {
-        nodes.push(read_node(alloc, &list.get(index))?)?;
+    for node in list.iter() {
+        nodes.push(read_node(alloc, &node)?)?;
     }
     Ok(nodes)
 }
@@ -46,8 +46,7 @@ fn read_files<S: ReaderSegments>(
 ) -> Result<Vec<RequestedFile>> {
     let mut files = Vec::new(alloc);
     let list = root.get_requested_files()?;
-    for index in 0..list.len() {
-        let file = list.get(index);
+    for file in list.iter() {
         files.push(RequestedFile {
             id: file.get_id(),
             name: read_text(alloc, file.get_filename()?)?,
@@ -93,8 +92,8 @@ fn read_name<S: ReaderSegments>(alloc: Global, read: &node::Reader<'_, S>) -> Re
 fn read_nested<S: ReaderSegments>(alloc: Global, read: &node::Reader<'_, S>) -> Result<Vec<u64>> {
     let mut nested = Vec::new(alloc);
     let list = read.get_nested_nodes()?;
-    for index in 0..list.len() {
-        nested.push(list.get(index).get_id())?;
+    for node in list.iter() {
+        nested.push(node.get_id())?;
     }
     Ok(nested)
 }
@@ -121,8 +120,8 @@ fn read_enumerants<S: ReaderSegments>(
 ) -> Result<Vec<String>> {
     let mut names = Vec::new(alloc);
     let list = group.get_enumerants()?;
-    for index in 0..list.len() {
-        names.push(read_text(alloc, list.get(index).get_name()?)?)?;
+    for enumerant in list.iter() {
+        names.push(read_text(alloc, enumerant.get_name()?)?)?;
     }
     Ok(names)
 }
@@ -134,8 +133,8 @@ fn read_struct<S: ReaderSegments>(
 ) -> Result<Struct> {
     let mut fields = Vec::new(alloc);
     let list = group.get_fields()?;
-    for index in 0..list.len() {
-        fields.push(read_field(alloc, &list.get(index))?)?;
+    for field in list.iter() {
+        fields.push(read_field(alloc, &field)?)?;
     }
     Ok(Struct {
         is_group: group.get_is_group(),
@@ -186,8 +185,7 @@ fn add_comments<S: ReaderSegments>(
     request: &mut Request,
 ) -> Result<()> {
     let list = root.get_source_info()?;
-    for index in 0..list.len() {
-        let info = list.get(index);
+    for info in list.iter() {
         let id = info.get_id();
         for node in request.nodes.as_mut_slice() {
             if node.id == id {
@@ -206,8 +204,8 @@ fn read_member_comments<S: ReaderSegments>(
 ) -> Result<Vec<String>> {
     let mut comments = Vec::new(alloc);
     let list = info.get_members()?;
-    for index in 0..list.len() {
-        comments.push(read_text(alloc, list.get(index).get_doc_comment()?)?)?;
+    for member in list.iter() {
+        comments.push(read_text(alloc, member.get_doc_comment()?)?)?;
     }
     Ok(comments)
 }

@@ -77,7 +77,8 @@ fn enum_cases(
     rows_of(alloc, name.as_str(), names, row.as_str(), last.as_str())
 }
 
-// The case of a variant: that the field has the bits of a value, where `words` has the numbers of unions.
+// The case of a variant: that the field has the bits of a value, where `words` has the numbers of
+// unions.
 fn enum_case(
     alloc: Global,
     number: Number,

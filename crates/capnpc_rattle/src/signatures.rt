@@ -5,8 +5,8 @@ use std::fmt::Write;
 /// The most columns of a line that can be broken.
 pub const WIDTH: usize = 100;
 
-/// The head of a getter with this parameter, at some depth of modules: on one line, or broken as `rt fmt`
-/// does.
+/// The head of a getter with this parameter, at some depth of modules: on one line, or broken as
+/// `rt fmt` does.
 pub fn signature(
     alloc: Global,
     depth: usize,
@@ -28,7 +28,8 @@ fn fits(depth: usize, width: usize) -> bool {
     depth.saturating_mul(4).saturating_add(width) <= WIDTH
 }
 
-// Adds what follows the name, a parameter on a line of its own; a type that is too wide then is broken.
+// Adds what follows the name, a parameter on a line of its own; a type that is too wide then is
+// broken.
 fn push_rest(
     head: &mut String,
     depth: usize,

@@ -7,6 +7,7 @@ use crate::enums::enum_uses;
 use crate::fields::push_field;
 use crate::getters::{Shown, Site, shown_of};
 use crate::imports::push_imports;
+use crate::list_templates::LIST_READER;
 use crate::names::module;
 use crate::schema::{Field, Node, Request, Struct};
 use crate::templates::{FROM_POINTER, GROUP_IMPL, GROUP_READER, READER, READER_IMPL};
@@ -47,7 +48,8 @@ pub fn close_module(code: &mut Code) -> Result<(), AllocError> {
     code.add_lines("}")
 }
 
-// Adds the reader, the members of the union where there is one, and how it is read where it is no group.
+// Adds the reader, the members of the union where there is one, and how it is read where it is no
+// group.
 fn push_reader(
     alloc: Global,
     code: &mut Code,
@@ -71,6 +73,7 @@ fn push_reader(
     }
     if !body.is_group {
         code.add_lines(FROM_POINTER)?;
+        code.add_lines(LIST_READER)?;
     }
     if site.request.has_builders {
         push_builder(alloc, code, site, body)?;

@@ -40,7 +40,7 @@ pub const GROUP_IMPL: &str = "
 impl<'b, 'a, S: ReaderSegments> Reader<'b, 'a, S> {
 ";
 
-/// How a struct is read from a pointer, and a list of such structs.
+/// How a struct is read from a pointer.
 pub const FROM_POINTER: &str = "
 impl<'a, S: ReaderSegments> FromPointerReader<'a, S> for Reader<'a, S> {
     ghost shows = { λ pointer view. IsStruct pointer (struct_of S.segments view.fields) };
@@ -59,56 +59,6 @@ impl<'a, S: ReaderSegments> FromPointerReader<'a, S> for Reader<'a, S> {
     {
         match StructReader::get_from_pointer(reader) {
             Ok(fields) => Ok(Reader { fields }),
-            Err(error) => Err(error),
-        }
-    }
-}
-
-/// A list of such structs in a message; their first fields alone, where an older writer had these.
-#[derive(Drop)]
-pub struct ListReader<'a, S: ReaderSegments> {
-    /// The list whose elements these are.
-    pub elements: upgraded::StructList<'a, S>,
-}
-
-impl<'a, S: ReaderSegments> ListReader<'a, S> {
-    /// The number of elements.
-    pub fn len(&self) -> u32
-        ensures { result ≡ length (upgraded_structs_of S.segments self.now.elements).rows }
-    {
-        self.elements.len()
-    }
-
-    /// The element of this index.
-    pub fn get(&self, index: u32) -> Reader<'a, S>
-        requires { index < length (upgraded_structs_of S.segments self.now.elements).rows }
-        ensures { struct_of S.segments result.fields
-            ≡ element_of (upgraded_structs_of S.segments self.now.elements) index }
-    {
-        Reader {
-            fields: self.elements.get(index),
-        }
-    }
-}
-
-impl<'a, S: ReaderSegments> FromPointerReader<'a, S> for ListReader<'a, S> {
-    ghost shows = { λ pointer view.
-        IsUpgradedStructs pointer (upgraded_structs_of S.segments view.elements) };
-
-    ghost accepts = { λ pointer. Accepts pointer TakesRows };
-
-    ghost refuses = { λ pointer kind. Refuses pointer DeclinesRows kind };
-
-    ghost declines = { λ pointer kind. Declines pointer DeclinesRows kind };
-
-    fn get_from_pointer(reader: any_pointer::Reader<'a, S>) -> Result<Self>
-        ensures { let pointer = pointer_of S.segments reader.entry in IsViewOf pointer
-            (λ view. IsUpgradedStructs pointer (upgraded_structs_of S.segments view.elements))
-            (Accepts pointer TakesRows) (Refuses pointer DeclinesRows)
-            (Declines pointer DeclinesRows) result }
-    {
-        match upgraded::StructList::get_from_pointer(reader) {
-            Ok(elements) => Ok(ListReader { elements }),
             Err(error) => Err(error),
         }
     }
@@ -150,6 +100,15 @@ pub const DEFAULT_FACT: &str = "let pointer = pointer_in fields @offset@ in
 × (Denotes pointer nothing → (let pointer = root_of @default@ in
 @fact@))";
 
+/// What it says of a struct whose default sets no pointers.
+pub const DEFAULT_DATA_FACT: &str = "let pointer = pointer_in fields @offset@ in
+((Denotes pointer nothing → ⊥) → @stored@)
+× (Denotes pointer nothing → (let constant = root_of @default@ in
+IsViewOf constant
+(λ view. IsDefaultData constant pointer (struct_of S.segments view.fields))
+(Accepts constant TakesStruct) (Refuses constant DeclinesStruct)
+(Declines constant DeclinesStruct) @value@))";
+
 /// The same for a view that is bound to the segments that it reads.
 pub const OR_DEFAULT_FACT: &str = "let pointer = pointer_in fields @offset@ in
 elim @value@ [
@@ -168,6 +127,17 @@ pub const VIEW_BODY: &str =
 pub const DEFAULT_BODY: &str = "let pointer = self.fields.get_pointer(@offset@);
 if pointer.is_null() {
     get_@name@_default()
+} else {
+    FromPointerReader::get_from_pointer(pointer)
+}";
+
+/// How a struct is read whose default sets no pointers.
+pub const DEFAULT_DATA_BODY: &str = "let pointer = self.fields.get_pointer(@offset@);
+if pointer.is_null() {
+    match capnp_constant::default_data(&pointer, &@default@) {
+        Ok(fields) => Ok(@path@::Reader { fields }),
+        Err(error) => Err(error),
+    }
 } else {
     FromPointerReader::get_from_pointer(pointer)
 }";

@@ -70,8 +70,8 @@ impl View {
     }
 }
 
-/// The view of a type at a site, of what a lender has; `None` for what has no view: numbers by themselves,
-/// interfaces, and any pointer by itself, whose getter never fails.
+/// The view of a type at a site, of what a lender has; `None` for what has no view: numbers by
+/// themselves, interfaces, and any pointer by itself, whose getter never fails.
 pub fn view_of(
     alloc: Global,
     request: &Request,
@@ -170,6 +170,7 @@ fn list(
 ) -> Result<Option<View>, AllocError> {
     match base {
         Base::Void => list_of_numbers(alloc, "()", 0),
+        Base::Enum(id) => list_of_enums(alloc, request, site, id),
         Base::Struct(id) => {
             let path = path_to(alloc, request, site, id)?;
             let name = format!(in alloc; "{path}::ListReader<@lifetime@, @segments@>")?;
@@ -217,6 +218,24 @@ fn list_of_numbers(alloc: Global, element: &str, code: u32) -> Result<Option<Vie
         ),
         format!(in alloc; "(TakesFields {code})"),
         format!(in alloc; "(DeclinesFields {code})"),
+    )
+}
+
+// The view of a list of an enum's values, which a message holds as numbers of 16 bits.
+fn list_of_enums(
+    alloc: Global,
+    request: &Request,
+    site: u64,
+    id: u64,
+) -> Result<Option<View>, AllocError> {
+    let path = path_to(alloc, request, site, id)?;
+    let name = format!(in alloc; "upgraded::EnumList<@lifetime@, {path}>")?;
+    view_from(
+        alloc,
+        name.as_str(),
+        "Reads pointer (λ form.\nReadsAsNumbers 3 form (upgraded_numbers_of 3 view.numbers))",
+        "(TakesFields 3)",
+        "(DeclinesFields 3)",
     )
 }
 

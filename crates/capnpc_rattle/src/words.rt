@@ -15,8 +15,25 @@ pub fn words_of(alloc: Global, value: &Value) -> Result<Vec<u8>, AllocError> {
     }
 }
 
-// A message whose root is a list of bytes (encoding document, "Lists"), with a zero byte after them where it
-// is a text.
+/// Whether a struct, which a pointer leads to, has pointers that are null alone: what follows its data
+/// words is zero (encoding document, "Structs").
+pub fn sets_no_pointers(value: &Value) -> bool {
+    let Value::Object(words) = value else {
+        return false;
+    };
+    let words = words.as_slice();
+    let (Some(low), Some(high)) = (words.get(4), words.get(5)) else {
+        return false;
+    };
+    let data_words = u16::from_le_bytes([*low, *high]) as usize;
+    match words.get(8 + 8 * data_words..) {
+        Some(pointers) => pointers.iter().all(|byte| *byte == 0),
+        None => false,
+    }
+}
+
+// A message whose root is a list of bytes (encoding document, "Lists"), with a zero byte after them
+// where it is a text.
 fn list_of_bytes(alloc: Global, bytes: &[u8], is_text: bool) -> Result<Vec<u8>, AllocError> {
     let count = (bytes.len() as u64).saturating_add(is_text as u64);
     let root = 1u64

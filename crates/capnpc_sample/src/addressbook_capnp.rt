@@ -7,18 +7,19 @@ ghost use Rattle.capnp_orphans.specs.Segments.{body_of};
 ghost use Rattle.capnp_values.specs.DataSections.{with_field};
 ghost use Rattle.capnp_wire.specs.Fields.{field};
 ghost use Rattle.capnp_wire.specs.ListViews.{element_of};
+ghost use Rattle.capnp_wire.specs.Lists.{FindsElement, IsIterator};
 ghost use Rattle.capnp_wire.specs.Object.{nothing};
 ghost use Rattle.capnp_wire.specs.Readers.{struct_of, pointer_of};
 ghost use Rattle.capnp_wire.specs.UpgradedReaders.{upgraded_structs_of};
 ghost use Rattle.capnp_wire.specs.UpgradedViews.{IsUpgradedStructs, TakesRows, DeclinesRows};
-ghost use Rattle.capnp_wire.specs.Views.{IsViewOf, IsStruct, IsText, Accepts, Refuses, Declines, Denotes, Reads, TakesStruct, TakesText, DeclinesStruct, DeclinesText, pointer_in};
+ghost use Rattle.capnp_wire.specs.Views.{Struct, IsViewOf, IsStruct, IsText, Accepts, Refuses, Declines, Denotes, Reads, TakesStruct, TakesText, DeclinesStruct, DeclinesText, pointer_in};
 
 pub mod person {
     use capnp_frame::Result;
     use capnp_frame::message::ReaderSegments;
     use capnp_orphans::{Draft, Drafts, GrowingSegment, Orphan, Orphanage, StructDraft};
     use capnp_wire::any_struct::StructReader;
-    use capnp_wire::traits::{self, FromPointerReader};
+    use capnp_wire::traits::{self, FromPointerReader, IndexMove, ListIter};
     use capnp_wire::{any_pointer, text, upgraded};
 
     /// The type of the schema.
@@ -161,6 +162,43 @@ pub mod person {
             Reader {
                 fields: self.elements.get(index),
             }
+        }
+
+        /// The element of this index, or `None` where there are no more elements than it.
+        pub fn try_get(&self, index: u32) -> Option<Reader<'a, S>>
+            ensures { let list = upgraded_structs_of S.segments self.now.elements in
+                FindsElement (length list.rows) index
+                (λ item. struct_of S.segments item.fields ≡ element_of list index) result }
+        {
+            self.try_index_move(index)
+        }
+
+        /// An iterator over the elements.
+        pub fn iter(&self) -> ListIter<'_, Self>
+            ensures { IsIterator self.now result }
+        {
+            ListIter::new(self)
+        }
+    }
+
+    impl<'a, S: ReaderSegments> IndexMove for ListReader<'a, S> {
+        type Item = Reader<'a, S>;
+
+        ghost Element = { Struct };
+
+        ghost seen = { λ item. struct_of S.segments item.fields };
+
+        ghost size = { λ list. length (upgraded_structs_of S.segments list.elements).rows };
+
+        ghost element = { λ list index.
+            element_of (upgraded_structs_of S.segments list.elements) index };
+
+        fn len(&self) -> u32 {
+            self.len()
+        }
+
+        fn index_move(&self, index: u32) -> Reader<'a, S> {
+            self.get(index)
         }
     }
 
@@ -523,7 +561,7 @@ pub mod person {
         use capnp_frame::message::ReaderSegments;
         use capnp_orphans::{Draft, Drafts, GrowingSegment, Orphan, Orphanage, StructDraft};
         use capnp_wire::any_struct::StructReader;
-        use capnp_wire::traits::{self, FromPointerReader};
+        use capnp_wire::traits::{self, FromPointerReader, IndexMove, ListIter};
         use capnp_wire::{any_pointer, text, upgraded};
 
         /// The type of the schema.
@@ -562,17 +600,17 @@ pub mod person {
             }
 
             /// The field `type`.
-            pub fn get_type(&self) -> Type_
+            pub fn get_type(&self) -> Type
                 ensures { let fields = struct_of S.segments self.now.fields in
                     let number = field fields.words 16 0 in
                     elim result [
-                      | Type_.Mobile ↦ number ≡ 0
-                      | Type_.Home ↦ number ≡ 1
-                      | Type_.Work ↦ number ≡ 2
-                      | Type_.NotInSchema unknown ↦ (unknown ≡ number) × (3 ≤ number)
+                      | Type.Mobile ↦ number ≡ 0
+                      | Type.Home ↦ number ≡ 1
+                      | Type.Work ↦ number ≡ 2
+                      | Type.NotInSchema unknown ↦ (unknown ≡ number) × (3 ≤ number)
                     ] }
             {
-                Type_::from_number(self.fields.get_data_field(0))
+                Type::from_number(self.fields.get_data_field(0))
             }
         }
 
@@ -622,6 +660,43 @@ pub mod person {
                 Reader {
                     fields: self.elements.get(index),
                 }
+            }
+
+            /// The element of this index, or `None` where there are no more elements than it.
+            pub fn try_get(&self, index: u32) -> Option<Reader<'a, S>>
+                ensures { let list = upgraded_structs_of S.segments self.now.elements in
+                    FindsElement (length list.rows) index
+                    (λ item. struct_of S.segments item.fields ≡ element_of list index) result }
+            {
+                self.try_index_move(index)
+            }
+
+            /// An iterator over the elements.
+            pub fn iter(&self) -> ListIter<'_, Self>
+                ensures { IsIterator self.now result }
+            {
+                ListIter::new(self)
+            }
+        }
+
+        impl<'a, S: ReaderSegments> IndexMove for ListReader<'a, S> {
+            type Item = Reader<'a, S>;
+
+            ghost Element = { Struct };
+
+            ghost seen = { λ item. struct_of S.segments item.fields };
+
+            ghost size = { λ list. length (upgraded_structs_of S.segments list.elements).rows };
+
+            ghost element = { λ list index.
+                element_of (upgraded_structs_of S.segments list.elements) index };
+
+            fn len(&self) -> u32 {
+                self.len()
+            }
+
+            fn index_move(&self, index: u32) -> Reader<'a, S> {
+                self.get(index)
             }
         }
 
@@ -770,13 +845,13 @@ pub mod person {
             }
 
             /// Sets the field `type`.
-            pub fn set_type(&mut self, value: Type_)
+            pub fn set_type(&mut self, value: Type)
                 ensures words { let words = self.old.draft.words in
                     elim value [
-                      | Type_.Mobile ↦ self.new.draft.words ≡ with_field words 16 0 0
-                      | Type_.Home ↦ self.new.draft.words ≡ with_field words 16 0 1
-                      | Type_.Work ↦ self.new.draft.words ≡ with_field words 16 0 2
-                      | Type_.NotInSchema unknown ↦ self.new.draft.words ≡ with_field words 16 0 unknown
+                      | Type.Mobile ↦ self.new.draft.words ≡ with_field words 16 0 0
+                      | Type.Home ↦ self.new.draft.words ≡ with_field words 16 0 1
+                      | Type.Work ↦ self.new.draft.words ≡ with_field words 16 0 2
+                      | Type.NotInSchema unknown ↦ self.new.draft.words ≡ with_field words 16 0 unknown
                     ] }
                 ensures pointers { self.new.draft.pointers ≡ self.old.draft.pointers }
             {
@@ -784,22 +859,22 @@ pub mod person {
             }
 
             /// The field `type`, as it is set.
-            pub fn get_type(&self) -> Type_
+            pub fn get_type(&self) -> Type
                 ensures { let fields = self.now.draft in
                     let number = field fields.words 16 0 in
                     elim result [
-                      | Type_.Mobile ↦ number ≡ 0
-                      | Type_.Home ↦ number ≡ 1
-                      | Type_.Work ↦ number ≡ 2
-                      | Type_.NotInSchema unknown ↦ (unknown ≡ number) × (3 ≤ number)
+                      | Type.Mobile ↦ number ≡ 0
+                      | Type.Home ↦ number ≡ 1
+                      | Type.Work ↦ number ≡ 2
+                      | Type.NotInSchema unknown ↦ (unknown ≡ number) × (3 ≤ number)
                     ] }
             {
-                Type_::from_number(self.draft.get_data_field(0))
+                Type::from_number(self.draft.get_data_field(0))
             }
         }
 
         #[derive(Clone, Copy, PartialEq, Eq, Debug)]
-        pub enum Type_ {
+        pub enum Type {
             Mobile,
             Home,
             Work,
@@ -807,40 +882,46 @@ pub mod person {
             NotInSchema(u16),
         }
 
-        impl Type_ {
+        impl Type {
             /// The enumerant of this number.
-            pub fn from_number(number: u16) -> Type_
+            pub fn from_number(number: u16) -> Type
                 ensures { elim result [
-                  | Type_.Mobile ↦ number ≡ 0
-                  | Type_.Home ↦ number ≡ 1
-                  | Type_.Work ↦ number ≡ 2
-                  | Type_.NotInSchema unknown ↦ (unknown ≡ number) × (3 ≤ number)
+                  | Type.Mobile ↦ number ≡ 0
+                  | Type.Home ↦ number ≡ 1
+                  | Type.Work ↦ number ≡ 2
+                  | Type.NotInSchema unknown ↦ (unknown ≡ number) × (3 ≤ number)
                 ] }
             {
                 match number {
-                    0 => Type_::Mobile,
-                    1 => Type_::Home,
-                    2 => Type_::Work,
-                    unknown => Type_::NotInSchema(unknown),
+                    0 => Type::Mobile,
+                    1 => Type::Home,
+                    2 => Type::Work,
+                    unknown => Type::NotInSchema(unknown),
                 }
             }
         }
 
-        impl Type_ {
+        impl capnp_wire::upgraded::EnumElement for Type {
+            fn from_number(number: u16) -> Type {
+                Type::from_number(number)
+            }
+        }
+
+        impl Type {
             /// Its number.
             pub fn to_number(self) -> u16
                 ensures { elim self [
-                  | Type_.Mobile ↦ result ≡ 0
-                  | Type_.Home ↦ result ≡ 1
-                  | Type_.Work ↦ result ≡ 2
-                  | Type_.NotInSchema unknown ↦ result ≡ unknown
+                  | Type.Mobile ↦ result ≡ 0
+                  | Type.Home ↦ result ≡ 1
+                  | Type.Work ↦ result ≡ 2
+                  | Type.NotInSchema unknown ↦ result ≡ unknown
                 ] }
             {
                 match self {
-                    Type_::Mobile => 0,
-                    Type_::Home => 1,
-                    Type_::Work => 2,
-                    Type_::NotInSchema(unknown) => unknown,
+                    Type::Mobile => 0,
+                    Type::Home => 1,
+                    Type::Work => 2,
+                    Type::NotInSchema(unknown) => unknown,
                 }
             }
         }
@@ -852,7 +933,7 @@ pub mod address_book {
     use capnp_frame::message::ReaderSegments;
     use capnp_orphans::{Draft, Drafts, GrowingSegment, Orphan, Orphanage, StructDraft};
     use capnp_wire::any_struct::StructReader;
-    use capnp_wire::traits::{self, FromPointerReader};
+    use capnp_wire::traits::{self, FromPointerReader, IndexMove, ListIter};
     use capnp_wire::{any_pointer, upgraded};
 
     /// The type of the schema.
@@ -937,6 +1018,43 @@ pub mod address_book {
             Reader {
                 fields: self.elements.get(index),
             }
+        }
+
+        /// The element of this index, or `None` where there are no more elements than it.
+        pub fn try_get(&self, index: u32) -> Option<Reader<'a, S>>
+            ensures { let list = upgraded_structs_of S.segments self.now.elements in
+                FindsElement (length list.rows) index
+                (λ item. struct_of S.segments item.fields ≡ element_of list index) result }
+        {
+            self.try_index_move(index)
+        }
+
+        /// An iterator over the elements.
+        pub fn iter(&self) -> ListIter<'_, Self>
+            ensures { IsIterator self.now result }
+        {
+            ListIter::new(self)
+        }
+    }
+
+    impl<'a, S: ReaderSegments> IndexMove for ListReader<'a, S> {
+        type Item = Reader<'a, S>;
+
+        ghost Element = { Struct };
+
+        ghost seen = { λ item. struct_of S.segments item.fields };
+
+        ghost size = { λ list. length (upgraded_structs_of S.segments list.elements).rows };
+
+        ghost element = { λ list index.
+            element_of (upgraded_structs_of S.segments list.elements) index };
+
+        fn len(&self) -> u32 {
+            self.len()
+        }
+
+        fn index_move(&self, index: u32) -> Reader<'a, S> {
+            self.get(index)
         }
     }
 

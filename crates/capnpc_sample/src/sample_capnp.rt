@@ -2,7 +2,7 @@
 ghost use Rattle.std.specs.Prelude.{◌≡◌, ◌≤◌, ◌<◌, ◌==◌, ◌↔◌, ◌≢◌, if◌then◌else◌, IfOk, IsTrue, bit_xor, from_bits, to_bits, length, map, replicate, slice_index_or, slice_set};
 ghost use Rattle.std.specs.Float.{binary64};
 ghost use Rattle.std.specs.Int.{w32, w64, cast_signed, cast_unsigned};
-ghost use Rattle.capnp_constant.specs.Constants.{segments_of, root_of};
+ghost use Rattle.capnp_constant.specs.Constants.{segments_of, root_of, IsDefaultData};
 ghost use Rattle.capnp_orphans.specs.Adding.{Adds, AddsRoot, Fails, Writes};
 ghost use Rattle.capnp_orphans.specs.Copied.{words_in, Copies};
 ghost use Rattle.capnp_orphans.specs.Held.{word_of, HoldsStruct, HoldsStructs, TakesStruct as StructWords, TakesStructs, ExceedsPointer, ManyStructs};
@@ -10,11 +10,12 @@ ghost use Rattle.capnp_orphans.specs.Segments.{body_of};
 ghost use Rattle.capnp_values.specs.DataSections.{with_field};
 ghost use Rattle.capnp_wire.specs.Fields.{field};
 ghost use Rattle.capnp_wire.specs.ListViews.{element_of};
+ghost use Rattle.capnp_wire.specs.Lists.{FindsElement, IsIterator};
 ghost use Rattle.capnp_wire.specs.Object.{nothing};
 ghost use Rattle.capnp_wire.specs.Readers.{struct_of, pointer_of};
-ghost use Rattle.capnp_wire.specs.UpgradedReaders.{upgraded_structs_of, upgraded_numbers_of};
-ghost use Rattle.capnp_wire.specs.UpgradedViews.{IsUpgradedStructs, ReadsAsNumbers, TakesRows, TakesFields, DeclinesRows, DeclinesFields};
-ghost use Rattle.capnp_wire.specs.Views.{IsViewOf, IsStruct, IsText, IsData, Accepts, Refuses, Declines, Denotes, Reads, TakesStruct, TakesText, TakesNumbers, DeclinesStruct, DeclinesText, DeclinesNumbers, pointer_in};
+ghost use Rattle.capnp_wire.specs.UpgradedReaders.{upgraded_structs_of, upgraded_numbers_of, upgraded_pointers_of};
+ghost use Rattle.capnp_wire.specs.UpgradedViews.{IsUpgradedStructs, IsUpgradedPointers, ReadsAsNumbers, TakesRows, TakesFields, TakesFirstPointers, DeclinesRows, DeclinesFields, DeclinesFirstPointers};
+ghost use Rattle.capnp_wire.specs.Views.{Struct, IsViewOf, IsStruct, IsText, IsData, Accepts, Refuses, Declines, Denotes, Reads, TakesStruct, TakesText, TakesNumbers, DeclinesStruct, DeclinesText, DeclinesNumbers, pointer_in};
 
 use capnp_constant::Words;
 use capnp_frame::Result;
@@ -44,7 +45,7 @@ pub mod point {
     use capnp_frame::message::ReaderSegments;
     use capnp_orphans::{Draft, Drafts, GrowingSegment, Orphan, Orphanage, StructDraft};
     use capnp_wire::any_struct::StructReader;
-    use capnp_wire::traits::{self, FromPointerReader};
+    use capnp_wire::traits::{self, FromPointerReader, IndexMove, ListIter};
     use capnp_wire::{any_pointer, upgraded};
 
     /// The type of the schema.
@@ -125,6 +126,43 @@ pub mod point {
             Reader {
                 fields: self.elements.get(index),
             }
+        }
+
+        /// The element of this index, or `None` where there are no more elements than it.
+        pub fn try_get(&self, index: u32) -> Option<Reader<'a, S>>
+            ensures { let list = upgraded_structs_of S.segments self.now.elements in
+                FindsElement (length list.rows) index
+                (λ item. struct_of S.segments item.fields ≡ element_of list index) result }
+        {
+            self.try_index_move(index)
+        }
+
+        /// An iterator over the elements.
+        pub fn iter(&self) -> ListIter<'_, Self>
+            ensures { IsIterator self.now result }
+        {
+            ListIter::new(self)
+        }
+    }
+
+    impl<'a, S: ReaderSegments> IndexMove for ListReader<'a, S> {
+        type Item = Reader<'a, S>;
+
+        ghost Element = { Struct };
+
+        ghost seen = { λ item. struct_of S.segments item.fields };
+
+        ghost size = { λ list. length (upgraded_structs_of S.segments list.elements).rows };
+
+        ghost element = { λ list index.
+            element_of (upgraded_structs_of S.segments list.elements) index };
+
+        fn len(&self) -> u32 {
+            self.len()
+        }
+
+        fn index_move(&self, index: u32) -> Reader<'a, S> {
+            self.get(index)
         }
     }
 
@@ -295,7 +333,7 @@ pub mod tree {
     use capnp_frame::message::ReaderSegments;
     use capnp_orphans::{Draft, Drafts, GrowingSegment, Orphan, Orphanage, StructDraft};
     use capnp_wire::any_struct::StructReader;
-    use capnp_wire::traits::{self, FromPointerReader};
+    use capnp_wire::traits::{self, FromPointerReader, IndexMove, ListIter};
     use capnp_wire::{any_pointer, upgraded};
 
     /// The type of the schema.
@@ -408,6 +446,43 @@ pub mod tree {
             Reader {
                 fields: self.elements.get(index),
             }
+        }
+
+        /// The element of this index, or `None` where there are no more elements than it.
+        pub fn try_get(&self, index: u32) -> Option<Reader<'a, S>>
+            ensures { let list = upgraded_structs_of S.segments self.now.elements in
+                FindsElement (length list.rows) index
+                (λ item. struct_of S.segments item.fields ≡ element_of list index) result }
+        {
+            self.try_index_move(index)
+        }
+
+        /// An iterator over the elements.
+        pub fn iter(&self) -> ListIter<'_, Self>
+            ensures { IsIterator self.now result }
+        {
+            ListIter::new(self)
+        }
+    }
+
+    impl<'a, S: ReaderSegments> IndexMove for ListReader<'a, S> {
+        type Item = Reader<'a, S>;
+
+        ghost Element = { Struct };
+
+        ghost seen = { λ item. struct_of S.segments item.fields };
+
+        ghost size = { λ list. length (upgraded_structs_of S.segments list.elements).rows };
+
+        ghost element = { λ list index.
+            element_of (upgraded_structs_of S.segments list.elements) index };
+
+        fn len(&self) -> u32 {
+            self.len()
+        }
+
+        fn index_move(&self, index: u32) -> Reader<'a, S> {
+            self.get(index)
         }
     }
 
@@ -616,6 +691,12 @@ impl Color {
     }
 }
 
+impl capnp_wire::upgraded::EnumElement for Color {
+    fn from_number(number: u16) -> Color {
+        Color::from_number(number)
+    }
+}
+
 impl Color {
     /// Its number.
     pub fn to_number(self) -> u16
@@ -638,13 +719,13 @@ impl Color {
 /// A struct with a field of each kind.
 pub mod sample {
     use super::Color;
-    use capnp_constant::{OrDefault, Words};
+    use capnp_constant::Words;
     use capnp_frame::Result;
     use capnp_frame::message::ReaderSegments;
     use capnp_orphans::{Draft, Drafts, GrowingSegment, Orphan, Orphanage, StructDraft};
     use capnp_wire::any_struct::StructReader;
     use capnp_wire::primitive_element::PrimitiveElement;
-    use capnp_wire::traits::{self, FromPointerReader};
+    use capnp_wire::traits::{self, FromPointerReader, IndexMove, ListIter};
     use capnp_wire::{any_pointer, text, upgraded};
 
     /// The type of the schema.
@@ -881,30 +962,27 @@ pub mod sample {
         }
 
         /// The field `target`.
-        pub fn get_target(
-            &self,
-        ) -> OrDefault<super::point::Reader<'a, S>, super::point::Reader<'static, Words<16>>>
+        pub fn get_target(&self) -> Result<super::point::Reader<'a, S>>
             ensures { let fields = struct_of S.segments self.now.fields in
                 let pointer = pointer_in fields 7 in
-                elim result [
-                  | OrDefault.Stored view ↦ (Denotes pointer nothing → ⊥) ×
-                      (IsViewOf pointer
-                      (λ view. IsStruct pointer (struct_of S.segments view.fields))
-                      (Accepts pointer TakesStruct) (Refuses pointer DeclinesStruct)
-                      (Declines pointer DeclinesStruct) view)
-                  | OrDefault.Default view ↦ Denotes pointer nothing ×
-                      (let pointer = root_of TARGET_DEFAULT in
-                      IsViewOf pointer
-                      (λ view. IsStruct pointer (struct_of segments_of view.fields))
-                      (Accepts pointer TakesStruct) (Refuses pointer DeclinesStruct)
-                      (Declines pointer DeclinesStruct) view)
-                ] }
+                ((Denotes pointer nothing → ⊥) → IsViewOf pointer
+                (λ view. IsStruct pointer (struct_of S.segments view.fields))
+                (Accepts pointer TakesStruct) (Refuses pointer DeclinesStruct)
+                (Declines pointer DeclinesStruct) result)
+                × (Denotes pointer nothing → (let constant = root_of TARGET_DEFAULT in
+                IsViewOf constant
+                (λ view. IsDefaultData constant pointer (struct_of S.segments view.fields))
+                (Accepts constant TakesStruct) (Refuses constant DeclinesStruct)
+                (Declines constant DeclinesStruct) result)) }
         {
             let pointer = self.fields.get_pointer(7);
             if pointer.is_null() {
-                OrDefault::Default(get_target_default())
+                match capnp_constant::default_data(&pointer, &TARGET_DEFAULT) {
+                    Ok(fields) => Ok(super::point::Reader { fields }),
+                    Err(error) => Err(error),
+                }
             } else {
-                OrDefault::Stored(FromPointerReader::get_from_pointer(pointer))
+                FromPointerReader::get_from_pointer(pointer)
             }
         }
 
@@ -1013,6 +1091,43 @@ pub mod sample {
             Reader {
                 fields: self.elements.get(index),
             }
+        }
+
+        /// The element of this index, or `None` where there are no more elements than it.
+        pub fn try_get(&self, index: u32) -> Option<Reader<'a, S>>
+            ensures { let list = upgraded_structs_of S.segments self.now.elements in
+                FindsElement (length list.rows) index
+                (λ item. struct_of S.segments item.fields ≡ element_of list index) result }
+        {
+            self.try_index_move(index)
+        }
+
+        /// An iterator over the elements.
+        pub fn iter(&self) -> ListIter<'_, Self>
+            ensures { IsIterator self.now result }
+        {
+            ListIter::new(self)
+        }
+    }
+
+    impl<'a, S: ReaderSegments> IndexMove for ListReader<'a, S> {
+        type Item = Reader<'a, S>;
+
+        ghost Element = { Struct };
+
+        ghost seen = { λ item. struct_of S.segments item.fields };
+
+        ghost size = { λ list. length (upgraded_structs_of S.segments list.elements).rows };
+
+        ghost element = { λ list index.
+            element_of (upgraded_structs_of S.segments list.elements) index };
+
+        fn len(&self) -> u32 {
+            self.len()
+        }
+
+        fn index_move(&self, index: u32) -> Reader<'a, S> {
+            self.get(index)
         }
     }
 
@@ -1523,7 +1638,7 @@ pub mod shape {
     use capnp_frame::message::ReaderSegments;
     use capnp_orphans::{Draft, Drafts, GrowingSegment, Orphan, Orphanage, StructDraft};
     use capnp_wire::any_struct::StructReader;
-    use capnp_wire::traits::{self, FromPointerReader};
+    use capnp_wire::traits::{self, FromPointerReader, IndexMove, ListIter};
     use capnp_wire::{any_pointer, upgraded};
 
     /// The type of the schema.
@@ -1632,6 +1747,43 @@ pub mod shape {
             Reader {
                 fields: self.elements.get(index),
             }
+        }
+
+        /// The element of this index, or `None` where there are no more elements than it.
+        pub fn try_get(&self, index: u32) -> Option<Reader<'a, S>>
+            ensures { let list = upgraded_structs_of S.segments self.now.elements in
+                FindsElement (length list.rows) index
+                (λ item. struct_of S.segments item.fields ≡ element_of list index) result }
+        {
+            self.try_index_move(index)
+        }
+
+        /// An iterator over the elements.
+        pub fn iter(&self) -> ListIter<'_, Self>
+            ensures { IsIterator self.now result }
+        {
+            ListIter::new(self)
+        }
+    }
+
+    impl<'a, S: ReaderSegments> IndexMove for ListReader<'a, S> {
+        type Item = Reader<'a, S>;
+
+        ghost Element = { Struct };
+
+        ghost seen = { λ item. struct_of S.segments item.fields };
+
+        ghost size = { λ list. length (upgraded_structs_of S.segments list.elements).rows };
+
+        ghost element = { λ list index.
+            element_of (upgraded_structs_of S.segments list.elements) index };
+
+        fn len(&self) -> u32 {
+            self.len()
+        }
+
+        fn index_move(&self, index: u32) -> Reader<'a, S> {
+            self.get(index)
         }
     }
 
@@ -1932,5 +2084,356 @@ pub mod shape {
                 self.draft.has_pointer(0)
             }
         }
+    }
+}
+
+/// Colors, and a name for each.
+pub mod palette {
+    use capnp_constant::{OrDefault, Words};
+    use capnp_frame::Result;
+    use capnp_frame::message::ReaderSegments;
+    use capnp_orphans::{Draft, Drafts, GrowingSegment, Orphan, Orphanage, StructDraft};
+    use capnp_wire::any_struct::StructReader;
+    use capnp_wire::traits::{self, FromPointerReader, IndexMove, ListIter};
+    use capnp_wire::{any_pointer, text, upgraded};
+
+    /// The type of the schema.
+    pub struct Owned;
+
+    impl<'a, S: ReaderSegments + 'a> traits::Owned<'a, S> for Owned {
+        type Reader = Reader<'a, S>;
+    }
+
+    /// A struct of this type in a message. What its writer left out reads as the default.
+    #[derive(Drop)]
+    pub struct Reader<'a, S: ReaderSegments> {
+        /// The struct whose fields these are.
+        pub fields: StructReader<'a, S>,
+    }
+
+    impl<'a, S: ReaderSegments> Reader<'a, S> {
+        /// The field `colors`.
+        pub fn get_colors(&self) -> Result<upgraded::EnumList<'a, super::Color>>
+            ensures { let fields = struct_of S.segments self.now.fields in
+                let pointer = pointer_in fields 0 in
+                IsViewOf pointer
+                (λ view. Reads pointer (λ form.
+                ReadsAsNumbers 3 form (upgraded_numbers_of 3 view.numbers)))
+                (Accepts pointer (TakesFields 3)) (Refuses pointer (DeclinesFields 3))
+                (Declines pointer (DeclinesFields 3)) result }
+        {
+            FromPointerReader::get_from_pointer(self.fields.get_pointer(0))
+        }
+
+        /// Whether `colors` is there, and is not null.
+        pub fn has_colors(&self) -> bool
+            ensures { let fields = struct_of S.segments self.now.fields in
+                IsTrue result ↔ (Denotes (pointer_in fields 0) nothing → ⊥) }
+        {
+            self.fields.has_pointer(0)
+        }
+
+        /// The field `names`.
+        pub fn get_names(
+            &self,
+        ) -> OrDefault<
+            upgraded::ListList<'a, S, text::Reader<'a>>,
+            upgraded::ListList<'static, Words<24>, text::Reader<'static>>,
+        >
+            ensures { let fields = struct_of S.segments self.now.fields in
+                let pointer = pointer_in fields 1 in
+                elim result [
+                  | OrDefault.Stored view ↦ (Denotes pointer nothing → ⊥) ×
+                      (IsViewOf pointer
+                      (λ view. IsUpgradedPointers pointer (upgraded_pointers_of S.segments view.pointers))
+                      (Accepts pointer TakesFirstPointers) (Refuses pointer DeclinesFirstPointers)
+                      (Declines pointer DeclinesFirstPointers) view)
+                  | OrDefault.Default view ↦ Denotes pointer nothing ×
+                      (let pointer = root_of NAMES_DEFAULT in
+                      IsViewOf pointer
+                      (λ view. IsUpgradedPointers pointer (upgraded_pointers_of segments_of view.pointers))
+                      (Accepts pointer TakesFirstPointers) (Refuses pointer DeclinesFirstPointers)
+                      (Declines pointer DeclinesFirstPointers) view)
+                ] }
+        {
+            let pointer = self.fields.get_pointer(1);
+            if pointer.is_null() {
+                OrDefault::Default(get_names_default())
+            } else {
+                OrDefault::Stored(FromPointerReader::get_from_pointer(pointer))
+            }
+        }
+
+        /// Whether `names` is there, and is not null.
+        pub fn has_names(&self) -> bool
+            ensures { let fields = struct_of S.segments self.now.fields in
+                IsTrue result ↔ (Denotes (pointer_in fields 1) nothing → ⊥) }
+        {
+            self.fields.has_pointer(1)
+        }
+    }
+
+    impl<'a, S: ReaderSegments> FromPointerReader<'a, S> for Reader<'a, S> {
+        ghost shows = { λ pointer view. IsStruct pointer (struct_of S.segments view.fields) };
+
+        ghost accepts = { λ pointer. Accepts pointer TakesStruct };
+
+        ghost refuses = { λ pointer kind. Refuses pointer DeclinesStruct kind };
+
+        ghost declines = { λ pointer kind. Declines pointer DeclinesStruct kind };
+
+        fn get_from_pointer(reader: any_pointer::Reader<'a, S>) -> Result<Self>
+            ensures { let pointer = pointer_of S.segments reader.entry in IsViewOf pointer
+                (λ view. IsStruct pointer (struct_of S.segments view.fields))
+                (Accepts pointer TakesStruct) (Refuses pointer DeclinesStruct)
+                (Declines pointer DeclinesStruct) result }
+        {
+            match StructReader::get_from_pointer(reader) {
+                Ok(fields) => Ok(Reader { fields }),
+                Err(error) => Err(error),
+            }
+        }
+    }
+
+    /// A list of such structs in a message; their first fields alone, where an older writer had these.
+    #[derive(Drop)]
+    pub struct ListReader<'a, S: ReaderSegments> {
+        /// The list whose elements these are.
+        pub elements: upgraded::StructList<'a, S>,
+    }
+
+    impl<'a, S: ReaderSegments> ListReader<'a, S> {
+        /// The number of elements.
+        pub fn len(&self) -> u32
+            ensures { result ≡ length (upgraded_structs_of S.segments self.now.elements).rows }
+        {
+            self.elements.len()
+        }
+
+        /// The element of this index.
+        pub fn get(&self, index: u32) -> Reader<'a, S>
+            requires { index < length (upgraded_structs_of S.segments self.now.elements).rows }
+            ensures { struct_of S.segments result.fields
+                ≡ element_of (upgraded_structs_of S.segments self.now.elements) index }
+        {
+            Reader {
+                fields: self.elements.get(index),
+            }
+        }
+
+        /// The element of this index, or `None` where there are no more elements than it.
+        pub fn try_get(&self, index: u32) -> Option<Reader<'a, S>>
+            ensures { let list = upgraded_structs_of S.segments self.now.elements in
+                FindsElement (length list.rows) index
+                (λ item. struct_of S.segments item.fields ≡ element_of list index) result }
+        {
+            self.try_index_move(index)
+        }
+
+        /// An iterator over the elements.
+        pub fn iter(&self) -> ListIter<'_, Self>
+            ensures { IsIterator self.now result }
+        {
+            ListIter::new(self)
+        }
+    }
+
+    impl<'a, S: ReaderSegments> IndexMove for ListReader<'a, S> {
+        type Item = Reader<'a, S>;
+
+        ghost Element = { Struct };
+
+        ghost seen = { λ item. struct_of S.segments item.fields };
+
+        ghost size = { λ list. length (upgraded_structs_of S.segments list.elements).rows };
+
+        ghost element = { λ list index.
+            element_of (upgraded_structs_of S.segments list.elements) index };
+
+        fn len(&self) -> u32 {
+            self.len()
+        }
+
+        fn index_move(&self, index: u32) -> Reader<'a, S> {
+            self.get(index)
+        }
+    }
+
+    impl<'a, S: ReaderSegments> FromPointerReader<'a, S> for ListReader<'a, S> {
+        ghost shows = { λ pointer view.
+            IsUpgradedStructs pointer (upgraded_structs_of S.segments view.elements) };
+
+        ghost accepts = { λ pointer. Accepts pointer TakesRows };
+
+        ghost refuses = { λ pointer kind. Refuses pointer DeclinesRows kind };
+
+        ghost declines = { λ pointer kind. Declines pointer DeclinesRows kind };
+
+        fn get_from_pointer(reader: any_pointer::Reader<'a, S>) -> Result<Self>
+            ensures { let pointer = pointer_of S.segments reader.entry in IsViewOf pointer
+                (λ view. IsUpgradedStructs pointer (upgraded_structs_of S.segments view.elements))
+                (Accepts pointer TakesRows) (Refuses pointer DeclinesRows)
+                (Declines pointer DeclinesRows) result }
+        {
+            match upgraded::StructList::get_from_pointer(reader) {
+                Ok(elements) => Ok(ListReader { elements }),
+                Err(error) => Err(error),
+            }
+        }
+    }
+
+    /// A list of such structs, as a type of the schema.
+    pub struct OwnedList;
+
+    impl<'a, S: ReaderSegments + 'a> traits::Owned<'a, S> for OwnedList {
+        type Reader = ListReader<'a, S>;
+    }
+
+    /// A struct of this type before it is written. What is not set has its default.
+    #[derive(Clone, Copy)]
+    pub struct Builder {
+        /// Its data words, and what its pointers lead to.
+        pub draft: StructDraft<Owned, 0, 2>,
+    }
+
+    impl Builder {
+        /// One in which nothing is set, so that each field has its default.
+        pub fn new() -> Builder
+            ensures words { result.draft.words ≡ replicate 0 0 }
+            ensures pointers { result.draft.pointers ≡ replicate 2 0 }
+        {
+            Builder {
+                draft: StructDraft::new(),
+            }
+        }
+
+        /// One of what a reader shows, to be changed and written again. What its pointers lead to is
+        /// copied, each object as an orphan, and null stays null. What a writer of another version of
+        /// the type left out is zero and null, and what it had beyond this one is left out.
+        ///
+        /// It fails as `Orphanage::set` of the first pointer does that can't be copied.
+        pub fn from_reader<R: ReaderSegments, S: GrowingSegment>(
+            read: &Reader<'_, R>,
+            objects: &mut Orphanage<S>,
+        ) -> Result<Builder>
+            ensures words { IfOk result (λ made. made.draft.words
+                ≡ words_in (struct_of R.segments read.now.fields) 0) }
+            ensures copies { Copies (struct_of R.segments read.now.fields) 2
+                objects.old objects.new (λ made. made.draft.pointers) result }
+        {
+            match StructDraft::from_reader(&read.fields, objects) {
+                Ok(draft) => Ok(Builder { draft }),
+                Err(error) => Err(error),
+            }
+        }
+
+        /// One of the numbers, bools and enums that a reader shows, as `from_reader` has them. Its
+        /// pointers are null.
+        pub fn from_data_section<R: ReaderSegments>(read: &Reader<'_, R>) -> Builder
+            ensures words { result.draft.words
+                ≡ words_in (struct_of R.segments read.now.fields) 0 }
+            ensures pointers { result.draft.pointers ≡ replicate 2 0 }
+        {
+            Builder {
+                draft: StructDraft::from_data_section(&read.fields),
+            }
+        }
+
+        /// Writes it, as an object that a pointer can lead to.
+        pub fn add<S: GrowingSegment>(&self, objects: &mut Orphanage<S>) -> Result<Orphan<Owned>>
+            ensures adds { Adds (HoldsStruct (body_of objects.old) self.now.draft.words
+                self.now.draft.pointers) objects.old objects.new word_of result }
+            ensures writes { Writes (StructWords 0 2) (ExceedsPointer 0 2)
+                objects.old objects.new result }
+        {
+            objects.add(&self.draft)
+        }
+
+        /// Writes it as the root of the message.
+        pub fn add_root<S: GrowingSegment>(&self, objects: &mut Orphanage<S>) -> Result<()>
+            ensures adds { AddsRoot (StructWords 0 2) (HoldsStruct (body_of objects.old)
+                self.now.draft.words self.now.draft.pointers) objects.old objects.new result }
+            ensures fails { Fails (StructWords 0 2) (ExceedsPointer 0 2)
+                objects.old result }
+        {
+            objects.add_root(&self.draft)
+        }
+
+        /// Writes a list of such structs.
+        pub fn add_list<S: GrowingSegment>(
+            elements: &[Builder],
+            objects: &mut Orphanage<S>,
+        ) -> Result<Orphan<OwnedList>>
+            ensures adds { Adds (HoldsStructs (body_of objects.old)
+                (map (λ element. element.draft) elements.now)) objects.old objects.new word_of result }
+            ensures writes { let count = length elements.now in
+                Writes (TakesStructs 0 2 count) (ManyStructs 0 2 count)
+                objects.old objects.new result }
+        {
+            let list = objects.lazy_struct_list(&Drafts::new(elements))?;
+            Ok(list.of_type())
+        }
+    }
+
+    impl Draft<Owned, 0, 2> for Builder {
+        ghost draft = { λ builder. builder.draft };
+
+        fn draft(&self) -> StructDraft<Owned, 0, 2> {
+            self.draft
+        }
+    }
+
+    impl Builder {
+        /// Sets the field `colors`.
+        pub fn set_colors(&mut self, value: Orphan<capnp_wire::primitive_list::Owned<u16>>)
+            ensures words { self.new.draft.words ≡ self.old.draft.words }
+            ensures pointers { self.new.draft.pointers
+                ≡ slice_set self.old.draft.pointers 0 value.word }
+        {
+            self.draft.adopt(0, value);
+        }
+
+        /// Whether `colors` is set, and not to null.
+        pub fn has_colors(&self) -> bool
+            ensures { IsTrue result ↔ (slice_index_or self.now.draft.pointers 0 0 ≢ 0) }
+        {
+            self.draft.has_pointer(0)
+        }
+
+        /// Sets the field `names`.
+        pub fn set_names(&mut self, value: Orphan<capnp_wire::list_list::Owned<text::Owned>>)
+            ensures words { self.new.draft.words ≡ self.old.draft.words }
+            ensures pointers { self.new.draft.pointers
+                ≡ slice_set self.old.draft.pointers 1 value.word }
+        {
+            self.draft.adopt(1, value);
+        }
+
+        /// Whether `names` is set, and not to null.
+        pub fn has_names(&self) -> bool
+            ensures { IsTrue result ↔ (slice_index_or self.now.draft.pointers 1 0 ≢ 0) }
+        {
+            self.draft.has_pointer(1)
+        }
+    }
+
+    #[rattlefmt::skip]
+    pub static NAMES_DEFAULT: Words<24> = Words { bytes: [
+        1, 0, 0, 0, 14, 0, 0, 0,
+        1, 0, 0, 0, 42, 0, 0, 0,
+        110, 111, 110, 101, 0, 0, 0, 0,
+    ] };
+
+    /// The default of the field `names`.
+    pub fn get_names_default() -> Result<
+        upgraded::ListList<'static, Words<24>, text::Reader<'static>>,
+    >
+        ensures { let pointer = root_of NAMES_DEFAULT in
+            IsViewOf pointer
+            (λ view. IsUpgradedPointers pointer (upgraded_pointers_of segments_of view.pointers))
+            (Accepts pointer TakesFirstPointers) (Refuses pointer DeclinesFirstPointers)
+            (Declines pointer DeclinesFirstPointers) result }
+    {
+        capnp_constant::view_of(&NAMES_DEFAULT)
     }
 }

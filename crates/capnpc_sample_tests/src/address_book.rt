@@ -11,7 +11,7 @@ use std::alloc::Global;
 pub fn write_address_book(objects: &mut Orphanage) -> Result<()> {
     let mut mobile = phone_number::Builder::new();
     mobile.set_number(objects.text("555-1212")?);
-    mobile.set_type(phone_number::Type_::Mobile);
+    mobile.set_type(phone_number::Type::Mobile);
     let mut alice = person::Builder::new();
     alice.set_id(123);
     alice.set_name(objects.text("Alice")?);
@@ -21,10 +21,10 @@ pub fn write_address_book(objects: &mut Orphanage) -> Result<()> {
 
     let mut home = phone_number::Builder::new();
     home.set_number(objects.text("555-4567")?);
-    home.set_type(phone_number::Type_::Home);
+    home.set_type(phone_number::Type::Home);
     let mut work = phone_number::Builder::new();
     work.set_number(objects.text("555-7654")?);
-    work.set_type(phone_number::Type_::Work);
+    work.set_type(phone_number::Type::Work);
     let mut bob = person::Builder::new();
     bob.set_id(456);
     bob.set_name(objects.text("Bob")?);
@@ -68,7 +68,8 @@ pub fn people<S: GrowingSegment>(
     person::Builder::add_list(people.as_slice(), objects)
 }
 
-/// Appends a framed message for each name. The orphanage is used again, so it takes no memory for most.
+/// Appends a framed message for each name. The orphanage is used again, so it takes no memory for
+/// most.
 pub fn append_people(alloc: Global, log: &mut Vec<u8>, names: &[&str]) -> Result<()> {
     let mut objects = Orphanage::new(alloc)?;
     let mut id: u32 = 0;

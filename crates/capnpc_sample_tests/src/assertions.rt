@@ -1,5 +1,5 @@
-//! Assertions that tell the row at which they fail. Each is proved once, and a test that calls them is
-//! quick to prove.
+//! Assertions that tell the row at which they fail. Each is proved once, and a test that calls them
+//! is quick to prove.
 use std::fmt::Debug;
 use std::process::Abort;
 

@@ -50,7 +50,7 @@ fn set_points(made: &mut sample::Builder, objects: &mut Orphanage) -> Result<()>
     Ok(())
 }
 
-// Objects are in the order in which they are written, so the canonical forms are compared.
+// Objects come in the order in which they are written, so the canonical forms are compared.
 #[test]
 fn every_field_is_set_as_the_tool_sets_it(rt: HostRuntime) -> Result<()> {
     let alloc = rt.alloc();

@@ -1,5 +1,5 @@
-//! Messages that are read and built by the types that the compiler makes of two small schemas. It holds
-//! tests alone, by the rules of `capnp_frame_tests`.
+//! Messages that are read and built by the types that the compiler makes of two small schemas. It
+//! holds tests alone, by the rules of `capnp_frame_tests`.
 #![tactic(auto)]
 
 #[cfg(test)]
@@ -12,6 +12,8 @@ mod builders;
 mod changed;
 #[cfg(test)]
 mod fields;
+#[cfg(test)]
+mod lists;
 #[cfg(test)]
 mod people;
 #[cfg(test)]

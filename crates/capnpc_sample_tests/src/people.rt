@@ -143,10 +143,9 @@ fn shown<S: ReaderSegments>(
     index: u32,
     job: Job<'_>,
 ) -> Result<Option<(bool, bool)>> {
-    if index >= people.len() {
+    let Some(person) = people.try_get(index) else {
         return Ok(None);
-    }
-    let person = people.get(index);
+    };
     Ok(Some((person.has_email(), has_job(&person, job)?)))
 }
 

@@ -2,15 +2,14 @@
 use crate::assertions::{expect, expect_bytes, expect_that};
 use crate::sample_capnp::{Color, LIMIT, get_corner, point, sample};
 use crate::shown::{coordinates, counts, has_color_and_ratio, label, note, origin, title};
-use capnp_constant::OrDefault;
 use capnp_frame::Result;
 use capnp_frame::message::{ReaderOptions, ReaderSegments, SegmentArray};
 use capnp_wire::arena::ReaderArena;
 
-// (count = 7, balance = 12, isReady = true, title = "A title", payload = 0x"01 02 ff",
-// points = [(x = 1, y = -2), (x = 3)], numbers = [5, 6, 4294967295], origin = (x = -9, y = 9),
-// color = deepBlue, window = (width = 80, height = 24), label = "here", ratio = -2.5, note = "some",
-// target = (y = 8))
+// (count = 7, balance = 12, isReady = true, title = "A title", payload = 0x"01 02 ff", points = [(x
+// = 1, y = -2), (x = 3)], numbers = [5, 6, 4294967295], origin = (x = -9, y = 9), color = deepBlue,
+// window = (width = 80, height = 24), label = "here", ratio = -2.5, note = "some", target = (y =
+// 8))
 #[rattlefmt::skip]
 pub(crate) const FILLED: &[u8] = &[
     0, 0, 0, 0, 4, 0, 9, 0,
@@ -122,10 +121,7 @@ fn payload<'a, S: ReaderSegments>(read: &sample::Reader<'a, S>) -> Result<&'a [u
 
 // The target, and whether it is in the message.
 fn target<S: ReaderSegments>(read: &sample::Reader<'_, S>) -> Result<(bool, (i32, i32))> {
-    match read.get_target() {
-        OrDefault::Stored(target) => Ok((true, coordinates(&target?))),
-        OrDefault::Default(target) => Ok((false, coordinates(&target?))),
-    }
+    Ok((read.has_target(), coordinates(&read.get_target()?)))
 }
 
 #[test]
@@ -137,6 +133,7 @@ fn lists_have_what_was_set(rt: HostRuntime) -> Result<()> {
     expect(&rt, "points", points.len(), 2);
     expect(&rt, "the first point", point_in(&points, 0), Some((1, -2)));
     expect(&rt, "the second point", point_in(&points, 1), Some((3, 0)));
+    expect(&rt, "past the points", point_in(&points, 2), None);
     expect(&rt, "numbers", numbers(&read)?, (3, 5, 4294967295));
     Ok(())
 }
@@ -146,10 +143,9 @@ fn point_in<S: ReaderSegments>(
     points: &point::ListReader<'_, S>,
     index: u32,
 ) -> Option<(i32, i32)> {
-    if index < points.len() {
-        Some(coordinates(&points.get(index)))
-    } else {
-        None
+    match points.try_get(index) {
+        Some(point) => Some(coordinates(&point)),
+        None => None,
     }
 }
 

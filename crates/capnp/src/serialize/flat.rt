@@ -28,7 +28,7 @@ pub fn read_message_from_flat_slice<'a>(
 }
 
 /// Reads the message at the front of a slice as `read_message_from_flat_slice` does, but accepts
-/// any padding.
+/// any padding in the segment table.
 pub fn read_message_from_flat_slice_lenient<'a>(
     alloc: Global,
     slice: &mut &'a [u8],
@@ -80,7 +80,7 @@ pub fn read_message_from_flat_slice_no_alloc<'a>(
 }
 
 /// Reads the message at the front of a slice as `read_message_from_flat_slice_no_alloc` does, but
-/// accepts any padding.
+/// accepts any padding in the segment table.
 pub fn read_message_from_flat_slice_no_alloc_lenient<'a>(
     slice: &mut &'a [u8],
     options: ReaderOptions,

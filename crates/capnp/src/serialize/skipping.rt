@@ -1,8 +1,8 @@
 //! Skipping messages of a stream, of which only the lengths of the segments are returned.
+ghost use Rattle.std.specs.Prelude.{length};
 ghost use Rattle.capnp_frame.specs.Skipping.{SkipsMessage};
 ghost use Rattle.capnp_frame.specs.Streams.{ReadsStream};
-ghost use Rattle.capnp.specs.Streams.{rules_of};
-ghost use Rattle.capnp.specs.declared.streams.Format.{Format};
+ghost use Rattle.capnp.specs.Streams.{skipping_rules_of};
 
 use capnp_frame::Result;
 use capnp_frame::io::BufRead;
@@ -15,26 +15,28 @@ use capnp_frame::serialize::{
 /// where nothing is unread.
 ///
 /// It consumes what `try_read_message` does, and fails as that does, but takes no memory for the
-/// segments. The lengths are put into the memory of `spare`, which grows where it is too small.
+/// segments. The lengths are put into the memory of `spare`, which grows where it is too small: so
+/// it fails with `OutOfMemory` only for more segments than `spare` has lengths, and then the
+/// table's first word alone is consumed.
 pub fn try_skip_message<R: BufRead>(
     source: &mut R,
     options: ReaderOptions,
     spare: SegmentLengthsBuilder,
 ) -> Result<Option<SegmentLengthsBuilder>>
     ensures { SkipsMessage (ReadsStream R.Read source.old source.new
-        (rules_of Padding.Zero Format.Framed) options.traversal_limit_in_words) result }
+        (skipping_rules_of Padding.Zero (length spare)) options.traversal_limit_in_words) result }
 {
     try_skip_segments(source, options, spare)
 }
 
-/// Skips the next message as `try_skip_message` does, but accepts any padding.
+/// Skips the next message as `try_skip_message` does, but accepts any padding in the segment table.
 pub fn try_skip_message_lenient<R: BufRead>(
     source: &mut R,
     options: ReaderOptions,
     spare: SegmentLengthsBuilder,
 ) -> Result<Option<SegmentLengthsBuilder>>
     ensures { SkipsMessage (ReadsStream R.Read source.old source.new
-        (rules_of Padding.Any Format.Framed) options.traversal_limit_in_words) result }
+        (skipping_rules_of Padding.Any (length spare)) options.traversal_limit_in_words) result }
 {
     try_skip_segments_lenient(source, options, spare)
 }

@@ -13,7 +13,8 @@ use capnp_frame::serialize::{NoAllocBufferSegments, OwnedSegments, Padding};
 use capnp_message::Reader;
 use std::alloc::Global;
 
-/// Reads the next packed message as `try_read_message` does, but accepts any padding.
+/// Reads the next packed message as `try_read_message` does, but accepts any padding in the segment
+/// table.
 pub fn try_read_message_lenient<R: BufRead>(
     alloc: Global,
     source: &mut R,
@@ -31,7 +32,8 @@ pub fn try_read_message_lenient<R: BufRead>(
     reading::try_read_message(alloc, source, Padding::Any, options)
 }
 
-/// Reads the next packed message as `read_message` does, but accepts any padding.
+/// Reads the next packed message as `read_message` does, but accepts any padding in the segment
+/// table.
 pub fn read_message_lenient<R: BufRead>(
     alloc: Global,
     source: &mut R,
@@ -49,7 +51,8 @@ pub fn read_message_lenient<R: BufRead>(
     reading::read_message(alloc, source, Padding::Any, options)
 }
 
-/// Reads the next packed message as `try_read_message_no_alloc` does, but accepts any padding.
+/// Reads the next packed message as `try_read_message_no_alloc` does, but accepts any padding in
+/// the segment table.
 pub fn try_read_message_no_alloc_lenient<'b, R: BufRead>(
     source: &mut R,
     buffer: &'b mut [u8],
@@ -67,7 +70,8 @@ pub fn try_read_message_no_alloc_lenient<'b, R: BufRead>(
     reading::try_read_message_no_alloc(source, buffer, Padding::Any, options)
 }
 
-/// Reads the next packed message as `read_message_no_alloc` does, but accepts any padding.
+/// Reads the next packed message as `read_message_no_alloc` does, but accepts any padding in the
+/// segment table.
 pub fn read_message_no_alloc_lenient<'b, R: BufRead>(
     source: &mut R,
     buffer: &'b mut [u8],

@@ -15,7 +15,7 @@ ghost use Rattle.capnp_build.specs.RootViews.{HoldsTree};
 
 use crate::allocator::Allocator;
 use crate::arena::location::RootLocation;
-use crate::root_kind::{RootKind, read_tag};
+use crate::root_kind::{RootKind, read_pointer_word};
 use crate::segments::Segments;
 use capnp_frame::Result;
 use capnp_frame::message::ReaderSegments;
@@ -120,7 +120,7 @@ impl<A: Allocator> BuilderArena<A> {
     {
         match self.location {
             None => RootKind::Null,
-            Some(location) => read_tag(location.tag),
+            Some(location) => read_pointer_word(location.pointer_word),
         }
     }
 

@@ -53,7 +53,7 @@ impl<A: Allocator> BuilderArena<A> {
         ensures block { PlacesBlock A.Allocator (V.has_tree value.now) canonical 0 0 words
             self.old self.new }
     {
-        let location = self.segments.fill(0, canonical, value, words);
+        let location = self.segments.append_value(0, canonical, value, words);
         self.segments.point_local(location);
         self.location = Some(location);
     }
@@ -75,7 +75,7 @@ impl<A: Allocator> BuilderArena<A> {
             self.old self.new }
     {
         self.segments.grow(segment, 1);
-        let location = self.segments.fill(segment, canonical, value, words);
+        let location = self.segments.append_value(segment, canonical, value, words);
         self.segments.point_far(location);
         self.location = Some(location);
     }

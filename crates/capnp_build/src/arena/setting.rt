@@ -2,7 +2,7 @@
 ghost use Rattle.std.specs.Prelude.{◌≡◌, ℕ, ◌-◌, ◌/◌, ◌<◌, length, false, true, Some, None};
 ghost use Rattle.capnp_build.specs.Built.{message, Built};
 ghost use Rattle.capnp_build.specs.Placed.{NewWords};
-ghost use Rattle.capnp_build.specs.Body.{Fits, zero_form};
+ghost use Rattle.capnp_build.specs.NewBody.{Fits, zero_form};
 ghost use Rattle.capnp_wire.specs.Tree.{none};
 ghost use Rattle.capnp_wire.specs.Reached.{root};
 ghost use Rattle.capnp_build.specs.Outcomes.{SetsRoot, SetsRootCanonical, InitsRoot};
@@ -11,7 +11,7 @@ ghost use Rattle.capnp_build.specs.Blocks.{IsNew, PutsBlock};
 use crate::allocator::Allocator;
 use crate::arena::builder_arena::BuilderArena;
 use crate::new_object::NewObject;
-use crate::object::Body;
+use crate::object::NewBody;
 use crate::owned_builder::OwnedBuilder;
 use capnp_frame::{Error, ErrorKind, Result};
 use capnp_wire::traits::SetterInput;
@@ -47,7 +47,7 @@ impl<A: Allocator> BuilderArena<A> {
     }
 
     // Places a new object, where the root is null.
-    fn put_new(&mut self, body: Body) -> Result<()>
+    fn put_new(&mut self, body: NewBody) -> Result<()>
         requires there { 0 < length self.old.spaces }
         requires null { self.old.location ≡ None }
         requires fits { Fits body }

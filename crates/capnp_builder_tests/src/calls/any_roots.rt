@@ -103,7 +103,7 @@ fn refused_after_hello(arena: &mut Words) -> Result<((u8, u32), bool)> {
     Ok((allocation_refusal(refused), root.is_null()))
 }
 
-// Where a new object is rejected, the root is null.
+// Where making a new object fails, the root is null.
 #[test]
 fn a_new_object_that_is_refused(rt: HostRuntime) -> Result<()> {
     let found = refused_after_hello(&mut arena_of(rt.alloc(), 1024))?;

@@ -1,4 +1,4 @@
-//! Segments of an allocator, and what is rejected where messages are built in them.
+//! Segments of an allocator, and what fails where messages are built in them.
 use crate::fixtures::expect;
 use capnp_build::allocator::Allocator;
 use capnp_build::arena::builder_arena::BuilderArena;
@@ -76,7 +76,7 @@ pub fn set_text(arena: &mut Words, text: &str) -> Result<()> {
     arena.set_root::<text::Owned, &str>(&text)
 }
 
-/// How a view of the root is rejected.
+/// How a view of the root fails.
 pub fn view_refusal<K: OwnedBuilder>(arena: &mut Words) -> u8 {
     refusal(arena.get_root::<K>())
 }
@@ -102,7 +102,7 @@ fn text_that_is_read(rt: HostRuntime) -> Result<()> {
     Ok(())
 }
 
-// How a canonical root is rejected after another one.
+// How a canonical root fails after another one.
 fn canonical_refusal(arena: &mut Words) -> Result<u8> {
     set_text(arena, "hello")?;
     Ok(refusal(arena.set_root_canonical::<text::Owned, &str>(&"a")))
@@ -129,7 +129,7 @@ fn is_null(arena: &Words, length: usize) -> bool {
     }
 }
 
-// How lists of too many words are rejected: data, numbers and a text.
+// How lists of too many words fail: data, numbers and a text.
 fn list_refusals(arena: &mut Words) -> [(u8, u32); 3] {
     [
         init_refusal::<data::Owned>(arena, 536870912),
@@ -149,7 +149,7 @@ fn lengths_that_are_refused(rt: HostRuntime) {
     assert!(rt; is_null(&arena, 8));
 }
 
-// How a text is rejected after another one.
+// How a text fails after another one.
 fn text_refusal(arena: &mut Words) -> Result<u8> {
     set_text(arena, "hello")?;
     Ok(refusal(set_text(arena, "a longer text")))

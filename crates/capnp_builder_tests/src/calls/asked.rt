@@ -8,7 +8,8 @@ use capnp_message::heap_allocator::{AllocationStrategy, HeapAllocator};
 use capnp_object_tests::arenas::kind_of;
 use std::alloc::Global;
 
-/// A heap that grants a given number of requests, counts them all, and notes the words of the last one.
+/// A heap that grants a given number of requests, counts them all, and notes the words of the last
+/// one.
 #[derive(Drop)]
 struct Asked {
     heap: HeapAllocator,
@@ -78,7 +79,7 @@ fn a_second_segment_is_asked_for(rt: HostRuntime) {
     }
 }
 
-// Longer and longer lists, each of which takes a further segment, until one is rejected.
+// Longer and longer lists, each of which takes a further segment, until one fails.
 #[test]
 fn each_further_segment_is_asked_for(rt: HostRuntime) -> Result<()> {
     let mut allocator = asked_heap(rt.alloc(), 70);

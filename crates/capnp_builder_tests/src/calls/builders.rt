@@ -19,7 +19,7 @@ use capnp_object_tests::arenas::kind_of;
 
 const HELLO: &[u8] = b"\x01\0\0\0\x72\0\0\0Hello, World!\0\0\0";
 
-// "Hello, World!" after two words of zeros, where another text was.
+// "Hello, World!" after two words of zeros, where another text was before.
 const SECOND: &[u8] = b"\x05\0\0\0\x72\0\0\0\0\0\0\0\0\0\0\0Hello, World!\0\0\0";
 
 // A far pointer, and the landing pad and text that it leads to.
@@ -51,7 +51,7 @@ fn hello_far(rt: HostRuntime) -> Result<()> {
     Ok(())
 }
 
-/// A heap whose second request is rejected.
+/// A heap whose second request fails.
 #[derive(Drop)]
 struct SecondRefused {
     heap: HeapAllocator,
@@ -90,7 +90,7 @@ impl Allocator for SecondRefused {
     ghost accounts = { λ s. ([], tt) };
 }
 
-// Where the second segment is rejected the root is null, and the same call succeeds once it is given.
+// Where the second segment fails the root is null, and the same call succeeds once it is given.
 #[test]
 fn second_segment_refused(rt: HostRuntime) -> Result<()> {
     let heap = HeapAllocator::new(rt.alloc()).first_segment_words(1);

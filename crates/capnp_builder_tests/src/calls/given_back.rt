@@ -1,4 +1,5 @@
-//! What builders give back to their allocators: each segment once, with the words that were used of it.
+//! What builders give back to their allocators: each segment once, with the words that were used of
+//! it.
 use crate::building::{init_words, is_null_root, set_text};
 use crate::fixtures::expect;
 use capnp_build::allocator::Allocator;
@@ -119,7 +120,8 @@ fn each_segment_comes_back_with_the_allocator(rt: HostRuntime) -> Result<()> {
     Ok(())
 }
 
-// Of a message of no segments none comes back; where only the root was looked at, its word was used.
+// Of a message of no segments none comes back; where only the root was looked at, its word was
+// used.
 #[test]
 fn little_comes_back(rt: HostRuntime) -> Result<()> {
     let mut allocator = noting_heap(rt.alloc());

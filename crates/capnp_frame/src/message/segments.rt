@@ -87,12 +87,12 @@ impl ReaderSegments for SegmentArray<'_> {
     }
 }
 
-/// A type that shows bytes.
+/// A type whose bytes can be borrowed, always the same ones.
 pub trait AsBytes {
-    /// The bytes that are shown.
+    /// The bytes that are borrowed.
     ghost bytes: { Self → List ℕ };
 
-    /// The bytes, which are always the same.
+    /// The bytes; each call returns the same.
     fn as_bytes(&self) -> &[u8]
         ensures { result.now ≡ bytes self.now };
 }

@@ -93,7 +93,8 @@ impl<T: AsBytes + Drop> BufferSegments<T> {
         )
     }
 
-    /// Finds the message at the front of a buffer as `new` does, but accepts any padding.
+    /// Finds the message at the front of a buffer as `new` does, but accepts any padding in the
+    /// segment table.
     pub fn new_lenient(
         alloc: Global,
         buffer: T,
@@ -173,7 +174,8 @@ pub fn take_segments<'a>(
     )
 }
 
-/// Finds the message at the front of a slice as `take_segments` does, but accepts any padding.
+/// Finds the message at the front of a slice as `take_segments` does, but accepts any padding in
+/// the segment table.
 pub fn take_segments_lenient<'a>(
     alloc: Global,
     slice: &mut &'a [u8],

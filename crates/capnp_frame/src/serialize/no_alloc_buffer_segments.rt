@@ -88,7 +88,8 @@ impl<T: AsBytes + Drop> NoAllocBufferSegments<T> {
         NoAllocBufferSegments::find(buffer, options.traversal_limit_in_words, Padding::Zero)
     }
 
-    /// Finds the message at the front of a buffer as `from_buffer` does, but accepts any padding.
+    /// Finds the message at the front of a buffer as `from_buffer` does, but accepts any padding in
+    /// the segment table.
     pub fn from_buffer_lenient(
         buffer: T,
         options: ReaderOptions,
@@ -125,7 +126,8 @@ impl<'b> NoAllocBufferSegments<&'b [u8]> {
         NoAllocBufferSegments::take_front(slice, options.traversal_limit_in_words, Padding::Zero)
     }
 
-    /// Finds the message at the front of a slice as `from_slice` does, but accepts any padding.
+    /// Finds the message at the front of a slice as `from_slice` does, but accepts any padding in
+    /// the segment table.
     pub fn from_slice_lenient(
         slice: &mut &'b [u8],
         options: ReaderOptions,

@@ -48,7 +48,8 @@ pub fn try_read_segments_into<'b, R: Read>(
     )
 }
 
-/// Reads the next message as `try_read_segments_into` does, but accepts any padding.
+/// Reads the next message as `try_read_segments_into` does, but accepts any padding in the segment
+/// table.
 pub fn try_read_segments_into_lenient<'b, R: Read>(
     source: &mut R,
     buffer: &'b mut [u8],

@@ -8,12 +8,12 @@ ghost use Rattle.capnp_frame.specs.Front.{declared_lengths, declared_padding, Sp
 
 use crate::error::{Error, ErrorKind, Result};
 
-/// A message that is read has fewer segments than this.
+/// A message that is read has fewer segments than this, so at most 511.
 ///
 /// The limit keeps a hostile table from asking for much memory before any segment is there.
 pub const SEGMENTS_COUNT_LIMIT: usize = 512;
 
-/// The length of the longest table that is read, in bytes.
+/// The length of the longest table that is read, in bytes: that of 511 segments.
 pub(crate) const LONGEST_TABLE: usize = 2048;
 
 /// What a reader accepts as the padding of a segment table: the four bytes after an even number of
@@ -42,8 +42,11 @@ pub(crate) fn field_at(table: &[u8], at: usize) -> u32
     u32::from_le_bytes([table[at], table[at + 1], table[at + 2], table[at + 3]])
 }
 
-/// The number of segments by the first word of a table: one more than its field holds, so that
-/// `ff ff ff ff` stands for 0. Fails with `InvalidNumberOfSegments` where it isn't from 1 to 511.
+/// The number of segments by the first word of a table: one more than its field holds. Fails with
+/// `InvalidNumberOfSegments` where it isn't from 1 to 511.
+///
+/// The number wraps at 32 bits, so `ff ff ff ff` fails as 0; `read_table_info` doesn't wrap, and
+/// fails as 2^32 there.
 pub(crate) fn accepted_count(first: &[u8; 8]) -> Result<usize>
     ensures accepted { IfOk result (DeclaresAccepted first.now) }
     ensures refused { IfErr result (λ error. (count : ℕ) × Tells first.now count
@@ -121,7 +124,7 @@ pub(crate) fn lengths_total(table: &[u8], count: usize) -> usize
 
 /// Fills in where each segment begins and ends, in words, by the lengths in a table of as many
 /// segments, and returns the sum of the lengths.
-pub(crate) fn fill_indices(indices: &mut [(usize, usize)], table: &[u8]) -> usize
+pub(crate) fn fill_segment_ranges(indices: &mut [(usize, usize)], table: &[u8]) -> usize
     requires few { length indices.old < SEGMENTS_COUNT_LIMIT }
     requires room { 4 * (length indices.old + 1) ≤ length table.now }
     ensures declared { map range_len indices.new ≡ declared_lengths (length indices.new) table.now }

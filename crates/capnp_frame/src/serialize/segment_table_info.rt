@@ -11,7 +11,8 @@ use crate::serialize::segment_table::{
     Padding, SEGMENTS_COUNT_LIMIT, check_limit, check_padding, field_at, lengths_total, table_len,
 };
 
-/// What is known of a message from its segment table.
+/// How many segments a message has, and how long its table and its segments are, as the segment
+/// table at its front declares.
 #[derive(Clone, Copy, Debug)]
 pub struct NoAllocSegmentTableInfo {
     /// The number of segments.
@@ -45,6 +46,9 @@ fn has_same_numbers(found: &NoAllocSegmentTableInfo, info: &NoAllocSegmentTableI
 }
 
 /// Reads the table at the front of these bytes field by field, and tests that the segments follow.
+///
+/// A number of segments past 32 bits doesn't wrap: `ff ff ff ff` fails as 2^32 segments, where
+/// `accepted_count` fails as 0.
 pub(crate) fn read_table_info(
     bytes: &[u8],
     limit: Option<usize>,

@@ -3,9 +3,9 @@ ghost use Rattle.std.specs.Prelude.{◌≡◌, ◌-◌, ◌*◌, ◌<◌, ◌≤
 ghost use Rattle.capnp_frame.specs.Limits.{AreWithin};
 ghost use Rattle.capnp_frame.specs.Source.{IfKnown, IsRefused};
 ghost use Rattle.capnp_frame.specs.Asking.{Asked, FailsOr};
-ghost use Rattle.capnp_frame.specs.Streams.{framed_rules, ReadsStream};
+ghost use Rattle.capnp_frame.specs.Streams.{skipping_rules, ReadsStream};
 ghost use Rattle.capnp_frame.specs.Steps.{AsksNext};
-ghost use Rattle.capnp_frame.specs.Refusals.{RefusesStream, TakesMemory};
+ghost use Rattle.capnp_frame.specs.Refusals.{RefusesStream, TakesForLengths};
 ghost use Rattle.capnp_frame.specs.Skipping.{SkipsMessage, LengthsStand, Drops};
 ghost use Rattle.capnp_frame.specs.declared.error.ErrorKind.{ErrorKind};
 
@@ -24,14 +24,17 @@ const LONG: usize = 32768;
 /// nothing is unread.
 ///
 /// It returns, consumes and fails as `try_read_segments` does, but takes no memory for the
-/// segments. The lengths are put into the memory of `spare`, which grows where it is too small.
+/// segments. The lengths are put into the memory of `spare`, which grows where it is too small: so
+/// it fails with `OutOfMemory` only for more segments than `spare` has lengths, and then the
+/// table's first word alone is consumed.
 pub fn try_skip_segments<R: BufRead>(
     source: &mut R,
     options: ReaderOptions,
     spare: SegmentLengthsBuilder,
 ) -> Result<Option<SegmentLengthsBuilder>>
     ensures { SkipsMessage (ReadsStream R.Read source.old source.new
-        (framed_rules Padding.Zero R.gives R.refuses) options.traversal_limit_in_words) result }
+        (skipping_rules Padding.Zero R.gives R.refuses (length spare))
+        options.traversal_limit_in_words) result }
 {
     skip_next(
         source,
@@ -41,14 +44,16 @@ pub fn try_skip_segments<R: BufRead>(
     )
 }
 
-/// Skips the next message as `try_skip_segments` does, but accepts any padding.
+/// Skips the next message as `try_skip_segments` does, but accepts any padding in the segment
+/// table.
 pub fn try_skip_segments_lenient<R: BufRead>(
     source: &mut R,
     options: ReaderOptions,
     spare: SegmentLengthsBuilder,
 ) -> Result<Option<SegmentLengthsBuilder>>
     ensures { SkipsMessage (ReadsStream R.Read source.old source.new
-        (framed_rules Padding.Any R.gives R.refuses) options.traversal_limit_in_words) result }
+        (skipping_rules Padding.Any R.gives R.refuses (length spare))
+        options.traversal_limit_in_words) result }
 {
     skip_next(
         source,
@@ -66,7 +71,7 @@ fn skip_next<R: BufRead>(
     memory: Vec<(usize, usize)>,
 ) -> Result<Option<SegmentLengthsBuilder>>
     ensures { SkipsMessage (ReadsStream R.Read source.old source.new
-        (framed_rules rule R.gives R.refuses) limit) result }
+        (skipping_rules rule R.gives R.refuses (length memory.items)) limit) result }
 {
     skip_segments(source, limit, rule, memory)
 }
@@ -81,7 +86,8 @@ fn skip_segments<R: BufRead>(
     ensures found { IfOk result (λ found. IfSome found (λ ns.
         IfKnown (R.unread source.old) (R.unread source.new) (LengthsStand rule R.gives ns))) }
     ensures within { IfOk result (λ found. IfSome found (λ ns. AreWithin ns limit)) }
-    ensures asks { AsksNext R.Read source.old source.new rule (TakesMemory rule R.gives limit)
+    ensures asks { AsksNext R.Read source.old source.new rule
+        (TakesForLengths (length memory.items) R.gives)
         (RefusesStream rule R.gives R.refuses limit None) result }
 {
     let Some(lengths) = read_table(memory, source, limit, rule)? else {

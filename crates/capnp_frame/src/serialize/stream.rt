@@ -11,7 +11,7 @@ ghost use Rattle.capnp_frame.specs.Asking.{Asked, FailsOr};
 ghost use Rattle.capnp_frame.specs.Streams.{framed_rules, ReadsStream};
 ghost use Rattle.capnp_frame.specs.Steps.{AsksNext, ReadsLengths, RefusesComplete};
 ghost use Rattle.capnp_frame.specs.Requests.{TableStands, MessageStands};
-ghost use Rattle.capnp_frame.specs.Refusals.{DeclaresAccepted, RefusesTable, RefusesStream, CountStands, TakesMemory, IsReaderKind};
+ghost use Rattle.capnp_frame.specs.Refusals.{DeclaresAccepted, RefusesTable, RefusesStream, TakesMemory, TakesForLengths, IsReaderKind};
 ghost use Rattle.capnp_frame.specs.declared.error.ErrorKind.{ErrorKind};
 
 use crate::error::{Error, ErrorKind, Result};
@@ -21,7 +21,7 @@ use crate::serialize::owned_segments::OwnedSegments;
 use crate::serialize::segment_lengths::SegmentLengthsBuilder;
 use crate::serialize::segment_table::{
     LONGEST_TABLE, Padding, SEGMENTS_COUNT_LIMIT, accepted_count, check_limit, check_padding,
-    fill_indices, table_len,
+    fill_segment_ranges, table_len,
 };
 use std::alloc::Global;
 
@@ -53,7 +53,8 @@ pub fn try_read_segments<R: Read>(
     )
 }
 
-/// Reads the next message as `try_read_segments` does, but accepts any padding.
+/// Reads the next message as `try_read_segments` does, but accepts any padding in the segment
+/// table.
 pub fn try_read_segments_lenient<R: Read>(
     alloc: Global,
     source: &mut R,
@@ -91,7 +92,8 @@ pub fn try_read_segments_reusing<R: Read>(
     )
 }
 
-/// Reads the next message as `try_read_segments_reusing` does, but accepts any padding.
+/// Reads the next message as `try_read_segments_reusing` does, but accepts any padding in the
+/// segment table.
 pub fn try_read_segments_reusing_lenient<R: Read>(
     source: &mut R,
     options: ReaderOptions,
@@ -159,7 +161,8 @@ pub(crate) fn read_table<R: Read>(
         IfKnown (R.unread source.old) (R.unread source.new) (TableStands rule R.gives ns))) }
     ensures within { IfOk result (λ found. IfSome found (λ ns. AreWithin ns limit)) }
     ensures bound { IfOk result (λ found. IfSome found (λ ns. sum ns < 2 ^ 42)) }
-    ensures asks { AsksNext R.Read source.old source.new rule (CountStands R.gives)
+    ensures asks { AsksNext R.Read source.old source.new rule
+        (TakesForLengths (length memory.items) R.gives)
         (RefusesTable rule R.gives R.refuses limit None) result }
 {
     let Some(first) = read_first(source)? else {
@@ -239,7 +242,7 @@ fn fill_lengths(
     ensures within { OnOk result (KeepsLimit (map range_len indices.new) limit) }
     ensures refused { IfErr result (λ error. RefusesComplete rule limit error.kind table.now) }
 {
-    let total = fill_indices(indices, table);
+    let total = fill_segment_ranges(indices, table);
     check_limit(total, limit)?;
     check_padding(table, indices.len(), rule)?;
     Ok(total)

@@ -4,8 +4,8 @@ ghost use Rattle.capnp_frame.specs.Writing.{IsWritable};
 
 use crate::message::ReaderSegments;
 
-/// Whether these segments can be written as a message: there are 1 to 2^32 - 1 of them, each of whole
-/// words and fewer than 2^32 words. Writers require it.
+/// Whether these segments can be written as a message: there are 1 to 2^32 - 1 of them, each of
+/// whole words and fewer than 2^32 words. Writers require it.
 pub fn is_writable<S: ReaderSegments>(segments: &S) -> bool
     ensures { IsTrue result ↔ IsWritable (S.segments segments.now) }
 {

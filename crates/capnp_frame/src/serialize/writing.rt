@@ -1,11 +1,11 @@
 //! Writing messages to a sink.
 ghost use Rattle.std.specs.Prelude.{◌≡◌, ◌+◌, ◌<◌, ◌≤◌, ◌^◌, length, take, drop, replicate, ◌++◌, slice_get, Some, IfSome, IfNone, IfErr};
-ghost use Rattle.std.specs.List.{AllByRecursion};
+ghost use Rattle.std.specs.List.{AllByRecursion, concat};
 ghost use Rattle.capnp_frame.specs.Message.{IsWholeWords, lengths};
 ghost use Rattle.capnp_frame.specs.SegmentTable.{field, zero_padded_table, table_size};
 ghost use Rattle.capnp_frame.specs.Writing.{IsWritable, RefusesMany, word_and_rest, table_chunks};
 ghost use Rattle.capnp_frame.specs.Sink.{AppendsAll, LeavesSome, DeclinesSome};
-ghost use Rattle.capnp_frame.specs.Writers.{WritesTo, WritesChunks, WritesSegments, LacksTable, KeepsCount, ReturnsEncoding, CountsWords};
+ghost use Rattle.capnp_frame.specs.Writers.{WritesTo, WritesChunks, WritesSegments, TakesGranted, LacksNothing, LacksTable, KeepsCount, ReturnsEncoding, CountsWords};
 
 use crate::error::{Error, ErrorKind, Result};
 use crate::io::Write;
@@ -18,7 +18,7 @@ use std::alloc::Global;
 ///
 /// Fails with `InvalidNumberOfSegments`, of how many there are, for more than 511 segments, before
 /// all else; with `OutOfMemory`, from four segments on and before anything is written, where there
-/// is no memory for the table; and else as the sink does.
+/// is no memory for the table; and else as the sink does, which never rejects what it `grants`.
 pub fn write_segments<W: Write, S: ReaderSegments>(
     alloc: Global,
     sink: &mut W,
@@ -83,9 +83,11 @@ fn check_count<S: ReaderSegments>(segments: &S) -> Result<()>
 // Writes the table, with memory for it from four segments on.
 fn write_table<W: Write, S: ReaderSegments>(alloc: Global, sink: &mut W, segments: &S) -> Result<()>
     requires { IsWritable (S.segments segments.now) }
-    ensures { WritesChunks W.Write sink.old sink.new
+    ensures writes { WritesChunks W.Write sink.old sink.new
         (table_chunks (lengths (S.segments segments.now)))
         (LacksTable (S.segments segments.now)) result }
+    ensures granted { TakesGranted W.grants sink.old sink.new
+        (table_size (length (S.segments segments.now))) (LacksTable (S.segments segments.now)) result }
 {
     let count = segments.len();
     if count < 4 {
@@ -102,9 +104,11 @@ fn write_table<W: Write, S: ReaderSegments>(alloc: Global, sink: &mut W, segment
 // Writes the first word of a table, and where it has more the others.
 fn write_in_parts<W: Write>(sink: &mut W, table: &[u8]) -> Result<()>
     requires { 8 ≤ length table.now }
-    ensures { WritesTo W.Write sink.old sink.new (AppendsAll W.appends (word_and_rest table.now))
+    ensures writes { WritesTo W.Write sink.old sink.new
+        (AppendsAll W.appends (word_and_rest table.now))
         (LeavesSome W.appends W.leaves (word_and_rest table.now))
         (DeclinesSome W.refuses (word_and_rest table.now)) result }
+    ensures granted { TakesGranted W.grants sink.old sink.new (length table.now) LacksNothing result }
 {
     sink.write_all(&table[..8])?;
     if table.len() > 8 {
@@ -116,9 +120,12 @@ fn write_in_parts<W: Write>(sink: &mut W, table: &[u8]) -> Result<()>
 // Writes each segment as a chunk.
 fn write_each<W: Write, S: ReaderSegments>(sink: &mut W, segments: &S) -> Result<()>
     requires { length (S.segments segments.now) < 2 ^ 32 }
-    ensures { WritesTo W.Write sink.old sink.new (AppendsAll W.appends (S.segments segments.now))
+    ensures writes { WritesTo W.Write sink.old sink.new
+        (AppendsAll W.appends (S.segments segments.now))
         (LeavesSome W.appends W.leaves (S.segments segments.now))
         (DeclinesSome W.refuses (S.segments segments.now)) result }
+    ensures granted { TakesGranted W.grants sink.old sink.new
+        (length (concat (S.segments segments.now))) LacksNothing result }
 {
     let mut index = 0;
     while let Some(segment) = segment_at(segments, index) {

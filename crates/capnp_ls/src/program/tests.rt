@@ -1,5 +1,6 @@
-//! Where a run stops whose sink fails within it, which `main` sees after a long output alone: there a
-//! buffer is before the device. `tools/try-program` shows what runs print, and where they stop else.
+//! Where a run stops whose sink fails within it, which `main` sees after a long output alone: there
+//! a buffer is before the device. `tools/try-program` shows what runs print, and where they stop
+//! else.
 use crate::program::run;
 use crate::stop::Stop;
 use capnp::Result;
@@ -57,8 +58,8 @@ const LINES: &[u8] = b"0 2 1 0 1\n1 1 0 0\n2 1 2 2\n";
 const HELLOS: &[u8] =
     b"\0\0\0\0\x03\0\0\0\x01\0\0\0\x72\0\0\0Hello, World!\0\0\0\0\0\0\0\x03\0\0\0\x01\0\0\0\x72\0\0\0Hello, World!\0\0\0";
 
-/// A command, what it reads and what it prints of that, the write that fails, the message there, and
-/// how many bytes the device has then.
+/// A command, what it reads and what it prints of that, the write that fails, the message there,
+/// and how many bytes the device has then.
 #[derive(Drop)]
 struct Row {
     command: &'static str,

@@ -12,8 +12,8 @@ enum Kind {
     Numbers,
 }
 
-// Segments, and what their roots lead to: its kind, its data words or its elements, the bits of an element
-// of a list of numbers, and the first data word or the last number.
+// Segments, and what their roots lead to: its kind, its data words or its elements, the bits of an
+// element of a list of numbers, and the first data word or the last number.
 #[rattlefmt::skip]
 const OBJECTS: [(&[u8], (Kind, u32, u32, u64)); 14] = [
     (b"\0\0\0\0\0\0\0\0", (Kind::Null, 0, 0, 0)),
@@ -38,8 +38,8 @@ const OBJECTS: [(&[u8], (Kind, u32, u32, u64)); 14] = [
     (b"\x01\0\0\0\x05\0\0\0", (Kind::Numbers, 0, 64, 0)),
 ];
 
-// Segments whose roots lead to no object, or to one that lies too deep or counts too many words, with the
-// nesting limit and the traversal limit, and how they are rejected.
+// Segments whose roots lead to no object, or to one that lies too deep or counts too many words,
+// with the nesting limit and the traversal limit, and how they fail.
 #[rattlefmt::skip]
 const REFUSED: [(&[u8], i32, usize, u8); 8] = [
     (b"\x03\0\0\0\0\0\0\0", 64, 1000, 21),
@@ -111,8 +111,8 @@ fn objects_that_are_refused(rt: HostRuntime) {
     }
 }
 
-// An object is counted once for each time it is asked for, and not again when its elements are read; null
-// is counted not at all.
+// An object is counted once for each time it is asked for, and not again when its elements are
+// read; null is counted not at all.
 #[test]
 fn objects_are_counted_once(rt: HostRuntime) {
     let segments = [b"\x01\0\0\0\x1a\0\0\0\x05\xfa\x07\0\0\0\0\0".as_slice()];

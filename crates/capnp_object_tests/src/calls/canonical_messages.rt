@@ -13,8 +13,8 @@ use std::process::Abort;
 
 type Form = Numbered<&'static [u8]>;
 
-// Segments, a traversal limit, whether they are canonical, and their canonical words; an error by its
-// number.
+// Segments, a traversal limit, whether they are canonical, and their canonical words; an error by
+// its number.
 #[rattlefmt::skip]
 const EXPECTED: [(&[&[u8]], Option<usize>, Numbered<bool>, Form); 24] = [
     // "Hello, World!", within two words and not within one

@@ -20,7 +20,7 @@ fn deep_trees(rt: HostRuntime) -> Result<()> {
     Ok(())
 }
 
-// 65,536 lists of 65,536 bits, of which all but the first are where another does.
+// 65,536 lists of 65,536 bits, of which all but the first are at the place of another one.
 #[test]
 fn shared_lists(rt: HostRuntime) -> Result<()> {
     let bytes = trees::shared_lists(rt.alloc())?;

@@ -30,7 +30,7 @@ fn expect_fields<T: PrimitiveElement + PartialEq + Debug + Copy>(
     Ok(())
 }
 
-// The same where they have defaults, which are before what is wanted.
+// The same where the fields have defaults, which come before what is expected.
 fn expect_masked_fields<T: PrimitiveElement + PartialEq + Debug + Copy>(
     rt: &impl Abort,
     width: &str,

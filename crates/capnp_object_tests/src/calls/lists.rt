@@ -1,5 +1,5 @@
-//! Lists of structs, of pointers, of text, of data and of lists, by their elements (encoding document,
-//! "Lists").
+//! Lists of structs, of pointers, of text, of data and of lists, by their elements (encoding
+//! document, "Lists").
 use crate::calls::objects::HELLO;
 use crate::fixtures::{Arena, Numbered, arena_of, expect, has_text, root_as, root_refusal};
 use capnp_frame::Result;

@@ -24,8 +24,9 @@ const WORDS: &[u8] = b"\x01\0\0\0\x15\0\0\0\0\0\0\0\0\0\xf8\x3f\x07\0\0\0\0\0\0\
 // Three nothings.
 const NOTHINGS: &[u8] = b"\x01\0\0\0\x18\0\0\0";
 
-// Segments, and the errors of their roots as lists of nothing, of bools, and of 1, 2, 4 and 8 bytes; 0
-// where there is a list. An element that is a byte wide is read from no list but one of bytes.
+// Segments, and the errors of their roots as lists of nothing, of bools, and of 1, 2, 4 and 8
+// bytes; 0 where there is a list. An element that is a byte wide is read from no list but one of
+// bytes.
 #[rattlefmt::skip]
 const ROOTS: [(&[u8], [u8; 6]); 6] = [
     (NOTHINGS, [0, 22, 22, 22, 22, 22]),

@@ -1,5 +1,5 @@
-//! Texts, fields and elements at roots, by worked bytes; the roots of each shape, whole and broken, are
-//! those of `roots`.
+//! Texts, fields and elements at roots, by worked bytes; the roots of each shape, whole and broken,
+//! are those of `roots`.
 use crate::fixtures::{
     Arena, expect, plain_arena, root_as, root_as_data, root_as_struct, root_as_words,
 };

@@ -1,5 +1,5 @@
-//! What views count against the traversal limit one after another; what each counts by itself is told
-//! by the rows of `roots`.
+//! What views count against the traversal limit one after another; what each counts by itself is
+//! told by the rows of `roots`.
 use crate::fixtures::{
     Arena, arena_of, expect, root_as_any, root_as_struct, root_as_text, text_at,
 };
@@ -38,7 +38,7 @@ fn what_is_counted(rt: HostRuntime) -> Result<()> {
 const TWO_TEXTS: &[u8] =
     b"\0\0\0\0\0\0\x02\0\x05\0\0\0\x72\0\0\0\x09\0\0\0\x12\0\0\0Hello, World!\0\0\0A\0\0\0\0\0\0\0";
 
-// A read that is rejected counts nothing: what still has room is read after it.
+// A read that fails counts nothing: what still has room is read after it.
 #[test]
 fn a_refused_read_counts_nothing(rt: HostRuntime) -> Result<()> {
     let segments = [TWO_TEXTS];

@@ -30,8 +30,8 @@ const SIZES: [(&[&[u8]], Numbered<u64>); 7] = [
     (&[], Ok(0)),
     (&[b"\0\0\0\0\0\0\0\0"], Ok(0)),
     (&[b""], Err(17)),
-    // 536,870,911 nothings, and 1,073,741,823 structs of no words after a tag: more than the default
-    // limit
+    // 536,870,911 nothings, and 1,073,741,823 structs of no words after a tag: more than the
+    // default limit
     (&[b"\x01\0\0\0\xf8\xff\xff\xff"], Ok(0)),
     (&[b"\x01\0\0\0\x07\0\0\0\xfc\xff\xff\xff\0\0\0\0"], Ok(1)),
     // a capability, and a far pointer to no segment
@@ -54,8 +54,8 @@ fn sizes_without_a_limit(rt: HostRuntime) {
     }
 }
 
-// A hundred structs of one pointer, each to the next word's one, and a null pointer in the last: deeper
-// than the 64 that a reader's options allow.
+// A hundred structs of one pointer, each to the next word's one, and a null pointer in the last:
+// deeper than the 64 that a reader's options allow.
 #[test]
 fn a_tree_deeper_than_the_default(rt: HostRuntime) {
     let mut words = [[0, 0, 0, 0, 0, 0, 1, 0]; 101];

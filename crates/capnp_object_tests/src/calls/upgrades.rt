@@ -1,5 +1,5 @@
-//! Lists that are read as what their elements became: structs, numbers and pointers (encoding document,
-//! "Lists").
+//! Lists that are read as what their elements became: structs, numbers and pointers (encoding
+//! document, "Lists").
 use crate::calls::objects::HELLO;
 use crate::fixtures::{Arena, Numbered, arena_of, expect, root_as, root_refusal, text_at};
 use capnp_frame::Result;
@@ -35,8 +35,8 @@ const DATA: &[u8] = b"\x01\0\0\0\x37\0\0\0\x0c\0\0\0\x02\0\0\0\
 \xf1\xf2\xf3\xf4\xf5\xf6\xf7\xf8\xee\xee\xee\xee\xee\xee\xee\xee\
 \0\0\0\0\0\0\0\x01\xee\xee\xee\xee\xee\xee\xee\xee";
 
-// Three structs of a data word and two pointers: the first is null, to the text "b", and null; the second
-// is to the text "c" in each.
+// Three structs of a data word and two pointers: the first is null, to the text "b", and null; the
+// second is to the text "c" in each.
 const BOTH: &[u8] = b"\x01\0\0\0\x4f\0\0\0\x0c\0\0\0\x01\0\x02\0\
 \x09\0\0\0\0\0\0\0\0\0\0\0\0\0\0\0\x1d\0\0\0\x12\0\0\0\
 \x08\0\0\0\0\0\0\0\x11\0\0\0\x12\0\0\0\x11\0\0\0\x12\0\0\0\
@@ -48,8 +48,8 @@ const STRUCT: &[u8] = b"\0\0\0\0\x01\0\0\0\x05\0\0\0\0\0\0\0";
 
 const NULL: &[u8] = b"\0\0\0\0\0\0\0\0";
 
-// Segments, and the errors of their roots as lists of structs, of pointers, of nothing, of bools, and of
-// numbers of 1, 2, 4 and 8 bytes; 0 where there is a view.
+// Segments, and the errors of their roots as lists of structs, of pointers, of nothing, of bools,
+// and of numbers of 1, 2, 4 and 8 bytes; 0 where there is a view.
 #[rattlefmt::skip]
 const ROOTS: [(&[u8], [u8; 8]); 12] = [
     (NOTHINGS, [0, 22,  0, 22, 22, 22, 22, 22]),

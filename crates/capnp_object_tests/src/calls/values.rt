@@ -13,7 +13,8 @@ pub fn form_of(alloc: Global, arena: &Arena<'_>) -> Result<Vec<u8>> {
     canonical_bytes(alloc, &arena.get_root()?)
 }
 
-// 64 structs of one pointer, each held by the one before; the last pointer is null, and is left out.
+// 64 structs of one pointer, each held by the one before; the last pointer is null, and is left
+// out.
 #[test]
 fn a_chain_of_structs(rt: HostRuntime) -> Result<()> {
     let words = chain(rt.alloc(), 64)?;

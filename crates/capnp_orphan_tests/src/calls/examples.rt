@@ -1,4 +1,4 @@
-//! The examples that are at the public items of `capnp_orphans`.
+//! The examples of the public items of `capnp_orphans`.
 use capnp::message::{DEFAULT_READER_OPTIONS, Reader};
 use capnp::{any_struct, serialize};
 use capnp_frame::Result;

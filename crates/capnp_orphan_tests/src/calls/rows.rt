@@ -1,4 +1,5 @@
-//! Segments that are built beside their bytes, which are worked out by hand from the encoding document.
+//! Segments that are built beside their bytes, which are worked out by hand from the encoding
+//! document.
 use crate::built::{Built, build};
 use crate::fixtures::{empty, expect};
 use crate::refusals::refusal;
@@ -7,8 +8,8 @@ use capnp_frame::{ErrorKind, Result};
 use capnp_orphans::{Orphanage, Region};
 use std::process::Abort;
 
-// What is built, the words of the last object, or 1 of the root's where it has none, and the bytes of
-// the segment: the root's word, then the objects, each after what it holds.
+// What is built, the words of the last object, or 1 of the root's where it has none, and the bytes
+// of the segment: the root's word, then the objects, each after what it holds.
 type Row = (Built, u32, &'static [u8]);
 
 #[rattlefmt::skip]
@@ -47,7 +48,8 @@ fn build_in(region: &mut [u8], built: Built) -> Result<Orphanage<Region<'_>>> {
     Ok(objects)
 }
 
-// A region with room for just the segment serves, whatever it held, and one with a word less does not.
+// A region with room for just the segment serves, whatever it held, and one with a word less does
+// not.
 fn stands_in_regions(rt: &impl Abort, &(built, last, segment): &Row) -> Result<()> {
     let mut region = [7; 64];
     assert!(rt; segment.len() <= region.len());

@@ -33,7 +33,7 @@ fn canonical_words(rt: &impl AllocGlobal, message: &Message<'_>) -> Result<usize
     Ok(message.canonicalize(rt.alloc())?.len())
 }
 
-// A list of structs, a list of texts and a text; the struct holds what is told at run time.
+// A list of structs, a list of texts and a text; the struct has what is known at run time.
 fn book(objects: &mut Orphanage, email: Option<&str>) -> Result<Orphan<any_struct::Owned>> {
     let mut phones = [StructDraft::<any_struct::Owned, 1, 1>::new(); 2];
     phones[1].set_data_field::<u32>(0, 9);

@@ -30,7 +30,8 @@ pub fn try_read_packed_segments_into<'b, R: BufRead>(
     try_read_segments_into(&mut packed, buffer, options)
 }
 
-/// Reads the next packed message as `try_read_packed_segments_into` does, but accepts any padding.
+/// Reads the next packed message as `try_read_packed_segments_into` does, but accepts any padding
+/// in the segment table.
 pub fn try_read_packed_segments_into_lenient<'b, R: BufRead>(
     source: &mut R,
     buffer: &'b mut [u8],

@@ -185,7 +185,7 @@ fn fail_at(rt: &(impl Abort + AllocGlobal), row: &Faulty) -> Result<()> {
     Ok(())
 }
 
-// The call that is rejected.
+// The call that fails.
 fn fault_of(output: &mut Output<&mut ChoppyWriter>) -> Result<Fault> {
     if is_device_failed(output.write_all(b"abcdef")) {
         return Ok(Fault::Write);

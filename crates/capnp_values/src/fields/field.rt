@@ -96,7 +96,8 @@ impl<T, V: SetterInput<T>, F: Fields> Fields for Field<T, V, F> {
     }
 }
 
-// The extent of a row with this value in front, which has these words.
+// The extent of a row of fields that begins with this value, by the words of the value and the
+// extent of the fields after it.
 fn front<T, V: SetterInput<T>>(value: &V, canonical: bool, own: PartWords, rest: Extent) -> Extent
     requires { IsBounded rest }
     ensures { (form : Form) (children others : Trees) → IsPart (V.has_tree value.now) form children →

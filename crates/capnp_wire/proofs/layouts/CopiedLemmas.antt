@@ -23,7 +23,7 @@ use Rattle.capnp_wire.proofs.words.WordLemmas.{length-words_of}
 use Rattle.capnp_wire.proofs.objects.FieldLemmas.{length-places}
 use Rattle.capnp_wire.proofs.layouts.BlockLemmas.{put_none}
 use Rattle.capnp_wire.proofs.objects.ObjectLemmas.{one_tree}
-use Rattle.capnp_wire.proofs.pointers.FaultLemmas.{refused_has_no_object}
+use Rattle.capnp_wire.proofs.pointers.FaultLemmas.{invalid_pointer_has_no_object}
 use Rattle.capnp_wire.proofs.layouts.CopyLemmas.{none_at}
 use Rattle.capnp_wire.proofs.layouts.OpenLemmas.{Opened, under}
 use Rattle.capnp_wire.proofs.layouts.OpenedLemmas.{opened}
@@ -89,7 +89,7 @@ null_copied m place c trees traversed word stand =
 pub fault_no_tree : (m : List (List ℕ)) (place : Place) (nesting : ℕ) (kind : ErrorKind) (trees : Trees) (traversed : ℕ) → Fault m place nesting kind → At m (place ∷ []) trees traversed
     → depth trees ≤ nesting → ⊥
 fault_no_tree m place nesting kind trees traversed fault (at {shape = s} {children = h} object inner nowhere) shallow =
-    refused_has_no_object m place nesting kind s fault object (λ some.
+    invalid_pointer_has_no_object m place nesting kind s fault object (λ some.
     let plain : (if is_null s.form then 0 else depth h + 1) ≡ depth h + 1 = ap (λ (b : Bool). if b then 0 else depth h + 1) some in
     omega arith)
 

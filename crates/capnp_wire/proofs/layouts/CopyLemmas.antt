@@ -7,7 +7,7 @@ use Rattle.capnp_wire.specs.Layout.{pointer, body, pointer_to, output, AllHaveRo
 use Rattle.capnp_wire.specs.Block.{put, fill}
 use Rattle.capnp_wire.specs.Rows.{places_in, slots_in, end_of}
 use Rattle.capnp_wire.specs.Copy.{CanCopy, Copies, CopiesAll, CanCopyRows, ArePaired, TakesPair}
-use Rattle.capnp_wire.specs.declared.layout.row_pair.RowPair.{RowPair}
+use Rattle.capnp_wire.specs.declared.layout.copy_cursor.CopyCursor.{CopyCursor}
 use Rattle.capnp_wire.specs.declared.layout.place.Place.{Place}
 use Rattle.capnp_wire.specs.declared.layout.copy.Copied.{Copied}
 use Rattle.capnp_wire.proofs.objects.ObjectLemmas.{one_tree}
@@ -109,13 +109,13 @@ copies_both {m} {place} {others} {nesting} {c} {slot} {slots} {free} {room} {aft
 
 -- How far the copying of what some pointers lead to has come: those that are left can be copied,
 -- and then all are copied.
-pub record Copying (m : List (List ℕ)) (words : List ℕ) (nesting : ℕ) (c : Bool) (whole : RowPair) (start : ℕ) (old : List ℕ) (rows : RowPair) (free : ℕ) (now : List ℕ) : Type 0 where
+pub record Copying (m : List (List ℕ)) (words : List ℕ) (nesting : ℕ) (c : Bool) (whole : CopyCursor) (start : ℕ) (old : List ℕ) (rows : CopyCursor) (free : ℕ) (now : List ℕ) : Type 0 where
   pub can : CanCopyRows m words rows nesting c free (length now)
   pub long : length now ≡ length old
   pub ends : (new : List ℕ) (after : ℕ) → CopiesAll m (places_in rows.from) c (slots_in rows.to) free now new after
       → CopiesAll m (places_in whole.from) c (slots_in whole.to) start old new after
 
-pub copying_begins : {m : List (List ℕ)} {words : List ℕ} {nesting : ℕ} {c : Bool} {rows : RowPair} {start : ℕ} {old : List ℕ} → CanCopyRows m words rows nesting c start (length old)
+pub copying_begins : {m : List (List ℕ)} {words : List ℕ} {nesting : ℕ} {c : Bool} {rows : CopyCursor} {start : ℕ} {old : List ℕ} → CanCopyRows m words rows nesting c start (length old)
     → Copying m words nesting c rows start old rows start old
 copying_begins can = record { can = can; long = refl; ends = λ new after done. done }
 
@@ -126,11 +126,11 @@ pub record CanCopyNext (m : List (List ℕ)) (words : List ℕ) (place : Place) 
   pub following : slot + 1 ≤ free
   pub within : slot < room
 
-left_at : {m : List (List ℕ)} {words : List ℕ} {nesting : ℕ} {c : Bool} {rows others : RowPair} {place : Place} {slot free room : ℕ}
+left_at : {m : List (List ℕ)} {words : List ℕ} {nesting : ℕ} {c : Bool} {rows others : CopyCursor} {place : Place} {slot free room : ℕ}
     → TakesPair rows others place slot → CanCopyRows m words rows nesting c free room → CanCopy m (place ∷ places_in others.from) nesting c free room
 left_at {m} {nesting = nesting} {c = c} {free = free} {room = room} takes can = subst (λ (l : List Place). CanCopy m l nesting c free room) takes.from.places_are can.there
 
-pub copying_first : {m : List (List ℕ)} {words : List ℕ} {nesting : ℕ} {c : Bool} {whole rows others : RowPair} {place : Place} {slot start free : ℕ} {old now : List ℕ}
+pub copying_first : {m : List (List ℕ)} {words : List ℕ} {nesting : ℕ} {c : Bool} {whole rows others : CopyCursor} {place : Place} {slot start free : ℕ} {old now : List ℕ}
     → Copying m words nesting c whole start old rows free now → TakesPair rows others place slot → CanCopyNext m words place nesting c slot free (length now)
 copying_first {m} {words} {nesting} {c} {whole} {rows} {others} {place} {slot} {start} {free} {old} {now} so_far takes =
     let s = split_first m place (places_in others.from) nesting c free (length now) (left_at takes so_far.can) in
@@ -141,7 +141,7 @@ copying_first {m} {words} {nesting} {c} {whole} {rows} {others} {place} {slot} {
       within = omega (arith, takes.before, so_far.can.before, s.first.fits);
     }
 
-pub copying_next : {m : List (List ℕ)} {words : List ℕ} {nesting : ℕ} {c : Bool} {whole rows others : RowPair} {place : Place} {slot start free : ℕ} {old now mid new : List ℕ} {inner : Copied}
+pub copying_next : {m : List (List ℕ)} {words : List ℕ} {nesting : ℕ} {c : Bool} {whole rows others : CopyCursor} {place : Place} {slot start free : ℕ} {old now mid new : List ℕ} {inner : Copied}
     → Copying m words nesting c whole start old rows free now → TakesPair rows others place slot → Copies m place c (free - (slot + 1)) free now mid inner → length mid ≡ length now
     → new ≡ put slot (inner.pointer ∷ []) mid → length new ≡ length mid → Copying m words nesting c whole start old others inner.next new
 copying_next {m} {words} {nesting} {c} {whole} {rows} {others} {place} {slot} {start} {free} {old} {now} {mid} {new} {inner} so_far takes copied mid_long new_is new_long =
@@ -169,12 +169,12 @@ copying_next {m} {words} {nesting} {c} {whole} {rows} {others} {place} {slot} {s
           (subst (λ (l : List ℕ). CopiesAll m (place ∷ places_in others.from) c l free now last after) (sym takes.slots_are) both));
     }
 
-pub copying_ends : {m : List (List ℕ)} {words : List ℕ} {nesting : ℕ} {c : Bool} {whole rows : RowPair} {start free : ℕ} {old now : List ℕ}
+pub copying_ends : {m : List (List ℕ)} {words : List ℕ} {nesting : ℕ} {c : Bool} {whole rows : CopyCursor} {start free : ℕ} {old now : List ℕ}
     → Copying m words nesting c whole start old rows free now → places_in rows.from ≡ [] → CopiesAll m (places_in whole.from) c (slots_in whole.to) start old now free
 copying_ends {free = free} {now = now} so_far done = so_far.ends now free (copies_none done refl)
 
 -- rows by the places and the slots that they go over
-pub paired : {rows : RowPair} {at : List Place} {segment : ℕ} {slots : List ℕ} {end : ℕ} → places_in rows.from ≡ at → slots_in rows.to ≡ slots → length at ≡ length (places_in rows.to)
+pub paired : {rows : CopyCursor} {at : List Place} {segment : ℕ} {slots : List ℕ} {end : ℕ} → places_in rows.from ≡ at → slots_in rows.to ≡ slots → length at ≡ length (places_in rows.to)
     → rows.from.next.segment ≡ segment → end_of rows.to ≤ end → ArePaired rows at segment slots end
 paired {rows} {at} {segment} {slots} {end} places_are slots_are many segment_is ends = record {
   can = λ m words nesting c next room can content following. record {

@@ -100,7 +100,7 @@ bad_landing_pad_leads_nowhere m place word kind c e k (capability_tag {tag = a} 
 pub words_for_pointers : (n code : ℕ) → code ≡ 6 → words_for n (width code) ≡ n
 words_for_pointers n code six = let whole : words_for n 64 ≡ n = omega arith in ap (λ (c : ℕ). words_for n (width c)) six ∙ whole
 
--- a size that fits is not rejected
+-- a size that fits is accepted
 fits_or_not : (words : List ℕ) (start : Place) (pointer : ℕ) (kind : ErrorKind) (s : Shape) → RejectsSize words start.word pointer kind → ShapeStands words start pointer s → ⊥
 fits_or_not words start pointer kind s (struct_outside k l) (a_struct j f) = omega arith
 fits_or_not words start pointer kind s (struct_outside k l) (some_numbers j _ _) = omega arith
@@ -175,18 +175,18 @@ bad_landing_pad_has_no_object : (m : List (List ℕ)) (place : Place) (word : �
 bad_landing_pad_has_no_object m place word kind shape e k bad (null_there f) = let same : word ≡ 0 = same_word m place word 0 e f in omega arith
 bad_landing_pad_has_no_object m place word kind shape e k bad (is_object {landing = c} lands _ _ _) = bad_landing_pad_leads_nowhere m place word kind c e k bad lands
 
-pub refused_has_no_object : (m : List (List ℕ)) (place : Place) (nesting : ℕ) (kind : ErrorKind) (shape : Shape) → Fault m place nesting kind → PointsTo m place shape
+pub invalid_pointer_has_no_object : (m : List (List ℕ)) (place : Place) (nesting : ℕ) (kind : ErrorKind) (shape : Shape) → Fault m place nesting kind → PointsTo m place shape
     → (is_null shape.form ≡ false → 0 < nesting) → ⊥
-refused_has_no_object m place nesting kind shape (no_word none) object deep = word_of_object m place shape (no_word_there m place kind none) object
-refused_has_no_object m place nesting kind shape (capability {word = w} e k) object deep = capability_is_no_object m place w shape e k object
-refused_has_no_object m place nesting kind shape (bad_landing_pad {word = w} e k bad) object deep = bad_landing_pad_has_no_object m place w kind shape e k bad object
-refused_has_no_object m place nesting kind shape (too_deep {landing = c} lands nesting_is) object deep =
+invalid_pointer_has_no_object m place nesting kind shape (no_word none) object deep = word_of_object m place shape (no_word_there m place kind none) object
+invalid_pointer_has_no_object m place nesting kind shape (capability {word = w} e k) object deep = capability_is_no_object m place w shape e k object
+invalid_pointer_has_no_object m place nesting kind shape (bad_landing_pad {word = w} e k bad) object deep = bad_landing_pad_has_no_object m place w kind shape e k bad object
+invalid_pointer_has_no_object m place nesting kind shape (too_deep {landing = c} lands nesting_is) object deep =
     let enough = deep_enough m place c nesting shape lands object deep in omega arith
-refused_has_no_object m place nesting kind shape (no_start {landing = c} lands _ none) object deep =
+invalid_pointer_has_no_object m place nesting kind shape (no_start {landing = c} lands _ none) object deep =
     let r = reached m place c shape lands object in
     let same : r.landing ≡ c = one_landing m place r.landing c r.lands lands in
     none r.start (subst (λ (x : Target). IsStart x.origin x.tag r.start) same r.begins)
-refused_has_no_object m place nesting kind shape (misfits {landing = c} {words = w} {start = i} lands _ begins content misfit) object deep =
+invalid_pointer_has_no_object m place nesting kind shape (misfits {landing = c} {words = w} {start = i} lands _ begins content misfit) object deep =
     let r = reached m place c shape lands object in
     let same : r.landing ≡ c = one_landing m place r.landing c r.lands lands in
     let content_there : slice_get m c.segment ≡ Some r.words = subst (λ (x : Target). slice_get m x.segment ≡ Some r.words) same r.content in

@@ -67,11 +67,11 @@ narrow_bit : (wide : Bool) (bit : ℕ) → bit ≡ (if wide then 1 else 0) → w
 narrow_bit true bit e wide = e
 narrow_bit false bit e wide = cc
 
-pub is_narrow : (word : ℕ) (far : FarPointer) → IsFarPointer word far → far.is_wide ≡ false → has_wide_landing_pad word ≡ 0
-is_narrow word far far_is narrow = wide_bit far.is_wide (has_wide_landing_pad word) far_is.width narrow
+pub is_narrow : (word : ℕ) (far : FarPointer) → IsFarPointer word far → far.is_double_far ≡ false → has_wide_landing_pad word ≡ 0
+is_narrow word far far_is narrow = wide_bit far.is_double_far (has_wide_landing_pad word) far_is.width narrow
 
-pub is_wide : (word : ℕ) (far : FarPointer) → IsFarPointer word far → far.is_wide ≡ true → has_wide_landing_pad word ≡ 1
-is_wide word far far_is wide = narrow_bit far.is_wide (has_wide_landing_pad word) far_is.width wide
+pub is_double_far : (word : ℕ) (far : FarPointer) → IsFarPointer word far → far.is_double_far ≡ true → has_wide_landing_pad word ≡ 1
+is_double_far word far far_is wide = narrow_bit far.is_double_far (has_wide_landing_pad word) far_is.width wide
 
 -- the words of a landing pad, in the message
 pub landing_pad_word : (segments : List (List ℕ)) (word : ℕ) (far : FarPointer) (bytes : List ℕ) (first : ℕ) → IsFarPointer word far
@@ -121,15 +121,15 @@ wide_refused m word inner tag words kind wide e f is_far content (inl far) = sub
 wide_refused m word inner tag words kind wide e f is_far content (inr other) = subst (BadLandingPad m word) (sym other.1) (capability_tag wide e f is_far content other.0)
 
 -- a far pointer with a landing pad of one word, as it is read, is a far pointer
-pub is_far_word : (word : ℕ) (far : FarPointer) → IsFarPointer word far → far.is_wide ≡ false → IsFar word 0
+pub is_far_word : (word : ℕ) (far : FarPointer) → IsFarPointer word far → far.is_double_far ≡ false → IsFar word 0
 is_far_word word far far_is narrow = record { far = far_is.far_kind; wide = is_narrow word far far_is narrow }
 
-pub wide_far_word : (word : ℕ) (f : FarPointer) → IsFarPointer word f → f.is_wide ≡ true → IsFar word 1
-wide_far_word word f f_is wide = record { far = f_is.far_kind; wide = is_wide word f f_is wide }
+pub wide_far_word : (word : ℕ) (f : FarPointer) → IsFarPointer word f → f.is_double_far ≡ true → IsFar word 1
+wide_far_word word f f_is wide = record { far = f_is.far_kind; wide = is_double_far word f f_is wide }
 
 -- where it leads through that landing pad
 pub narrow_landing : (segments : List (List ℕ)) (place : Place) (word : ℕ) (far : FarPointer) (bytes : List ℕ) (first : ℕ) (local : LocalPointer) (read : ReadLanding)
-    → word_at (message_of segments) place ≡ Some word → IsFarPointer word far → far.is_wide ≡ false → slice_get segments far.landing_pad.segment ≡ Some bytes
+    → word_at (message_of segments) place ≡ Some word → IsFarPointer word far → far.is_double_far ≡ false → slice_get segments far.landing_pad.segment ≡ Some bytes
     → slice_get (words_of bytes) far.landing_pad.word ≡ Some first → IsLocal first local → Seen far.landing_pad 1 local bytes read → IsLanding (message_of segments) place read
 narrow_landing segments place word far bytes first local read there far_is narrow segment here local_is seen =
     let m = message_of segments in
@@ -140,7 +140,7 @@ narrow_landing segments place word far bytes first local read there far_is narro
     local_landing m place far.landing_pad first 1 local bytes read from_landing_pad (omega arith) (segment_stands segments far.landing_pad.segment bytes segment) local_is seen
 
 -- the two words of a wide landing pad
-pub wide_landing_pad : {bytes : List ℕ} {first tag : ℕ} (segments : List (List ℕ)) (word : ℕ) (far : FarPointer) → IsFarPointer word far → far.is_wide ≡ true
+pub wide_landing_pad : {bytes : List ℕ} {first tag : ℕ} (segments : List (List ℕ)) (word : ℕ) (far : FarPointer) → IsFarPointer word far → far.is_double_far ≡ true
     → slice_get segments far.landing_pad.segment ≡ Some bytes → slice_get (words_of bytes) far.landing_pad.word ≡ Some first → slice_get (words_of bytes) (far.landing_pad.word + 1) ≡ Some tag
     → HasWideLandingPad (message_of segments) word first tag
 wide_landing_pad segments word far far_is wide segment one two = record {
@@ -150,8 +150,8 @@ wide_landing_pad segments word far far_is wide segment one two = record {
 }
 
 -- the content of a landing pad of two words
-pub not_far_word : (inner : ℕ) → ((f : FarPointer) → IsFarPointer inner f × (f.is_wide ≡ false) → ⊥) → IsFar inner 0 → ⊥
-not_far_word inner none is_far = none (record { landing_pad = landing_pad inner; is_wide = false }) (record { far_kind = is_far.far; landing_pad_is = refl; width = is_far.wide }, refl)
+pub not_far_word : (inner : ℕ) → ((f : FarPointer) → IsFarPointer inner f × (f.is_double_far ≡ false) → ⊥) → IsFar inner 0 → ⊥
+not_far_word inner none is_far = none (record { landing_pad = landing_pad inner; is_double_far = false }) (record { far_kind = is_far.far; landing_pad_is = refl; width = is_far.wide }, refl)
 
 pub content_place : (inner : ℕ) (f : FarPointer) (place : Place) → IsFarPointer inner f → place ≡ f.landing_pad → place ≡ landing_pad inner
 content_place inner f place f_is e = e ∙ f_is.landing_pad_is

@@ -12,7 +12,7 @@ use Rattle.capnp_wire.specs.Views.{Pointer, Struct, IsViewOf, Denotes, nowhere, 
 use Rattle.capnp_wire.specs.Views.{IsText, HasData, IsStruct, TakesNumbers, TakesText, TakesStruct, DeclinesNumbers, DeclinesText, DeclinesStruct}
 use Rattle.capnp_wire.specs.declared.layout.place.Place.{Place}
 use Rattle.capnp_wire.proofs.objects.ObjectLemmas.{one_object}
-use Rattle.capnp_wire.proofs.pointers.FaultLemmas.{refused_has_no_object}
+use Rattle.capnp_wire.proofs.pointers.FaultLemmas.{invalid_pointer_has_no_object}
 use Rattle.capnp_wire.proofs.pointers.RefusalLemmas.{one_refusal}
 
 -- a pointer stands for only one thing
@@ -28,7 +28,7 @@ fault_denotes_nothing : (p : Pointer) (place : Place) (kind : ErrorKind) (s : Sh
 fault_denotes_nothing p place kind s e fault (nowhere f) = cc
 fault_denotes_nothing p place kind s e fault (at_place {place = b} f o deep) =
     let same : b ≡ place = cc in
-    refused_has_no_object p.message place p.nesting kind s fault (subst (λ x. PointsTo p.message x s) same o) deep
+    invalid_pointer_has_no_object p.message place p.nesting kind s fault (subst (λ x. PointsTo p.message x s) same o) deep
 
 invalid_pointer_denotes_nothing : (p : Pointer) (kind : ErrorKind) (s : Shape) → IsInvalidPointer p kind → Denotes p s → ⊥
 invalid_pointer_denotes_nothing p kind s invalid_pointer there = fault_denotes_nothing p invalid_pointer.0 kind s invalid_pointer.1 invalid_pointer.2 there

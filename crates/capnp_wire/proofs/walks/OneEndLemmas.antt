@@ -8,7 +8,7 @@ use Rattle.capnp_wire.specs.Traversed.{Within, less}
 use Rattle.capnp_wire.specs.Tested.{IsLaidOut, MeetsObject, Passes, refused, not_canonical, Ends, far, at_pointer, over_limit, elsewhere, inside, later}
 use Rattle.capnp_wire.specs.declared.layout.place.Place.{Place}
 use Rattle.capnp_wire.proofs.objects.ObjectLemmas.{one_object, one_tree}
-use Rattle.capnp_wire.proofs.pointers.FaultLemmas.{refused_has_no_object}
+use Rattle.capnp_wire.proofs.pointers.FaultLemmas.{invalid_pointer_has_no_object}
 use Rattle.capnp_wire.proofs.walks.StopLemmas.{stops_has_no_trees, one_stop}
 use Rattle.capnp_wire.proofs.layouts.LaidOutLemmas.{laid_room}
 use Rattle.capnp_wire.proofs.walks.EndLemmas.{AllBefore, ends_stops, ends_not, children_before, before_later, in_first}
@@ -31,9 +31,9 @@ within_or_past most traversed past fits = omega arith
 pub one_way_to_end : (segment : List ℕ) (places : List Place) (nesting next : ℕ) (limit : Option ℕ) (kind : ErrorKind) → All (λ w. w < 2 ^ 64) segment → AllBefore next places → next ≤ length segment
     → Ends segment places nesting limit next (refused kind) → Ends segment places nesting limit next not_canonical → ⊥
 one_way_to_end segment places nesting next limit kind all before within (at_pointer n f) (far x) = n x
-one_way_to_end segment places nesting next limit kind all before within (at_pointer {place = place} n f) (elsewhere {shape = s} meets not_laid) = refused_has_no_object
+one_way_to_end segment places nesting next limit kind all before within (at_pointer {place = place} n f) (elsewhere {shape = s} meets not_laid) = invalid_pointer_has_no_object
     (segment ∷ []) place nesting kind s f meets.object (λ some. meets.deep)
-one_way_to_end segment places nesting next limit kind all before within (at_pointer {place = place} n f) (inside {shape = s} meets laid e) = refused_has_no_object
+one_way_to_end segment places nesting next limit kind all before within (at_pointer {place = place} n f) (inside {shape = s} meets laid e) = invalid_pointer_has_no_object
     (segment ∷ []) place nesting kind s f meets.object (λ some. meets.deep)
 one_way_to_end segment places nesting next limit kind all before within (at_pointer {place = place} n f) (later {traversed = traversed} {after = after} p w e) =
     refused_passes segment (place ∷ []) nesting traversed next next after limit kind (at_pointer n f) p w

@@ -9,7 +9,7 @@ use Rattle.capnp_wire.specs.Traversed.{Within, Exceeds, less, TreesAt}
 use Rattle.capnp_wire.specs.Faults.{StopsWalk, at_pointer, over_limit, inside, later}
 use Rattle.capnp_wire.specs.declared.layout.place.Place.{Place}
 use Rattle.capnp_wire.proofs.objects.ObjectLemmas.{one_object, one_tree}
-use Rattle.capnp_wire.proofs.pointers.FaultLemmas.{refused_has_no_object, not_null}
+use Rattle.capnp_wire.proofs.pointers.FaultLemmas.{invalid_pointer_has_no_object, not_null}
 use Rattle.capnp_wire.proofs.pointers.RefusalLemmas.{one_refusal}
 use Rattle.capnp_wire.proofs.trees.StandLemmas.{less_none, within_first, within_rest, less_both}
 
@@ -99,7 +99,7 @@ pub stops_has_no_trees : (m : List (List ℕ)) (places : List Place) (nesting tr
     → StopsWalk m places nesting limit kind → At m places trees traversed → depth trees ≤ nesting → Within limit traversed → ⊥
 stops_has_no_trees m places nesting traversed limit kind trees (at_pointer {place = p} {others = others} fault) stand shallow fits =
     let s = split m p others nesting traversed trees stand shallow in
-    refused_has_no_object m p nesting kind s.0 fault s.1.object s.1.deep
+    invalid_pointer_has_no_object m p nesting kind s.0 fault s.1.object s.1.deep
 stops_has_no_trees m places nesting traversed limit kind trees (over_limit {place = p} {others = others} {most = most} {shape = t} o deep past) stand shallow fits =
     let s = split m p others nesting traversed trees stand shallow in
     let same : t ≡ s.0 = one_object m p t s.0 o s.1.object in
@@ -140,16 +140,16 @@ past_and_within m place most s t o p past fits =
 
 pub one_stop : (m : List (List ℕ)) (places : List Place) (nesting : ℕ) (limit : Option ℕ) (a b : ErrorKind) → StopsWalk m places nesting limit a → StopsWalk m places nesting limit b → a ≡ b
 one_stop m places nesting limit a b (at_pointer {place = p} fault) (at_pointer other) = one_refusal m p nesting a b fault other
-one_stop m places nesting limit a b (at_pointer {place = p} fault) (over_limit {shape = t} o deep _) = absurd (refused_has_no_object m p nesting a t fault o (λ _. deep))
-one_stop m places nesting limit a b (at_pointer {place = p} fault) (inside {shape = t} o deep _ _) = absurd (refused_has_no_object m p nesting a t fault o (λ _. deep))
+one_stop m places nesting limit a b (at_pointer {place = p} fault) (over_limit {shape = t} o deep _) = absurd (invalid_pointer_has_no_object m p nesting a t fault o (λ _. deep))
+one_stop m places nesting limit a b (at_pointer {place = p} fault) (inside {shape = t} o deep _ _) = absurd (invalid_pointer_has_no_object m p nesting a t fault o (λ _. deep))
 one_stop m places nesting limit a b (at_pointer {place = p} fault) (later {traversed = d} one fits _) =
     absurd (stops_has_no_trees m (p ∷ []) nesting d limit a one.trees (at_pointer fault) one.stand one.shallow fits)
-one_stop m places nesting limit a b (over_limit {place = p} {shape = s} o deep _) (at_pointer other) = absurd (refused_has_no_object m p nesting b s other o (λ _. deep))
+one_stop m places nesting limit a b (over_limit {place = p} {shape = s} o deep _) (at_pointer other) = absurd (invalid_pointer_has_no_object m p nesting b s other o (λ _. deep))
 one_stop m places nesting limit a b (over_limit _ _ _) (over_limit _ _ _) = refl
 one_stop m places nesting limit a b (over_limit {place = p} {most = most} {shape = s} o _ past) (inside {shape = t} q _ fits _) = absurd (past_and_within m p most s t o q past fits)
 one_stop m places nesting limit a b (over_limit {place = p} {most = most} o deep past) (later {traversed = d} one fits _) =
     absurd (stops_has_no_trees m (p ∷ []) nesting d (Some most) ReadLimitExceeded one.trees (over_limit o deep past) one.stand one.shallow fits)
-one_stop m places nesting limit a b (inside {place = p} {shape = s} o deep _ _) (at_pointer other) = absurd (refused_has_no_object m p nesting b s other o (λ _. deep))
+one_stop m places nesting limit a b (inside {place = p} {shape = s} o deep _ _) (at_pointer other) = absurd (invalid_pointer_has_no_object m p nesting b s other o (λ _. deep))
 one_stop m places nesting limit a b (inside {place = p} {shape = s} o _ fits _) (over_limit {most = most} {shape = t} q _ past) = absurd (past_and_within m p most t s q o past fits)
 one_stop m places nesting limit a b (inside {place = p} {shape = s} o _ _ stops) (inside {shape = t} q _ _ stops_too) =
     let same : t ≡ s = one_object m p t s q o in

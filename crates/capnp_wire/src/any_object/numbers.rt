@@ -34,7 +34,8 @@ impl<'a> Numbers<'a> {
         self.size.bits() as u32
     }
 
-    /// The bits of the element at this index, in the low bits of a number.
+    /// The bits of the element at this index, which must be below `len`, in the low bits of a
+    /// number.
     pub fn get(&self, index: u32) -> u64
         requires { index < length (sized_numbers_of self.now) }
         ensures { result ≡ slice_index (sized_numbers_of self.now) index }

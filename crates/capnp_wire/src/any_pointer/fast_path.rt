@@ -24,7 +24,8 @@ use capnp_frame::message::ReaderSegments;
 
 impl<'a, S: ReaderSegments> Reader<'a, S> {
     /// The list of numbers that the pointer leads to without a landing pad, counted against the
-    /// traversal limit.
+    /// traversal limit: a fast path. `None` says nothing about what is there, and counts nothing;
+    /// then `enter` is asked.
     #[inline(always)]
     pub(crate) fn enter_local_numbers(&self, size: ElementSize) -> Option<Object<'a>>
         ensures { let pointer = pointer_of S.segments self.now in
@@ -44,7 +45,7 @@ impl<'a, S: ReaderSegments> Reader<'a, S> {
     }
 
     /// The struct that the pointer leads to without a landing pad, counted against the traversal
-    /// limit.
+    /// limit: a fast path, as `enter_local_numbers`.
     #[inline(always)]
     pub(crate) fn enter_local_struct(&self) -> Option<Object<'a>>
         ensures { let pointer = pointer_of S.segments self.now in

@@ -26,8 +26,9 @@ pub struct Reader<'a, S> {
 }
 
 impl<'a, S: ReaderSegments> Reader<'a, S> {
-    /// The root pointer of a message that is being built, read without a traversal limit and with
-    /// objects nested up to 2^31 - 1 deep. It is null where there is no first segment.
+    /// The root pointer of segments that are trusted, as those of a message that is being built,
+    /// read under no traversal limit, and under a nesting limit of 2^31 - 1. It is null where there
+    /// is no first segment.
     pub fn root_of(segments: &'a S) -> Reader<'a, S>
         ensures { pointer_of S.segments result ≡ unlimited_root (S.segments segments.now) }
     {
@@ -66,7 +67,6 @@ impl<'a, S: ReaderSegments> Reader<'a, S> {
     /// with `ReadLimitExceeded` where they have more words than the traversal limit. A size past 64
     /// bits fails with `AllocationTooLarge(4294967295)`. The walk counts from 0, and does not
     /// change what views have counted.
-    /// have counted.
     pub fn target_size(&self) -> Result<MessageSize>
         ensures returned { let pointer = pointer_of S.segments self.now in MatchResult result
             (λ size. Measures pointer size.word_count × (size.cap_count ≡ 0))
@@ -132,8 +132,8 @@ impl<'a, S: ReaderSegments> Reader<'a, S> {
     }
 
     /// A copy of this reader, for the slow path.
+    ///
     /// Speed: the address of the original never escapes, so it stays in registers
-    /// (`tools/time-reading`).
     /// (`tools/time-reading`).
     #[inline(always)]
     pub(crate) fn copied(&self) -> Reader<'a, S>

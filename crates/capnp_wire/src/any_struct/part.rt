@@ -1,21 +1,22 @@
-//! Elements of lists of numbers as structs: the part of a data word that is such a struct's own
-//! (encoding document, "Lists").
+//! Elements of lists of numbers, read as structs (encoding document, "Lists"): the data section of
+//! such a struct is a part of a word, which other elements have, too.
 ghost use Rattle.std.specs.Prelude.{◌≡◌};
 ghost use Rattle.capnp_wire.specs.Parts.{own_part};
 
 use crate::layout::element::ElementSize;
 
-/// The place of a list's number in its word.
+/// Which part of a word is an element of a list of numbers.
 #[derive(Clone, Copy)]
 pub(crate) struct WordPart {
+    /// The size of each element.
     pub size: ElementSize,
     /// How many elements are before it in the word.
     pub index: u32,
 }
 
-/// A data word of a struct, from the word that it is in: all of that word, or the struct's own part
-/// in the low bits.
-pub(crate) fn own_bits(part: Option<WordPart>, word: u64) -> u64
+/// A data word of a struct, by the word of the segment that it is in: all of that word, or, for an
+/// element of a list of numbers, the element's bits, in the low bits.
+pub(crate) fn data_word_of(part: Option<WordPart>, word: u64) -> u64
     ensures { result ≡ own_part part word }
 {
     match part {

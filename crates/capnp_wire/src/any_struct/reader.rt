@@ -35,7 +35,7 @@ pub struct StructReader<'a, S: ReaderSegments> {
 
 impl<'a, S: ReaderSegments> StructReader<'a, S> {
     ghost use Rattle.capnp_wire.specs.Readers.{struct_of, pointer_of, IsEntered};
-    ghost use Rattle.capnp_wire.specs.Views.{pointer_in, IsStruct, Refuses, DeclinesStruct};
+    ghost use Rattle.capnp_wire.specs.Views.{data_struct, pointer_in, IsStruct, Refuses, DeclinesStruct};
 
     /// The number of data words.
     pub fn data_words(&self) -> u16
@@ -50,7 +50,7 @@ impl<'a, S: ReaderSegments> StructReader<'a, S> {
     {
         if index < self.size.data_words {
             match word(self.segment, self.start.word + index as usize) {
-                Some(word) => part::own_bits(self.part, word),
+                Some(word) => part::data_word_of(self.part, word),
                 None => 0,
             }
         } else {
@@ -82,6 +82,29 @@ impl<'a, S: ReaderSegments> StructReader<'a, S> {
             limiter: self.limiter,
             place,
             nesting: self.nesting,
+        }
+    }
+
+    /// The data section of this struct, as a struct with no pointers in the place of what a pointer
+    /// of another message leads to.
+    pub fn data_at<R: ReaderSegments>(
+        &self,
+        pointer: &any_pointer::Reader<'a, R>,
+    ) -> StructReader<'a, R>
+        ensures { struct_of R.segments result ≡ data_struct (pointer_of R.segments pointer.now)
+            (struct_of S.segments self.now).words }
+    {
+        StructReader {
+            segments: pointer.segments,
+            limiter: pointer.limiter,
+            segment: self.segment,
+            start: self.start,
+            size: StructSize {
+                data_words: self.size.data_words,
+                pointers: 0,
+            },
+            nesting: pointer.nesting.saturating_sub(1),
+            part: self.part,
         }
     }
 

@@ -11,7 +11,7 @@ ghost use Rattle.capnp_wire.specs.Rows.{places_in, end_of};
 ghost use Rattle.capnp_wire.specs.Tested.{NextOf, PaddedOf, IsTruncated, links_at, PassesAt, MeetsAt, FailsAt, Ends, refused, not_canonical};
 ghost use Rattle.capnp_wire.specs.declared.layout.place.Place.{Place};
 
-use crate::layout::canonical_rules::{body_is_padded, is_next, is_truncated};
+use crate::layout::canonical_rules::{body_has_zero_padding, is_next, is_truncated};
 use crate::layout::fast_path::{local_list, local_struct};
 use crate::layout::object::{Object, object_in};
 use crate::layout::place::{Place, existing_word, pointer_at};
@@ -217,6 +217,7 @@ impl CanonicalWalk {
 }
 
 /// Whether the one segment of a message is the canonical form of its root tree.
+///
 /// Speed: it is a call, so that few instructions decide that a message has more segments (workload
 /// `roots`).
 #[inline(never)]
@@ -260,6 +261,6 @@ fn is_laid_out(segment: &[u8], pointer: u64, word: usize, next: usize, object: &
         × IsTruncated shape.form (links_at words shape.children)) }
 {
     is_next(pointer, word, next, object.body)
-        && body_is_padded(segment, next, object.body)
+        && body_has_zero_padding(segment, next, object.body)
         && is_truncated(object)
 }

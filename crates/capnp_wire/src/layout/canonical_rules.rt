@@ -128,7 +128,7 @@ pub(crate) fn is_truncated(object: &Object<'_>) -> bool
 
 // Whether the bits after the elements of a list of numbers, in its last word, are zero.
 #[inline(always)]
-fn is_padded(segment: &[u8], start: usize, size: ElementSize, count: u32) -> bool
+fn has_zero_padding(segment: &[u8], start: usize, size: ElementSize, count: u32) -> bool
     requires { start < 2 ^ 62 }
     ensures { let words = words_of segment.now in
         start + words_for count (width (code_of size)) ≤ length segment.now / 8 → IsTrue result
@@ -147,14 +147,14 @@ fn is_padded(segment: &[u8], start: usize, size: ElementSize, count: u32) -> boo
 
 /// Whether an object that begins at a word is padded with zeros.
 #[inline(always)]
-pub(crate) fn body_is_padded(segment: &[u8], start: usize, body: Body) -> bool
+pub(crate) fn body_has_zero_padding(segment: &[u8], start: usize, body: Body) -> bool
     requires { start < 2 ^ 62 }
     ensures { start + words_in body ≤ length segment.now / 8 →
         IsTrue result ↔ PaddedOf (words_of segment.now) start body }
 {
     match body {
         Body::Struct(_) => true,
-        Body::Numbers(size, count) => is_padded(segment, start, size, count),
+        Body::Numbers(size, count) => has_zero_padding(segment, start, size, count),
         Body::Pointers(_) => true,
         Body::Structs(_, _) => true,
     }

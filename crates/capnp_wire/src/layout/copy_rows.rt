@@ -9,9 +9,9 @@ ghost use Rattle.capnp_wire.specs.Copy.{CanCopy, CanCopyRows, CopiesAll, IsNarro
 
 use crate::layout::block::{BlockItem, put_word};
 use crate::layout::copy::copy_target;
+use crate::layout::copy_cursor::CopyCursor;
 use crate::layout::object::{Body, Object, words_fit};
 use crate::layout::place::Place;
-use crate::layout::row_pair::RowPair;
 use capnp_frame::message::ReaderSegments;
 
 /// Copies what the pointers of an object lead to, one after the other, to the words after the
@@ -61,7 +61,7 @@ pub(crate) fn copy_pointers<S: ReaderSegments, T: BlockItem>(
         );
     }
     let free = next + copied.words() as usize;
-    let rows = RowPair::of(object, copied, next);
+    let rows = CopyCursor::of(object, copied, next);
     copy_rows(
         segments,
         object.segment,
@@ -80,7 +80,7 @@ pub(crate) fn copy_pointers<S: ReaderSegments, T: BlockItem>(
 pub(crate) fn copy_rows<S: ReaderSegments, T: BlockItem>(
     segments: &S,
     segment: &[u8],
-    mut rows: RowPair,
+    mut rows: CopyCursor,
     nesting: u32,
     canonical: bool,
     block: &mut [T],
@@ -141,6 +141,6 @@ pub(crate) fn copy_run<S: ReaderSegments, T: BlockItem>(
         (T.as_words block.old) (T.as_words block.new) result }
     ensures len { length (T.as_words block.new) ≡ length (T.as_words block.old) }
 {
-    let rows = RowPair::run(first, count, slot);
+    let rows = CopyCursor::run(first, count, slot);
     copy_rows(segments, segment, rows, nesting, canonical, block, next)
 }

@@ -10,7 +10,7 @@ ghost use Rattle.capnp_wire.specs.Copy.{output_body_of, IsNarrower};
 ghost use Rattle.capnp_wire.specs.declared.layout.object.Body.{Body};
 
 use crate::layout::block::used;
-use crate::layout::landing::land_local;
+use crate::layout::landing::resolve_local;
 use crate::layout::number_list::NumberList;
 use crate::layout::object::{Body, Object, fits, words_fit};
 use crate::layout::output_size::output_size;
@@ -68,7 +68,7 @@ pub(crate) fn local_list(segment: &[u8], place: Place, nesting: u32) -> Option<N
     let LocalShape::Numbers(size, count) = local.shape else {
         return None;
     };
-    let landing = land_local(segment, place, local, 0);
+    let landing = resolve_local(segment, place, local, 0);
     let start = landing.start?;
     let bits = size.bits_of_list(count);
     if nesting == 0 || !fits(segment, start, bits.div_ceil(64)) {
@@ -104,7 +104,7 @@ pub(crate) fn local_struct(segment: &[u8], place: Place, nesting: u32) -> Option
     let LocalShape::Struct(size) = local.shape else {
         return None;
     };
-    let landing = land_local(segment, place, local, 0);
+    let landing = resolve_local(segment, place, local, 0);
     let start = landing.start?;
     if nesting == 0 || !fits(segment, start, size.words()) {
         return None;
@@ -134,7 +134,7 @@ pub(crate) fn local_pointers(segment: &[u8], place: Place, nesting: u32) -> Opti
     let LocalShape::Pointers(count) = local.shape else {
         return None;
     };
-    let landing = land_local(segment, place, local, 0);
+    let landing = resolve_local(segment, place, local, 0);
     let start = landing.start?;
     if nesting == 0 || !fits(segment, start, count as u64) {
         return None;
@@ -151,7 +151,8 @@ pub(crate) fn local_pointers(segment: &[u8], place: Place, nesting: u32) -> Opti
     })
 }
 
-/// A struct.
+/// A struct in the segment of its pointer, which has no landing pad.
+///
 /// Speed: a type of its own, since an object whose kind the compiler doesn't know is kept in memory
 /// (`tools/time-building`).
 #[derive(Drop)]
@@ -222,6 +223,7 @@ impl<'a> LocalStruct<'a> {
     }
 
     /// Whether its first `count` pointers are null.
+    ///
     /// Speed: a struct of null pointers is walked and copied as words, without a call
     /// (`tools/time-building`).
     #[inline(always)]
@@ -253,7 +255,7 @@ impl<'a> NumberList<'a> {
 }
 
 impl<'a> PointerRun<'a> {
-    /// These pointers, for a walk.
+    /// A cursor over these pointers, for a walk.
     #[inline(always)]
     pub(crate) fn rows(&self) -> PointerSlots
         ensures places { places_in result

@@ -15,19 +15,22 @@ use capnp_frame::message::ReaderSegments;
 use capnp_frame::{Error, ErrorKind, Result};
 
 /// Where an object begins, unless its pointer leads to a word before the segment, and the shape
-/// that its tag gives it.
+/// that the struct or list pointer to it gives it: its own, or one in a landing pad.
 #[derive(Drop)]
 pub(crate) struct Landing<'a> {
+    /// The segment that the object is in.
     pub segment: &'a [u8],
+    /// That segment's id.
     pub number: u32,
     pub start: Option<usize>,
     pub shape: LocalShape,
+    /// The words of the landing pad: 0 without one, 2 for a double-far pointer.
     pub landing_pads: u64,
 }
 
 /// Where the pointer at a place of this segment leads; `None` for null.
 #[inline(always)]
-pub(crate) fn land<'a, S: ReaderSegments>(
+pub(crate) fn resolve<'a, S: ReaderSegments>(
     segments: &'a S,
     segment: &'a [u8],
     place: Place,
@@ -45,15 +48,15 @@ pub(crate) fn land<'a, S: ReaderSegments>(
         return Ok(None);
     }
     match PointerWord::read(pointer) {
-        PointerWord::Local(local) => Ok(Some(land_local(segment, place, local, 0))),
-        PointerWord::Far(far) => Ok(Some(land_far(segments, far)?)),
+        PointerWord::Local(local) => Ok(Some(resolve_local(segment, place, local, 0))),
+        PointerWord::Far(far) => Ok(Some(resolve_far(segments, far)?)),
         PointerWord::Other => Err(Error::from_kind(ErrorKind::CapabilityRefused)),
     }
 }
 
 /// Where a struct or list pointer at a place of this segment leads.
 #[inline(always)]
-pub(crate) fn land_local(
+pub(crate) fn resolve_local(
     segment: &[u8],
     place: Place,
     local: LocalPointer,
@@ -79,7 +82,7 @@ pub(crate) fn land_local(
 }
 
 // Where a far pointer leads.
-fn land_far<S: ReaderSegments>(segments: &S, far: FarPointer) -> Result<Landing<'_>>
+fn resolve_far<S: ReaderSegments>(segments: &S, far: FarPointer) -> Result<Landing<'_>>
     ensures found { let m = message_of (S.segments segments.now) in
         IfOk result (λ landing. (place : Place) (word : ℕ) → word_at m place ≡ Some word →
         IsFarPointer word far → IsLanding m place landing) }
@@ -88,16 +91,17 @@ fn land_far<S: ReaderSegments>(segments: &S, far: FarPointer) -> Result<Landing<
 {
     let landing_pad = segment(segments, far.landing_pad.segment)?;
     let first = existing_word(landing_pad, far.landing_pad.word)?;
-    if !far.is_wide {
+    if !far.is_double_far {
         let local = local_pointer(first)?;
-        return Ok(land_local(landing_pad, far.landing_pad, local, 1));
+        return Ok(resolve_local(landing_pad, far.landing_pad, local, 1));
     }
     let tag = existing_word(landing_pad, far.landing_pad.word + 1)?;
-    land_wide(segments, first, tag)
+    resolve_double_far(segments, first, tag)
 }
 
-// Where a far pointer leads through a landing pad of these two words.
-fn land_wide<S: ReaderSegments>(segments: &S, first: u64, tag: u64) -> Result<Landing<'_>>
+// Where a double-far pointer leads, through a landing pad of these two words: a far pointer to the
+// object, and its tag word.
+fn resolve_double_far<S: ReaderSegments>(segments: &S, first: u64, tag: u64) -> Result<Landing<'_>>
     ensures found { let m = message_of (S.segments segments.now) in
         IfOk result (λ landing. (place : Place) (word : ℕ) → word_at m place ≡ Some word →
         HasWideLandingPad m word first tag → IsLanding m place landing) }
@@ -119,13 +123,14 @@ fn land_wide<S: ReaderSegments>(segments: &S, first: u64, tag: u64) -> Result<La
 
 // Where the content is, by the first word of a landing pad of two words.
 fn content_pointer(first: u64) -> Result<Place>
-    ensures { let is_far = λ (far : FarPointer). IsFarPointer first far × (far.is_wide ≡ false) in
+    ensures { let is_far = λ (far : FarPointer).
+        IsFarPointer first far × (far.is_double_far ≡ false) in
         MatchResult result (λ place. (far : FarPointer) × is_far far × (place ≡ far.landing_pad))
         (λ error. ((far : FarPointer) → is_far far → ⊥)
         × (error.kind ≡ ErrorKind.PointerOutOfBounds)) }
 {
     match PointerWord::read(first) {
-        PointerWord::Far(far) if !far.is_wide => Ok(far.landing_pad),
+        PointerWord::Far(far) if !far.is_double_far => Ok(far.landing_pad),
         _ => Err(Error::from_kind(ErrorKind::PointerOutOfBounds)),
     }
 }

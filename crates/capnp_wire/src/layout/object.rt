@@ -14,7 +14,7 @@ ghost use Rattle.capnp_wire.specs.declared.layout.pointer.Elements.{Elements};
 ghost use Rattle.capnp_wire.specs.declared.layout.pointer.StructSize.{StructSize};
 
 use crate::layout::element::ElementSize;
-use crate::layout::landing::land;
+use crate::layout::landing::resolve;
 use crate::layout::place::{Place, existing_word, segment};
 use crate::layout::pointer::{Elements, LocalShape, StructSize};
 use crate::layout::pointer_slots::PointerSlots;
@@ -76,7 +76,7 @@ pub(crate) fn object_in<'a, S: ReaderSegments>(
     ensures refused { IfErr result (λ error.
         Fault (message_of (S.segments segments.now)) place nesting error.kind) }
 {
-    let Some(landing) = land(segments, segment, place)? else {
+    let Some(landing) = resolve(segments, segment, place)? else {
         return Ok(None);
     };
     if nesting == 0 {

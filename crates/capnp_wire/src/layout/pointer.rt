@@ -34,7 +34,8 @@ pub enum LocalShape {
     Numbers(ElementSize, u32),
     /// A list of pointers: how many there are.
     Pointers(u32),
-    /// A list of structs: how many words its elements have together.
+    /// A composite list, of structs: how many words its elements have together, without the tag
+    /// word in front of them.
     Structs(u32),
 }
 
@@ -48,18 +49,19 @@ pub struct StructSize {
     pub pointers: u16,
 }
 
-/// The elements of a list of structs.
+/// The elements of a composite list, by its tag word.
 #[derive(Clone, Copy)]
 pub(crate) struct Elements {
     pub size: StructSize,
     pub count: u32,
 }
 
-/// Where the landing pad of a far pointer is, and whether it has two words.
+/// Where the landing pad of a far pointer is, and whether the pointer is a double-far one, whose
+/// landing pad has two words.
 #[derive(Clone, Copy)]
 pub(crate) struct FarPointer {
     pub landing_pad: Place,
-    pub is_wide: bool,
+    pub is_double_far: bool,
 }
 
 // Speed: all of these are inlined. Most have few instructions; `PointerWord::read` and `list_shape`
@@ -85,7 +87,7 @@ impl PointerWord {
                     segment: (word / (1 << 32)) as u32,
                     word: (word / 8 % (1 << 29)) as usize,
                 },
-                is_wide: word / 4 % 2 == 1,
+                is_double_far: word / 4 % 2 == 1,
             }),
             _ => PointerWord::Other,
         }
@@ -140,7 +142,7 @@ impl StructSize {
 }
 
 impl Elements {
-    /// What the tag in front of the elements says; `None` where it doesn't have the shape of a
+    /// What the tag word in front of the elements says; `None` where it doesn't have the shape of a
     /// struct pointer.
     #[inline(always)]
     pub(crate) fn read(tag: u64) -> Option<Elements>
@@ -150,6 +152,7 @@ impl Elements {
         if tag % 4 != 0 {
             return None;
         }
+        // A tag word has the number of elements where a struct pointer has its offset.
         Some(Elements {
             size: StructSize::read(tag),
             count: Offset::read(tag).0,

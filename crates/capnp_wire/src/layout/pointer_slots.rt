@@ -1,11 +1,12 @@
-//! The pointers of an object, in rows: each row has the same number of pointers, after its data.
+//! The pointers of an object, in rows. A row is a struct, or an element of a composite list: each
+//! has the same number of pointers, after its data words. A list of pointers is one row.
 ghost use Rattle.std.specs.Prelude.{◌≡◌, ◌≢◌, ◌↔◌, ◌+◌, ◌*◌, ◌^◌, ◌<◌, ◌≤◌, [], IsTrue};
 
 use crate::layout::object::Body;
 use crate::layout::place::Place;
 use crate::layout::pointer::StructSize;
 
-/// How many words of data and how many pointers each row of an object has.
+/// How many data words and how many pointers each row of an object has.
 #[derive(Clone, Copy)]
 pub(crate) struct RowSize {
     pub data_words: u16,
@@ -18,9 +19,9 @@ pub(crate) struct RowSize {
 pub(crate) struct PointerSlots {
     /// The place of the next pointer.
     next: Place,
-    /// How many pointers are left in its row.
+    /// How many pointers of this row are left.
     here: u32,
-    /// The words between the pointers of two rows.
+    /// How many words are between the last pointer of a row and the first one of the next.
     gap: usize,
     /// How many pointers each further row has.
     pointers: u32,

@@ -10,6 +10,7 @@ ghost use Rattle.capnp_wire.specs.ListValues.{IsListTree, StopsInList, pointers_
 
 use crate::layout::block::put_word;
 use crate::layout::copy::Copied;
+use crate::layout::copy_cursor::CopyCursor;
 use crate::layout::copy_rows::copy_rows;
 use crate::layout::data_words::put_rows;
 use crate::layout::object::words_fit;
@@ -17,7 +18,6 @@ use crate::layout::output_size::output_size;
 use crate::layout::place::Place;
 use crate::layout::pointer::Elements;
 use crate::layout::pointer_slots::PointerSlots;
-use crate::layout::row_pair::RowPair;
 use crate::layout::value::checked_word_count;
 use crate::layout::walk::Walk;
 use crate::pointer_word::{list_word, struct_word};
@@ -50,7 +50,7 @@ pub(crate) fn measure<S: ReaderSegments>(
 {
     // For the prover: each word is below 2^64, and so is the number of bytes.
     words_fit(segment);
-    let kept = kept_elements(segment, first, elements, canonical);
+    let kept = output_elements(segment, first, elements, canonical);
     let mut walk = Walk::new(limit);
     walk.count(1 + kept.words());
     let size = elements.size.row_size();
@@ -91,14 +91,14 @@ pub(crate) fn write<S: ReaderSegments>(
 {
     // For the prover: each word is below 2^64, and so is the number of bytes.
     words_fit(segment);
-    let kept = kept_elements(segment, first, elements, canonical);
+    let kept = output_elements(segment, first, elements, canonical);
     let tag = struct_word(kept.count as u64, kept.size.data_words, kept.size.pointers);
     put_word(block, next, tag);
     let slots = next + 1;
     let step = elements.size.words() as usize;
     put_rows(block, slots, kept, segment, first.word, step);
     let end = slots + kept.words() as usize;
-    let rows = RowPair::elements(first, elements.size, kept, slots);
+    let rows = CopyCursor::elements(first, elements.size, kept, slots);
     Copied {
         pointer: list_word((next - following) as u64, 7, kept.words()),
         next: copy_rows(segments, segment, rows, nesting, canonical, block, end),
@@ -107,7 +107,7 @@ pub(crate) fn write<S: ReaderSegments>(
 
 // The size of the elements in the copy: in canonical form without trailing words that are zero in
 // all elements.
-fn kept_elements(segment: &[u8], first: Place, elements: Elements, canonical: bool) -> Elements
+fn output_elements(segment: &[u8], first: Place, elements: Elements, canonical: bool) -> Elements
     requires { first.word + elements.count * (elements.size.data_words + elements.size.pointers)
         ≤ length segment.now / 8 }
     ensures size { result.size ≡ (if canonical then

@@ -46,7 +46,8 @@ impl Walk {
         Ok(Some(object))
     }
 
-    /// Enters a struct, and returns whether all its pointers are null.
+    /// Counts a struct against the traversal limit, and the words of its copy, without following
+    /// its pointers. Returns whether all of them are null.
     #[inline(always)]
     pub(crate) fn visit_struct(&mut self, found: &LocalStruct<'_>, canonical: bool) -> Result<bool>
         requires room { found.now.start.word + (found.now.size.data_words + found.now.size.pointers)
@@ -66,9 +67,9 @@ impl Walk {
         Ok(found.holds_nulls(found.size.pointers))
     }
 
-    /// Enters a list of numbers, which has no pointers.
+    /// Counts a list of numbers, which has no pointers, against the traversal limit, and its words.
     #[inline(always)]
-    pub(crate) fn visit_list(&mut self, list: &NumberList<'_>) -> Result<()>
+    pub(crate) fn visit_numbers(&mut self, list: &NumberList<'_>) -> Result<()>
         ensures found { (m : List (List ℕ)) (canonical : Bool) (place : Place) (nesting : ℕ) →
             IsObject m place (object_of list.now) → 0 < nesting →
             OnOk result (Walked m canonical place nesting
@@ -82,7 +83,8 @@ impl Walk {
         Ok(())
     }
 
-    /// Enters a list of pointers, and nothing below it.
+    /// Counts a list of pointers against the traversal limit, and its words, without following the
+    /// pointers.
     #[inline(always)]
     pub(crate) fn visit_pointers(&mut self, list: &PointerRun<'_>) -> Result<()>
         ensures found { (m : List (List ℕ)) (canonical : Bool) (place : Place) (nesting : ℕ) →

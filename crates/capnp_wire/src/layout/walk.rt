@@ -20,11 +20,13 @@ use crate::layout::pointer_slots::PointerSlots;
 use capnp_frame::message::ReaderSegments;
 use capnp_frame::{Error, ErrorKind, Result};
 
-/// How many more words a walk may count against the traversal limit, and how many words it has
-/// counted.
+/// How many more words a walk may count against the traversal limit, and how many words the objects
+/// that it has entered have.
 #[derive(Drop)]
 pub(crate) struct Walk {
+    /// What is left of the traversal limit, in words; `None` without a limit.
     pub(crate) left: Option<usize>,
+    /// The words of the objects, as they are or as they are written, modulo 2^64.
     words: u64,
     /// Whether the words that were counted don't fit `words`.
     overflowed: bool,
@@ -92,7 +94,8 @@ impl Walk {
         Ok(())
     }
 
-    /// Counts words of no object, for example of the value that has the objects.
+    /// Adds words to those of the objects, and counts them against no limit: words of an object
+    /// that was counted before, as one that a view shows.
     #[inline(always)]
     pub(crate) fn count(&mut self, more: u64)
         ensures words { CountsMore (counted self.old) (counted self.new) more }
@@ -178,6 +181,7 @@ impl Walk {
     }
 
     /// Walks over all objects that these pointers of a segment lead to.
+    ///
     /// Speed: always inlined; `walk_object` and `walk_run` recurse (workload `canon`).
     #[inline(always)]
     #[cycle(walk)]
@@ -230,8 +234,9 @@ impl Walk {
         Ok(())
     }
 
-    // Walks up to the first object that has others below it: enters it alone, and returns its
-    // pointers.
+    // Takes these pointers one by one, and walks over what each leads to, until one leads to a
+    // struct with pointers that aren't null: that struct is entered, and its pointers are returned,
+    // to be walked over next. `None` once no pointer is left.
     #[inline(always)]
     #[cycle(walk)]
     fn next_parent<'a, S: ReaderSegments>(
@@ -268,7 +273,7 @@ impl Walk {
                     return Ok(Some(found.pointers()));
                 }
             } else if let Some(list) = local_list(segment, place, nesting) {
-                self.visit_list(&list)?;
+                self.visit_numbers(&list)?;
             } else {
                 self.walk_object(segments, segment, place, nesting, canonical)?;
             }

@@ -37,7 +37,7 @@ impl<'a, T: PrimitiveElement> Reader<'a, T> {
         self.count
     }
 
-    /// The element at this index.
+    /// The element at this index, which must be below `len`; `try_get` takes any.
     pub fn get(&self, index: u32) -> T
         requires { index < length (numbers_of T.code self.now) }
         ensures { result ≡ T.value_of (slice_index (numbers_of T.code self.now) index) }

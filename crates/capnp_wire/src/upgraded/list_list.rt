@@ -30,7 +30,8 @@ impl<'a, S: ReaderSegments, T: FromPointerReader<'a, S>> ListList<'a, S, T> {
         self.pointers.len()
     }
 
-    /// The view of the element at this index, counted against the traversal limit each time.
+    /// The view of the element at this index, which must be below `len`; `try_get` takes any. It is
+    /// counted against the traversal limit each time.
     ///
     /// Fails as `any_pointer::Reader::get_as` does of the element's pointer.
     pub fn get(&self, index: u32) -> Result<T>

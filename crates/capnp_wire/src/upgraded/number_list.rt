@@ -76,7 +76,7 @@ impl<'a, T: PrimitiveElement> NumberList<'a, T> {
         }
     }
 
-    /// The element at this index.
+    /// The element at this index, which must be below `len`; `try_get` takes any.
     pub fn get(&self, index: u32) -> T
         requires { index < length (upgraded_numbers_of T.code self.now) }
         ensures { result ≡ T.value_of (slice_index (upgraded_numbers_of T.code self.now) index) }

@@ -98,8 +98,9 @@ impl<'a, S: ReaderSegments> StructList<'a, S> {
         }
     }
 
-    /// The element at this index. Its pointers have the nesting depth that is left below the list.
-    /// Its words were counted against the traversal limit with the list's.
+    /// The element at this index, which must be below `len`; `try_get` takes any. Its pointers have
+    /// the nesting depth that is left below the list. Its words were counted against the traversal
+    /// limit with the list's.
     pub fn get(&self, index: u32) -> StructReader<'a, S>
         requires { index < length (upgraded_structs_of S.segments self.now).rows }
         ensures { struct_of S.segments result

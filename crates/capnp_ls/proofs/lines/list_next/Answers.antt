@@ -1,8 +1,8 @@
 -- A message's line is printed, or the run stops at it.
-use Rattle.std.proofs.Common.{refl, inr}
+use Rattle.std.proofs.Common.{refl, inr, length}
 use Rattle.capnp.specs.Passed.{default_limit}
 use Rattle.capnp.specs.declared.streams.Format.TheVariants.{Framed}
-use Rattle.capnp.proofs.FormatLemmas.{reading_fault}
+use Rattle.capnp.proofs.FormatLemmas.{skipping_fault}
 use Rattle.capnp.proofs.RunLemmas.{written_next, stopped_reading, stopped_at_message, left_as_written, message_faulted}
 use Rattle.capnp_ls.specs.declared.command.Command.TheVariants.{Listing}
 use Rattle.capnp_ls.specs.Output.{Prints, DeclinesPrinted}
@@ -25,7 +25,7 @@ returns-in-Err-clause-stopped g c = λ first before written.
     let command = Listing Framed c.args.padding in
     stopped_reading c.args.padding Framed default_limit (Prints command g.W.Write.appends) (DeclinesPrinted command g.W.Write.appends g.W.Write.leaves g.W.Write.refuses)
     (record { message = c.args.message; error = c.in-Err.error }) first _ _ before _ _ written
-    (reading_fault c.args.padding Framed default_limit c.in-Err.error.kind _ _ c.in-Err.ensures.refused) refl
+    (skipping_fault c.args.padding (length c.args.spare) default_limit c.in-Err.error.kind _ _ c.in-Err.ensures.refused) refl
 
 pub returns-in-Err-print_line-clause-stopped : goal.returns-in-Err-print_line-clause-stopped
 returns-in-Err-print_line-clause-stopped g c = λ first before written.

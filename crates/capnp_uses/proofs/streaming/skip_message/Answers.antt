@@ -1,4 +1,4 @@
--- What is told is whether a message was read.
+-- What is returned is whether a message was read.
 use Rattle.std.proofs.lemmas.Result.{err_from_is_err_and}
 use Rattle.capnp_uses.proofs.SkipLemmas.{skips, skip_fails}
 use Rattle.capnp_uses.proofs.streaming.skip_message.Goals as goal

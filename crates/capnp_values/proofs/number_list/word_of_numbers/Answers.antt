@@ -5,8 +5,8 @@ use Rattle.capnp_wire.specs.Pointer.{number_of}
 use Rattle.capnp_values.proofs.NumberListLemmas.{front_small}
 use Rattle.capnp_values.proofs.number_list.word_of_numbers.Goals as goal
 
-pub in_front-word-requires-clause-room : goal.in_front-word-requires-clause-room
-in_front-word-requires-clause-room g c =
+pub prepend_bits-word-requires-clause-room : goal.prepend_bits-word-requires-clause-room
+prepend_bits-word-requires-clause-room g c =
     let w : ℕ = width g.N.PrimitiveElement.code in
     let inv = c.items.invariant in
     let small : g.N.PrimitiveElement.bits_of c.index-items-left.result + 2 ^ w * number_of (2 ^ w) (map g.N.PrimitiveElement.bits_of (drop c.items.left c.args.items.now)) < 2 ^ 64 =

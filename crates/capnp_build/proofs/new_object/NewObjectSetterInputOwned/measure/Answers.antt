@@ -2,12 +2,12 @@
 use Rattle.std.proofs.Common.{◌≡◌, ap, ◌∙◌, sym, Ok}
 use Rattle.capnp_wire.specs.Tree.{none, tree}
 use Rattle.capnp_wire.proofs.views.OneValueLemmas.{IsOne, measured_found, measured_exactly}
-use Rattle.capnp_build.specs.Body.{zero_form, words_of_body}
-use Rattle.capnp_build.specs.declared.object.Body.{Body}
+use Rattle.capnp_build.specs.NewBody.{zero_form, words_of_body}
+use Rattle.capnp_build.specs.declared.object.NewBody.{NewBody}
 use Rattle.capnp_build.proofs.NewObjectLemmas.{new_object_words}
 use Rattle.capnp_build.proofs.new_object.NewObjectSetterInputOwned.measure.Goals as goal
 
-one_new : (body : Body) → IsOne (λ trees. trees ≡ tree (zero_form body) none none) (λ refusal. ⊥)
+one_new : (body : NewBody) → IsOne (λ trees. trees ≡ tree (zero_form body) none none) (λ refusal. ⊥)
 one_new body = record {
   same_tree = λ a b p q. p ∙ sym q;
   same_refusal = λ a b x y. absurd x;

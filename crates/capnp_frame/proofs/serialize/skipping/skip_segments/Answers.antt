@@ -2,14 +2,14 @@
 use Rattle.std.proofs.Common.{rules, ◌*◌, None}
 use Rattle.capnp_frame.proofs.StepLemmas.{asks_found, asks_failed, asks_passed}
 use Rattle.capnp_frame.proofs.RequestLemmas.{table_not_empty}
-use Rattle.capnp_frame.proofs.MetRefusals.{reader_kind, source_kind, or_memory, table_met_growing, segments_met}
+use Rattle.capnp_frame.proofs.MetRefusals.{reader_kind, source_kind, or_memory, table_met_skipping, segments_met}
 use Rattle.capnp_frame.proofs.SkippingLemmas.{LengthsStand-skipped}
 use Rattle.capnp_frame.proofs.serialize.skipping.skip_segments.Goals as goal
 
 pub returns-in_err-lengths-clause-asks : goal.returns-in_err-lengths-clause-asks
 returns-in_err-lengths-clause-asks g c =
     asks_passed g.R.Read _ _ c.args.rule _ _ _ _ _ _ c.from_residual.ensures.1
-    (table_met_growing c.args.rule _ _ g.R.Read.gives g.R.Read.refuses _ _ _ _) c.in_err-lengths.ensures.asks
+    (table_met_skipping c.args.rule _ _ g.R.Read.gives g.R.Read.refuses _ _ _ _) c.in_err-lengths.ensures.asks
 
 pub returns-in_err-skip_bytes-clause-asks : goal.returns-in_err-skip_bytes-clause-asks
 returns-in_err-skip_bytes-clause-asks g c =

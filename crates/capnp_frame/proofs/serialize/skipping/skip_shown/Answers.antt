@@ -1,5 +1,5 @@
 -- Each turn drops some more, and nothing is left to drop only at the end.
-use Rattle.std.proofs.Common.{◌≡◌, ◌-◌, inr, arith}
+use Rattle.std.proofs.Common.{◌-◌, inr, arith}
 use Rattle.capnp_frame.proofs.AskLemmas.{Asked-err}
 use Rattle.capnp_frame.proofs.SourceLemmas.{Advances-join}
 use Rattle.capnp_frame.proofs.SkippingLemmas.{Drops-as, Drops-join, short_at_end}

@@ -8,16 +8,16 @@ use Rattle.capnp_frame.proofs.serialize.stream.fill_lengths.Goals as goal
 
 pub returns-in_err-check_limit-clause-refused : goal.returns-in_err-check_limit-clause-refused
 returns-in_err-check_limit-clause-refused c =
-    let size : length c.args.table.now ≡ table_size (length c.fill_indices-total.new.indices) = search rules in
-    let declared = rw c.fill_indices-total.ensures.declared at c.fill_indices-total.ensures.ranges.total_is in
-    let tells = tells_complete c.args.table.now (length c.fill_indices-total.new.indices) (search rules) size c.fill_indices-total.ensures.lengths in
+    let size : length c.args.table.now ≡ table_size (length c.fill_segment_ranges-total.new.indices) = search rules in
+    let declared = rw c.fill_segment_ranges-total.ensures.declared at c.fill_segment_ranges-total.ensures.ranges.total_is in
+    let tells = tells_complete c.args.table.now (length c.fill_segment_ranges-total.new.indices) (search rules) size c.fill_segment_ranges-total.ensures.lengths in
     passed_on _ _ c.from_residual.ensures.1
     (limit_refuses c.args.rule c.args.limit _ c.args.table.now _ _ tells size declared c.in_err-check_limit.ensures.refused)
 
 pub returns-in_err-check_padding-clause-refused : goal.returns-in_err-check_padding-clause-refused
 returns-in_err-check_padding-clause-refused c =
-    let size : length c.args.table.now ≡ table_size (length c.fill_indices-total.new.indices) = search rules in
-    let tells = tells_complete c.args.table.now (length c.fill_indices-total.new.indices) (search rules) size c.fill_indices-total.ensures.lengths in
+    let size : length c.args.table.now ≡ table_size (length c.fill_segment_ranges-total.new.indices) = search rules in
+    let tells = tells_complete c.args.table.now (length c.fill_segment_ranges-total.new.indices) (search rules) size c.fill_segment_ranges-total.ensures.lengths in
     let broken = c.in_err-check_padding.ensures.refused in
     passed_on _ _ c.from_residual-in_err-check_padding.ensures.1
     (padding_refuses c.args.rule c.args.limit _ c.args.table.now _ tells size (search rules) broken.1 broken.2)

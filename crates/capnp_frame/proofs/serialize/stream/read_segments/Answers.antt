@@ -14,7 +14,7 @@ use Rattle.capnp_frame.proofs.serialize.stream.read_segments.Goals as goal
 pub returns-in_err-lengths-clause-asks : goal.returns-in_err-lengths-clause-asks
 returns-in_err-lengths-clause-asks g c =
     asks_passed g.R.Read _ _ c.args.rule _ _ _ _ _ _ c.from_residual.ensures.1
-    (table_met_growing c.args.rule _ _ g.R.Read.gives g.R.Read.refuses _ _ _ _) c.in_err-lengths.ensures.asks
+    (table_met_growing c.args.rule (length c.args.memory.items) _ _ g.R.Read.gives g.R.Read.refuses _ _ _ _) c.in_err-lengths.ensures.asks
 
 pub returns-in_err-read_chunk-clause-asks : goal.returns-in_err-read_chunk-clause-asks
 returns-in_err-read_chunk-clause-asks g c =

@@ -1,8 +1,8 @@
 -- The table that is read is the only one that is there.
-use Rattle.std.proofs.Common.{rules, ◌≡◌, length, None}
+use Rattle.std.proofs.Common.{rules, ◌≡◌, ◌<◌, length, None, arith}
 use Rattle.capnp_frame.proofs.AskLemmas.{passed_on, Asked-err}
 use Rattle.capnp_frame.proofs.StepLemmas.{asks_found}
-use Rattle.capnp_frame.proofs.MetRefusals.{or_memory, rest_met, reader_kind, source_kind}
+use Rattle.capnp_frame.proofs.MetRefusals.{or_memory, rest_met, reader_kind, source_kind, lengths_taken}
 use Rattle.capnp_frame.proofs.serialize.stream.read_table.Goals as goal
 
 pub returns-in_err-first-clause-asks : goal.returns-in_err-first-clause-asks
@@ -13,6 +13,13 @@ returns-in_err-first-clause-asks g c = record {
   end = search rules;
   asked = search rules;
 }
+
+pub returns-in_err-resize-clause-asks : goal.returns-in_err-resize-clause-asks
+returns-in_err-resize-clause-asks g c =
+    let first = rw c.in-Some.is at c.in_ok-first.ensures.found in
+    let more : length c.args.memory.items < c.in_ok-count.count = omega (arith, c.in_err-resize.ensures.full, c.args.memory.ok.0, c.args.memory.ok.1) in
+    let takes = lengths_taken g.R.Read.gives (length c.args.memory.items) c.in_ok-count.count c.in-Some.first _ _ c.in_ok-count.ensures.accepted more first in
+    record { none = search rules; refused = search rules; kinds = search rules; end = search rules; asked = search rules }
 
 pub returns-in_err-total-clause-asks : goal.returns-in_err-total-clause-asks
 returns-in_err-total-clause-asks g c =

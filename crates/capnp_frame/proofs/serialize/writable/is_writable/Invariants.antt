@@ -1,5 +1,5 @@
 -- The segments before the index can be written.
-use Rattle.std.proofs.Common.{◌<◌, ◌≤◌, length, take}
+use Rattle.std.proofs.Common.{◌≤◌, length, take}
 use Rattle.std.specs.List.{AllByRecursion}
 use Rattle.capnp_frame.proofs.WritableLemmas.{IsWhole}
 use Rattle.capnp_frame.proofs.serialize.writable.is_writable.Given as goal

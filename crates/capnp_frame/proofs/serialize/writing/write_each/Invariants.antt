@@ -2,6 +2,8 @@
 use Rattle.std.proofs.Common.{length, ◌-◌, ◌≤◌, take}
 use Rattle.capnp_frame.specs.Source.{IfKnown}
 use Rattle.capnp_frame.specs.Sink.{Adds, AppendsAll, Grows}
+use Rattle.std.specs.List.{concat}
+use Rattle.capnp_frame.proofs.GrantLemmas.{StaysGranted}
 use Rattle.capnp_frame.proofs.serialize.writing.write_each.Given as goal
 
 abbrev pub invariant-loop-segment : goal.invariant-loop-segment
@@ -10,6 +12,7 @@ invariant-loop-segment g l = let W = g.W.Write in let segments = g.S.ReaderSegme
       within : l.index ≤ length segments;
       written : IfKnown (W.written l.initial.sink) (W.written l.sink) (Adds (AppendsAll W.appends (take l.index segments)));
       grows : Grows W.written W.failures W.same l.initial.sink l.sink;
+      granted : StaysGranted W.grants l.initial.sink l.sink (length (concat (take l.index segments)));
     }
 
 abbrev pub decreases-loop-segment : goal.decreases-loop-segment

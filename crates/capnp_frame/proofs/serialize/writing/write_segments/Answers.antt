@@ -1,8 +1,12 @@
 -- The table's chunks, and then the segments, where there are no more than a reader accepts.
-use Rattle.std.proofs.Common.{inr}
+use Rattle.std.proofs.Common.{inr, ◌*◌, ◌≤◌, length, arith}
 use Rattle.std.proofs.lemmas.Result.{err_from_is_err_and}
 use Rattle.capnp_frame.specs.Message.{lengths}
-use Rattle.capnp_frame.specs.Writing.{table_chunks}
+use Rattle.std.specs.List.{concat}
+use Rattle.capnp_frame.specs.SegmentTable.{table_size}
+use Rattle.capnp_frame.specs.Writing.{table_chunks, serialized_words}
+use Rattle.capnp_frame.specs.Writers.{LacksTable, RefusesUnwritten}
+use Rattle.capnp_frame.proofs.GrantLemmas.{granted_first, granted_after, granted_words}
 use Rattle.capnp_frame.proofs.SinkLemmas.{front_refused, writes_after, writes_chunks, few_written, many_refused}
 use Rattle.capnp_frame.proofs.serialize.writing.write_segments.Goals as goal
 
@@ -15,12 +19,17 @@ pub returns-in_err-write_table : goal.returns-in_err-write_table
 returns-in_err-write_table g c =
     let p = err_from_is_err_and c.from_residual-in_err-write_table.result c.from_residual-in_err-write_table.ensures.1 in
     let segments = g.S.ReaderSegments.segments c.args.segments.now in
-    let parts = front_refused g.W.Write _ _ (table_chunks (lengths segments)) segments _ _ _ (λ lacks. inr lacks) c.in_err-write_table.ensures in
-    rw (p.1, p.2) (few_written g.W.Write _ _ segments _ c.in_ok-check_count.ensures.count.few parts)
+    let parts = front_refused g.W.Write _ _ (table_chunks (lengths segments)) segments _ _ _ (λ lacks. inr lacks) c.in_err-write_table.ensures.writes in
+    let part : table_size (length segments) ≤ 8 * serialized_words segments = omega arith in
+    let granted = granted_first g.W.Write.grants _ _ (table_size (length segments)) (8 * serialized_words segments) _
+    (RefusesUnwritten segments c.in_err-write_table.field-0.0.kind) part (λ (lacks : LacksTable segments c.in_err-write_table.field-0.0.kind). inr lacks) c.in_err-write_table.ensures.granted in
+    rw (p.1, p.2) (few_written g.W.Write _ _ segments _ c.in_ok-check_count.ensures.count.few parts granted)
 
 pub returns : goal.returns
 returns g c =
     let segments = g.S.ReaderSegments.segments c.args.segments.now in
     let all = writes_after g.W.Write g.met.W.Write.keeps _ _ _ (table_chunks (lengths segments)) segments c.write_each.result
-    c.in_ok-write_table.ensures.written c.write_table.ensures.grows c.write_each.ensures in
-    few_written g.W.Write _ _ segments _ c.in_ok-check_count.ensures.count.few (writes_chunks g.W.Write _ _ _ _ c.write_each.result all)
+    c.in_ok-write_table.ensures.writes.written c.write_table.ensures.writes.grows c.write_each.ensures.writes in
+    let granted = granted_after g.W.Write.grants _ _ _ (table_size (length segments)) (length (concat segments)) (8 * serialized_words segments) (RefusesUnwritten segments)
+    c.write_each.result (granted_words segments c.requires.whole) c.in_ok-write_table.ensures.granted c.write_each.ensures.granted in
+    few_written g.W.Write _ _ segments _ c.in_ok-check_count.ensures.count.few (writes_chunks g.W.Write _ _ _ _ c.write_each.result all) granted

@@ -44,9 +44,9 @@ returns g c =
     let places_are = (rw c.row_size-size.ensures at c.new-pointers.ensures.places) ∙ sym (kept_all first.segment first.word size.data_words size.pointers elements.count) in
     let found = rw (places_are, c.count.ensures.left, c.new-walk.ensures.left) at c.in_ok-walk_pointers.ensures.found in
     let own_counted = rw c.new-walk.ensures.words at c.count.ensures.words in
-    let kept = c.kept_elements-kept.ensures in
+    let kept = c.output_elements-kept.ensures in
     let own = 1 + c.words.result in
-    let own_is = ap (λ k. 1 + k) (c.words.ensures.words ∙ ap (λ n. n * (c.kept_elements-kept.result.size.data_words + c.kept_elements-kept.result.size.pointers)) kept.count
+    let own_is = ap (λ k. 1 + k) (c.words.ensures.words ∙ ap (λ n. n * (c.output_elements-kept.result.size.data_words + c.output_elements-kept.result.size.pointers)) kept.count
     ∙ ap (λ (k : StructSize). elements.count * (k.data_words + k.pointers)) kept.size) in
     let counted = rw (← c.words-2.ensures) at found.counted (0 + own) (own_counted 0 refl) in
     let room : first.word + elements.count * (size.data_words + size.pointers) ≤ length (words_of c.args.segment.now) = omega (arith, c.requires.room, length-words_of c.args.segment.now) in

@@ -15,7 +15,7 @@ use Rattle.capnp_wire.proofs.layout.struct_list_value.write.Goals as goal
 pub struct_word-tag-requires : goal.struct_word-tag-requires
 struct_word-tag-requires g c =
     let m = message_of (g.S.ReaderSegments.segments c.args.segments.now) in
-    let kept = c.kept_elements-kept.ensures in
+    let kept = c.output_elements-kept.ensures in
     let room : c.args.first.word + c.args.elements.count * (c.args.elements.size.data_words + c.args.elements.size.pointers) ≤ length (words_of c.args.segment.now) =
     omega (arith, c.requires.room, length-words_of c.args.segment.now) in
     (rows_opened c.requires.content room kept.size kept.count c.requires.value.1).few_elements
@@ -23,7 +23,7 @@ struct_word-tag-requires g c =
 pub put_rows-requires-clause-room : goal.put_rows-requires-clause-room
 put_rows-requires-clause-room g c =
     let m = message_of (g.S.ReaderSegments.segments c.args.segments.now) in
-    let kept = c.kept_elements-kept.ensures in
+    let kept = c.output_elements-kept.ensures in
     let room : c.args.first.word + c.args.elements.count * (c.args.elements.size.data_words + c.args.elements.size.pointers) ≤ length (words_of c.args.segment.now) =
     omega (arith, c.requires.room, length-words_of c.args.segment.now) in
     let o = rows_opened c.requires.content room kept.size kept.count c.requires.value.1 in
@@ -32,7 +32,7 @@ put_rows-requires-clause-room g c =
 pub list_word-requires-clause-count : goal.list_word-requires-clause-count
 list_word-requires-clause-count g c =
     let m = message_of (g.S.ReaderSegments.segments c.args.segments.now) in
-    let kept = c.kept_elements-kept.ensures in
+    let kept = c.output_elements-kept.ensures in
     let room : c.args.first.word + c.args.elements.count * (c.args.elements.size.data_words + c.args.elements.size.pointers) ≤ length (words_of c.args.segment.now) =
     omega (arith, c.requires.room, length-words_of c.args.segment.now) in
     let o = rows_opened c.requires.content room kept.size kept.count c.requires.value.1 in
@@ -41,14 +41,14 @@ list_word-requires-clause-count g c =
 pub copy_rows-requires-clause-there : goal.copy_rows-requires-clause-there
 copy_rows-requires-clause-there g c =
     let m = message_of (g.S.ReaderSegments.segments c.args.segments.now) in
-    let kept = c.kept_elements-kept.ensures in
+    let kept = c.output_elements-kept.ensures in
     let room : c.args.first.word + c.args.elements.count * (c.args.elements.size.data_words + c.args.elements.size.pointers) ≤ length (words_of c.args.segment.now) =
     omega (arith, c.requires.room, length-words_of c.args.segment.now) in
     let o = rows_opened c.requires.content room kept.size kept.count c.requires.value.1 in
     let first = c.args.first in
     let size = c.args.elements.size in
-    let to = c.kept_elements-kept.result.size in
-    let n = c.kept_elements-kept.result.count in
+    let to = c.output_elements-kept.result.size in
+    let n = c.output_elements-kept.result.count in
     let at = kept_places first.segment first.word size.data_words size.pointers to.pointers n in
     let end : ℕ = c.args.next + (1 + n * (to.data_words + to.pointers)) in
     let end_is : c.args.next + 1 + c.words.result ≡ end = omega (arith, c.words.ensures.words) in
@@ -61,7 +61,7 @@ copy_rows-requires-clause-there g c =
 pub returns-clause-written : goal.returns-clause-written
 returns-clause-written g c limit trees is =
     let m = message_of (g.S.ReaderSegments.segments c.args.segments.now) in
-    let kept = c.kept_elements-kept.ensures in
+    let kept = c.output_elements-kept.ensures in
     let room : c.args.first.word + c.args.elements.count * (c.args.elements.size.data_words + c.args.elements.size.pointers) ≤ length (words_of c.args.segment.now) =
     omega (arith, c.requires.room, length-words_of c.args.segment.now) in
     let o = rows_opened c.requires.content room kept.size kept.count c.requires.value.1 in

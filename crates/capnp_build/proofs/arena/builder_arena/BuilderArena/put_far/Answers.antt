@@ -9,24 +9,24 @@ use Rattle.capnp_build.proofs.ReadyLemmas.{value_set}
 use Rattle.capnp_build.proofs.arena.builder_arena.BuilderArena.put_far.Goals as goal
 
 pub invariant_of-self : goal.invariant_of-self
-invariant_of-self g c = let v = c.fill-location.ensures.body in (v.form, v.children, c.point_far.ensures.stands v.form v.children v.body_is)
+invariant_of-self g c = let v = c.append_value-location.ensures.body in (v.form, v.children, c.point_far.ensures.stands v.form v.children v.body_is)
 
 pub returns : goal.returns
 returns g c =
     let within : c.args.segment < length c.self.inside.segments.spaces = subst (λ (v : Built g.row.A.Denot). c.args.segment < length v.spaces) (sym c.self.view_is) c.requires.within in
     let landing_pad = longer_by c.self.inside.segments c.grow.new.self c.args.segment 1 (replicate (8 * 1) 0) within (length-replicate {A = ℕ} (8 * 1) 0) c.grow.ensures in
-    let v = c.fill-location.ensures.body in
-    let p = c.fill-location.ensures.place in
-    let more = c.fill-location.ensures.longer in
+    let v = c.append_value-location.ensures.body in
+    let p = c.append_value-location.ensures.place in
+    let more = c.append_value-location.ensures.longer in
     let kept = c.point_far.ensures.rewritten in
-    let here : c.fill-location.result ≡ p.place = cc in
-    let start : c.fill-location.result.start ≡ p.place.start = ap (λ (s : RootLocation). s.start) here in
-    let place : c.fill-location.result.segment ≡ c.args.segment = ap (λ (s : RootLocation). s.segment) here ∙ p.segment_is in
-    let before : (i from n : ℕ) → i ≡ c.fill-location.result.segment → from + n ≤ length (space_at c.self.inside.segments.spaces i).used → from + n + 8 ≤ 8 * c.fill-location.result.start =
+    let here : c.append_value-location.result ≡ p.place = cc in
+    let start : c.append_value-location.result.start ≡ p.place.start = ap (λ (s : RootLocation). s.start) here in
+    let place : c.append_value-location.result.segment ≡ c.args.segment = ap (λ (s : RootLocation). s.segment) here ∙ p.segment_is in
+    let before : (i from n : ℕ) → i ≡ c.append_value-location.result.segment → from + n ≤ length (space_at c.self.inside.segments.spaces i).used → from + n + 8 ≤ 8 * c.append_value-location.result.start =
     λ i from n same fits. let inside : from + n ≤ length (space_at c.self.inside.segments.spaces c.args.segment).used = subst (λ (k : ℕ). from + n ≤ length (space_at c.self.inside.segments.spaces k).used) (same ∙ place) fits in
     omega (arith, inside, start, p.start_is, landing_pad.used) in
     record {
-      set = value_set (g.V.SetterInput.has_tree c.args.value.now) c.args.canonical c.fill-location.new.self.spaces c.point_far.new.self.spaces c.fill-location.result v
+      set = value_set (g.V.SetterInput.has_tree c.args.value.now) c.args.canonical c.append_value-location.new.self.spaces c.point_far.new.self.spaces c.append_value-location.result v
           (c.point_far.ensures.stands v.form v.children v.body_is);
       count = kept.count ∙ more.count ∙ landing_pad.count ∙ ap (λ (v : Built g.row.A.Denot). length v.spaces) c.self.view_is;
       location = record {

@@ -9,45 +9,45 @@ use Rattle.capnp_build.proofs.PointLemmas.{keeps_of}
 use Rattle.capnp_build.proofs.ReadyLemmas.{value_set, value_whole}
 use Rattle.capnp_build.proofs.arena.builder_arena.BuilderArena.put_local.Goals as goal
 
-pub fill-location-requires-clause-following : goal.fill-location-requires-clause-following
-fill-location-requires-clause-following g c =
+pub append_value-location-requires-clause-following : goal.append_value-location-requires-clause-following
+append_value-location-requires-clause-following g c =
     let there : 0 < length c.self.inside.segments.spaces = subst (λ (v : Built g.row.A.Denot). 0 < length v.spaces) (sym c.self.view_is) c.requires.there in
     let null : c.self.inside.location ≡ None = ap (λ (v : Built g.row.A.Denot). v.location) c.self.view_is ∙ c.requires.null in
     root_room c.self.inside.segments.spaces there (subst (λ (o : Option RootLocation). IsBuilt c.self.inside.segments.spaces o) null c.self.invariant)
 
 pub invariant_of-self : goal.invariant_of-self
-invariant_of-self g c = let v = c.fill-location.ensures.body in (v.form, v.children, c.point_local.ensures.stands v.form v.children v.body_is)
+invariant_of-self g c = let v = c.append_value-location.ensures.body in (v.form, v.children, c.point_local.ensures.stands v.form v.children v.body_is)
 
 pub returns-clause-whole : goal.returns-clause-whole
 returns-clause-whole g c = λ one short.
-    let v = c.fill-location.ensures.body in
-    let p = c.fill-location.ensures.place in
-    let here : c.fill-location.result ≡ p.place = cc in
-    let first : c.fill-location.result.segment ≡ 0 = ap (λ (s : RootLocation). s.segment) here ∙ p.segment_is in
-    let start : c.fill-location.result.start ≡ p.place.start = ap (λ (s : RootLocation). s.start) here in
-    let many : c.fill-location.result.words ≡ c.args.words = ap (λ (s : RootLocation). s.words) here ∙ p.words_are in
-    let more = c.fill-location.ensures.longer in
+    let v = c.append_value-location.ensures.body in
+    let p = c.append_value-location.ensures.place in
+    let here : c.append_value-location.result ≡ p.place = cc in
+    let first : c.append_value-location.result.segment ≡ 0 = ap (λ (s : RootLocation). s.segment) here ∙ p.segment_is in
+    let start : c.append_value-location.result.start ≡ p.place.start = ap (λ (s : RootLocation). s.start) here in
+    let many : c.append_value-location.result.words ≡ c.args.words = ap (λ (s : RootLocation). s.words) here ∙ p.words_are in
+    let more = c.append_value-location.ensures.longer in
     let kept = c.point_local.ensures.rewritten in
     let alone : length c.self.inside.segments.spaces ≡ 1 = subst (λ (w : Built g.row.A.Denot). length w.spaces ≡ 1) (sym c.self.view_is) one in
     let eight : length (space_at c.self.inside.segments.spaces 0).used ≡ 8 =
     subst (λ (w : Built g.row.A.Denot). length (space_at w.spaces 0).used ≡ 8) (sym c.self.view_is) short in
-    value_whole (g.V.SetterInput.has_tree c.args.value.now) c.args.canonical c.fill-location.new.self.spaces c.point_local.new.self.spaces c.fill-location.result v
+    value_whole (g.V.SetterInput.has_tree c.args.value.now) c.args.canonical c.append_value-location.new.self.spaces c.point_local.new.self.spaces c.append_value-location.result v
     (c.point_local.ensures.stands v.form v.children v.body_is) (kept.count ∙ more.count ∙ alone) first (omega (arith, start, p.start_is, eight))
     (omega (arith, kept.used 0, more.used, eight, many))
 
 pub returns-clause-block : goal.returns-clause-block
 returns-clause-block g c =
-    let v = c.fill-location.ensures.body in
-    let more = c.fill-location.ensures.longer in
+    let v = c.append_value-location.ensures.body in
+    let more = c.append_value-location.ensures.longer in
     let kept = c.point_local.ensures.rewritten in
-    let p = c.fill-location.ensures.place in
-    let here : c.fill-location.result ≡ p.place = cc in
-    let first : c.fill-location.result.segment ≡ 0 = ap (λ (s : RootLocation). s.segment) here ∙ p.segment_is in
+    let p = c.append_value-location.ensures.place in
+    let here : c.append_value-location.result ≡ p.place = cc in
+    let first : c.append_value-location.result.segment ≡ 0 = ap (λ (s : RootLocation). s.segment) here ∙ p.segment_is in
     record {
-      set = value_set (g.V.SetterInput.has_tree c.args.value.now) c.args.canonical c.fill-location.new.self.spaces c.point_local.new.self.spaces c.fill-location.result v
+      set = value_set (g.V.SetterInput.has_tree c.args.value.now) c.args.canonical c.append_value-location.new.self.spaces c.point_local.new.self.spaces c.append_value-location.result v
           (c.point_local.ensures.stands v.form v.children v.body_is);
       count = kept.count ∙ more.count ∙ ap (λ (v : Built g.row.A.Denot). length v.spaces) c.self.view_is;
-      location = subst (λ (v : Built g.row.A.Denot). IsAtEnd v.spaces (Some c.fill-location.result) 0 0 c.args.words) c.self.view_is c.fill-location.ensures.place;
+      location = subst (λ (v : Built g.row.A.Denot). IsAtEnd v.spaces (Some c.append_value-location.result) 0 0 c.args.words) c.self.view_is c.append_value-location.ensures.place;
       size = omega (arith, kept.size, more.size, ap (λ (v : Built g.row.A.Denot). size_in_words v.spaces) c.self.view_is);
       bytes = subst (λ (v : Built g.row.A.Denot). KeepsBytes v.spaces c.point_local.new.self.spaces) c.self.view_is
           (λ i from n root fits. let wide = more.each i in c.point_local.ensures.bytes i from n root (λ following same. absurd (omega (arith, following, same, first))) (omega (arith, fits, wide))

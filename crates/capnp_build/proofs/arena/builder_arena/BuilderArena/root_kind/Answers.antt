@@ -13,7 +13,7 @@ use Rattle.capnp_build.proofs.NullLemmas.{null_only}
 use Rattle.capnp_build.proofs.ReadLemmas.{shown_there}
 use Rattle.capnp_build.proofs.arena.builder_arena.BuilderArena.root_kind.Goals as goal
 
-shown_of : (spaces : List Space) (location : RootLocation) (s : RootKind) → IsBuilt spaces (Some location) → ((form : Form) (n : ℕ) → HasRoom form n → location.tag ≡ pointer form n 0 → ShowsRoot s form)
+shown_of : (spaces : List Space) (location : RootLocation) (s : RootKind) → IsBuilt spaces (Some location) → ((form : Form) (n : ℕ) → HasRoom form n → location.pointer_word ≡ pointer form n 0 → ShowsRoot s form)
     → (form : Form) (children : Trees) (traversed : ℕ) → Root (message spaces) form children traversed → ShowsRoot s form
 shown_of spaces location s p read form children traversed there =
     let r = laid_as spaces location p.0 form p.1 children traversed p.2 there in read form (count children) r.body_is.rooms.0 r.body_is.tag
@@ -28,11 +28,11 @@ pub returns-in-Some-clause-form : goal.returns-in-Some-clause-form
 returns-in-Some-clause-form g c = λ form children traversed there.
     let spaces : List Space = c.self.inside.segments.spaces in
     let p : IsBuilt spaces (Some c.in-Some.location) = subst (λ (o : Option RootLocation). IsBuilt spaces o) c.in-Some.is c.self.invariant in
-    shown_of spaces c.in-Some.location c.read_tag.result p c.read_tag.ensures form children traversed (subst (λ (v : Built g.row.A.Denot). Root (message v.spaces) form children traversed) (sym c.self.view_is) there)
+    shown_of spaces c.in-Some.location c.read_pointer_word.result p c.read_pointer_word.ensures form children traversed (subst (λ (v : Built g.row.A.Denot). Root (message v.spaces) form children traversed) (sym c.self.view_is) there)
 
 pub returns-in-Some-clause-stands : goal.returns-in-Some-clause-stands
 returns-in-Some-clause-stands g c =
     let spaces : List Space = c.self.inside.segments.spaces in
     let p : IsBuilt spaces (Some c.in-Some.location) = subst (λ (o : Option RootLocation). IsBuilt spaces o) c.in-Some.is c.self.invariant in
-    subst (λ (v : Built g.row.A.Denot). IsRootKind c.read_tag.result v.spaces) c.self.view_is
-    (shown_there spaces c.in-Some.location c.read_tag.result p.0 p.1 p.2 (c.read_tag.ensures p.0 (count p.1) p.2.body_is.rooms.0 p.2.body_is.tag))
+    subst (λ (v : Built g.row.A.Denot). IsRootKind c.read_pointer_word.result v.spaces) c.self.view_is
+    (shown_there spaces c.in-Some.location c.read_pointer_word.result p.0 p.1 p.2 (c.read_pointer_word.ensures p.0 (count p.1) p.2.body_is.rooms.0 p.2.body_is.tag))

@@ -10,7 +10,7 @@ pub returns-in-Some : goal.returns-in-Some
 returns-in-Some g c =
     let self = c.args.self.now in
     let words = words_of self.segment.now in
-    c.own_bits.ensures
+    c.data_word_of.ensures
     ∙ ap (own_part self.part) (word_within words self.start.word self.size.data_words c.args.index c.in-Some.word c.if-index-self.true c.in-Some.ensures.value)
     ∙ sym (own_data_at self.part (words_from words self.start.word self.size.data_words) c.args.index)
 

@@ -70,17 +70,17 @@ next_parent-pointers-preserved-else-not-alone g t c =
     let local = c.in-Some-local_struct.ensures _ (going_there c.pointers.invariant takes.taken takes.segment) in
     going_on c.pointers.invariant takes.taken takes.same_segment ((c.in_ok-alone.ensures.found _ _ _ local.0 local.1).1 c.if-not-alone.false)
 
-pub next_parent-returns-in_err-visit_list-clause-refused : goal.next_parent-returns-in_err-visit_list-clause-refused
-next_parent-returns-in_err-visit_list-clause-refused g t c =
+pub next_parent-returns-in_err-visit_numbers-clause-refused : goal.next_parent-returns-in_err-visit_numbers-clause-refused
+next_parent-returns-in_err-visit_numbers-clause-refused g t c =
     let takes = c.take-place.ensures in
     let local = c.in-Some-local_list.ensures _ (going_there c.pointers.invariant takes.taken takes.segment) in
-    passed_on _ _ c.from_residual-in_err-visit_list.ensures.1 (progress_stops takes.taken.places_are c.pointers.invariant.progress (c.in_err-visit_list.ensures.refused _ _ _ local.0 local.1))
+    passed_on _ _ c.from_residual-in_err-visit_numbers.ensures.1 (progress_stops takes.taken.places_are c.pointers.invariant.progress (c.in_err-visit_numbers.ensures.refused _ _ _ local.0 local.1))
 
 pub next_parent-pointers-preserved-in-Continue-branch-2 : goal.next_parent-pointers-preserved-in-Continue-branch-2
 next_parent-pointers-preserved-in-Continue-branch-2 g t c =
     let takes = c.take-place.ensures in
     let local = c.in-Some-local_list.ensures _ (going_there c.pointers.invariant takes.taken takes.segment) in
-    going_on c.pointers.invariant takes.taken takes.same_segment (c.in_ok-visit_list.ensures.found _ _ _ _ local.0 local.1)
+    going_on c.pointers.invariant takes.taken takes.same_segment (c.in_ok-visit_numbers.ensures.found _ _ _ _ local.0 local.1)
 
 pub next_parent-walk_object-requires : goal.next_parent-walk_object-requires
 next_parent-walk_object-requires g t c κs within = (omega arith, (within, going_there c.pointers.invariant c.take-place.ensures.taken c.take-place.ensures.segment))

@@ -1,6 +1,0 @@
--- The words determine each next group of a packer.
-use Rattle.capnp_pack.proofs.PackerLemmas.{Packs-once}
-use Rattle.capnp_pack.proofs.laws.packed_encoding_is_one.Goals as goal
-
-pub returns : goal.returns
-returns c = Packs-once

@@ -1,6 +1,0 @@
--- The law, as FaultLemmas proves it.
-use Rattle.capnp_wire.proofs.pointers.FaultLemmas as law
-use Rattle.capnp_wire.proofs.laws.refused_has_no_object.Goals as goal
-
-pub returns : goal.returns
-returns c = law.refused_has_no_object

@@ -1,0 +1,16 @@
+-- A list of numbers counts against the traversal limit and its words are counted; nothing is below
+-- it.
+use Rattle.std.proofs.Common.{◌∙◌}
+use Rattle.capnp_wire.proofs.pointers.LocalLemmas.{number_list_walked}
+use Rattle.capnp_frame.proofs.AskLemmas.{passed_on}
+use Rattle.capnp_wire.proofs.walks.StopLemmas.{exceeds_stops}
+use Rattle.capnp_wire.proofs.layout.walk.Walk.visit_numbers.Goals as goal
+
+pub returns-in_err-count_traversed-clause-refused : goal.returns-in_err-count_traversed-clause-refused
+returns-in_err-count_traversed-clause-refused c m place nesting is deep =
+    let refused = rw c.traversed.ensures at c.in_err-count_traversed.ensures.refused in
+    passed_on _ _ c.from_residual.ensures.1 (exceeds_stops m place _ nesting _ _ is.object deep refused.0 refused.1)
+
+pub returns-clause-found : goal.returns-clause-found
+returns-clause-found c m canonical place nesting is deep =
+    number_list_walked c.args.list.now is deep c.traversed.ensures c.words.ensures c.in_ok-count_traversed.ensures.within (c.count.ensures.left ∙ c.in_ok-count_traversed.ensures.left) (rw c.in_ok-count_traversed.ensures.words at c.count.ensures.words)

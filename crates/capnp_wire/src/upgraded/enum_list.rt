@@ -1,0 +1,122 @@
+//! Lists that are read as lists of an enum's values.
+ghost use Rattle.std.specs.Prelude.{◌≡◌, ◌<◌, ⊤, length};
+
+use crate::any_pointer;
+use crate::traits::{FromPointerReader, IndexMove, ListIter};
+use crate::upgraded::number_list::NumberList;
+use capnp_frame::Result;
+use capnp_frame::message::ReaderSegments;
+use std::marker::PhantomData;
+
+/// An enum of a schema, whose values a message holds by their numbers.
+pub trait EnumElement: Sized {
+    /// The value of this number.
+    fn from_number(number: u16) -> Self;
+}
+
+/// A list of an enum's values in a message, or of structs whose first field is such a value.
+///
+/// Contracts see it by its numbers. One that speaks of an element's value reads the number, and makes
+/// the value of it as the enum does.
+#[derive(Drop)]
+pub struct EnumList<'a, E> {
+    pub(crate) numbers: NumberList<'a, u16>,
+    element: PhantomData<E>,
+}
+
+impl<'a, E: EnumElement> EnumList<'a, E> {
+    ghost use Rattle.capnp_wire.specs.Lists.{FindsElement, IsIterator};
+    ghost use Rattle.capnp_wire.specs.UpgradedReaders.{upgraded_numbers_of};
+
+    /// The numbers of the values.
+    pub fn numbers(&self) -> &NumberList<'a, u16>
+        ensures { result.now ≡ self.now.numbers }
+    {
+        &self.numbers
+    }
+
+    /// The number of elements.
+    pub fn len(&self) -> u32
+        ensures { result ≡ length (upgraded_numbers_of 3 self.now.numbers) }
+    {
+        self.numbers.len()
+    }
+
+    /// The element of this index, which must be below `len`; `try_get` takes any.
+    pub fn get(&self, index: u32) -> E
+        requires { index < length (upgraded_numbers_of 3 self.now.numbers) }
+    {
+        E::from_number(self.numbers.get(index))
+    }
+
+    /// The element of this index, or `None` where there are no more elements than it.
+    pub fn try_get(&self, index: u32) -> Option<E>
+        ensures { FindsElement (length (upgraded_numbers_of 3 self.now.numbers)) index
+            (λ item. ⊤) result }
+    {
+        self.try_index_move(index)
+    }
+
+    /// An iterator over the elements.
+    pub fn iter(&self) -> ListIter<'_, Self>
+        ensures { IsIterator self.now result }
+    {
+        ListIter::new(self)
+    }
+}
+
+// What is seen of an element is that there is one.
+impl<'a, E: EnumElement> IndexMove for EnumList<'a, E> {
+    ghost use Rattle.capnp_wire.specs.UpgradedReaders.{upgraded_numbers_of};
+
+    type Item = E;
+
+    ghost Element = { ⊤ };
+
+    ghost seen = { λ item. tt };
+
+    ghost size = { λ list. length (upgraded_numbers_of 3 list.numbers) };
+
+    ghost element = { λ list index. tt };
+
+    fn len(&self) -> u32 {
+        self.len()
+    }
+
+    fn index_move(&self, index: u32) -> E {
+        self.get(index)
+    }
+}
+
+// Null is empty; else it shows what a list of numbers of 16 bits does, each as a value of the enum.
+impl<'a, S: ReaderSegments, E> FromPointerReader<'a, S> for EnumList<'a, E> {
+    ghost use Rattle.capnp_wire.specs.Readers.{pointer_of};
+    ghost use Rattle.capnp_wire.specs.Views.{IsViewOf, Accepts, Reads, Refuses, Declines};
+    ghost use Rattle.capnp_wire.specs.UpgradedViews.{ReadsAsNumbers, TakesFields, DeclinesFields};
+    ghost use Rattle.capnp_wire.specs.UpgradedReaders.{upgraded_numbers_of};
+
+    ghost shows = { λ pointer view.
+        Reads pointer (λ form. ReadsAsNumbers 3 form (upgraded_numbers_of 3 view.numbers)) };
+
+    ghost accepts = { λ pointer. Accepts pointer (TakesFields 3) };
+
+    ghost refuses = { λ pointer kind. Refuses pointer (DeclinesFields 3) kind };
+
+    ghost declines = { λ pointer kind. Declines pointer (DeclinesFields 3) kind };
+
+    fn get_from_pointer(reader: any_pointer::Reader<'a, S>) -> Result<Self>
+        ensures { let pointer = pointer_of S.segments reader.entry in IsViewOf pointer
+            (λ view. Reads pointer (λ form.
+            ReadsAsNumbers 3 form (upgraded_numbers_of 3 view.numbers)))
+            (Accepts pointer (TakesFields 3)) (Refuses pointer (DeclinesFields 3))
+            (Declines pointer (DeclinesFields 3)) result }
+    {
+        match NumberList::get_from_pointer(reader) {
+            Ok(numbers) => Ok(EnumList {
+                numbers,
+                element: PhantomData,
+            }),
+            Err(error) => Err(error),
+        }
+    }
+}

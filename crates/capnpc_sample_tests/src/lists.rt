@@ -1,0 +1,103 @@
+//! Lists of the types that the compiler makes, element by element.
+use crate::assertions::{expect, expect_bytes};
+use crate::read::FILLED;
+use crate::sample_capnp::{Color, palette, point};
+use crate::shown::{coordinates, message_of, sample_of};
+use capnp::message::{Reader, ReaderSegments};
+use capnp_constant::OrDefault;
+use capnp_frame::Result;
+use capnp_wire::upgraded::EnumList;
+
+// (colors = [green, deepBlue, red], names = ["leaf"]), with 7 as the number of the second color
+#[rattlefmt::skip]
+const LEAF: &[u8] = &[
+    0, 0, 0, 0, 0, 0, 2, 0,
+    5, 0, 0, 0, 27, 0, 0, 0,
+    5, 0, 0, 0, 14, 0, 0, 0,
+    1, 0, 7, 0, 0, 0, 0, 0,
+    1, 0, 0, 0, 42, 0, 0, 0,
+    108, 101, 97, 102, 0, 0, 0, 0,
+];
+
+// ()
+#[rattlefmt::skip]
+const PLAIN: &[u8] = &[
+    0, 0, 0, 0, 0, 0, 2, 0,
+    0, 0, 0, 0, 0, 0, 0, 0,
+    0, 0, 0, 0, 0, 0, 0, 0,
+];
+
+// The sums of the coordinates of points.
+fn sums<S: ReaderSegments>(points: &point::ListReader<'_, S>) -> (i32, i32) {
+    let mut sums = (0i32, 0i32);
+    for point in points.iter() {
+        let (x, y) = coordinates(&point);
+        sums = (sums.0.wrapping_add(x), sums.1.wrapping_add(y));
+    }
+    sums
+}
+
+// How many points there are, and the largest `x` of them.
+fn widest<S: ReaderSegments>(points: &point::ListReader<'_, S>) -> (usize, Option<i32>) {
+    let largest = points.iter().map(|point| point.get_x()).max();
+    (points.iter().len(), largest)
+}
+
+#[test]
+fn points_come_one_by_one(rt: HostRuntime) -> Result<()> {
+    let segments = [FILLED];
+    let message = message_of(&segments);
+    let points = sample_of(&message)?.get_points()?;
+    expect(&rt, "sums", sums(&points), (4, -2));
+    expect(&rt, "points, the largest x", widest(&points), (2, Some(3)));
+    Ok(())
+}
+
+fn palette_of<'a, S: ReaderSegments>(message: &'a Reader<S>) -> Result<palette::Reader<'a, S>> {
+    message.get_root()
+}
+
+// How many of some colors are this one.
+fn count(colors: &EnumList<'_, Color>, wanted: Color) -> usize {
+    colors.iter().filter(|color| *color == wanted).count()
+}
+
+#[test]
+fn colors_are_read_as_such(rt: HostRuntime) -> Result<()> {
+    let segments = [LEAF];
+    let message = message_of(&segments);
+    let colors = palette_of(&message)?.get_colors()?;
+    expect(&rt, "the first", colors.try_get(0), Some(Color::Green));
+    expect(
+        &rt,
+        "one that the schema doesn't name",
+        colors.try_get(1),
+        Some(Color::NotInSchema(7)),
+    );
+    expect(&rt, "past the end", colors.try_get(3), None);
+    expect(&rt, "red", count(&colors, Color::Red), 1);
+    Ok(())
+}
+
+// The first name, of the default where the message has no names; empty where there is none.
+fn first_name<'a, S: ReaderSegments>(read: &palette::Reader<'a, S>) -> Result<&'a [u8]> {
+    let first = match read.get_names() {
+        OrDefault::Stored(names) => names?.try_get(0),
+        OrDefault::Default(names) => names?.try_get(0),
+    };
+    match first {
+        Some(name) => Ok(name?.as_bytes()),
+        None => Ok(b""),
+    }
+}
+
+#[test]
+fn names_are_stored_or_the_default(rt: HostRuntime) -> Result<()> {
+    for (words, wanted) in [(LEAF, b"leaf".as_slice()), (PLAIN, b"none".as_slice())] {
+        let segments = [words];
+        let message = message_of(&segments);
+        let found = first_name(&palette_of(&message)?)?;
+        expect_bytes(&rt, "the first name", found, wanted);
+    }
+    Ok(())
+}
