@@ -34,35 +34,36 @@ pub(crate) fn by_value<T>(entered: Result<T>) -> Result<T>
     }
 }
 
-impl<'a> Object<'a> {
-    /// The bytes of a list of bytes.
-    pub(crate) fn bytes(&self) -> Result<&'a [u8]>
-        requires { self.now.start.word + room_of self.now.body ≤ length self.now.segment.now / 8 }
-        ensures { MatchResult result (λ bytes. form_of self.now ≡ numbers 2 bytes.now)
-            (λ error. DeclinesNumbers 2 (form_of self.now) error.kind) }
-    {
-        match self.body.count_of(ElementSize::Byte) {
-            Some(count) => Ok(bytes_at(self.segment, self.start.word, count)),
-            None => Err(wrong_kind()),
-        }
+/// The bytes of a list of bytes.
+pub(crate) fn object_bytes<'a>(object: &Object<'a>) -> Result<&'a [u8]>
+    requires { object.now.start.word + room_of object.now.body ≤ length object.now.segment.now / 8 }
+    ensures { MatchResult result (λ bytes. form_of object.now ≡ numbers 2 bytes.now)
+        (λ error. DeclinesNumbers 2 (form_of object.now) error.kind) }
+{
+    match object.body.count_of(ElementSize::Byte) {
+        Some(count) => Ok(bytes_at(object.segment, object.start.word, count)),
+        None => Err(wrong_kind()),
     }
+}
 
-    /// The elements of a list of numbers of this size, as its words.
-    pub(crate) fn numbers(&self, size: ElementSize) -> Result<EnteredNumbers<'a>>
-        requires { self.now.start.word + room_of self.now.body ≤ length self.now.segment.now / 8 }
-        ensures { let code = code_of size in MatchResult result
-            (λ list. (form_of self.now
-            ≡ numbers code (elements (words_of list.bytes.now) 0 code list.count))
-            × (length list.bytes.now ≡ 8 * words_for list.count (width code)))
-            (λ error. DeclinesNumbers code (form_of self.now) error.kind) }
-    {
-        match self.body.count_of(size) {
-            Some(count) => Ok(EnteredNumbers {
-                bytes: words_at(self.segment, self.start.word, size, count),
-                count,
-            }),
-            None => Err(wrong_kind()),
-        }
+/// The elements of a list of numbers of this size, as its words.
+pub(crate) fn object_numbers<'a>(
+    object: &Object<'a>,
+    size: ElementSize,
+) -> Result<EnteredNumbers<'a>>
+    requires { object.now.start.word + room_of object.now.body ≤ length object.now.segment.now / 8 }
+    ensures { let code = code_of size in MatchResult result
+        (λ list. (form_of object.now
+        ≡ numbers code (elements (words_of list.bytes.now) 0 code list.count))
+        × (length list.bytes.now ≡ 8 * words_for list.count (width code)))
+        (λ error. DeclinesNumbers code (form_of object.now) error.kind) }
+{
+    match object.body.count_of(size) {
+        Some(count) => Ok(EnteredNumbers {
+            bytes: words_at(object.segment, object.start.word, size, count),
+            count,
+        }),
+        None => Err(wrong_kind()),
     }
 }
 

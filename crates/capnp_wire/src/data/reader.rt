@@ -7,7 +7,7 @@ ghost use Rattle.capnp_wire.specs.Readers.{pointer_of, form_of};
 use crate::any_pointer;
 use crate::layout::element::ElementSize;
 use crate::layout::object::Object;
-use crate::object_content::by_value;
+use crate::object_content::{by_value, object_bytes};
 use crate::traits::FromPointerReader;
 use capnp_frame::Result;
 use capnp_frame::message::ReaderSegments;
@@ -72,6 +72,6 @@ fn bytes_in<'a>(object: &Object<'a>) -> Result<&'a [u8]>
     ensures { MatchResult result (λ bytes. IsData (form_of object.now) bytes.now)
         (λ error. DeclinesNumbers 2 (form_of object.now) error.kind) }
 {
-    let bytes = object.bytes()?;
+    let bytes = object_bytes(object)?;
     Ok(bytes)
 }

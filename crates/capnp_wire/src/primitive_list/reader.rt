@@ -7,7 +7,7 @@ use crate::any_pointer;
 use crate::layout::number_list::NumberList;
 use crate::layout::object::{Object, words_fit};
 use crate::layout::place::{Place, word};
-use crate::object_content::by_value;
+use crate::object_content::{by_value, object_numbers};
 use crate::primitive_element::PrimitiveElement;
 use crate::traits::{FromPointerReader, IndexMove, ListIter};
 use capnp_frame::Result;
@@ -128,7 +128,7 @@ impl<'a, T: PrimitiveElement> Reader<'a, T> {
             (λ view. IsNumbers T.code (form_of object.now) (numbers_of T.code view))
             (λ error. DeclinesNumbers T.code (form_of object.now) error.kind) }
     {
-        let list = object.numbers(T::size())?;
+        let list = object_numbers(object, T::size())?;
         Ok(Reader {
             bytes: list.bytes,
             count: list.count,

@@ -8,7 +8,7 @@ ghost use Rattle.capnp_wire.specs.Readers.{pointer_of, form_of};
 use crate::any_pointer;
 use crate::layout::element::ElementSize;
 use crate::layout::object::Object;
-use crate::object_content::by_value;
+use crate::object_content::{by_value, object_bytes};
 use crate::traits::FromPointerReader;
 use capnp_frame::message::ReaderSegments;
 use capnp_frame::{Error, ErrorKind, Result};
@@ -121,7 +121,7 @@ fn text_in<'a>(object: &Object<'a>) -> Result<Reader<'a>>
     ensures { MatchResult result (λ view. IsText (form_of object.now) view.bytes.now)
         (λ error. DeclinesText (form_of object.now) error.kind) }
 {
-    let bytes = object.bytes()?;
+    let bytes = object_bytes(object)?;
     match before_zero(bytes) {
         Some(bytes) => Ok(Reader { bytes }),
         None => Err(Error::from_kind(ErrorKind::TextNotTerminated)),

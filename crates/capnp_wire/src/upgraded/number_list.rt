@@ -8,7 +8,7 @@ use crate::layout::element::ElementSize;
 use crate::layout::object::{Object, words_fit};
 use crate::layout::place::word;
 use crate::layout::pointer::StructSize;
-use crate::object_content::wrong_kind;
+use crate::object_content::{object_numbers, wrong_kind};
 use crate::primitive_element::PrimitiveElement;
 use crate::traits::{FromPointerReader, IndexMove, ListIter};
 use crate::{any_pointer, primitive_list};
@@ -132,7 +132,7 @@ impl<'a, T: PrimitiveElement> NumberList<'a, T> {
             (λ error. DeclinesFields T.code (form_of object.now) error.kind) }
     {
         let Some(elements) = object.body.as_structs() else {
-            let list = object.numbers(T::size())?;
+            let list = object_numbers(object, T::size())?;
             return Ok(NumberList {
                 numbers: Numbers::InPlace(primitive_list::Reader {
                     bytes: list.bytes,
