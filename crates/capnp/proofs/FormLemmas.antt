@@ -13,15 +13,15 @@ use Rattle.capnp_frame.specs.Writing.{IsWritable, chunks}
 use Rattle.capnp_frame.proofs.AskLemmas.{passed_on}
 use Rattle.capnp_frame.proofs.SourceLemmas.{Grows-refl, IfKnown-refl, IfKnown-weaker}
 use Rattle.std.proofs.lemmas.List.{append-nil}
-use Rattle.capnp_wire.specs.Pointer.{words_of}
-use Rattle.capnp_wire.specs.Tree.{total_words}
-use Rattle.capnp_wire.specs.Trim.{trim}
-use Rattle.capnp_wire.specs.Layout.{body}
+use Rattle.capnp_layout.specs.Pointer.{words_of}
+use Rattle.capnp_layout.specs.Tree.{total_words}
+use Rattle.capnp_layout.specs.Trim.{trim}
+use Rattle.capnp_layout.specs.Layout.{body}
 use Rattle.capnp_wire.specs.Views.{Pointer}
 use Rattle.capnp_wire.specs.Values.{IsCanonicalForm}
-use Rattle.capnp_wire.proofs.layouts.SizeLemmas.{length-body}
+use Rattle.capnp_layout.proofs.layouts.SizeLemmas.{length-body}
 use Rattle.capnp_wire.proofs.layouts.OpenLemmas.{room_output}
-use Rattle.capnp_wire.proofs.words.WordLemmas.{length-words_of}
+use Rattle.capnp_layout.proofs.words.WordLemmas.{length-words_of}
 use Rattle.capnp_message.specs.Canonical.{LacksForm}
 use Rattle.capnp.specs.Canonical.{IsForm, AppendsForm, LeavesForm, BreaksForm, DeclinesForm}
 use Rattle.capnp.specs.Written.{RefusesWriter}

@@ -15,8 +15,8 @@ use Rattle.capnp_frame.specs.Streams.{message_in, ReadsStream}
 use Rattle.capnp_frame.specs.Writing.{IsWritable, IsWithinSegmentLimit, RefusesMany}
 use Rattle.capnp_frame.proofs.AgreementLemmas.{limit_cases}
 use Rattle.capnp_frame.proofs.LimitLemmas.{past_limit}
-use Rattle.capnp_wire.specs.Tree.{Trees}
-use Rattle.capnp_wire.specs.Reached.{At, at, root}
+use Rattle.capnp_layout.specs.Tree.{Trees}
+use Rattle.capnp_layout.specs.Reached.{At, at, root}
 use Rattle.capnp_wire.specs.Values.{HasWords}
 use Rattle.capnp_wire.proofs.layouts.LaidOutLemmas.{word_stands}
 use Rattle.capnp_build.specs.Bytes.{Space}

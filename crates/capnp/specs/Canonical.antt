@@ -11,7 +11,7 @@ use Rattle.capnp_frame.specs.Sink.{Appending, Leaving, AppendsAll, LeavesSome, D
 use Rattle.capnp_frame.specs.Source.{IfKnown}
 use Rattle.capnp_frame.specs.Writers.{WritesTo}
 use Rattle.capnp_frame.specs.Writing.{chunks}
-use Rattle.capnp_wire.specs.Pointer.{words_of}
+use Rattle.capnp_layout.specs.Pointer.{words_of}
 use Rattle.capnp_wire.specs.Views.{Pointer}
 use Rattle.capnp_wire.specs.Values.{IsCanonicalForm}
 use Rattle.capnp_message.specs.Canonical.{LacksForm}

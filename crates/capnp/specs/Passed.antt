@@ -15,8 +15,8 @@ pub use Rattle.capnp_frame.specs.Skipping.{SkipsMessage}
 pub use Rattle.capnp_frame.specs.Streams.{ReadsStream}
 pub use Rattle.capnp_frame.specs.Sink.{Appending, AppendsSame, Leaving, LeavesNothing, LeavesFront, Declining, DeclinesSome, Adds, AppendsAll, Grows}
 pub use Rattle.capnp_frame.specs.Writing.{IsWritable, chunks}
-pub use Rattle.capnp_wire.specs.Object.{message_of}
-pub use Rattle.capnp_wire.specs.Reached.{root}
+pub use Rattle.capnp_layout.specs.Object.{message_of}
+pub use Rattle.capnp_layout.specs.Reached.{root}
 pub use Rattle.capnp_wire.specs.Readers.{default_root}
 pub use Rattle.capnp_wire.specs.Views.{Pointer}
 pub use Rattle.capnp_message.specs.Canonical.{LacksForm}

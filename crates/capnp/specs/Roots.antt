@@ -8,9 +8,9 @@ use Rattle.capnp_frame.specs.Limits.{KeepsLimit}
 use Rattle.capnp_frame.specs.Message.{lengths, size_in_words}
 use Rattle.capnp_frame.specs.Refusals.{IsTooLarge}
 use Rattle.capnp_frame.specs.Writing.{IsWithinSegmentLimit, RefusesMany}
-use Rattle.capnp_wire.specs.Tree.{Trees}
-use Rattle.capnp_wire.specs.Object.{message_of}
-use Rattle.capnp_wire.specs.Reached.{At, root}
+use Rattle.capnp_layout.specs.Tree.{Trees}
+use Rattle.capnp_layout.specs.Object.{message_of}
+use Rattle.capnp_layout.specs.Reached.{At, root}
 use Rattle.capnp_wire.specs.Values.{HasWords, LacksWords}
 use Rattle.capnp_build.specs.declared.allocator.Allocator.{Ghosts}
 use Rattle.capnp_build.specs.Built.{Built, IsSet}

@@ -7,7 +7,7 @@ ghost use Rattle.capnp_frame.specs.Limits.{KeepsLimit};
 ghost use Rattle.capnp_frame.specs.Message.{lengths};
 ghost use Rattle.capnp_frame.specs.Texts.{AreEncodings};
 ghost use Rattle.capnp_frame.specs.Writing.{IsWritable, IsWithinSegmentLimit};
-ghost use Rattle.capnp_wire.specs.Tree.{Trees};
+ghost use Rattle.capnp_layout.specs.Tree.{Trees};
 ghost use Rattle.capnp_build.specs.Bytes.{Space};
 ghost use Rattle.capnp_build.specs.BuilderState.{used_of};
 ghost use Rattle.capnp.specs.declared.streams.Format.{Format};

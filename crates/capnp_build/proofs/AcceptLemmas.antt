@@ -2,8 +2,8 @@
 use Rattle.std.proofs.Common.{◌≡◌, ◌<◌, ℕ, List, [], ◌∷◌, length, Result, Ok, Err, IfErr, refl, ap, sym, subst, arith}
 use Rattle.capnp_frame.specs.declared.error.Error.{Error}
 use Rattle.capnp_frame.specs.declared.error.ErrorKind.{ErrorKind}
-use Rattle.capnp_wire.specs.Tree.{Form, null, struct, numbers, Trees, none, tree}
-use Rattle.capnp_wire.specs.Reached.{Root, root}
+use Rattle.capnp_layout.specs.Tree.{Form, null, struct, numbers, Trees, none, tree}
+use Rattle.capnp_layout.specs.Reached.{Root, root}
 use Rattle.capnp_build.specs.Bytes.{Space}
 use Rattle.capnp_build.specs.Built.{message, ForRoot, IsRootKind}
 use Rattle.capnp_build.specs.Placed.{DeclinesRoot}

@@ -3,13 +3,13 @@ use Rattle.std.proofs.Common.{◌≡◌, ℕ, ◌+◌, ◌-◌, ◌/◌, ◌%◌
 use Rattle.std.specs.Prelude.{replicate}
 use Rattle.capnp_frame.specs.Words.{bytes_of}
 use Rattle.capnp_frame.specs.declared.words.Word.{Word}
-use Rattle.capnp_wire.specs.Pointer.{number_of, words_of}
-use Rattle.capnp_wire.specs.Tree.{Trees, total_words}
-use Rattle.capnp_wire.specs.Layout.{body, output}
+use Rattle.capnp_layout.specs.Pointer.{number_of, words_of}
+use Rattle.capnp_layout.specs.Tree.{Trees, total_words}
+use Rattle.capnp_layout.specs.Layout.{body, output}
 use Rattle.capnp_wire.specs.Copy.{IsCopied}
 use Rattle.capnp_wire.specs.Values.{HasWords, HasRoomAt, IsFreeFrom}
 use Rattle.capnp_wire.specs.declared.layout.copy.Copied.{Copied}
-use Rattle.capnp_wire.proofs.words.WordLemmas.{length-words_of}
+use Rattle.capnp_layout.proofs.words.WordLemmas.{length-words_of}
 use Rattle.capnp_wire.proofs.layouts.FreeLemmas.{free_part, has_room, whole_written}
 use Rattle.capnp_build.specs.Bytes.{written}
 use Rattle.capnp_build.specs.Filled.{IsBlockOf}

@@ -1,7 +1,7 @@
 -- What making the root a new object keeps, from what its steps keep.
 use Rattle.std.proofs.Common.{◌≡◌, ◌∙◌, inl, inr, ℕ, List, length, Result, Ok, Err, refl, ap, subst, sym, arith}
 use Rattle.capnp_frame.specs.declared.error.Error.{Error}
-use Rattle.capnp_wire.specs.Tree.{Form, null}
+use Rattle.capnp_layout.specs.Tree.{Form, null}
 use Rattle.capnp_build.specs.declared.allocator.Allocator as allocator
 use Rattle.capnp_build.specs.declared.owned_builder.OwnedBuilder as owned_builder
 use Rattle.capnp_build.specs.Bytes.{Space}

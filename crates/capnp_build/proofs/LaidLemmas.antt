@@ -4,16 +4,16 @@ use Rattle.std.proofs.Common.{sym, subst, ◌∙◌, arith, length-append}
 use Rattle.std.specs.Option.{option_and_then}
 use Rattle.std.proofs.lemmas.List.{take_all}
 use Rattle.std.specs.Int.{to_le_bytes}
-use Rattle.capnp_wire.proofs.objects.ObjectLemmas.{one_tree}
-use Rattle.capnp_wire.specs.Pointer.{number_of, words_of, words_from}
-use Rattle.capnp_wire.specs.Tree.{Form, null, struct, numbers, pointers, structs, Trees, none, tree, total_words}
-use Rattle.capnp_wire.specs.Object.{word_at}
-use Rattle.capnp_wire.specs.Reached.{At, root}
-use Rattle.capnp_wire.specs.Layout.{pointer, minus_one, far_pointer, body, Laid, HasRoom}
-use Rattle.capnp_wire.specs.declared.layout.place.Place.{Place}
-use Rattle.capnp_wire.proofs.words.WordLemmas.{length-words_of}
-use Rattle.capnp_wire.proofs.words.MessageLemmas.{segment_stands}
-use Rattle.capnp_wire.proofs.trees.PlacedLemmas.{local_tree, far_tree, some_form}
+use Rattle.capnp_layout.proofs.objects.ObjectLemmas.{one_tree}
+use Rattle.capnp_layout.specs.Pointer.{number_of, words_of, words_from}
+use Rattle.capnp_layout.specs.Tree.{Form, null, struct, numbers, pointers, structs, Trees, none, tree, total_words}
+use Rattle.capnp_layout.specs.Object.{word_at}
+use Rattle.capnp_layout.specs.Reached.{At, root}
+use Rattle.capnp_layout.specs.Layout.{pointer, minus_one, far_pointer, body, Laid, HasRoom}
+use Rattle.capnp_layout.specs.declared.place.Place.{Place}
+use Rattle.capnp_layout.proofs.words.WordLemmas.{length-words_of}
+use Rattle.capnp_layout.proofs.words.MessageLemmas.{segment_stands}
+use Rattle.capnp_layout.proofs.trees.PlacedLemmas.{local_tree, far_tree, some_form}
 use Rattle.capnp_build.specs.Bytes.{Space, written}
 use Rattle.capnp_build.specs.BuilderState.{used_of, space_at}
 use Rattle.capnp_build.specs.Built.{message, IsLaid}

@@ -1,12 +1,12 @@
 -- Bodies in segments, and pointers to them.
 use Rattle.std.proofs.Common.{◌≡◌, ℕ, zero, suc, ◌+◌, ◌-◌, ◌*◌, ◌^◌, ◌<◌, ◌≤◌, List, [], ◌++◌, length, take, drop, Some, slice_set, w64, refl, ap, sym, subst, ◌∙◌, arith, length-set, length-append}
 use Rattle.std.specs.Int.{to_le_bytes}
-use Rattle.capnp_wire.specs.Pointer.{number_of, words_of, words_from}
-use Rattle.capnp_wire.specs.Tree.{Form, Trees, none, tree, count, total_words}
-use Rattle.capnp_wire.specs.Object.{word_at}
-use Rattle.capnp_wire.specs.Reached.{root}
-use Rattle.capnp_wire.specs.Layout.{pointer, far_pointer, body, Laid, AllHaveRoom}
-use Rattle.capnp_wire.proofs.words.WordLemmas.{length-words_of}
+use Rattle.capnp_layout.specs.Pointer.{number_of, words_of, words_from}
+use Rattle.capnp_layout.specs.Tree.{Form, Trees, none, tree, count, total_words}
+use Rattle.capnp_layout.specs.Object.{word_at}
+use Rattle.capnp_layout.specs.Reached.{root}
+use Rattle.capnp_layout.specs.Layout.{pointer, far_pointer, body, Laid, AllHaveRoom}
+use Rattle.capnp_layout.proofs.words.WordLemmas.{length-words_of}
 use Rattle.capnp_build.specs.Bytes.{Space, written, with_bytes}
 use Rattle.capnp_build.specs.Filled.{with_more}
 use Rattle.capnp_build.specs.Out.{Out}

@@ -3,16 +3,16 @@ use Rattle.std.proofs.Common.{◌≡◌, ℕ, ◌+◌, ◌*◌, ◌^◌, ◌<◌
 use Rattle.std.proofs.lemmas.List.{take_all}
 use Rattle.capnp_frame.specs.Words.{bytes_of}
 use Rattle.capnp_frame.specs.declared.words.Word.{Word}
-use Rattle.capnp_wire.specs.Pointer.{number_of, words_of, words_from}
-use Rattle.capnp_wire.specs.Object.{word_at}
-use Rattle.capnp_wire.specs.Tree.{Form, Trees, none, tree, count, total_words}
-use Rattle.capnp_wire.specs.Reached.{At, root}
-use Rattle.capnp_wire.specs.Layout.{pointer, body, layout, output, AllHaveRoom}
+use Rattle.capnp_layout.specs.Pointer.{number_of, words_of, words_from}
+use Rattle.capnp_layout.specs.Object.{word_at}
+use Rattle.capnp_layout.specs.Tree.{Form, Trees, none, tree, count, total_words}
+use Rattle.capnp_layout.specs.Reached.{At, root}
+use Rattle.capnp_layout.specs.Layout.{pointer, body, layout, output, AllHaveRoom}
 use Rattle.capnp_wire.specs.Values.{HasWords, pointed}
-use Rattle.capnp_wire.proofs.trees.TrimLemmas.{count-trim}
+use Rattle.capnp_layout.proofs.trees.TrimLemmas.{count-trim}
 use Rattle.capnp_wire.proofs.layouts.OpenLemmas.{room_output}
-use Rattle.capnp_wire.proofs.words.WordLemmas.{length-words_of, heads, tails}
-use Rattle.capnp_wire.proofs.trees.PlacedLemmas.{alone}
+use Rattle.capnp_layout.proofs.words.WordLemmas.{length-words_of, heads, tails}
+use Rattle.capnp_layout.proofs.trees.PlacedLemmas.{alone}
 use Rattle.capnp_build.specs.Bytes.{Space}
 use Rattle.capnp_build.specs.Filled.{IsBlockOf}
 use Rattle.capnp_build.specs.BuilderState.{space_at}

@@ -1,8 +1,8 @@
 -- The bytes of a root's block are those of its tree.
 use Rattle.std.proofs.Common.{◌≡◌, ℕ, ◌*◌, ◌<◌, List, [], length, take, drop, Option, Some, slice_index_or, refl, ap, ◌∙◌, arith}
-use Rattle.capnp_wire.specs.Tree.{Form, Trees, total_words}
-use Rattle.capnp_wire.specs.Layout.{body}
-use Rattle.capnp_wire.specs.Reached.{Root}
+use Rattle.capnp_layout.specs.Tree.{Form, Trees, total_words}
+use Rattle.capnp_layout.specs.Layout.{body}
+use Rattle.capnp_layout.specs.Reached.{Root}
 use Rattle.capnp_build.specs.Bytes.{Space}
 use Rattle.capnp_build.specs.BuilderState.{space_at}
 use Rattle.capnp_build.specs.Built.{message, HasNullRoot, IsBuilt}

@@ -2,7 +2,7 @@
 use Rattle.std.proofs.Common.{refl, ◌≡◌, inl, inr, sym, subst, MatchOption, ℕ, ◌+◌, ◌*◌, ◌^◌, ◌<◌, ◌≤◌, List, length, Option, Some, slice_set, w64, ap, arith, ◌∙◌, slice_index_or, length-set}
 use Rattle.std.specs.Prelude.{⊤}
 use Rattle.std.specs.Int.{to_le_bytes}
-use Rattle.capnp_wire.specs.Tree.{null, numbers, none, struct}
+use Rattle.capnp_layout.specs.Tree.{null, numbers, none, struct}
 use Rattle.capnp_build.proofs.FieldLemmas.{field_laid, same_fields}
 use Rattle.capnp_build.proofs.BuilderStateLemmas.{pairs_set}
 use Rattle.capnp_build.proofs.KeptLemmas.{kept_outside}

@@ -1,12 +1,12 @@
 -- A message that is built, whose root is a tree.
 use Rattle.std.specs.Prelude.{⊤, ◌≡◌, ◌⊎◌, ℕ, ◌+◌, ◌-◌, ◌*◌, ◌/◌, ◌^◌, ◌<◌, ◌≤◌, Bool, List, zero, suc, [], ◌∷◌, length, map, Option, Some, None}
 use Rattle.std.specs.Prelude.{take, drop, MatchOption}
-use Rattle.capnp_wire.specs.Pointer.{words_of}
-use Rattle.capnp_wire.specs.Tree.{Form, struct, numbers, Trees, none, tree, count, total_words}
-use Rattle.capnp_wire.specs.Object.{message_of, word_at}
-use Rattle.capnp_wire.specs.Reached.{At, root, Root}
-use Rattle.capnp_wire.specs.Layout.{pointer, far_pointer, layout, Laid, output, AllHaveRoom}
-use Rattle.capnp_wire.specs.declared.layout.place.Place.{Place}
+use Rattle.capnp_layout.specs.Pointer.{words_of}
+use Rattle.capnp_layout.specs.Tree.{Form, struct, numbers, Trees, none, tree, count, total_words}
+use Rattle.capnp_layout.specs.Object.{message_of, word_at}
+use Rattle.capnp_layout.specs.Reached.{At, root, Root}
+use Rattle.capnp_layout.specs.Layout.{pointer, far_pointer, layout, Laid, output, AllHaveRoom}
+use Rattle.capnp_layout.specs.declared.place.Place.{Place}
 use Rattle.capnp_build.specs.Bytes.{Space}
 use Rattle.capnp_build.specs.Out.{Out}
 use Rattle.capnp_build.specs.BuilderState.{BuilderState, pairs as pairs_of, used_of, space_at}

@@ -1,8 +1,8 @@
 -- Values that are written into parts of segments.
 use Rattle.std.specs.Prelude.{◌≡◌, ℕ, ◌*◌, Bool, List, ◌++◌, length}
 use Rattle.capnp_frame.specs.declared.words.Word.{Word}
-use Rattle.capnp_wire.specs.Tree.{Trees}
-use Rattle.capnp_wire.specs.Layout.{layout, output}
+use Rattle.capnp_layout.specs.Tree.{Trees}
+use Rattle.capnp_layout.specs.Layout.{layout, output}
 use Rattle.capnp_wire.specs.Values.{pointed}
 use Rattle.capnp_build.specs.Bytes.{Space, written}
 

@@ -1,7 +1,7 @@
 -- What views write into the root's object, by its tree.
 use Rattle.std.specs.Prelude.{⊤, ◌≡◌, ℕ, ◌+◌, ◌<◌, ◌≤◌, List, [], ◌∷◌, length, take, drop, MatchOption, slice_set}
-use Rattle.capnp_wire.specs.Tree.{struct, numbers, Trees, none, tree}
-use Rattle.capnp_wire.specs.Reached.{At, root}
+use Rattle.capnp_layout.specs.Tree.{struct, numbers, Trees, none, tree}
+use Rattle.capnp_layout.specs.Reached.{At, root}
 use Rattle.capnp_build.specs.Bytes.{Space, written}
 use Rattle.capnp_build.specs.Out.{Out}
 use Rattle.capnp_build.specs.BuilderState.{space_at, pairs as pairs_of}

@@ -1,6 +1,6 @@
 //! New objects, as values that the root is set to.
 ghost use Rattle.std.specs.Prelude.{◌≡◌};
-ghost use Rattle.capnp_wire.specs.Tree.{none, tree, count};
+ghost use Rattle.capnp_layout.specs.Tree.{none, tree, count};
 ghost use Rattle.capnp_build.specs.NewBody.{Fits, zero_form, output_new_object};
 ghost use Rattle.capnp_wire.specs.Values.{HasWords};
 ghost use Rattle.std.specs.Prelude.{false};

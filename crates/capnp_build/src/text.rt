@@ -1,7 +1,7 @@
 //! Builders of `Text`.
 ghost use Rattle.std.specs.Prelude.{◌≡◌, ℕ, ◌+◌, ◌-◌, ◌^◌, ◌/◌, ◌<◌, ◌≤◌, List, [], ◌∷◌, ◌++◌, length, take, min, replicate, true, false};
 ghost use Rattle.capnp_frame.specs.declared.error.ErrorKind.TheVariants.{AllocationTooLarge};
-ghost use Rattle.capnp_wire.specs.Tree.{numbers};
+ghost use Rattle.capnp_layout.specs.Tree.{numbers};
 ghost use Rattle.capnp_wire.specs.Views.{IsText, TakesText, DeclinesText};
 ghost use Rattle.capnp_build.specs.Built.{ForRoot};
 ghost use Rattle.capnp_build.specs.Written.{HasBytes, IsBytesSet};

@@ -96,7 +96,7 @@ struct Entries<'a> {
 
 impl<'a> StructSource for Entries<'a> {
     ghost use Rattle.std.specs.Prelude.{◌≡◌, ◌∷◌, []};
-    ghost use Rattle.capnp_wire.specs.Tree.{none};
+    ghost use Rattle.capnp_layout.specs.Tree.{none};
     ghost use Rattle.capnp_wire.specs.Values.{IsTextTree, LongText};
     ghost use Rattle.capnp_values.specs.Fields.{IsRow, RefusesRow};
     ghost use Rattle.capnp_values.specs.FieldLaws.{settled_none, settled_more};

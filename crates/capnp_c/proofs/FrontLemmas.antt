@@ -9,11 +9,11 @@ use Rattle.capnp_frame.specs.declared.error.ErrorKind.{ErrorKind}
 use Rattle.capnp_frame.specs.declared.error.ErrorKind.TheVariants.{BufferNotLargeEnough}
 use Rattle.capnp_frame.proofs.AgreementLemmas.{index_below}
 use Rattle.capnp_frame.proofs.TextLemmas.{frames_part}
-use Rattle.capnp_wire.specs.Pointer.{words_of}
-use Rattle.capnp_wire.specs.Object.{message_of}
-use Rattle.capnp_wire.specs.Reached.{root}
+use Rattle.capnp_layout.specs.Pointer.{words_of}
+use Rattle.capnp_layout.specs.Object.{message_of}
+use Rattle.capnp_layout.specs.Reached.{root}
 use Rattle.capnp_wire.specs.Views.{Pointer}
-use Rattle.capnp_wire.specs.Faults.{NoWord, no_word, at_pointer}
+use Rattle.capnp_layout.specs.Faults.{NoWord, no_word, at_pointer}
 use Rattle.capnp_wire.specs.Values.{IsCanonicalForm, LeadsToTree, StopsWalkFrom}
 use Rattle.capnp_wire.proofs.views.OneValueLemmas.{one_of_pointer, measured_exactly, measured_found}
 use Rattle.capnp_wire.specs.Readers.{default_root}

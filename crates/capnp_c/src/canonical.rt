@@ -4,7 +4,7 @@ ghost use Rattle.std.specs.Result.{IsErrAnd};
 ghost use Rattle.capnp_frame.specs.FlatRefusals.{by_fields, RefusesFlat};
 ghost use Rattle.capnp_frame.specs.declared.serialize.segment_table.Padding.TheVariants.{Zero};
 ghost use Rattle.capnp_frame.specs.declared.error.ErrorKind.{ErrorKind};
-ghost use Rattle.capnp_wire.specs.Pointer.{words_of};
+ghost use Rattle.capnp_layout.specs.Pointer.{words_of};
 ghost use Rattle.capnp_wire.specs.Readers.{pointer_of, default_root};
 ghost use Rattle.capnp_wire.specs.Values.{IsCanonicalForm};
 ghost use Rattle.capnp_frame.specs.Limits.{default_limit};

@@ -4,10 +4,10 @@ use Rattle.std.specs.Result.{IsErrAnd}
 use Rattle.capnp_frame.specs.declared.error.Error.{Error}
 use Rattle.capnp_frame.specs.declared.error.ErrorKind.{ErrorKind}
 use Rattle.capnp_frame.specs.declared.error.ErrorKind.TheVariants.{OutOfMemory}
-use Rattle.capnp_wire.specs.Tree.{Trees, total_words}
-use Rattle.capnp_wire.specs.Trim.{trim}
-use Rattle.capnp_wire.specs.Reached.{root}
-use Rattle.capnp_wire.specs.Faults.{NoWord, StopsWalk, no_word, at_pointer}
+use Rattle.capnp_layout.specs.Tree.{Trees, total_words}
+use Rattle.capnp_layout.specs.Trim.{trim}
+use Rattle.capnp_layout.specs.Reached.{root}
+use Rattle.capnp_layout.specs.Faults.{NoWord, StopsWalk, no_word, at_pointer}
 use Rattle.capnp_wire.specs.Views.{Pointer}
 use Rattle.capnp_wire.specs.Values.{TreeAt, IsCanonicalForm}
 use Rattle.capnp_wire.proofs.walks.StopLemmas.{stops_has_no_trees}

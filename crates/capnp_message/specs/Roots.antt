@@ -5,8 +5,8 @@ use Rattle.std.specs.Result.{IsErrAnd}
 use Rattle.capnp_frame.specs.declared.error.Error.{Error}
 use Rattle.capnp_frame.specs.declared.error.ErrorKind.{ErrorKind}
 use Rattle.capnp_frame.specs.declared.error.ErrorKind.TheVariants.{ReadLimitExceeded}
-use Rattle.capnp_wire.specs.Reached.{root}
-use Rattle.capnp_wire.specs.Faults.{NoWord}
+use Rattle.capnp_layout.specs.Reached.{root}
+use Rattle.capnp_layout.specs.Faults.{NoWord}
 use Rattle.capnp_wire.specs.Views.{Pointer, IsInvalidPointer, MeetsLimit}
 use Rattle.capnp_message.specs.Seen.{ReadMessage, HasRoot}
 

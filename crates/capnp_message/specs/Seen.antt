@@ -1,8 +1,8 @@
 -- What contracts see of readers of messages (src/reader.rt, src/typed_reader.rt).
 use Rattle.std.specs.Prelude.{ℕ, ◌≡◌, List, Some}
 use Rattle.capnp_frame.specs.declared.message.options.ReaderOptions.{ReaderOptions}
-use Rattle.capnp_wire.specs.Object.{message_of, word_at}
-use Rattle.capnp_wire.specs.Reached.{root}
+use Rattle.capnp_layout.specs.Object.{message_of, word_at}
+use Rattle.capnp_layout.specs.Reached.{root}
 use Rattle.capnp_wire.specs.Readers.{nesting_of}
 use Rattle.capnp_wire.specs.Views.{Pointer}
 

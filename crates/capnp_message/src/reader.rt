@@ -4,14 +4,14 @@ ghost use Rattle.std.specs.Result.{IsErrAnd};
 ghost use Rattle.capnp_frame.specs.Message.{IsWholeWords, size_in_words};
 ghost use Rattle.capnp_frame.specs.declared.error.ErrorKind.{ErrorKind};
 ghost use Rattle.capnp_frame.specs.declared.error.ErrorKind.TheVariants.{ReadLimitExceeded, OutOfMemory};
-ghost use Rattle.capnp_wire.specs.Reached.{root};
-ghost use Rattle.capnp_wire.specs.Pointer.{words_of};
-ghost use Rattle.capnp_wire.specs.Tree.{Trees};
+ghost use Rattle.capnp_layout.specs.Reached.{root};
+ghost use Rattle.capnp_layout.specs.Pointer.{words_of};
+ghost use Rattle.capnp_layout.specs.Tree.{Trees};
 ghost use Rattle.capnp_wire.specs.Canonical.{IsCanonical};
 ghost use Rattle.capnp_wire.specs.Tested.{RejectsCanonicity};
 ghost use Rattle.capnp_wire.specs.Values.{LeadsToTree, StopsWalkFrom, IsCanonicalForm};
 ghost use Rattle.capnp_message.specs.Seen.{root_of};
-ghost use Rattle.capnp_wire.specs.Block.{numbers_of};
+ghost use Rattle.capnp_layout.specs.Block.{numbers_of};
 ghost use Rattle.capnp_message.specs.Canonical.{HasForm, LacksForm, ReturnsForm};
 ghost use Rattle.capnp_message.specs.Roots.{ReadsRoot};
 

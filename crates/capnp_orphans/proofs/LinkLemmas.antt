@@ -1,13 +1,13 @@
 -- Pointers to orphans: what is read at their places.
 use Rattle.std.proofs.Common.{◌≡◌, ℕ, zero, suc, ◌+◌, ◌-◌, ◌*◌, ◌/◌, ◌%◌, ◌^◌, ◌<◌, ◌≤◌, List, [], ◌∷◌, ◌++◌, length, Some, None, Option, slice_get, refl, ◌∙◌, ap, arith}
-use Rattle.capnp_wire.specs.Tree.{Form, null, struct, numbers, pointers, structs}
-use Rattle.capnp_wire.specs.Object.{is_null}
-use Rattle.capnp_wire.specs.Layout.{pointer, struct_pointer, list_pointer, minus_one, own, HasRoom}
-use Rattle.capnp_wire.proofs.words.SubsliceLemmas.{Holds, holds_none}
-use Rattle.capnp_wire.proofs.pointers.TagLemmas.{struct_fields, list_fields}
-use Rattle.capnp_wire.proofs.layouts.LayoutLemmas.{if_positive}
-use Rattle.capnp_wire.proofs.layouts.SizeLemmas.{rows_even}
-use Rattle.capnp_wire.proofs.layouts.WrittenLemmas.{Read, Points, read_struct, read_pointers, read_numbers, read_structs}
+use Rattle.capnp_layout.specs.Tree.{Form, null, struct, numbers, pointers, structs}
+use Rattle.capnp_layout.specs.Object.{is_null}
+use Rattle.capnp_layout.specs.Layout.{pointer, struct_pointer, list_pointer, minus_one, own, HasRoom}
+use Rattle.capnp_layout.proofs.words.SubsliceLemmas.{Holds, holds_none}
+use Rattle.capnp_layout.proofs.pointers.TagLemmas.{struct_fields, list_fields}
+use Rattle.capnp_layout.proofs.layouts.LayoutLemmas.{if_positive}
+use Rattle.capnp_layout.proofs.layouts.SizeLemmas.{rows_even}
+use Rattle.capnp_layout.proofs.layouts.WrittenLemmas.{Read, Points, read_struct, read_pointers, read_numbers, read_structs}
 use Rattle.capnp_orphans.specs.Orphans.{link, links}
 
 -- the offset of a pointer that leads to a start

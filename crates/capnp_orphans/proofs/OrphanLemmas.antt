@@ -2,16 +2,16 @@
 use Rattle.std.proofs.Common.{◌≡◌, ℕ, ◌+◌, ◌^◌, ◌<◌, ◌≤◌, List, [], ◌∷◌, ◌++◌, length, Some, slice_get, refl, sym, ◌∙◌, ap, subst, arith, append_assoc}
 use Rattle.std.specs.Prelude.{All}
 use Rattle.std.proofs.lemmas.Option.{slice_get_within}
-use Rattle.capnp_wire.specs.Tree.{Form, null, struct, pointers, Trees, none, tree, count, total_words, object_size}
-use Rattle.capnp_wire.specs.Object.{PointsTo, is_null, places}
-use Rattle.capnp_wire.specs.Reached.{At, nowhere, at}
-use Rattle.capnp_wire.specs.Layout.{pointer, own, body as body_of, placed, run, slots, HasRoom, AllHaveRoom}
-use Rattle.capnp_wire.specs.declared.layout.place.Place.{Place}
-use Rattle.capnp_wire.proofs.words.SubsliceLemmas.{Holds, holds_left, holds_right, holds_first}
-use Rattle.capnp_wire.proofs.pointers.SlotLemmas.{Linked, placed-run}
-use Rattle.capnp_wire.proofs.layouts.LayoutLemmas.{stands, few_reach}
-use Rattle.capnp_wire.proofs.layouts.SizeLemmas.{slots_before, length-slots, length-own_of, links_of, length-links}
-use Rattle.capnp_wire.proofs.trees.StandLemmas.{at_both}
+use Rattle.capnp_layout.specs.Tree.{Form, null, struct, pointers, Trees, none, tree, count, total_words, object_size}
+use Rattle.capnp_layout.specs.Object.{PointsTo, is_null, places}
+use Rattle.capnp_layout.specs.Reached.{At, nowhere, at}
+use Rattle.capnp_layout.specs.Layout.{pointer, own, body as body_of, placed, run, slots, HasRoom, AllHaveRoom}
+use Rattle.capnp_layout.specs.declared.place.Place.{Place}
+use Rattle.capnp_layout.proofs.words.SubsliceLemmas.{Holds, holds_left, holds_right, holds_first}
+use Rattle.capnp_layout.proofs.pointers.SlotLemmas.{Linked, placed-run}
+use Rattle.capnp_layout.proofs.layouts.LayoutLemmas.{stands, few_reach}
+use Rattle.capnp_layout.proofs.layouts.SizeLemmas.{slots_before, length-slots, length-own_of, links_of, length-links}
+use Rattle.capnp_layout.proofs.trees.StandLemmas.{at_both}
 use Rattle.capnp_orphans.specs.Orphans.{link, links, IsOrphan, AreOrphans}
 use Rattle.capnp_orphans.proofs.LinkLemmas.{length-links_at, read_link}
 

@@ -5,18 +5,18 @@ use Rattle.std.proofs.lemmas.List.{append-nil, length-take, take_all, take_more}
 use Rattle.std.proofs.lemmas.Option.{slice_get_within}
 use Rattle.std.proofs.lemmas.List.Elements.{All-nil, All-cons}
 use Rattle.std.proofs.Math.Seq.{take-append_seam, drop-append_seam}
-use Rattle.capnp_wire.specs.Pointer.{words_of}
-use Rattle.capnp_wire.specs.Tree.{structs, Trees, none, tree}
-use Rattle.capnp_wire.specs.Trim.{before}
-use Rattle.capnp_wire.specs.Object.{places, row_places}
-use Rattle.capnp_wire.specs.Reached.{At, nowhere, at}
-use Rattle.capnp_wire.specs.Layout.{pointer, struct_pointer, list_pointer, woven, placed, row_run}
-use Rattle.capnp_wire.specs.Block.{put}
-use Rattle.capnp_wire.specs.declared.layout.place.Place.{Place}
-use Rattle.capnp_wire.proofs.words.SubsliceLemmas.{Holds, holds_left, holds_right, holds_same}
-use Rattle.capnp_wire.proofs.pointers.SlotLemmas.{placed-row_run}
-use Rattle.capnp_wire.proofs.trees.StandLemmas.{at_both}
-use Rattle.capnp_wire.proofs.layouts.BlockLemmas.{put_both}
+use Rattle.capnp_layout.specs.Pointer.{words_of}
+use Rattle.capnp_layout.specs.Tree.{structs, Trees, none, tree}
+use Rattle.capnp_layout.specs.Trim.{before}
+use Rattle.capnp_layout.specs.Object.{places, row_places}
+use Rattle.capnp_layout.specs.Reached.{At, nowhere, at}
+use Rattle.capnp_layout.specs.Layout.{pointer, struct_pointer, list_pointer, woven, placed, row_run}
+use Rattle.capnp_layout.specs.Block.{put}
+use Rattle.capnp_layout.specs.declared.place.Place.{Place}
+use Rattle.capnp_layout.proofs.words.SubsliceLemmas.{Holds, holds_left, holds_right, holds_same}
+use Rattle.capnp_layout.proofs.pointers.SlotLemmas.{placed-row_run}
+use Rattle.capnp_layout.proofs.trees.StandLemmas.{at_both}
+use Rattle.capnp_layout.proofs.layouts.BlockLemmas.{put_both}
 use Rattle.capnp_wire.proofs.views.ValueLemmas.{put_whole}
 use Rattle.capnp_values.proofs.SectionLemmas.{data_put}
 use Rattle.capnp_orphans.specs.declared.draft.StructDraft.{StructDraft}

@@ -3,14 +3,14 @@ use Rattle.std.proofs.Common.{◌≡◌, ℕ, ◌+◌, ◌-◌, ◌*◌, ◌^◌
 use Rattle.std.specs.Prelude.{All, replicate}
 use Rattle.std.proofs.Math.Seq.{take-append_seam, drop-append_seam}
 use Rattle.std.proofs.lemmas.List.{append-nil, append_assoc, length-replicate, take-append-le, take-replicate}
-use Rattle.capnp_wire.specs.Pointer.{words_of}
-use Rattle.capnp_wire.specs.Tree.{Form, struct, structs, pointers, Trees, none, tree, count, total_words}
-use Rattle.capnp_wire.specs.Layout.{pointer, struct_pointer, list_pointer, minus_one, layout, body, HasRoom, AllHaveRoom}
+use Rattle.capnp_layout.specs.Pointer.{words_of}
+use Rattle.capnp_layout.specs.Tree.{Form, struct, structs, pointers, Trees, none, tree, count, total_words}
+use Rattle.capnp_layout.specs.Layout.{pointer, struct_pointer, list_pointer, minus_one, layout, body, HasRoom, AllHaveRoom}
 use Rattle.capnp_wire.specs.Copy.{IsCopied}
 use Rattle.capnp_wire.specs.Values.{HasWords}
 use Rattle.capnp_wire.specs.declared.layout.copy.Copied.{Copied}
-use Rattle.capnp_wire.proofs.words.PutLemmas.{words_split}
-use Rattle.capnp_wire.proofs.trees.PlacedLemmas.{alone}
+use Rattle.capnp_layout.proofs.words.PutLemmas.{words_split}
+use Rattle.capnp_layout.proofs.trees.PlacedLemmas.{alone}
 use Rattle.capnp_wire.proofs.layouts.FreeLemmas.{whole_written}
 use Rattle.capnp_orphans.specs.declared.draft.StructDraft.{StructDraft}
 use Rattle.capnp_orphans.specs.Orphans.{links, IsOrphan}

@@ -2,8 +2,8 @@
 -- everything below it is written, and no word of it changes after that; of the segment only the
 -- first word, the root's, does. What comes after that word is called the body of the segment here.
 use Rattle.std.specs.Prelude.{◌≡◌, ℕ, ◌+◌, ◌-◌, ◌*◌, ◌/◌, ◌%◌, ◌^◌, ◌<◌, ◌==◌, if◌then◌else◌, List, [], ◌∷◌, ◌++◌, Some, slice_get}
-use Rattle.capnp_wire.specs.Tree.{Form, Trees, none, tree}
-use Rattle.capnp_wire.specs.Reached.{At}
+use Rattle.capnp_layout.specs.Tree.{Form, Trees, none, tree}
+use Rattle.capnp_layout.specs.Reached.{At}
 
 -- The word of an orphan is the pointer to it, with the index of the word at which it begins in
 -- place of the offset. This is the pointer that leads to it from a given place. Null, and the

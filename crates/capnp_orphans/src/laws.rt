@@ -1,7 +1,7 @@
 //! Facts about orphans. `specs/OrphanLaws.antt` has facts about the trees of values of any kind,
 //! for proofs.
 ghost use Rattle.std.specs.Prelude.{◌≡◌, ◌+◌, ◌*◌, ◌≤◌, ℕ, List, [], ◌∷◌, ◌++◌};
-ghost use Rattle.capnp_wire.specs.Tree.{Form, Trees, null, none};
+ghost use Rattle.capnp_layout.specs.Tree.{Form, Trees, null, none};
 ghost use Rattle.capnp_orphans.specs.Orphans.{AreOrphans, IsOrphan};
 ghost use Rattle.capnp_orphans.specs.Segments.{Segment, body_of};
 ghost use Rattle.capnp_orphans.specs.Held.{AreTrees, AreValues, HoldsValue};

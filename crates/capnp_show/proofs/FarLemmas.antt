@@ -2,13 +2,13 @@
 use Rattle.std.proofs.Common.{◌≡◌, inl, inr, ℕ, ◌+◌, ◌-◌, ◌%◌, ◌^◌, ◌<◌, min, List, Some, None, Option, slice_get, IfSome, refl, sym, ◌∙◌, ap, subst, arith}
 use Rattle.std.proofs.lemmas.Option.{none-some, slice_get_cases}
 use Rattle.capnp_frame.specs.declared.error.ErrorKind.{ErrorKind}
-use Rattle.capnp_wire.specs.Pointer.{words_of, pointer_kind, has_wide_landing_pad, landing_pad_segment, landing_pad_position}
-use Rattle.capnp_wire.specs.Object.{message_of, word_at, landing_pad, landing_pad_tag, IsFar, following, exactly, IsStart, Lands, Target, local, far as by_landing_pad, double_far}
-use Rattle.capnp_wire.specs.Faults.{NoWord, no_segment, past_segment, BadLandingPad, no_tag, bad_landing_pad, Fault, RejectsSize, no_start as no_start_fault, misfits as misfits_fault}
-use Rattle.capnp_wire.specs.Landing.{NotLocal}
-use Rattle.capnp_wire.proofs.pointers.LandingPadLemmas.{wide_refused}
-use Rattle.capnp_wire.specs.declared.layout.place.Place.{Place as ReadPlace}
-use Rattle.capnp_wire.proofs.words.MessageLemmas.{segment_stands, no_segment_stands}
+use Rattle.capnp_layout.specs.Pointer.{words_of, pointer_kind, has_wide_landing_pad, landing_pad_segment, landing_pad_position}
+use Rattle.capnp_layout.specs.Object.{message_of, word_at, landing_pad, landing_pad_tag, IsFar, following, exactly, IsStart, Lands, Target, local, far as by_landing_pad, double_far}
+use Rattle.capnp_layout.specs.Faults.{NoWord, no_segment, past_segment, BadLandingPad, no_tag, bad_landing_pad, Fault, RejectsSize, no_start as no_start_fault, misfits as misfits_fault}
+use Rattle.capnp_layout.specs.Landing.{NotLocal}
+use Rattle.capnp_layout.proofs.pointers.LandingPadLemmas.{wide_refused}
+use Rattle.capnp_layout.specs.declared.place.Place.{Place as ReadPlace}
+use Rattle.capnp_layout.proofs.words.MessageLemmas.{segment_stands, no_segment_stands}
 use Rattle.capnp_show.specs.declared.words.Place.{Place}
 use Rattle.capnp_show.specs.declared.words.LandingPad.{LandingPad}
 use Rattle.capnp_show.specs.declared.words.Object.{Object}

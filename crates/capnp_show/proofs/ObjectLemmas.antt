@@ -4,15 +4,15 @@ use Rattle.std.proofs.lemmas.Option.{none-some, same_Some}
 use Rattle.std.proofs.lemmas.Nat.{mul-lt}
 use Rattle.capnp_frame.specs.declared.error.ErrorKind.{ErrorKind}
 use Rattle.capnp_frame.specs.declared.error.ErrorKind.TheVariants.{PointerOutOfBounds}
-use Rattle.capnp_wire.specs.Pointer.{words_of, pointer_kind, code, offset, list_count}
-use Rattle.capnp_wire.specs.Element.{width, words_for}
-use Rattle.capnp_wire.specs.Object.{message_of, word_at, ShapeStands}
-use Rattle.capnp_wire.specs.Faults.{NoWord, no_segment, past_segment, RejectsSize}
-use Rattle.capnp_wire.specs.declared.layout.place.Place.{Place as ReadPlace}
-use Rattle.capnp_wire.proofs.words.WordLemmas.{length-words_of}
-use Rattle.capnp_wire.proofs.words.MessageLemmas.{segment_stands}
-use Rattle.capnp_wire.proofs.pointers.FaultLemmas.{words_for_pointers}
-use Rattle.capnp_wire.proofs.pointers.LandingLemmas.{struct_stands, numbers_stand, pointers_stand, structs_stand, struct_misfits, list_misfits, no_tag_misfits}
+use Rattle.capnp_layout.specs.Pointer.{words_of, pointer_kind, code, offset, list_count}
+use Rattle.capnp_layout.specs.Element.{width, words_for}
+use Rattle.capnp_layout.specs.Object.{message_of, word_at, ShapeStands}
+use Rattle.capnp_layout.specs.Faults.{NoWord, no_segment, past_segment, RejectsSize}
+use Rattle.capnp_layout.specs.declared.place.Place.{Place as ReadPlace}
+use Rattle.capnp_layout.proofs.words.WordLemmas.{length-words_of}
+use Rattle.capnp_layout.proofs.words.MessageLemmas.{segment_stands}
+use Rattle.capnp_layout.proofs.pointers.FaultLemmas.{words_for_pointers}
+use Rattle.capnp_layout.proofs.pointers.LandingLemmas.{struct_stands, numbers_stand, pointers_stand, structs_stand, struct_misfits, list_misfits, no_tag_misfits}
 use Rattle.capnp_show.specs.declared.words.Place.{Place}
 use Rattle.capnp_show.specs.declared.words.StructSize.{StructSize}
 use Rattle.capnp_show.specs.declared.words.ElementSize.{ElementSize}

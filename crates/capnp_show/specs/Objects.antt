@@ -2,11 +2,11 @@
 use Rattle.std.specs.Prelude.{◌≡◌, ℕ, ◌+◌, ◌*◌, ◌/◌, ◌<◌, ◌≤◌, ◌==◌, if◌then◌else◌, List, length, Option, Some, None, slice_get, IfSome}
 use Rattle.capnp.specs.Passed.{ErrorKind}
 use Rattle.capnp_frame.specs.declared.error.ErrorKind.TheVariants.{PointerOutOfBounds}
-use Rattle.capnp_wire.specs.Pointer.{words_of, pointer_kind, offset, data_words, pointer_words, code, list_count}
-use Rattle.capnp_wire.specs.Element.{width, words_for}
-use Rattle.capnp_wire.specs.Object.{message_of, word_at, landing_pad, IsFar, Lands, Target, Origin, IsStart, ShapeStands, Shape as Stood, struct_shape, numbers_shape, pointers_shape, structs_shape}
-use Rattle.capnp_wire.specs.Faults.{RejectsSize, Fault}
-use Rattle.capnp_wire.specs.declared.layout.place.Place.{Place as ReadPlace}
+use Rattle.capnp_layout.specs.Pointer.{words_of, pointer_kind, offset, data_words, pointer_words, code, list_count}
+use Rattle.capnp_layout.specs.Element.{width, words_for}
+use Rattle.capnp_layout.specs.Object.{message_of, word_at, landing_pad, IsFar, Lands, Target, Origin, IsStart, ShapeStands, Shape as Stood, struct_shape, numbers_shape, pointers_shape, structs_shape}
+use Rattle.capnp_layout.specs.Faults.{RejectsSize, Fault}
+use Rattle.capnp_layout.specs.declared.place.Place.{Place as ReadPlace}
 use Rattle.capnp_show.specs.declared.words.Place.{Place}
 use Rattle.capnp_show.specs.declared.words.StructSize.{StructSize}
 use Rattle.capnp_show.specs.declared.words.LandingPad.{LandingPad}

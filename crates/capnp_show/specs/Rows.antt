@@ -3,8 +3,8 @@ use Rattle.std.specs.Prelude.{◌≡◌, ◌≢◌, ◌⊎◌, ℕ, ◌+◌, ◌
 use Rattle.std.specs.List.{All}
 use Rattle.capnp.specs.Passed.{message_of}
 use Rattle.capnp_frame.specs.declared.error.ErrorKind.TheVariants.{NestingLimitExceeded, ReadLimitExceeded}
-use Rattle.capnp_wire.specs.Object.{word_at, places, row_places}
-use Rattle.capnp_wire.specs.declared.layout.place.Place.{Place as ReadPlace}
+use Rattle.capnp_layout.specs.Object.{word_at, places, row_places}
+use Rattle.capnp_layout.specs.declared.place.Place.{Place as ReadPlace}
 use Rattle.capnp_show.specs.declared.words.Place.{Place}
 use Rattle.capnp_show.specs.declared.words.Object.{Object}
 use Rattle.capnp_show.specs.declared.words.StructSize.{StructSize}

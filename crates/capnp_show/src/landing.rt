@@ -1,8 +1,8 @@
 //! Far pointers and their landing pads, as in the encoding document, "Inter-Segment Pointers".
 ghost use Rattle.std.specs.Prelude.{◌≡◌, ◌<◌, ℕ, Some, IfOk, IfErr, MatchResult};
-ghost use Rattle.capnp_wire.specs.Pointer.{pointer_kind};
-ghost use Rattle.capnp_wire.specs.Object.{message_of, word_at as stands_at, landing_pad};
-ghost use Rattle.capnp_wire.specs.Landing.{NotLocal};
+ghost use Rattle.capnp_layout.specs.Pointer.{pointer_kind};
+ghost use Rattle.capnp_layout.specs.Object.{message_of, word_at as stands_at, landing_pad};
+ghost use Rattle.capnp_layout.specs.Landing.{NotLocal};
 ghost use Rattle.capnp_show.specs.Objects.{read_place, IsFarTo, IsObject, IsRefused};
 
 use crate::words::{LandingPad, Object, Place, local_object, shaped_object, word_at};

@@ -1,6 +1,6 @@
 //! How many words objects have.
 ghost use Rattle.std.specs.Prelude.{◌≡◌, ◌<◌, ◌^◌, ◌+◌, min};
-ghost use Rattle.capnp_wire.specs.Element.{width};
+ghost use Rattle.capnp_layout.specs.Element.{width};
 ghost use Rattle.capnp_show.specs.Objects.{code_of, size_of, words_in, traversed_of, landing_words, IsSize};
 
 use crate::words::{ElementSize, Object, Shape, StructSize};

@@ -3,9 +3,9 @@
 //! Nothing is followed except the landing pads of far pointers, so each result takes a few steps,
 //! whatever the words are.
 ghost use Rattle.std.specs.Prelude.{◌≡◌, ◌<◌, ◌^◌, ◌+◌, ◌*◌, ◌/◌, ℕ, List, Some, length, slice_get, slice_range, IfOk, IfErr, MatchOption, MatchResult, IsTrue, IsFalse};
-ghost use Rattle.capnp_wire.specs.Pointer.{words_of, pointer_kind, code, list_count};
-ghost use Rattle.capnp_wire.specs.Object.{message_of, word_at as stands_at, following, IsStart};
-ghost use Rattle.capnp_wire.specs.Faults.{NoWord, RejectsSize};
+ghost use Rattle.capnp_layout.specs.Pointer.{words_of, pointer_kind, code, list_count};
+ghost use Rattle.capnp_layout.specs.Object.{message_of, word_at as stands_at, following, IsStart};
+ghost use Rattle.capnp_layout.specs.Faults.{NoWord, RejectsSize};
 ghost use Rattle.capnp_show.specs.Objects.{HasRoom, read_place, Says, IsTag, StandsAt, RejectsTarget, IsObject, IsRefused};
 
 use crate::landing::far_object;

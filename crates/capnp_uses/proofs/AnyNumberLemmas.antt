@@ -10,7 +10,7 @@ use Rattle.capnp_wire.specs.ObjectViews.{IsObjectView}
 use Rattle.capnp_wire.specs.declared.any_object.numbers.Numbers.{Numbers as NumbersReader}
 use Rattle.capnp_wire.specs.declared.any_object.reader.Reader.{Reader}
 use Rattle.capnp_wire.specs.declared.any_object.reader.Reader.TheVariants.{Null, Struct, Structs, Pointers, Numbers}
-use Rattle.capnp_wire.proofs.trees.StandLemmas.{within_none}
+use Rattle.capnp_layout.proofs.trees.StandLemmas.{within_none}
 use Rattle.capnp_wire.proofs.views.ViewLemmas.{Decides, wrong_kind_once, wrong_kind_unlimited}
 use Rattle.capnp_uses.specs.AnyNumbers.{IsAnyNumbers, TakesAnyNumbers, DeclinesAnyNumbers}
 

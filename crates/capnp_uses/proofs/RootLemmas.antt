@@ -10,9 +10,9 @@ use Rattle.capnp_wire.specs.Faults.{NoWord, Fault}
 use Rattle.capnp_wire.specs.Views.{Pointer, Denotes, nowhere, at_place, Shows, Accepts, Reads, Refuses, MeetsLimit, IsText, DeclinesText, DeclinesStruct}
 use Rattle.capnp_wire.specs.Traversed.{Within}
 use Rattle.capnp_wire.specs.Readers.{unlimited_root}
-use Rattle.capnp_wire.proofs.objects.ObjectLemmas.{one_object}
+use Rattle.capnp_layout.proofs.objects.ObjectLemmas.{one_object}
 use Rattle.capnp_wire.proofs.views.ViewLemmas.{one_denoted}
-use Rattle.capnp_wire.proofs.pointers.FaultLemmas.{word_of_object, no_word_there, invalid_pointer_has_no_object}
+use Rattle.capnp_layout.proofs.pointers.FaultLemmas.{word_of_object, no_word_there, invalid_pointer_has_no_object}
 use Rattle.capnp_wire.proofs.forms.FullLemmas.{null_is_zero}
 use Rattle.capnp_wire.proofs.pointers.NullLemmas.{null_by_word}
 use Rattle.capnp_build.specs.Bytes.{Space}

@@ -10,7 +10,7 @@ use Rattle.capnp_wire.specs.Reached.{At, at, nowhere, root, Root}
 use Rattle.capnp_wire.specs.Layout.{canon}
 use Rattle.capnp_wire.specs.Views.{Pointer, DeclinesStruct}
 use Rattle.capnp_wire.specs.Values.{LeadsToTree}
-use Rattle.capnp_wire.proofs.pointers.FaultLemmas.{word_of_object}
+use Rattle.capnp_layout.proofs.pointers.FaultLemmas.{word_of_object}
 use Rattle.capnp_wire.proofs.views.OneValueLemmas.{one_there}
 use Rattle.capnp_frame.specs.Sink.{Adds, ByKind}
 use Rattle.capnp_build.specs.Bytes.{Space}

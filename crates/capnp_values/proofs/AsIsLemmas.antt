@@ -3,7 +3,7 @@ use Rattle.std.proofs.Common.{◌≡◌, ℕ, ◌+◌, false, Result, Ok, Err, r
 use Rattle.std.specs.Result.{IsErrAnd}
 use Rattle.capnp_frame.specs.declared.error.Error.{Error}
 use Rattle.capnp_frame.specs.declared.error.ErrorKind.{ErrorKind}
-use Rattle.capnp_wire.specs.Tree.{Trees, none, tree, count, total_words}
+use Rattle.capnp_layout.specs.Tree.{Trees, none, tree, count, total_words}
 use Rattle.capnp_wire.specs.Values.{HasWords, HasPart}
 use Rattle.capnp_wire.specs.declared.traits.PartWords.{PartWords}
 use Rattle.capnp_wire.proofs.views.PartWordLemmas.{as_is_words, same_part}

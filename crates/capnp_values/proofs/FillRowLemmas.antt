@@ -1,16 +1,17 @@
 -- Rows that are put into a block one by one, each with its pointers and what these lead to.
 use Rattle.std.proofs.Common.{◌≡◌, ℕ, zero, suc, ◌+◌, ◌-◌, ◌*◌, ◌≤◌, List, [], ◌∷◌, ◌++◌, length, refl, sym, ◌∙◌, ap, arith}
 use Rattle.std.proofs.lemmas.List.Elements.{All-head, All-tail}
-use Rattle.capnp_wire.specs.Tree.{Trees, none, tree, count, object_size, total_words}
-use Rattle.capnp_wire.specs.Trim.{first, following, before}
-use Rattle.capnp_wire.specs.Layout.{pointer, run, body, AllHaveRoom}
-use Rattle.capnp_wire.specs.Block.{put, put_rows, fill}
-use Rattle.capnp_wire.specs.Rows.{row_slots}
-use Rattle.capnp_wire.proofs.pointers.SlotLemmas.{AllOf}
-use Rattle.capnp_wire.proofs.trees.ChunkLemmas.{count-first, count-following, total-before, before_chunks}
-use Rattle.capnp_wire.proofs.trees.KeptLemmas.{rooms_first, rooms_after}
-use Rattle.capnp_wire.proofs.layouts.SizeLemmas.{Before, before_more, length-run, length-body}
-use Rattle.capnp_wire.proofs.layouts.BlockLemmas.{put_apart, length-put}
+use Rattle.capnp_layout.specs.Tree.{Trees, none, tree, count, object_size, total_words}
+use Rattle.capnp_layout.specs.Trim.{first, following, before}
+use Rattle.capnp_layout.specs.Layout.{pointer, run, body, AllHaveRoom}
+use Rattle.capnp_layout.specs.Block.{put, put_rows, fill}
+use Rattle.capnp_layout.specs.Rows.{row_slots}
+use Rattle.capnp_layout.proofs.pointers.SlotLemmas.{AllOf}
+use Rattle.capnp_layout.proofs.trees.ChunkLemmas.{count-first, count-following, total-before, before_chunks}
+use Rattle.capnp_layout.proofs.trees.KeptLemmas.{rooms_first, rooms_after}
+use Rattle.capnp_layout.proofs.layouts.SizeLemmas.{Before, before_more, length-run, length-body}
+use Rattle.capnp_wire.proofs.layouts.BlockLemmas.{put_apart}
+use Rattle.capnp_layout.proofs.layouts.BlockLemmas.{length-put}
 use Rattle.capnp_values.specs.StructLists.{fill_rows}
 
 -- what is filled in keeps the block's length

@@ -1,14 +1,14 @@
 -- Values of one type, one after the other: what is written of them.
 use Rattle.std.proofs.Common.{◌≡◌, ℕ, suc, ◌+◌, ◌-◌, ◌/◌, ◌<◌, ◌≤◌, Bool, List, [], ◌∷◌, length, drop, refl, sym, ◌∙◌, ap, subst, arith, get_or}
-use Rattle.capnp_wire.specs.Pointer.{words_of}
-use Rattle.capnp_wire.specs.Tree.{Form, Trees, none, tree, total_words}
-use Rattle.capnp_wire.specs.Layout.{pointer_to, run, body, output}
-use Rattle.capnp_wire.specs.Block.{put, fill}
+use Rattle.capnp_layout.specs.Pointer.{words_of}
+use Rattle.capnp_layout.specs.Tree.{Form, Trees, none, tree, total_words}
+use Rattle.capnp_layout.specs.Layout.{pointer_to, run, body, output}
+use Rattle.capnp_layout.specs.Block.{put, fill}
 use Rattle.capnp_wire.specs.Copy.{IsCopied}
 use Rattle.capnp_wire.specs.Values.{HasRoomAt, IsFreeFrom}
 use Rattle.capnp_wire.specs.declared.layout.copy.Copied.{Copied}
-use Rattle.capnp_wire.proofs.words.WordLemmas.{length-words_of}
-use Rattle.capnp_wire.proofs.layouts.BlockLemmas.{length-put}
+use Rattle.capnp_layout.proofs.words.WordLemmas.{length-words_of}
+use Rattle.capnp_layout.proofs.layouts.BlockLemmas.{length-put}
 use Rattle.capnp_wire.proofs.layouts.CopyLemmas.{fill_step, none_output}
 use Rattle.capnp_wire.proofs.layouts.FreeLemmas.{free_after, free_copied}
 use Rattle.capnp_wire.proofs.layouts.OpenLemmas.{room_output}

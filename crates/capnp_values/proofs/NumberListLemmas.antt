@@ -5,18 +5,18 @@ use Rattle.std.specs.Prelude.{All, min}
 use Rattle.std.proofs.Math.Nat.{mul-le-mul_left}
 use Rattle.std.proofs.lemmas.List.{take-map, drop-map, length-map}
 use Rattle.std.proofs.lemmas.List.Elements.{All-cons, All-take, All-drop}
-use Rattle.capnp_wire.specs.Pointer.{digits, number_of, words_of}
-use Rattle.capnp_wire.specs.Element.{width, words_for}
-use Rattle.capnp_wire.specs.Tree.{numbers, Trees, none, tree, total_words}
-use Rattle.capnp_wire.specs.Layout.{own, output, AllHaveRoom}
-use Rattle.capnp_wire.specs.Block.{put}
+use Rattle.capnp_layout.specs.Pointer.{digits, number_of, words_of}
+use Rattle.capnp_layout.specs.Element.{width, words_for}
+use Rattle.capnp_layout.specs.Tree.{numbers, Trees, none, tree, total_words}
+use Rattle.capnp_layout.specs.Layout.{own, output, AllHaveRoom}
+use Rattle.capnp_layout.specs.Block.{put}
 use Rattle.capnp_wire.specs.Values.{HasWords, HasRoomAt}
-use Rattle.capnp_wire.proofs.words.WordLemmas.{length-words_of}
-use Rattle.capnp_wire.proofs.words.PutLemmas.{put_mid_words}
+use Rattle.capnp_layout.proofs.words.WordLemmas.{length-words_of}
+use Rattle.capnp_layout.proofs.words.PutLemmas.{put_mid_words}
 use Rattle.capnp_wire.proofs.layouts.FreeLemmas.{numbers_total as numbers_total_of}
 use Rattle.capnp_wire.proofs.views.OneValueLemmas.{IsOne}
-use Rattle.capnp_wire.proofs.objects.ElementLemmas.{low_digit, high_digits}
-use Rattle.capnp_wire.proofs.words.DigitLemmas.{number_below, pow-mul}
+use Rattle.capnp_layout.proofs.objects.ElementLemmas.{low_digit, high_digits}
+use Rattle.capnp_layout.proofs.words.DigitLemmas.{number_below, pow-mul}
 use Rattle.capnp_values.specs.NumberLists.{IsNumberList, ManyNumbers}
 use Rattle.capnp_values.proofs.ItemLemmas.{from_here}
 

@@ -1,10 +1,10 @@
 -- How far rows reach.
 use Rattle.std.proofs.Common.{◌≡◌, ℕ, zero, suc, ◌+◌, ◌<◌, ◌≤◌, ◌^◌, Bool, true, false, refl, sym, ◌∙◌, ap, arith}
-use Rattle.capnp_wire.specs.Tree.{Form, null, struct, numbers, pointers, structs, Trees, none, tree, count, is_null, total_words}
-use Rattle.capnp_wire.specs.Trim.{keep_tree, cut_nulls, trim, trim_form, trim_children}
-use Rattle.capnp_wire.specs.Layout.{AllHaveRoom}
-use Rattle.capnp_wire.proofs.trees.TrimLemmas.{total-trim, count-trim}
-use Rattle.capnp_wire.proofs.trees.ChunkLemmas.{total-cut, count-cut}
+use Rattle.capnp_layout.specs.Tree.{Form, null, struct, numbers, pointers, structs, Trees, none, tree, count, is_null, total_words}
+use Rattle.capnp_layout.specs.Trim.{keep_tree, cut_nulls, trim, trim_form, trim_children}
+use Rattle.capnp_layout.specs.Layout.{AllHaveRoom}
+use Rattle.capnp_layout.proofs.trees.TrimLemmas.{total-trim, count-trim}
+use Rattle.capnp_layout.proofs.trees.ChunkLemmas.{total-cut, count-cut}
 use Rattle.capnp_values.specs.Fields.{IsSettled, kept_row, is_left_out, extent_of, IsBounded}
 use Rattle.capnp_values.specs.declared.fields.Extent.{Extent}
 use Rattle.capnp_values.proofs.PartLemmas.{part_total, no_trees}

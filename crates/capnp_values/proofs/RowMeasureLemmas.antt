@@ -6,10 +6,10 @@ use Rattle.std.specs.Result.{IsErrAnd}
 use Rattle.std.proofs.lemmas.List.Elements.{All-nil, All-cons}
 use Rattle.capnp_frame.specs.declared.error.Error.{Error}
 use Rattle.capnp_frame.specs.declared.error.ErrorKind.{ErrorKind}
-use Rattle.capnp_wire.specs.Tree.{Trees, none, count, total_words}
-use Rattle.capnp_wire.specs.Trim.{before}
-use Rattle.capnp_wire.specs.Layout.{output}
-use Rattle.capnp_wire.proofs.trees.ChunkLemmas.{total-before}
+use Rattle.capnp_layout.specs.Tree.{Trees, none, count, total_words}
+use Rattle.capnp_layout.specs.Trim.{before}
+use Rattle.capnp_layout.specs.Layout.{output}
+use Rattle.capnp_layout.proofs.trees.ChunkLemmas.{total-before}
 use Rattle.capnp_values.specs.Fields.{IsSettled, kept_row, extent_of, HasExtent}
 use Rattle.capnp_values.specs.declared.fields.Extent.{Extent}
 use Rattle.capnp_values.specs.declared.rows.Reach.{Reach}

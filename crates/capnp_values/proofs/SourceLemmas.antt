@@ -2,7 +2,7 @@
 -- and the other way round.
 use Rattle.std.proofs.Common.{◌≡◌, ℕ, Bool, List, inl, inr, sym, subst, get_or}
 use Rattle.capnp_frame.specs.declared.error.ErrorKind.{ErrorKind}
-use Rattle.capnp_wire.specs.Tree.{Trees}
+use Rattle.capnp_layout.specs.Tree.{Trees}
 use Rattle.capnp_wire.specs.Values.{LacksWords, HasPart, HasRoomAt}
 use Rattle.capnp_wire.specs.declared.traits.PartWords.{PartWords}
 use Rattle.capnp_values.specs.Fields.{HasExtent, CanWriteRow, IsRowWritten}

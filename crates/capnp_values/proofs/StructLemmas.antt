@@ -7,17 +7,17 @@ use Rattle.std.proofs.lemmas.List.{take_all}
 use Rattle.capnp_frame.specs.declared.error.Error.{Error}
 use Rattle.capnp_frame.specs.declared.error.ErrorKind.{ErrorKind}
 use Rattle.capnp_frame.specs.declared.error.ErrorKind.TheVariants.{AllocationTooLarge}
-use Rattle.capnp_wire.specs.Tree.{struct, Trees, none, tree, count, total_words}
-use Rattle.capnp_wire.specs.Trim.{first, trim}
-use Rattle.capnp_wire.specs.Layout.{struct_pointer, minus_one, run, output, AllHaveRoom}
-use Rattle.capnp_wire.specs.Block.{put, fill}
+use Rattle.capnp_layout.specs.Tree.{struct, Trees, none, tree, count, total_words}
+use Rattle.capnp_layout.specs.Trim.{first, trim}
+use Rattle.capnp_layout.specs.Layout.{struct_pointer, minus_one, run, output, AllHaveRoom}
+use Rattle.capnp_layout.specs.Block.{put, fill}
 use Rattle.capnp_wire.specs.Copy.{IsCopied}
 use Rattle.capnp_wire.specs.Values.{HasRoomAt}
-use Rattle.capnp_wire.proofs.trees.FrontLemmas.{first_cut, cut_front}
-use Rattle.capnp_wire.proofs.trees.NarrowLemmas.{first_all}
-use Rattle.capnp_wire.proofs.words.CutLemmas.{length-cut}
-use Rattle.capnp_wire.proofs.trees.TrimLemmas.{count-trim}
-use Rattle.capnp_wire.proofs.trees.ChunkLemmas.{count-cut}
+use Rattle.capnp_layout.proofs.trees.FrontLemmas.{first_cut, cut_front}
+use Rattle.capnp_layout.proofs.trees.NarrowLemmas.{first_all}
+use Rattle.capnp_layout.proofs.words.CutLemmas.{length-cut}
+use Rattle.capnp_layout.proofs.trees.TrimLemmas.{count-trim}
+use Rattle.capnp_layout.proofs.trees.ChunkLemmas.{count-cut}
 use Rattle.capnp_wire.proofs.layouts.OpenLemmas.{room_output}
 use Rattle.capnp_values.specs.Measured.{tree_words, Measures}
 use Rattle.capnp_values.specs.Fields.{IsSettled, kept_row, extent_of, HasExtent, CanWriteRow}

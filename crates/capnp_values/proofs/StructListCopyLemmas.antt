@@ -1,13 +1,13 @@
 -- Lists of structs as values: what is written of them.
 use Rattle.std.proofs.Common.{◌≡◌, ℕ, ◌+◌, ◌*◌, ◌≤◌, Bool, List, [], ◌∷◌, length, map, take, sym, ◌∙◌, ap, subst, arith}
 use Rattle.std.proofs.lemmas.List.{length-map}
-use Rattle.capnp_wire.specs.Tree.{structs, Trees, none, tree, count, total_words}
-use Rattle.capnp_wire.specs.Layout.{list_pointer, struct_pointer, output, AllHaveRoom}
-use Rattle.capnp_wire.specs.Block.{put, put_rows, fill}
-use Rattle.capnp_wire.specs.Rows.{row_slots}
+use Rattle.capnp_layout.specs.Tree.{structs, Trees, none, tree, count, total_words}
+use Rattle.capnp_layout.specs.Layout.{list_pointer, struct_pointer, output, AllHaveRoom}
+use Rattle.capnp_layout.specs.Block.{put, put_rows, fill}
+use Rattle.capnp_layout.specs.Rows.{row_slots}
 use Rattle.capnp_wire.specs.Copy.{IsCopied}
-use Rattle.capnp_wire.proofs.layouts.SizeLemmas.{rows_even}
-use Rattle.capnp_wire.proofs.layouts.BlockLemmas.{length-put}
+use Rattle.capnp_layout.proofs.layouts.SizeLemmas.{rows_even}
+use Rattle.capnp_layout.proofs.layouts.BlockLemmas.{length-put}
 use Rattle.capnp_wire.proofs.layouts.OpenLemmas.{room_output}
 use Rattle.capnp_values.specs.Fields.{IsSettled}
 use Rattle.capnp_values.specs.StructLists.{AreRows, IsStructList, element_data, element_pointers, shown, AreEven, fill_rows}

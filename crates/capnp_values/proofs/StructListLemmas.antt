@@ -3,14 +3,14 @@ use Rattle.std.proofs.Common.{◌≡◌, ℕ, suc, ◌+◌, ◌*◌, ◌<◌, �
 use Rattle.std.specs.Prelude.{All}
 use Rattle.std.proofs.lemmas.List.{take_all, length-map}
 use Rattle.std.proofs.lemmas.List.Elements.{All-head, All-tail}
-use Rattle.capnp_wire.specs.Tree.{structs, Trees, none, tree, count, total_words}
-use Rattle.capnp_wire.specs.Trim.{first, following, before, cut_nulls, least_pointers, narrowed, trim}
-use Rattle.capnp_wire.specs.Layout.{output, AllHaveRoom}
-use Rattle.capnp_wire.proofs.trees.FrontLemmas.{trim_before}
-use Rattle.capnp_wire.proofs.trees.NarrowLemmas.{first-before, following-before, first_all}
-use Rattle.capnp_wire.proofs.trees.ChunkLemmas.{count-first, count-before, count-following, total-before, before_chunks}
-use Rattle.capnp_wire.proofs.trees.StoodLemmas.{total_cut, total_narrowed}
-use Rattle.capnp_wire.proofs.trees.TrimLemmas.{room_trim}
+use Rattle.capnp_layout.specs.Tree.{structs, Trees, none, tree, count, total_words}
+use Rattle.capnp_layout.specs.Trim.{first, following, before, cut_nulls, least_pointers, narrowed, trim}
+use Rattle.capnp_layout.specs.Layout.{output, AllHaveRoom}
+use Rattle.capnp_layout.proofs.trees.FrontLemmas.{trim_before}
+use Rattle.capnp_layout.proofs.trees.NarrowLemmas.{first-before, following-before, first_all}
+use Rattle.capnp_layout.proofs.trees.ChunkLemmas.{count-first, count-before, count-following, total-before, before_chunks}
+use Rattle.capnp_layout.proofs.trees.StoodLemmas.{total_cut, total_narrowed}
+use Rattle.capnp_layout.proofs.trees.TrimLemmas.{room_trim}
 use Rattle.capnp_values.specs.Fields.{IsSettled, kept_row}
 use Rattle.capnp_values.specs.Structs.{kept_words}
 use Rattle.capnp_values.specs.StructLists.{AreRows, element_data, element_pointers, shown, AreEven}

@@ -6,10 +6,10 @@ use Rattle.std.proofs.lemmas.List.{length-map}
 use Rattle.capnp_frame.specs.declared.error.Error.{Error}
 use Rattle.capnp_frame.specs.declared.error.ErrorKind.{ErrorKind}
 use Rattle.capnp_frame.specs.declared.error.ErrorKind.TheVariants.{AllocationTooLarge}
-use Rattle.capnp_wire.specs.Tree.{structs, Trees, none, tree, count, total_words}
-use Rattle.capnp_wire.specs.Layout.{output, AllHaveRoom}
-use Rattle.capnp_wire.proofs.words.CutLemmas.{least_data_within}
-use Rattle.capnp_wire.proofs.layouts.SizeLemmas.{rows_even}
+use Rattle.capnp_layout.specs.Tree.{structs, Trees, none, tree, count, total_words}
+use Rattle.capnp_layout.specs.Layout.{output, AllHaveRoom}
+use Rattle.capnp_layout.proofs.words.CutLemmas.{least_data_within}
+use Rattle.capnp_layout.proofs.layouts.SizeLemmas.{rows_even}
 use Rattle.capnp_values.specs.Measured.{tree_words, Measures}
 use Rattle.capnp_values.specs.Fields.{IsSettled}
 use Rattle.capnp_values.specs.declared.rows.Reach.{Reach}

@@ -1,14 +1,14 @@
 -- Lists of structs: what is written of their elements.
 use Rattle.std.proofs.Common.{◌≡◌, ℕ, ◌+◌, ◌*◌, ◌<◌, ◌≤◌, Bool, true, false, List, ◌∷◌, length, map, take, drop, refl, sym, ◌∙◌, ap, subst, arith, get_or, length-take}
 use Rattle.std.proofs.Math.Nat.{mul-le-mul_left}
-use Rattle.capnp_wire.specs.Pointer.{words_of}
-use Rattle.capnp_wire.specs.Tree.{Trees, count, total_words}
-use Rattle.capnp_wire.specs.Trim.{first, following, before, trim}
-use Rattle.capnp_wire.specs.Layout.{run, output}
-use Rattle.capnp_wire.specs.Block.{put, fill}
+use Rattle.capnp_layout.specs.Pointer.{words_of}
+use Rattle.capnp_layout.specs.Tree.{Trees, count, total_words}
+use Rattle.capnp_layout.specs.Trim.{first, following, before, trim}
+use Rattle.capnp_layout.specs.Layout.{run, output}
+use Rattle.capnp_layout.specs.Block.{put, fill}
 use Rattle.capnp_wire.specs.Values.{IsFreeFrom}
-use Rattle.capnp_wire.proofs.trees.ChunkLemmas.{count-first, total-before, least_pointers_within}
-use Rattle.capnp_wire.proofs.trees.NarrowLemmas.{first-before, following-before}
+use Rattle.capnp_layout.proofs.trees.ChunkLemmas.{count-first, total-before, least_pointers_within}
+use Rattle.capnp_layout.proofs.trees.NarrowLemmas.{first-before, following-before}
 use Rattle.capnp_values.specs.Fields.{IsSettled, IsRowWritten}
 use Rattle.capnp_values.specs.StructLists.{AreRows, element_pointers, shown, fill_rows, HasRoomForRows}
 use Rattle.capnp_values.specs.StructListPlaces.{ElementPlace}

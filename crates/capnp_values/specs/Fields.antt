@@ -1,10 +1,10 @@
 -- Rows of pointer fields (src/fields.rt).
 use Rattle.std.specs.Prelude.{◌≡◌, ◌⊎◌, ℕ, zero, suc, ◌+◌, ◌*◌, ◌^◌, ◌<◌, ◌≤◌, Bool, true, false, List}
 use Rattle.capnp_frame.specs.declared.error.ErrorKind.{ErrorKind}
-use Rattle.capnp_wire.specs.Tree.{Form, is_null, Trees, none, tree, count, total_words}
-use Rattle.capnp_wire.specs.Trim.{cut_nulls, first, trim}
-use Rattle.capnp_wire.specs.Layout.{run, output, AllHaveRoom}
-use Rattle.capnp_wire.specs.Block.{fill}
+use Rattle.capnp_layout.specs.Tree.{Form, is_null, Trees, none, tree, count, total_words}
+use Rattle.capnp_layout.specs.Trim.{cut_nulls, first, trim}
+use Rattle.capnp_layout.specs.Layout.{run, output, AllHaveRoom}
+use Rattle.capnp_layout.specs.Block.{fill}
 use Rattle.capnp_wire.specs.Values.{HasWords, LacksWords}
 use Rattle.capnp_values.specs.declared.fields.Extent.{Extent}
 

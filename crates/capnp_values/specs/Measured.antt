@@ -3,8 +3,8 @@ use Rattle.std.specs.Prelude.{◌≡◌, Bool, Result, Ok, MatchResult}
 use Rattle.std.specs.Result.{IsErrAnd}
 use Rattle.capnp_frame.specs.declared.error.Error.{Error}
 use Rattle.capnp_frame.specs.declared.error.ErrorKind.{ErrorKind}
-use Rattle.capnp_wire.specs.Tree.{Trees, total_words}
-use Rattle.capnp_wire.specs.Layout.{output, AllHaveRoom}
+use Rattle.capnp_layout.specs.Tree.{Trees, total_words}
+use Rattle.capnp_layout.specs.Layout.{output, AllHaveRoom}
 use Rattle.capnp_values.specs.declared.measured.TreeWords.{TreeWords}
 
 -- the words of some trees, as they are and in the form that is written

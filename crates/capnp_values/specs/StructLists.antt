@@ -5,10 +5,10 @@ use Rattle.std.specs.Result.{IsErrAnd}
 use Rattle.capnp_frame.specs.declared.error.Error.{Error}
 use Rattle.capnp_frame.specs.declared.error.ErrorKind.{ErrorKind}
 use Rattle.capnp_frame.specs.declared.error.ErrorKind.TheVariants.{AllocationTooLarge}
-use Rattle.capnp_wire.specs.Tree.{structs, Trees, none, tree, total_words}
-use Rattle.capnp_wire.specs.Trim.{first, following, before, least_data, least_pointers, narrowed, trim}
-use Rattle.capnp_wire.specs.Layout.{run, output}
-use Rattle.capnp_wire.specs.Block.{put, fill}
+use Rattle.capnp_layout.specs.Tree.{structs, Trees, none, tree, total_words}
+use Rattle.capnp_layout.specs.Trim.{first, following, before, least_data, least_pointers, narrowed, trim}
+use Rattle.capnp_layout.specs.Layout.{run, output}
+use Rattle.capnp_layout.specs.Block.{put, fill}
 use Rattle.capnp_values.specs.declared.fields.Extent.{Extent}
 use Rattle.capnp_values.specs.declared.rows.Reach.{Reach}
 

@@ -36,7 +36,7 @@ impl<T, S> LazyPointerList<T, S> {
 
 // The trees of the source's values, in order. It fails as a list of these values in memory does.
 impl<T, S: ValueSource<T>> SetterInput<Owned<T>> for LazyPointerList<T, S> {
-    ghost use Rattle.capnp_wire.specs.Tree.{count};
+    ghost use Rattle.capnp_layout.specs.Tree.{count};
     ghost use Rattle.capnp_values.specs.Lists.{IsPointerList, RefusesPointerList};
     ghost use Rattle.std.proofs.Common.{ap};
 

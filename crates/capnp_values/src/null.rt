@@ -9,7 +9,7 @@ pub struct Null;
 // It has no words, and its pointer is zero.
 impl<T> SetterInput<T> for Null {
     ghost use Rattle.std.specs.Prelude.{◌≡◌};
-    ghost use Rattle.capnp_wire.specs.Tree.{null, none, tree, count};
+    ghost use Rattle.capnp_layout.specs.Tree.{null, none, tree, count};
     ghost use Rattle.std.proofs.Common.{ap};
 
     ghost has_tree = { λ value trees. trees ≡ tree null none none };

@@ -1,7 +1,7 @@
 //! Lists of numbers as values.
 ghost use Rattle.std.specs.Prelude.{◌≡◌, ◌+◌, ◌*◌, ◌^◌, ◌<◌, ◌≤◌, All, map, length};
-ghost use Rattle.capnp_wire.specs.Pointer.{digits, number_of, words_of};
-ghost use Rattle.capnp_wire.specs.Element.{width, words_for};
+ghost use Rattle.capnp_layout.specs.Pointer.{digits, number_of, words_of};
+ghost use Rattle.capnp_layout.specs.Element.{width, words_for};
 
 use crate::measured::allocation_too_large;
 use capnp_frame::Result;
@@ -28,7 +28,7 @@ impl<'a, N> NumberList<'a, N> {
 
 // The bits of each number, in order. 2^29 numbers and more fail with `AllocationTooLarge`.
 impl<'a, N: PrimitiveElement + Copy> SetterInput<Owned<N>> for NumberList<'a, N> {
-    ghost use Rattle.capnp_wire.specs.Tree.{count};
+    ghost use Rattle.capnp_layout.specs.Tree.{count};
     ghost use Rattle.capnp_values.specs.NumberLists.{IsNumberList, ManyNumbers};
     ghost use Rattle.std.proofs.Common.{ap};
 

@@ -38,7 +38,7 @@ impl<'a, T, V> PointerList<'a, T, V> {
 // The values' trees, in order. 2^29 values and more fail with `AllocationTooLarge`, and a value
 // that fails as it is fails here, too.
 impl<'a, T, V: SetterInput<T>> SetterInput<Owned<T>> for PointerList<'a, T, V> {
-    ghost use Rattle.capnp_wire.specs.Tree.{count};
+    ghost use Rattle.capnp_layout.specs.Tree.{count};
     ghost use Rattle.capnp_values.specs.Lists.{IsPointerList, RefusesPointerList};
     ghost use Rattle.std.proofs.Common.{ap};
 

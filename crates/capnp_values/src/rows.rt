@@ -1,8 +1,8 @@
 //! The elements of lists of structs: their extent, and what is written of them.
 ghost use Rattle.std.specs.Prelude.{◌≡◌, ℕ, ◌+◌, ◌*◌, ◌<◌, ◌≤◌, ◌^◌, [], false, map, length, take};
-ghost use Rattle.capnp_wire.specs.Pointer.{words_of};
-ghost use Rattle.capnp_wire.specs.Tree.{Trees, none};
-ghost use Rattle.capnp_wire.specs.Block.{put};
+ghost use Rattle.capnp_layout.specs.Pointer.{words_of};
+ghost use Rattle.capnp_layout.specs.Tree.{Trees, none};
+ghost use Rattle.capnp_layout.specs.Block.{put};
 ghost use Rattle.capnp_wire.specs.Values.{IsFreeFrom};
 ghost use Rattle.capnp_values.specs.Fields.{IsRowWritten};
 ghost use Rattle.capnp_values.specs.StructLists.{AreRows, ReachesRows, HasRoomForRows, AreRowsWritten, element_data, element_pointers, reach_of, reached};

@@ -29,7 +29,7 @@ impl<'a, E> StructList<'a, E> {
 // fields and more, and 2^29 elements or words of elements and more, fail with `AllocationTooLarge`;
 // a field that fails as it is fails here, too.
 impl<'a, E: Fields + Element> SetterInput<Owned> for StructList<'a, E> {
-    ghost use Rattle.capnp_wire.specs.Tree.{count};
+    ghost use Rattle.capnp_layout.specs.Tree.{count};
     ghost use Rattle.capnp_values.specs.StructLists.{IsStructList, RefusesStructList};
     ghost use Rattle.std.proofs.Common.{ap};
 

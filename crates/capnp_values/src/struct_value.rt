@@ -35,7 +35,7 @@ impl<const D: usize, F> StructValue<D, F> {
 // `AllocationTooLarge`; a field that fails as it is fails here, too.
 impl<const D: usize, F: Fields> SetterInput<Owned> for StructValue<D, F> {
     ghost use Rattle.std.specs.Prelude.{length};
-    ghost use Rattle.capnp_wire.specs.Tree.{count};
+    ghost use Rattle.capnp_layout.specs.Tree.{count};
     ghost use Rattle.capnp_values.specs.Structs.{IsStruct, RefusesStruct};
     ghost use Rattle.std.proofs.Common.{ap};
 

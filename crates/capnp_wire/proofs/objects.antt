@@ -1,13 +1,5 @@
 -- Objects, and what is in them.
-pub mod ObjectLemmas
-pub mod CycleLemmas
-pub mod ElementLemmas
-pub mod FieldLemmas
-pub mod RowLemmas
 pub mod NumberLemmas
-pub mod OwnLemmas
-pub mod PaddingLemmas
-pub mod OwnWordLemmas
 pub mod PaddedLemmas
 pub mod ReadLocalLemmas
 pub mod StructLemmas

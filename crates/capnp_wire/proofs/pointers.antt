@@ -1,13 +1,6 @@
 -- Pointers, where they lead, and when they are invalid.
-pub mod FaultLemmas
-pub mod RefusalLemmas
-pub mod LandingLemmas
-pub mod LandingPadLemmas
 pub mod LocalLemmas
 pub mod NullLemmas
 pub mod NullRunLemmas
 pub mod EmptyStructLemmas
-pub mod PointerSlotLemmas
-pub mod TagLemmas
-pub mod SlotLemmas
 pub mod NextLemmas

@@ -1,28 +1,28 @@
 -- Objects that are copied, as they are or in canonical form (src/layout/copy.rt, and pending.rt,
 -- copy_rows.rt and copy_cursor.rt beside it).
-use Rattle.std.specs.Prelude.{◌≡◌, ◌≢◌, ℕ, ◌+◌, ◌-◌, ◌*◌, ◌/◌, ◌<◌, ◌≤◌, ◌^◌, ◌==◌, if◌then◌else◌, Bool, true, List, [], ◌∷◌, length, Some, slice_get}
-use Rattle.capnp_wire.specs.Pointer.{words_of, words_from}
-use Rattle.capnp_wire.specs.Element.{code_of}
-use Rattle.capnp_wire.specs.Tree.{numbers, Trees, depth, total_words}
-use Rattle.capnp_wire.specs.Object.{elements as numerals, rows_from}
-use Rattle.capnp_wire.specs.Layout.{own, body, pointer_to, AllHaveRoom, output, struct_pointer, list_pointer, minus_one}
-use Rattle.capnp_wire.specs.Landing.{IsObject, room_of, words_in}
-use Rattle.capnp_wire.specs.Block.{put, put_rows, fill, most_used}
-use Rattle.capnp_wire.specs.Object.{places}
-use Rattle.capnp_wire.specs.Layout.{run}
-use Rattle.capnp_wire.specs.Rows.{row_size, kept_in, slots_of, places_in, slots_in, end_of, Takes}
-use Rattle.capnp_wire.specs.Reached.{At}
-use Rattle.capnp_wire.specs.declared.layout.place.Place.{Place}
-use Rattle.capnp_wire.specs.declared.layout.pointer.StructSize.{StructSize}
+use Rattle.std.specs.Prelude.{◌≡◌, ◌≢◌, ℕ, ◌+◌, ◌-◌, ◌/◌, ◌<◌, ◌≤◌, ◌^◌, Bool, List, [], ◌∷◌, length, Some, slice_get}
+use Rattle.capnp_layout.specs.Pointer.{words_of, words_from}
+use Rattle.capnp_layout.specs.Element.{code_of}
+use Rattle.capnp_layout.specs.Tree.{numbers, Trees, depth, total_words}
+use Rattle.capnp_layout.specs.Object.{elements as numerals, rows_from}
+use Rattle.capnp_layout.specs.Layout.{own, body, pointer_to, AllHaveRoom, output, struct_pointer}
+use Rattle.capnp_layout.specs.Landing.{IsObject, room_of, words_in}
+use Rattle.capnp_layout.specs.Block.{put, put_rows, fill}
+use Rattle.capnp_layout.specs.Object.{places}
+use Rattle.capnp_layout.specs.Layout.{run}
+use Rattle.capnp_layout.specs.Rows.{row_size, kept_in, slots_of, places_in, slots_in, end_of, Takes}
+use Rattle.capnp_layout.specs.Reached.{At}
+use Rattle.capnp_layout.specs.declared.place.Place.{Place}
 use Rattle.capnp_wire.specs.declared.layout.copy.Copied.{Copied}
 use Rattle.capnp_wire.specs.declared.layout.copy_cursor.CopyCursor.{CopyCursor}
 use Rattle.capnp_wire.specs.declared.layout.pending.PendingCopy.{PendingCopy}
 use Rattle.capnp_wire.specs.declared.layout.pending.PendingPointers.{PendingPointers}
 use Rattle.capnp_wire.specs.declared.layout.pending.StructCopy.{StructCopy}
 use Rattle.capnp_wire.specs.declared.layout.pending.StructCopy.TheVariants.{Whole, Pending}
-use Rattle.capnp_wire.specs.declared.layout.object.Object.{Object}
-use Rattle.capnp_wire.specs.declared.layout.object.Body.{Body}
-use Rattle.capnp_wire.specs.declared.layout.object.Body.TheVariants.{Struct, Numbers, Pointers, Structs}
+use Rattle.capnp_layout.specs.declared.object.Object.{Object}
+use Rattle.capnp_layout.specs.declared.object.Body.{Body}
+use Rattle.capnp_layout.specs.declared.object.Body.TheVariants.{Struct, Numbers, Structs}
+use Rattle.capnp_layout.specs.Output.{IsNarrower}
 
 -- trees are at places within the nesting depth left, every field has room, and there is room for their copies from a word on
 pub record CanCopy (m : List (List ℕ)) (at : List Place) (nesting : ℕ) (canonical : Bool) (next room : ℕ) : Type 0 where
@@ -32,29 +32,6 @@ pub record CanCopy (m : List (List ℕ)) (at : List Place) (nesting : ℕ) (cano
   pub shallow : depth trees ≤ nesting
   pub rooms : AllHaveRoom trees
   pub fits : next + total_words (output canonical trees) ≤ room
-
--- the size that n consecutive structs of this size need, the first of them at a word
-abbrev pub least_size : List ℕ → ℕ → StructSize → ℕ → StructSize
-least_size words start size n = record {
-  data_words = most_used words start size.data_words (size.data_words + size.pointers) n;
-  pointers = most_used words (start + size.data_words) size.pointers (size.data_words + size.pointers) n;
-}
-
--- the body of an object's copy
-abbrev pub output_body_of : Bool → List ℕ → ℕ → Body → Body
-output_body_of true words start (Struct size) = Struct (least_size words start size 1)
-output_body_of true words start (Structs elements following) =
-    Structs (record { size = least_size words (start + 1) elements.size elements.count; count = elements.count }) following
-output_body_of canonical words start there = there
-
--- the pointer word to a body
-abbrev pub pointer_of_body : Body → ℕ → ℕ
-pointer_of_body (Struct size) offset =
-    struct_pointer (if size.data_words + size.pointers == 0 then minus_one else offset) size.data_words size.pointers
-pointer_of_body (Numbers size n) offset = list_pointer offset (code_of size) n
-pointer_of_body (Pointers n) offset = list_pointer offset 6 n
-pointer_of_body (Structs elements following) offset =
-    list_pointer offset 7 (elements.count * (elements.size.data_words + elements.size.pointers))
 
 -- a copy's own words except for its pointers, put into a block; the pointers are still to be put
 -- into it
@@ -67,26 +44,10 @@ put_own words start (Structs from following) (Structs elements words_after) next
     (put next (struct_pointer elements.count elements.size.data_words elements.size.pointers ∷ []) block)
 put_own words start from copied next block = block
 
--- the count in the pointer to a list
-abbrev pub list_length : Body → ℕ
-list_length (Struct size) = 0
-list_length (Numbers size n) = n
-list_length (Pointers n) = n
-list_length (Structs elements following) = elements.count * (elements.size.data_words + elements.size.pointers)
-
 -- the number of elements in the tag of a list of structs
 abbrev pub element_count : Body → ℕ
 element_count (Structs elements following) = elements.count
 element_count copied = 0
-
--- the same kind of object, whose rows have no more words
-abbrev pub IsNarrower : Body → Body → Type 0
-IsNarrower (Struct from) (Struct size) = (size.data_words ≤ from.data_words) × (size.pointers ≤ from.pointers)
-IsNarrower (Structs from following) (Structs elements words) =
-    (elements.count ≡ from.count) × (elements.size.data_words ≤ from.size.data_words) × (elements.size.pointers ≤ from.size.pointers)
-IsNarrower (Numbers from n) (Numbers size count) = (size ≡ from) × (count ≡ n)
-IsNarrower (Pointers n) (Pointers count) = count ≡ n
-IsNarrower from copied = ⊥
 
 -- what is copied of some trees: their body, from a word of a block on, the pointer to it, and the
 -- first free word after it

@@ -3,15 +3,15 @@ use Rattle.std.specs.Prelude.{◌≡◌, ℕ, ◌-◌, ◌^◌, ◌<◌, ◌≤�
 use Rattle.capnp_frame.specs.declared.error.ErrorKind.{ErrorKind}
 use Rattle.capnp_frame.specs.declared.error.ErrorKind.TheVariants.{AllocationTooLarge}
 use Rattle.capnp_frame.specs.declared.message.segments.ReaderSegments.{Ghosts}
-use Rattle.capnp_wire.specs.Element.{width, words_for}
-use Rattle.capnp_wire.specs.Tree.{Form, numbers, structs, Trees, none, tree, depth}
-use Rattle.capnp_wire.specs.Object.{places, row_places, rows_from}
-use Rattle.capnp_wire.specs.Reached.{At}
-use Rattle.capnp_wire.specs.Traversed.{Within}
-use Rattle.capnp_wire.specs.Faults.{StopsWalk}
+use Rattle.capnp_layout.specs.Element.{width, words_for}
+use Rattle.capnp_layout.specs.Tree.{Form, numbers, structs, Trees, none, tree, depth}
+use Rattle.capnp_layout.specs.Object.{places, row_places, rows_from}
+use Rattle.capnp_layout.specs.Reached.{At}
+use Rattle.capnp_layout.specs.Traversed.{Within}
+use Rattle.capnp_layout.specs.Faults.{StopsWalk}
 use Rattle.capnp_wire.specs.ListViews.{PointerList, StructList, struct_list_of}
-use Rattle.capnp_wire.specs.declared.layout.place.Place.{Place}
-use Rattle.capnp_wire.specs.declared.layout.pointer.Elements.{Elements}
+use Rattle.capnp_layout.specs.declared.place.Place.{Place}
+use Rattle.capnp_layout.specs.declared.pointer.Elements.{Elements}
 use Rattle.capnp_wire.specs.declared.struct_list.reader.Reader.{Reader as StructListReader}
 
 -- the tree of a list of this form whose pointers are read, within the nesting depth left and the

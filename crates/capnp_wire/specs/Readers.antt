@@ -3,16 +3,16 @@ use Rattle.std.specs.Prelude.{◌≡◌, ℕ, ◌+◌, ◌-◌, ◌^◌, ◌<◌
 use denote.Ref.{Bor}
 use Rattle.capnp_frame.specs.Limits.{default_limit}
 use Rattle.capnp_frame.specs.declared.message.segments.ReaderSegments.{Ghosts}
-use Rattle.capnp_wire.specs.Pointer.{words_of, words_from}
-use Rattle.capnp_wire.specs.Tree.{Form}
-use Rattle.capnp_wire.specs.Object.{message_of, places}
-use Rattle.capnp_wire.specs.Reached.{root}
-use Rattle.capnp_wire.specs.Traversed.{Within}
-use Rattle.capnp_wire.specs.Landing.{IsObject, shape_of}
+use Rattle.capnp_layout.specs.Pointer.{words_of, words_from}
+use Rattle.capnp_layout.specs.Tree.{Form}
+use Rattle.capnp_layout.specs.Object.{message_of, places}
+use Rattle.capnp_layout.specs.Reached.{root}
+use Rattle.capnp_layout.specs.Traversed.{Within}
+use Rattle.capnp_layout.specs.Landing.{IsObject, shape_of}
 use Rattle.capnp_wire.specs.Views.{Pointer, Struct}
 use Rattle.capnp_wire.specs.Parts.{own_data}
-use Rattle.capnp_wire.specs.declared.layout.place.Place.{Place}
-use Rattle.capnp_wire.specs.declared.layout.object.Object.{Object as ReadObject}
+use Rattle.capnp_layout.specs.declared.place.Place.{Place}
+use Rattle.capnp_layout.specs.declared.object.Object.{Object as ReadObject}
 use Rattle.capnp_wire.specs.declared.any_pointer.reader.Reader.{Reader}
 use Rattle.capnp_wire.specs.declared.read_limiter.ReadLimiter.{ReadLimiter}
 use Rattle.capnp_wire.specs.declared.any_struct.reader.StructReader.{StructReader}

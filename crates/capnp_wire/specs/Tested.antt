@@ -3,23 +3,23 @@ use Rattle.std.specs.Prelude.{◌≡◌, ◌≢◌, ◌⊎◌, ℕ, ◌+◌, ◌
 use Rattle.capnp_frame.specs.declared.error.Error.{Error}
 use Rattle.capnp_frame.specs.declared.error.ErrorKind.{ErrorKind}
 use Rattle.capnp_frame.specs.declared.error.ErrorKind.TheVariants.{ReadLimitExceeded, InvalidSegmentId}
-use Rattle.capnp_wire.specs.Pointer.{pointer_kind, offset, list_count}
-use Rattle.capnp_wire.specs.Element.{code_of}
-use Rattle.capnp_wire.specs.Tree.{Form, is_null, null, struct, numbers, structs, Trees, depth, object_size, total_words}
-use Rattle.capnp_wire.specs.Object.{word_at, elements, Shape, PointsTo}
-use Rattle.capnp_wire.specs.Reached.{At, root}
-use Rattle.capnp_wire.specs.Traversed.{Within, less}
-use Rattle.capnp_wire.specs.Faults.{Fault}
-use Rattle.capnp_wire.specs.Layout.{minus_one, Trimmed}
+use Rattle.capnp_layout.specs.Pointer.{pointer_kind, offset, list_count}
+use Rattle.capnp_layout.specs.Element.{code_of}
+use Rattle.capnp_layout.specs.Tree.{Form, is_null, null, struct, numbers, structs, Trees, depth, object_size, total_words}
+use Rattle.capnp_layout.specs.Object.{word_at, elements, Shape, PointsTo}
+use Rattle.capnp_layout.specs.Reached.{At, root}
+use Rattle.capnp_layout.specs.Traversed.{Within, less}
+use Rattle.capnp_layout.specs.Faults.{Fault}
+use Rattle.capnp_layout.specs.Layout.{minus_one, Trimmed}
 use Rattle.capnp_wire.specs.Canonical.{EndsFull, Padded, IsInPreorder}
-use Rattle.capnp_wire.specs.declared.layout.place.Place.{Place}
-use Rattle.capnp_wire.specs.Rows.{places_in, end_of}
+use Rattle.capnp_layout.specs.declared.place.Place.{Place}
+use Rattle.capnp_layout.specs.Rows.{places_in, end_of}
 use Rattle.capnp_wire.specs.declared.layout.canonical.CanonicalWalk.{CanonicalWalk}
 use Rattle.capnp_wire.specs.declared.layout.canonical.Met.{Met}
 use Rattle.capnp_wire.specs.declared.layout.canonical.Met.TheVariants.{Null, NotCanonical, Pointers}
-use Rattle.capnp_wire.specs.declared.layout.pointer_slots.PointerSlots.{PointerSlots}
-use Rattle.capnp_wire.specs.declared.layout.object.Body.{Body}
-use Rattle.capnp_wire.specs.declared.layout.object.Body.TheVariants.{Struct, Numbers, Structs}
+use Rattle.capnp_layout.specs.declared.pointer_slots.PointerSlots.{PointerSlots}
+use Rattle.capnp_layout.specs.declared.object.Body.{Body}
+use Rattle.capnp_layout.specs.declared.object.Body.TheVariants.{Struct, Numbers, Structs}
 
 -- a far pointer is at a place
 abbrev pub IsFarAt : List ℕ → Place → Type 0

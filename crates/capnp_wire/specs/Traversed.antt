@@ -1,30 +1,18 @@
 -- What a walk over trees may still count against the traversal limit, and the words that it has
 -- counted (src/layout/walk.rt).
-use Rattle.std.specs.Prelude.{◌≡◌, Bool, ℕ, ◌+◌, ◌-◌, ◌^◌, ◌<◌, ◌≤◌, List, [], ◌∷◌, ◌++◌, slice_get, Option, Some, None, IfSome, if◌then◌else◌}
-use Rattle.capnp_wire.specs.Pointer.{words_of}
-use Rattle.capnp_wire.specs.Tree.{Trees, depth, total_words}
-use Rattle.capnp_wire.specs.Object.{places}
-use Rattle.capnp_wire.specs.Landing.{IsObject, shape_of, words_in}
-use Rattle.capnp_wire.specs.Reached.{At}
-use Rattle.capnp_wire.specs.Layout.{output, AllHaveRoom}
-use Rattle.capnp_wire.specs.Copy.{output_body_of}
-use Rattle.capnp_wire.specs.declared.layout.place.Place.{Place}
+pub use Rattle.capnp_layout.specs.Traversed.{Within, less, Exceeds, TreesAt}
+use Rattle.std.specs.Prelude.{◌≡◌, Bool, ℕ, ◌+◌, ◌^◌, ◌<◌, ◌≤◌, List, [], ◌∷◌, ◌++◌, slice_get, Option, Some, None, if◌then◌else◌}
+use Rattle.capnp_layout.specs.Pointer.{words_of}
+use Rattle.capnp_layout.specs.Tree.{Trees, depth, total_words}
+use Rattle.capnp_layout.specs.Object.{places}
+use Rattle.capnp_layout.specs.Landing.{IsObject, shape_of, words_in}
+use Rattle.capnp_layout.specs.Reached.{At}
+use Rattle.capnp_layout.specs.Layout.{output, AllHaveRoom}
+use Rattle.capnp_layout.specs.Output.{output_body_of}
+use Rattle.capnp_layout.specs.declared.place.Place.{Place}
 use Rattle.capnp_wire.specs.declared.layout.walk.Walk.{Walk}
-use Rattle.capnp_wire.specs.declared.layout.pointer_run.PointerRun.{PointerRun}
-use Rattle.capnp_wire.specs.declared.layout.object.Object.{Object}
-
--- the words counted are within the limit, where there is one
-abbrev pub Within : Option ℕ → ℕ → Type 0
-Within limit traversed = IfSome limit (λ most. traversed ≤ most)
-
--- what is left of the limit
-abbrev pub less : Option ℕ → ℕ → Option ℕ
-less None traversed = None
-less (Some most) traversed = Some (most - traversed)
-
--- the words counted are past the limit
-abbrev pub Exceeds : Option ℕ → ℕ → Type 0
-Exceeds limit traversed = (most : ℕ) × (limit ≡ Some most) × (most < traversed)
+use Rattle.capnp_layout.specs.declared.pointer_run.PointerRun.{PointerRun}
+use Rattle.capnp_layout.specs.declared.object.Object.{Object}
 
 -- the words that a walk has counted, where they fit 64 bits
 abbrev pub counted : Walk → Option ℕ
@@ -38,14 +26,6 @@ Counts (Some kept) words = kept ≡ words
 -- this many more words have been counted
 abbrev pub CountsMore : Option ℕ → Option ℕ → ℕ → Type 0
 CountsMore kept kept_then more = (words : ℕ) → Counts kept words → Counts kept_then (words + more)
-
--- trees are at places, no deeper than the nesting depth left; this many words are traversed, and
--- the trees have this many words
-pub record TreesAt (m : List (List ℕ)) (at : List Place) (nesting traversed words : ℕ) : Type 0 where
-  pub trees : Trees
-  pub stand : At m at trees traversed
-  pub shallow : depth trees ≤ nesting
-  pub words_are : total_words trees ≡ words
 
 -- the same, where every field has room, and the trees have this many words as they are or in
 -- canonical form

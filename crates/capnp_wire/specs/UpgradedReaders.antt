@@ -1,15 +1,15 @@
 -- What contracts see of readers of upgraded lists (src/upgraded).
 use Rattle.std.specs.Prelude.{ℕ, zero, suc, ◌+◌, ◌-◌, List, [], ◌∷◌, map}
 use Rattle.capnp_frame.specs.declared.message.segments.ReaderSegments.{Ghosts as SegmentGhosts}
-use Rattle.capnp_wire.specs.Pointer.{words_of}
-use Rattle.capnp_wire.specs.Element.{code_of}
-use Rattle.capnp_wire.specs.Object.{message_of, elements, rows_from}
+use Rattle.capnp_layout.specs.Pointer.{words_of}
+use Rattle.capnp_layout.specs.Element.{code_of}
+use Rattle.capnp_layout.specs.Object.{message_of, elements, rows_from}
 use Rattle.capnp_wire.specs.Readers.{limit_of}
 use Rattle.capnp_wire.specs.Views.{Pointer}
 use Rattle.capnp_wire.specs.ListViews.{StructList, PointerList, struct_list_of}
 use Rattle.capnp_wire.specs.NumberViews.{numbers_of}
 use Rattle.capnp_wire.specs.UpgradedViews.{number_row, first_fields}
-use Rattle.capnp_wire.specs.declared.layout.place.Place.{Place}
+use Rattle.capnp_layout.specs.declared.place.Place.{Place}
 use Rattle.capnp_wire.specs.declared.primitive_element.PrimitiveElement.{Ghosts as ElementGhosts}
 use Rattle.capnp_wire.specs.declared.primitive_list.reader.Reader.{Reader as NumbersReader}
 use Rattle.capnp_wire.specs.declared.upgraded.struct_list.NumberRows.{NumberRows}

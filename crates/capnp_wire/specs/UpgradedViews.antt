@@ -5,13 +5,13 @@
 use Rattle.std.specs.Prelude.{◌≡◌, ◌≢◌, ℕ, zero, suc, ◌-◌, ◌*◌, ◌%◌, ◌^◌, ◌<◌, ◌≤◌, ⊤, List, [], ◌∷◌, ◌++◌, length, map, take, drop, replicate, slice_index}
 use Rattle.capnp_frame.specs.declared.error.ErrorKind.{ErrorKind}
 use Rattle.capnp_frame.specs.declared.error.ErrorKind.TheVariants.{WrongPointerKind}
-use Rattle.capnp_wire.specs.Element.{width}
-use Rattle.capnp_wire.specs.Tree.{Form, null, numbers, pointers, structs}
-use Rattle.capnp_wire.specs.Traversed.{Within}
+use Rattle.capnp_layout.specs.Element.{width}
+use Rattle.capnp_layout.specs.Tree.{Form, null, numbers, pointers, structs}
+use Rattle.capnp_layout.specs.Traversed.{Within}
 use Rattle.capnp_wire.specs.Views.{Pointer, Shows}
 use Rattle.capnp_wire.specs.ListViews.{StructList, PointerList}
-use Rattle.capnp_wire.specs.declared.layout.place.Place.{Place}
-use Rattle.capnp_wire.specs.declared.layout.pointer.Elements.{Elements}
+use Rattle.capnp_layout.specs.declared.place.Place.{Place}
+use Rattle.capnp_layout.specs.declared.pointer.Elements.{Elements}
 
 -- the data words of a struct that was a number: the number's word alone, or none where an element
 -- has no bits

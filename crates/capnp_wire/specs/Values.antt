@@ -5,19 +5,19 @@ use Rattle.capnp_frame.specs.declared.error.ErrorKind.{ErrorKind}
 use Rattle.capnp_frame.specs.declared.error.ErrorKind.TheVariants.{AllocationTooLarge, CanonicalTooLarge}
 use Rattle.capnp_frame.specs.Words.{bytes_of}
 use Rattle.capnp_frame.specs.declared.words.Word.{Word}
-use Rattle.capnp_wire.specs.Pointer.{number_of, words_of, words_from}
-use Rattle.capnp_wire.specs.Element.{words_for}
-use Rattle.capnp_wire.specs.Object.{places}
+use Rattle.capnp_layout.specs.Pointer.{number_of, words_of, words_from}
+use Rattle.capnp_layout.specs.Element.{words_for}
+use Rattle.capnp_layout.specs.Object.{places}
 use Rattle.capnp_wire.specs.Views.{Pointer, Struct}
-use Rattle.capnp_wire.specs.Tree.{null, struct, numbers, Trees, none, tree, count, depth, is_null, total_words}
-use Rattle.capnp_wire.specs.Reached.{At, at, nowhere}
-use Rattle.capnp_wire.specs.Trim.{trim}
-use Rattle.capnp_wire.specs.Layout.{canon, output, AllHaveRoom}
-use Rattle.capnp_wire.specs.Traversed.{Within}
-use Rattle.capnp_wire.specs.Faults.{StopsWalk}
-use Rattle.capnp_wire.specs.declared.layout.place.Place.{Place}
+use Rattle.capnp_layout.specs.Tree.{null, struct, numbers, Trees, none, tree, count, depth, is_null, total_words}
+use Rattle.capnp_layout.specs.Reached.{At, at, nowhere}
+use Rattle.capnp_layout.specs.Trim.{trim}
+use Rattle.capnp_layout.specs.Layout.{canon, output, AllHaveRoom}
+use Rattle.capnp_layout.specs.Traversed.{Within}
+use Rattle.capnp_layout.specs.Faults.{StopsWalk}
+use Rattle.capnp_layout.specs.declared.place.Place.{Place}
 use Rattle.capnp_wire.specs.declared.traits.PartWords.{PartWords}
-use Rattle.capnp_wire.specs.declared.layout.pointer.StructSize.{StructSize}
+use Rattle.capnp_layout.specs.declared.pointer.StructSize.{StructSize}
 
 -- the tree at a place, within the nesting depth left and a limit
 pub record TreeAt (m : List (List ℕ)) (place : Place) (nesting : ℕ) (limit : Option ℕ) (trees : Trees) : Type 0 where

@@ -4,11 +4,11 @@ use Rattle.std.specs.Result.{IsErrAnd}
 use Rattle.capnp_frame.specs.declared.error.Error.{Error}
 use Rattle.capnp_frame.specs.declared.error.ErrorKind.{ErrorKind}
 use Rattle.capnp_frame.specs.declared.error.ErrorKind.TheVariants.{ReadLimitExceeded, AllocationTooLarge, WrongPointerKind, TextNotTerminated}
-use Rattle.capnp_wire.specs.Tree.{Form, is_null, null, struct, numbers}
-use Rattle.capnp_wire.specs.Object.{Shape, PointsTo, nothing}
-use Rattle.capnp_wire.specs.Faults.{Fault, StopsWalk}
-use Rattle.capnp_wire.specs.Traversed.{TreesAt, Within}
-use Rattle.capnp_wire.specs.declared.layout.place.Place.{Place}
+use Rattle.capnp_layout.specs.Tree.{Form, is_null, null, struct, numbers}
+use Rattle.capnp_layout.specs.Object.{Shape, PointsTo, nothing}
+use Rattle.capnp_layout.specs.Faults.{Fault, StopsWalk}
+use Rattle.capnp_layout.specs.Traversed.{TreesAt, Within}
+use Rattle.capnp_layout.specs.declared.place.Place.{Place}
 
 -- A pointer that is read: the message, its place (a pointer past the end of a struct has none, and
 -- is null), how many objects may follow one another from it on, and the limit of words that are

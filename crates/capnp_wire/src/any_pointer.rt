@@ -1,7 +1,7 @@
 //! Pointers that may lead to anything.
 ghost use Rattle.std.specs.Prelude.{◌≡◌, ◌-◌, ◌^◌, ◌<◌, ◌≤◌, length};
-ghost use Rattle.capnp_wire.specs.Tree.{Trees};
-ghost use Rattle.capnp_wire.specs.Layout.{output};
+ghost use Rattle.capnp_layout.specs.Tree.{Trees};
+ghost use Rattle.capnp_layout.specs.Layout.{output};
 ghost use Rattle.capnp_wire.specs.Copy.{IsCopied};
 ghost use Rattle.capnp_wire.specs.Readers.{pointer_of};
 ghost use Rattle.capnp_wire.specs.Values.{HasRoomAt, LeadsToTree};
@@ -9,13 +9,13 @@ ghost use Rattle.capnp_wire.specs.Values.{HasRoomAt, LeadsToTree};
 mod fast_path;
 mod reader;
 
-use crate::layout::block::BlockItem;
 use crate::layout::copy::{Copied, copy};
 use crate::layout::value;
 use crate::read_limiter::limit_in_words;
 use crate::traits::{self, SetterInput};
 use capnp_frame::Result;
 use capnp_frame::message::ReaderSegments;
+use capnp_layout::block::BlockItem;
 pub use reader::Reader;
 
 /// A pointer that may lead to anything, as a type of a schema.

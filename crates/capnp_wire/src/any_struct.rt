@@ -4,12 +4,12 @@ pub(crate) mod part;
 mod reader;
 
 use crate::layout::copy::Copied;
-use crate::layout::place::Place;
 use crate::layout::struct_value;
 use crate::read_limiter::limit_in_words;
 use crate::traits::{self, SetterInput};
 use capnp_frame::Result;
 use capnp_frame::message::ReaderSegments;
+use capnp_layout::place::Place;
 pub use reader::StructReader;
 
 /// A struct, as a type of a schema.
@@ -29,7 +29,7 @@ const ALONE: Place = Place {
 impl<'a, S: ReaderSegments> SetterInput<Owned> for StructReader<'a, S> {
     ghost use Rattle.capnp_wire.specs.Readers.{struct_of};
     ghost use Rattle.capnp_wire.specs.Values.{IsTreeOf, StopsInside};
-    ghost use Rattle.capnp_wire.specs.Tree.{count};
+    ghost use Rattle.capnp_layout.specs.Tree.{count};
     ghost use Rattle.std.proofs.Common.{ap};
 
     ghost has_tree = { λ view trees. IsTreeOf (struct_of S.segments view) trees };

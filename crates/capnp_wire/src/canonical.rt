@@ -5,16 +5,16 @@ ghost use Rattle.std.specs.Result.{IsErrAnd};
 ghost use Rattle.capnp_frame.specs.Message.{IsWholeWords};
 ghost use Rattle.capnp_frame.specs.declared.error.ErrorKind.{ErrorKind};
 ghost use Rattle.capnp_frame.specs.declared.error.ErrorKind.TheVariants.{OutOfMemory};
-ghost use Rattle.capnp_wire.specs.Pointer.{words_of};
-ghost use Rattle.capnp_wire.specs.Block.{numbers_of};
+ghost use Rattle.capnp_layout.specs.Pointer.{words_of};
+ghost use Rattle.capnp_layout.specs.Block.{numbers_of};
 ghost use Rattle.capnp_wire.specs.Readers.{pointer_of};
 ghost use Rattle.capnp_wire.specs.Values.{HasWords, LacksWords, LeadsToTree, StopsWalkFrom, IsCanonicalForm};
 
 use crate::any_pointer;
-use crate::pointer_word::word_of;
 use crate::traits::SetterInput;
 use capnp_frame::message::ReaderSegments;
 use capnp_frame::{Result, Word, word};
+use capnp_layout::pointer_word::word_of;
 use std::alloc::Global;
 
 /// The number of words of the canonical form of what a pointer leads to, with the root pointer.

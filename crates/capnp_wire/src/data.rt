@@ -18,7 +18,7 @@ impl<'a, S: ReaderSegments> traits::Owned<'a, S> for Owned {
 // A list of bytes.
 impl<'a> SetterInput<Owned> for &'a [u8] {
     ghost use Rattle.capnp_wire.specs.Values.{IsBytes, ManyBytes};
-    ghost use Rattle.capnp_wire.specs.Tree.{count};
+    ghost use Rattle.capnp_layout.specs.Tree.{count};
     ghost use Rattle.std.proofs.Common.{ap};
 
     ghost has_tree = { λ bytes trees. IsBytes bytes.now trees };

@@ -1,17 +1,17 @@
 //! Facts about the trees of messages, each the contract of a function that does nothing.
 ghost use Rattle.std.specs.Prelude.{◌≡◌, ◌+◌, Some, slice_get, ◌<◌, ◌≤◌, ◌^◌, ◌↔◌, ℕ, List, [], ◌∷◌, Option, None, Bool, false};
 ghost use Rattle.capnp_frame.specs.declared.error.ErrorKind.{ErrorKind};
-ghost use Rattle.capnp_wire.specs.Tree.{Form, Trees, none, tree, depth, is_null, total_words};
-ghost use Rattle.capnp_wire.specs.Trim.{trim};
-ghost use Rattle.capnp_wire.specs.Object.{Shape, PointsTo, word_at};
-ghost use Rattle.capnp_wire.specs.Reached.{At, Below, root};
-ghost use Rattle.capnp_wire.specs.Layout.{layout, canon, pointer_to, far_pointer, Laid, AllHaveRoom, AllWords};
-ghost use Rattle.capnp_wire.specs.Faults.{Fault, StopsWalk};
-ghost use Rattle.capnp_wire.specs.Traversed.{Within};
+ghost use Rattle.capnp_layout.specs.Tree.{Form, Trees, none, tree, depth, is_null, total_words};
+ghost use Rattle.capnp_layout.specs.Trim.{trim};
+ghost use Rattle.capnp_layout.specs.Object.{Shape, PointsTo, word_at};
+ghost use Rattle.capnp_layout.specs.Reached.{At, Below, root};
+ghost use Rattle.capnp_layout.specs.Layout.{layout, canon, pointer_to, far_pointer, Laid, AllHaveRoom, AllWords};
+ghost use Rattle.capnp_layout.specs.Faults.{Fault, StopsWalk};
+ghost use Rattle.capnp_layout.specs.Traversed.{Within};
 ghost use Rattle.capnp_wire.specs.Canonical.{IsCanonical, TestsAreExact};
 ghost use Rattle.capnp_wire.specs.Views.{Pointer};
 ghost use Rattle.capnp_wire.specs.Values.{IsCanonicalForm};
-ghost use Rattle.capnp_wire.specs.declared.layout.place.Place.{Place};
+ghost use Rattle.capnp_layout.specs.declared.place.Place.{Place};
 
 /// At most one tree is at each of some places, and the words counted for these trees are
 /// determined.

@@ -1,25 +1,13 @@
 //! The wire layout: pointer words, the objects that they lead to, and the words that a walk over
 //! these counts.
-pub(crate) mod block;
-pub(crate) mod body_word;
 pub(crate) mod canonical;
 pub(crate) mod canonical_rules;
 pub(crate) mod copy;
 pub(crate) mod copy_cursor;
 pub(crate) mod copy_rows;
 pub(crate) mod data_words;
-pub(crate) mod element;
-pub(crate) mod fast_path;
-pub(crate) mod landing;
 pub(crate) mod list_value;
-pub(crate) mod number_list;
-pub(crate) mod object;
-pub(crate) mod output_size;
 pub(crate) mod pending;
-pub(crate) mod place;
-pub(crate) mod pointer;
-pub(crate) mod pointer_run;
-pub(crate) mod pointer_slots;
 pub(crate) mod struct_list_value;
 pub(crate) mod struct_value;
 pub(crate) mod value;

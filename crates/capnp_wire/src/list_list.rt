@@ -26,7 +26,7 @@ impl<'a, S: ReaderSegments + 'a, T: traits::Owned<'a, S>> SetterInput<Owned<T>>
     for Reader<'a, S, T::Reader> {
     ghost use Rattle.capnp_wire.specs.ListViews.{pointer_list_of};
     ghost use Rattle.capnp_wire.specs.ListValues.{IsListTree, StopsInList};
-    ghost use Rattle.capnp_wire.specs.Tree.{count, pointers};
+    ghost use Rattle.capnp_layout.specs.Tree.{count, pointers};
     ghost use Rattle.std.proofs.Common.{ap};
 
     ghost has_tree = { λ list trees.

@@ -1,17 +1,17 @@
 //! What views read of objects.
 ghost use Rattle.std.specs.Prelude.{◌≡◌, ◌+◌, ◌*◌, ◌/◌, ◌≤◌, length, MatchResult};
 ghost use Rattle.capnp_frame.specs.declared.error.ErrorKind.{ErrorKind};
-ghost use Rattle.capnp_wire.specs.Pointer.{words_of};
-ghost use Rattle.capnp_wire.specs.Object.{elements};
-ghost use Rattle.capnp_wire.specs.Element.{code_of, width, words_for};
-ghost use Rattle.capnp_wire.specs.Tree.{numbers};
-ghost use Rattle.capnp_wire.specs.Landing.{room_of};
+ghost use Rattle.capnp_layout.specs.Pointer.{words_of};
+ghost use Rattle.capnp_layout.specs.Object.{elements};
+ghost use Rattle.capnp_layout.specs.Element.{code_of, width, words_for};
+ghost use Rattle.capnp_layout.specs.Tree.{numbers};
+ghost use Rattle.capnp_layout.specs.Landing.{room_of};
 ghost use Rattle.capnp_wire.specs.Readers.{form_of};
 ghost use Rattle.capnp_wire.specs.Views.{DeclinesNumbers};
 
-use crate::layout::element::ElementSize;
-use crate::layout::object::Object;
 use capnp_frame::{Error, ErrorKind, Result};
+use capnp_layout::element_size::ElementSize;
+use capnp_layout::object::Object;
 
 /// The error for an object that is of another kind than was asked for: `WrongPointerKind`.
 pub(crate) fn wrong_kind() -> Error

@@ -1,12 +1,12 @@
 //! Numbers and bools, as they are in the data sections of structs and in lists (encoding document,
 //! "Structs" and "Lists").
 ghost use Rattle.std.specs.Prelude.{◌≡◌, ◌^◌, ◌<◌, ℕ};
-ghost use Rattle.capnp_wire.specs.Element.{code_of, width};
+ghost use Rattle.capnp_layout.specs.Element.{code_of, width};
 
 mod signed;
 mod unsigned;
 
-use crate::layout::element::ElementSize;
+use capnp_layout::element_size::ElementSize;
 use std::num::{
     f32_from_bits_with_nan, f32_to_bits_with_nan, f64_from_bits_with_nan, f64_to_bits_with_nan,
 };

@@ -23,7 +23,7 @@ impl<'a, S: ReaderSegments, T: PrimitiveElement + 'a> traits::Owned<'a, S> for O
 impl<'a, T: PrimitiveElement> SetterInput<Owned<T>> for Reader<'a, T> {
     ghost use Rattle.capnp_wire.specs.NumberViews.{numbers_of};
     ghost use Rattle.capnp_wire.specs.ListValues.{IsNumbersTree, TooManyNumbers};
-    ghost use Rattle.capnp_wire.specs.Tree.{count};
+    ghost use Rattle.capnp_layout.specs.Tree.{count};
     ghost use Rattle.std.proofs.Common.{ap};
 
     ghost has_tree = { λ list trees. IsNumbersTree T.code (numbers_of T.code list) trees };

@@ -21,7 +21,7 @@ impl<'a, S: ReaderSegments + 'a> traits::Owned<'a, S> for Owned {
 impl<'a, S: ReaderSegments> SetterInput<Owned> for Reader<'a, S> {
     ghost use Rattle.capnp_wire.specs.ListViews.{struct_list_of};
     ghost use Rattle.capnp_wire.specs.ListValues.{IsListTree, StopsInList, pointers_in, structs_of};
-    ghost use Rattle.capnp_wire.specs.Tree.{count};
+    ghost use Rattle.capnp_layout.specs.Tree.{count};
     ghost use Rattle.std.proofs.Common.{ap};
 
     ghost has_tree = { λ list trees.

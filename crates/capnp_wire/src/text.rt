@@ -18,7 +18,7 @@ impl<'a, S: ReaderSegments> traits::Owned<'a, S> for Owned {
 // The value is a list of bytes with a zero byte at its end.
 impl<'a> SetterInput<Owned> for Reader<'a> {
     ghost use Rattle.capnp_wire.specs.Values.{IsTextTree, LongText};
-    ghost use Rattle.capnp_wire.specs.Tree.{count};
+    ghost use Rattle.capnp_layout.specs.Tree.{count};
     ghost use Rattle.std.proofs.Common.{ap};
 
     ghost has_tree = { λ text trees. IsTextTree text.bytes.now trees };
@@ -43,7 +43,7 @@ impl<'a> SetterInput<Owned> for Reader<'a> {
 // A string is set as its bytes and a zero byte.
 impl<'a> SetterInput<Owned> for &'a str {
     ghost use Rattle.capnp_wire.specs.Values.{IsTextTree, LongText};
-    ghost use Rattle.capnp_wire.specs.Tree.{count};
+    ghost use Rattle.capnp_layout.specs.Tree.{count};
     ghost use Rattle.std.proofs.Common.{ap};
 
     ghost has_tree = { λ text trees. IsTextTree text.now trees };

@@ -5,9 +5,9 @@ ghost use Rattle.capnp_build.specs.Built.{state_of, ForRoot, IsRootKind, size_in
 ghost use Rattle.capnp_build.specs.Placed.{HasRootAlone, IsZeroAt, KeepsRooms};
 ghost use Rattle.capnp_build.specs.RootKind.{ShowsRoot, HoldsForm};
 ghost use Rattle.capnp_build.specs.Output.{CanBeWritten};
-ghost use Rattle.capnp_wire.specs.Tree.{Form, Trees, none, tree, count};
-ghost use Rattle.capnp_wire.specs.Reached.{At, root};
-ghost use Rattle.capnp_wire.specs.Layout.{pointer};
+ghost use Rattle.capnp_layout.specs.Tree.{Form, Trees, none, tree, count};
+ghost use Rattle.capnp_layout.specs.Reached.{At, root};
+ghost use Rattle.capnp_layout.specs.Layout.{pointer};
 ghost use Rattle.capnp_wire.specs.Readers.{pointer_of, unlimited_root};
 ghost use Rattle.capnp_build.specs.Outcomes.{ClearsRoot, EnsuresRoot, LacksFirst, NotExhaustedWhileAvailable, IsNewMessage, GivesBack};
 ghost use Rattle.capnp_build.specs.Blocks.{LeavesNull};

@@ -1,7 +1,7 @@
 //! A field in front of the other fields of a row.
 ghost use Rattle.std.specs.Prelude.{◌≡◌};
-ghost use Rattle.capnp_wire.specs.Tree.{Form, Trees, none, tree, total_words};
-ghost use Rattle.capnp_wire.specs.Layout.{output};
+ghost use Rattle.capnp_layout.specs.Tree.{Form, Trees, none, tree, total_words};
+ghost use Rattle.capnp_layout.specs.Layout.{output};
 ghost use Rattle.capnp_values.specs.Fields.{IsBounded, IsPart, is_left_out, extent_of};
 
 use crate::fields::{Extent, Fields};

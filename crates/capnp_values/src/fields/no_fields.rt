@@ -9,7 +9,7 @@ use capnp_frame::Result;
 pub struct NoFields;
 
 impl Fields for NoFields {
-    ghost use Rattle.capnp_wire.specs.Tree.{none};
+    ghost use Rattle.capnp_layout.specs.Tree.{none};
     ghost use Rattle.capnp_values.specs.FieldLaws.{settled_none};
 
     ghost size = { 0 };

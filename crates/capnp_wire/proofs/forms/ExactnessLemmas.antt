@@ -2,19 +2,19 @@
 use Rattle.std.proofs.lemmas.List.{nil_from_length, append-nil}
 use Rattle.std.proofs.Common.{◌≡◌, ℕ, ◌+◌, ◌-◌, ◌^◌, ◌<◌, List, [], ◌∷◌, ◌++◌, length, Some, slice_get, refl, sym, ◌∙◌, ap, subst, arith, length-append}
 use Rattle.std.specs.Prelude.{All}
-use Rattle.capnp_wire.specs.Tree.{Form, Trees, none, tree, count, object_size, total_words}
-use Rattle.capnp_wire.specs.Trim.{trim, trim_form, trim_children}
-use Rattle.capnp_wire.specs.Reached.{At, Root}
-use Rattle.capnp_wire.specs.Layout.{pointer, slots, body, layout, canon, AllHaveRoom, Reaches, AllReach, placed, Trimmed}
+use Rattle.capnp_layout.specs.Tree.{Form, Trees, none, tree, count, object_size, total_words}
+use Rattle.capnp_layout.specs.Trim.{trim, trim_form, trim_children}
+use Rattle.capnp_layout.specs.Reached.{At, Root}
+use Rattle.capnp_layout.specs.Layout.{pointer, slots, body, layout, canon, AllHaveRoom, Reaches, AllReach, placed, Trimmed}
 use Rattle.capnp_wire.specs.Canonical.{IsInPreorder, IsCanon, TestsAreExact}
-use Rattle.capnp_wire.proofs.objects.ObjectLemmas.{one_tree}
-use Rattle.capnp_wire.proofs.words.SubsliceLemmas.{Holds, holds_right, holds_all}
-use Rattle.capnp_wire.proofs.layouts.SizeLemmas.{length-body}
+use Rattle.capnp_layout.proofs.objects.ObjectLemmas.{one_tree}
+use Rattle.capnp_layout.proofs.words.SubsliceLemmas.{Holds, holds_right, holds_all}
+use Rattle.capnp_layout.proofs.layouts.SizeLemmas.{length-body}
 use Rattle.capnp_wire.proofs.layouts.ExactLemmas.{holds_join, holds_one}
-use Rattle.capnp_wire.proofs.trees.TrimLemmas.{trim_trimmed, trimmed_trim, room_trim}
+use Rattle.capnp_layout.proofs.trees.TrimLemmas.{trim_trimmed, trimmed_trim, room_trim}
 use Rattle.capnp_wire.proofs.layouts.LayoutLemmas.{root_of_reaching}
 use Rattle.capnp_wire.proofs.walks.WalkedLemmas.{laid_of_preorder, preorder_of_laid}
-use Rattle.capnp_wire.proofs.trees.RoomLemmas.{read_has_room, one_segment}
+use Rattle.capnp_layout.proofs.trees.RoomLemmas.{read_has_room, one_segment}
 
 holds_whole : (segment words : List ℕ) → Holds segment 0 words → length segment ≡ length words → segment ≡ words
 holds_whole segment words h long =

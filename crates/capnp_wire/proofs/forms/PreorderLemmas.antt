@@ -1,18 +1,19 @@
 -- The tests of a walk hold exactly where the words are those of a layout.
-use Rattle.std.proofs.Common.{◌≡◌, ℕ, ◌+◌, ◌-◌, ◌*◌, ◌/◌, ◌^◌, ◌<◌, ◌≤◌, List, [], ◌∷◌, length, Some, slice_get, refl, sym, ◌∙◌, ap, subst, arith}
+use Rattle.std.proofs.Common.{◌≡◌, ℕ, ◌+◌, ◌-◌, ◌*◌, ◌^◌, ◌<◌, ◌≤◌, List, [], ◌∷◌, length, Some, slice_get, refl, sym, ◌∙◌, ap, subst, arith}
 use Rattle.std.proofs.lemmas.List.{nil_from_length}
-use Rattle.capnp_wire.specs.Pointer.{pointer_kind, offset}
-use Rattle.capnp_wire.specs.Layout.{struct_pointer, list_pointer, minus_one, pointer, HasRoom, Reaches}
-use Rattle.capnp_wire.specs.Tree.{Form, null, struct, numbers, pointers, structs, Trees, tree}
-use Rattle.capnp_wire.specs.declared.layout.place.Place.{Place}
-use Rattle.capnp_wire.specs.Object.{Shape, local, far, double_far, ShapeStands, PointsTo, is_null, is_object}
-use Rattle.capnp_wire.specs.Reached.{At, at}
+use Rattle.capnp_layout.specs.Pointer.{pointer_kind, offset}
+use Rattle.capnp_layout.specs.Layout.{struct_pointer, list_pointer, minus_one, pointer, HasRoom, Reaches}
+use Rattle.capnp_layout.specs.Tree.{Form, null, struct, numbers, pointers, structs, Trees, tree}
+use Rattle.capnp_layout.specs.declared.place.Place.{Place}
+use Rattle.capnp_layout.specs.Object.{Shape, ShapeStands, PointsTo, is_null, is_object}
+use Rattle.capnp_layout.specs.Reached.{At, at}
 use Rattle.capnp_wire.specs.Canonical.{Padded}
-use Rattle.capnp_wire.proofs.words.SubsliceLemmas.{Holds, holds_none}
-use Rattle.capnp_wire.proofs.pointers.TagLemmas.{struct_fields, list_fields}
-use Rattle.capnp_wire.proofs.objects.ObjectLemmas.{null_lands_nowhere}
-use Rattle.capnp_wire.proofs.layouts.LayoutLemmas.{if_positive}
+use Rattle.capnp_layout.proofs.words.SubsliceLemmas.{Holds, holds_none}
+use Rattle.capnp_layout.proofs.pointers.TagLemmas.{struct_fields, list_fields}
+use Rattle.capnp_layout.proofs.objects.ObjectLemmas.{null_lands_nowhere}
+use Rattle.capnp_layout.proofs.layouts.LayoutLemmas.{if_positive}
 use Rattle.capnp_wire.proofs.layouts.ExactLemmas.{Exactly, exactly}
+use Rattle.capnp_layout.proofs.forms.PreorderLemmas.{local_object}
 
 -- the first of some trees at places, and the others
 pub record Parts (m : List (List ℕ)) (place : Place) (others : List Place) (form : Form) (children rest : Trees) : Type 0 where
@@ -28,37 +29,6 @@ pub at_parts : (m : List (List ℕ)) (place : Place) (others : List Place) (form
     → Parts m place others form children rest
 at_parts m place others form children rest traversed (at {shape = s} {inside = i} {following = b} object inner after) =
     record { places = s.children; traversed = s.traversed; inside = i; following = b; object = object; inner = inner; after = after }
-
--- a pointer within its segment that is not null, and where its object starts
-pub record Local (segment : List ℕ) (word tag : ℕ) (form : Form) (children : List Place) : Type 0 where
-  pub start : ℕ
-  pub shape : Shape
-  pub target : start + 2 ^ 30 * (offset tag / 2 ^ 29) ≡ word + 1 + offset tag
-  pub stands : ShapeStands segment (record { segment = 0; word = start }) tag shape
-  pub form_is : shape.form ≡ form
-  pub children_is : shape.children ≡ children
-
-pub local_object : (segment : List ℕ) (word tag : ℕ) (shape : Shape) → slice_get segment word ≡ Some tag → 0 < tag → pointer_kind tag < 2
-    → PointsTo (segment ∷ []) (record { segment = 0; word = word }) shape
-    → Local segment word tag shape.form shape.children
-local_object segment word tag shape here positive is_local (is_null e) =
-    let same : tag ≡ 0 = cc in absurd (omega arith)
-local_object segment word tag shape here positive is_local (is_object {words = words} {start = start} {shape = inner} (local {word = w} e p k) w_is begins stands) =
-    let same : w ≡ tag = cc in
-    let seg : words ≡ segment = cc in
-    record {
-      start = start;
-      shape = inner;
-      target = subst (λ (x : ℕ). start + 2 ^ 30 * (offset x / 2 ^ 29) ≡ word + 1 + offset x) same begins;
-      stands = subst (λ (x : ℕ). ShapeStands segment (record { segment = 0; word = start }) x inner) same (subst (λ (l : List ℕ). ShapeStands l
-          (record { segment = 0; word = start }) w inner) seg stands);
-      form_is = refl;
-      children_is = refl;
-    }
-local_object segment word tag shape here positive is_local (is_object (far {word = w} e f p k) w_is begins stands) =
-    let same : w ≡ tag = cc in absurd (omega (arith, f.far))
-local_object segment word tag shape here positive is_local (is_object (double_far {word = w} e f p g q r k) w_is begins stands) =
-    let same : w ≡ tag = cc in absurd (omega (arith, f.far))
 
 null_object : (segment : List ℕ) (word : ℕ) (shape : Shape) → slice_get segment word ≡ Some 0 → PointsTo (segment ∷ []) (record { segment = 0; word = word }) shape → shape.children ≡ []
 null_object segment word shape here (is_null e) = refl

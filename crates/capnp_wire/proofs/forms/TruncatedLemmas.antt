@@ -2,15 +2,16 @@
 use Rattle.std.proofs.Math.Nat.{mul-le-mul_left}
 use Rattle.std.proofs.lemmas.List.{get_or-take, get_or-drop, get_or_append_left, get_or-append-add}
 use Rattle.std.proofs.lemmas.Option.{slice_get_within}
-use Rattle.std.proofs.Common.{◌≡◌, ◌≢◌, inl, inr, ℕ, zero, suc, ◌+◌, ◌-◌, ◌*◌, ◌<◌, ◌≤◌, List, [], ◌∷◌, ◌++◌, length, take, drop, Some, None, slice_get, slice_index_or, refl, sym, ◌∙◌, ap}
-use Rattle.std.proofs.Common.{subst, arith, length-take, length-drop}
+use Rattle.std.proofs.Common.{◌≡◌, ◌≢◌, inl, inr, ℕ, zero, suc, ◌+◌, ◌-◌, ◌*◌, ◌<◌, ◌≤◌, List, [], ◌∷◌, ◌++◌, length, take, Some, None, slice_get, slice_index_or, refl, sym, ◌∙◌, ap}
+use Rattle.std.proofs.Common.{subst, arith}
 use Rattle.std.specs.Prelude.{◌↔◌}
-use Rattle.capnp_wire.specs.Pointer.{words_from}
-use Rattle.capnp_wire.specs.Object.{places, row_places, rows_from}
+use Rattle.capnp_layout.specs.Pointer.{words_from}
+use Rattle.capnp_layout.specs.Object.{places, row_places, rows_from}
 use Rattle.capnp_wire.specs.Canonical.{EndsFull}
 use Rattle.capnp_wire.specs.Tested.{NeedData, NeedPointers, links_at}
-use Rattle.capnp_wire.specs.declared.layout.place.Place.{Place}
-use Rattle.capnp_wire.proofs.trees.RoomLemmas.{length-rows_from}
+use Rattle.capnp_layout.specs.declared.place.Place.{Place}
+use Rattle.capnp_layout.proofs.trees.RoomLemmas.{length-rows_from}
+use Rattle.capnp_layout.proofs.forms.TruncatedLemmas.{drop_first, length-subslice}
 
 pub or_zero : (words : List ℕ) (i : ℕ) → slice_get words i ≡ None → slice_index_or words i 0 ≡ 0
 or_zero [] i e = refl
@@ -38,9 +39,6 @@ ends_full_last words k long = (
 
 pub in_subslice : (words : List ℕ) (s n i : ℕ) → i < n → slice_index_or (words_from words s n) i 0 ≡ slice_index_or words (s + i) 0
 in_subslice words s n i within = rw (get_or-take, get_or-drop) refl
-
-pub length-subslice : (words : List ℕ) (s n : ℕ) → s + n ≤ length words → length (words_from words s n) ≡ n
-length-subslice words s n room = omega (arith, length-take n (drop s words), length-drop s words)
 
 pub stretch_ends_full : (words : List ℕ) (s n last : ℕ) → s + n ≤ length words → 0 < n → last + 1 ≡ s + n
     → EndsFull (words_from words s n) ↔ (slice_index_or words last 0 ≢ 0)
@@ -88,13 +86,6 @@ need_data words s d p n first room some at = (
 links-append : (words : List ℕ) (xs ys : List Place) → links_at words (xs ++ ys) ≡ links_at words xs ++ links_at words ys
 links-append words [] ys = refl
 links-append words (x ∷ xs) ys = ap (λ (l : List ℕ). slice_index_or words x.word 0 ∷ l) (links-append words xs ys)
-
-pub drop_first : (words : List ℕ) (s : ℕ) → s < length words → drop s words ≡ slice_index_or words s 0 ∷ drop (s + 1) words
-drop_first [] s within = absurd (omega arith)
-drop_first (w ∷ words) zero within = refl
-drop_first (w ∷ words) (suc s) within =
-    let next : suc (s + 1) ≡ suc s + 1 = omega arith in
-    drop_first words s (omega arith) ∙ ap (λ (k : ℕ). slice_index_or words s 0 ∷ drop k (w ∷ words)) next
 
 pub links_places : (words : List ℕ) (number s n : ℕ) → s + n ≤ length words → links_at words (places number s n) ≡ words_from words s n
 links_places words number s zero room = refl

@@ -2,14 +2,14 @@
 use Rattle.std.proofs.lemmas.List.{take-append-drop, drop-drop as drop_drop_std}
 use Rattle.std.proofs.Math.Seq.{take-append_seam as take_seam, drop-append_seam as drop_seam}
 use Rattle.std.proofs.lemmas.List.Elements.{All-head, All-tail}
-use Rattle.capnp_wire.proofs.pointers.SlotLemmas.{AllOf}
-use Rattle.capnp_wire.proofs.layouts.SizeLemmas.{length-woven}
+use Rattle.capnp_layout.proofs.pointers.SlotLemmas.{AllOf}
+use Rattle.capnp_layout.proofs.layouts.SizeLemmas.{length-woven}
 use Rattle.std.proofs.Common.{◌≡◌, ℕ, zero, suc, ◌+◌, ◌*◌, ◌≤◌, List, [], ◌∷◌, ◌++◌, length, take, drop, refl, sym, ◌∙◌, ap}
 use Rattle.std.proofs.Common.{arith, append_assoc, length-append, length-take, length-drop}
-use Rattle.capnp_wire.specs.Layout.{run, row_run, woven}
-use Rattle.capnp_wire.specs.Block.{put, put_rows, moved}
-use Rattle.capnp_wire.specs.Rows.{row_slots}
-use Rattle.capnp_wire.proofs.layouts.BlockLemmas.{put_both, length-put, put_none}
+use Rattle.capnp_layout.specs.Layout.{run, row_run, woven}
+use Rattle.capnp_layout.specs.Block.{put, put_rows, moved}
+use Rattle.capnp_layout.specs.Rows.{row_slots}
+use Rattle.capnp_layout.proofs.layouts.BlockLemmas.{put_both, length-put, put_none}
 
 -- runs of slots
 pub moved_run : (base start n : ℕ) → moved base (run start n) ≡ run (base + start) n

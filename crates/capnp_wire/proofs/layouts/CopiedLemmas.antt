@@ -1,33 +1,31 @@
 -- What a pointer leads to that is copied.
-use Rattle.std.proofs.Common.{◌≡◌, ℕ, zero, suc, ◌+◌, ◌-◌, ◌*◌, ◌≤◌, Bool, true, false, if◌then◌else◌, List, [], ◌∷◌, ◌++◌, ◌<◌, ◌^◌, length, Some, slice_get, refl, sym, ◌∙◌, ap, subst, arith, length-append}
+use Rattle.std.proofs.Common.{◌≡◌, ℕ, zero, suc, ◌+◌, ◌-◌, ◌*◌, ◌≤◌, Bool, true, false, List, [], ◌∷◌, ◌++◌, ◌<◌, ◌^◌, length, Some, slice_get, refl, sym, ◌∙◌, ap, subst, arith, length-append}
 use Rattle.std.proofs.lemmas.List.{append-nil}
-use Rattle.capnp_frame.specs.declared.error.ErrorKind.{ErrorKind}
-use Rattle.capnp_wire.specs.Pointer.{words_of, words_from}
-use Rattle.capnp_wire.specs.Tree.{null, Trees, none, tree, depth, is_null, total_words}
-use Rattle.capnp_wire.specs.Object.{nothing, places, word_at, is_null as null_there}
-use Rattle.capnp_wire.specs.Landing.{IsObject, words_in}
-use Rattle.capnp_wire.specs.Reached.{At, nowhere, at}
-use Rattle.capnp_wire.specs.Faults.{Fault}
-use Rattle.capnp_wire.specs.Layout.{body, run, pointer_to, output}
-use Rattle.capnp_wire.specs.Block.{put, fill}
-use Rattle.capnp_wire.specs.Rows.{row_size, row_count, first_row, kept_places, kept_in, slots_of}
-use Rattle.capnp_wire.specs.Copy.{CanCopy, IsCopied, Copies, IsCopyable, Begins, BeginsRun, IsNarrower, output_body_of, pointer_of_body, put_own}
-use Rattle.capnp_wire.specs.declared.layout.place.Place.{Place}
-use Rattle.capnp_wire.specs.Local.{local_struct_of}
-use Rattle.capnp_wire.specs.declared.layout.fast_path.LocalStruct.{LocalStruct}
-use Rattle.capnp_wire.specs.declared.layout.pointer.StructSize.{StructSize}
-use Rattle.capnp_wire.specs.declared.layout.object.Body.{Body}
-use Rattle.capnp_wire.specs.declared.layout.object.Body.TheVariants.{Struct, Numbers, Pointers, Structs}
-use Rattle.capnp_wire.specs.declared.layout.object.Object.{Object as ReadObject}
-use Rattle.capnp_wire.proofs.words.WordLemmas.{length-words_of}
-use Rattle.capnp_wire.proofs.objects.FieldLemmas.{length-places}
-use Rattle.capnp_wire.proofs.layouts.BlockLemmas.{put_none}
-use Rattle.capnp_wire.proofs.objects.ObjectLemmas.{one_tree}
-use Rattle.capnp_wire.proofs.pointers.FaultLemmas.{invalid_pointer_has_no_object}
+use Rattle.capnp_layout.specs.Pointer.{words_of, words_from}
+use Rattle.capnp_layout.specs.Tree.{null, Trees, none, tree, total_words}
+use Rattle.capnp_layout.specs.Object.{nothing, places, word_at, is_null as null_there}
+use Rattle.capnp_layout.specs.Landing.{IsObject, words_in}
+use Rattle.capnp_layout.specs.Reached.{At}
+use Rattle.capnp_layout.specs.Layout.{body, run, pointer_to, output}
+use Rattle.capnp_layout.specs.Block.{put, fill}
+use Rattle.capnp_layout.specs.Rows.{row_size, row_count, first_row, kept_places, kept_in, slots_of}
+use Rattle.capnp_wire.specs.Copy.{CanCopy, IsCopied, Copies, IsCopyable, Begins, BeginsRun, put_own}
+use Rattle.capnp_layout.specs.Output.{IsNarrower, output_body_of, pointer_of_body}
+use Rattle.capnp_layout.specs.declared.place.Place.{Place}
+use Rattle.capnp_layout.specs.Local.{local_struct_of}
+use Rattle.capnp_layout.specs.declared.fast_path.LocalStruct.{LocalStruct}
+use Rattle.capnp_layout.specs.declared.pointer.StructSize.{StructSize}
+use Rattle.capnp_layout.specs.declared.object.Body.{Body}
+use Rattle.capnp_layout.specs.declared.object.Body.TheVariants.{Struct, Numbers, Pointers, Structs}
+use Rattle.capnp_layout.specs.declared.object.Object.{Object as ReadObject}
+use Rattle.capnp_layout.proofs.words.WordLemmas.{length-words_of}
+use Rattle.capnp_layout.proofs.objects.FieldLemmas.{length-places}
+use Rattle.capnp_layout.proofs.layouts.BlockLemmas.{put_none}
+use Rattle.capnp_layout.proofs.objects.ObjectLemmas.{one_tree}
 use Rattle.capnp_wire.proofs.layouts.CopyLemmas.{none_at}
 use Rattle.capnp_wire.proofs.layouts.OpenLemmas.{Opened, under}
 use Rattle.capnp_wire.proofs.layouts.OpenedLemmas.{opened}
-use Rattle.capnp_wire.proofs.pointers.PointerSlotLemmas.{kept_children}
+use Rattle.capnp_layout.proofs.pointers.PointerSlotLemmas.{kept_children}
 
 -- the object that is read
 pub opened_here : {m : List (List ℕ)} {place : Place} {object : ReadObject} {copied : Body} {nesting : ℕ} {c : Bool} {next room : ℕ} (can : CanCopy m (place ∷ []) nesting c next room)
@@ -85,13 +83,6 @@ null_copied m place c trees traversed word stand =
     let children_is : u.children ≡ none = none_at m u.children u.inside u.stand in
     let whole : trees ≡ tree null none none = u.whole ∙ ap (λ (t : Trees). tree null t none) children_is in
     ap (output c) whole ∙ null_output c
-
-pub fault_no_tree : (m : List (List ℕ)) (place : Place) (nesting : ℕ) (kind : ErrorKind) (trees : Trees) (traversed : ℕ) → Fault m place nesting kind → At m (place ∷ []) trees traversed
-    → depth trees ≤ nesting → ⊥
-fault_no_tree m place nesting kind trees traversed fault (at {shape = s} {children = h} object inner nowhere) shallow =
-    invalid_pointer_has_no_object m place nesting kind s fault object (λ some.
-    let plain : (if is_null s.form then 0 else depth h + 1) ≡ depth h + 1 = ap (λ (b : Bool). if b then 0 else depth h + 1) some in
-    omega arith)
 
 -- a null pointer is copied
 pub null_is_copied : {m : List (List ℕ)} {place : Place} {gap next : ℕ} {block : List ℕ} (c : Bool) → word_at m place ≡ Some 0

@@ -1,16 +1,16 @@
 -- Trees that are copied one after the other.
 use Rattle.std.proofs.Common.{◌≡◌, ◌≢◌, ℕ, ◌+◌, ◌-◌, ◌<◌, ◌≤◌, Bool, true, false, List, [], ◌∷◌, length, Some, slice_get, refl, sym, ◌∙◌, ap, subst, arith}
-use Rattle.capnp_wire.specs.Tree.{Form, Trees, none, tree, count, depth, object_size, total_words}
-use Rattle.capnp_wire.specs.Trim.{trim, trim_form, trim_children}
-use Rattle.capnp_wire.specs.Reached.{At, nowhere, at}
-use Rattle.capnp_wire.specs.Layout.{pointer, body, pointer_to, output, AllHaveRoom}
-use Rattle.capnp_wire.specs.Block.{put, fill}
-use Rattle.capnp_wire.specs.Rows.{places_in, slots_in, end_of}
+use Rattle.capnp_layout.specs.Tree.{Form, Trees, none, tree, count, depth, object_size, total_words}
+use Rattle.capnp_layout.specs.Trim.{trim, trim_form, trim_children}
+use Rattle.capnp_layout.specs.Reached.{At, nowhere, at}
+use Rattle.capnp_layout.specs.Layout.{pointer, body, pointer_to, output, AllHaveRoom}
+use Rattle.capnp_layout.specs.Block.{put, fill}
+use Rattle.capnp_layout.specs.Rows.{places_in, slots_in, end_of}
 use Rattle.capnp_wire.specs.Copy.{CanCopy, Copies, CopiesAll, CanCopyRows, ArePaired, TakesPair}
 use Rattle.capnp_wire.specs.declared.layout.copy_cursor.CopyCursor.{CopyCursor}
-use Rattle.capnp_wire.specs.declared.layout.place.Place.{Place}
+use Rattle.capnp_layout.specs.declared.place.Place.{Place}
 use Rattle.capnp_wire.specs.declared.layout.copy.Copied.{Copied}
-use Rattle.capnp_wire.proofs.objects.ObjectLemmas.{one_tree}
+use Rattle.capnp_layout.proofs.objects.ObjectLemmas.{one_tree}
 use Rattle.capnp_wire.proofs.walks.ProgressLemmas.{some_left}
 
 -- the first of some trees, and those after it

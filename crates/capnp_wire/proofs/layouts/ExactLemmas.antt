@@ -3,19 +3,19 @@ use Rattle.std.proofs.Common.{◌≡◌, ℕ, zero, suc, ◌+◌, ◌*◌, ◌^�
 use Rattle.std.proofs.Common.{length-drop, append_assoc}
 use Rattle.std.proofs.lemmas.List.{take-append-drop, drop_at}
 use Rattle.std.proofs.lemmas.Option.{slice_get_within}
-use Rattle.capnp_wire.specs.Pointer.{digits, number_of, words_from, pointer_kind, offset, data_words, pointer_words, code, list_count}
-use Rattle.capnp_wire.specs.Layout.{struct_pointer, run, row_run, slots, woven, own, placed}
-use Rattle.capnp_wire.specs.Element.{width, words_for}
-use Rattle.capnp_wire.specs.Tree.{Form, struct, numbers, pointers, structs}
-use Rattle.capnp_wire.specs.declared.layout.place.Place.{Place}
-use Rattle.capnp_wire.specs.Object.{Shape, ShapeStands, places, row_places, rows_from, a_struct, some_numbers, some_pointers, some_structs}
+use Rattle.capnp_layout.specs.Pointer.{digits, number_of, words_from, pointer_kind, offset, data_words, pointer_words, code, list_count}
+use Rattle.capnp_layout.specs.Layout.{struct_pointer, run, row_run, slots, woven, own, placed}
+use Rattle.capnp_layout.specs.Element.{width, words_for}
+use Rattle.capnp_layout.specs.Tree.{Form, struct, numbers, pointers, structs}
+use Rattle.capnp_layout.specs.declared.place.Place.{Place}
+use Rattle.capnp_layout.specs.Object.{Shape, ShapeStands, places, row_places, rows_from, a_struct, some_numbers, some_pointers, some_structs}
 use Rattle.capnp_wire.specs.Canonical.{Padded}
-use Rattle.capnp_wire.proofs.words.SubsliceLemmas.{Holds, holds_none, holds_same}
-use Rattle.capnp_wire.proofs.words.DigitLemmas.{length-digits}
-use Rattle.capnp_wire.proofs.layouts.SizeLemmas.{length-run}
-use Rattle.capnp_wire.proofs.pointers.SlotLemmas.{Linked, placed-run, placed-row_run}
-use Rattle.capnp_wire.proofs.objects.FieldLemmas.{length-places}
-use Rattle.capnp_wire.proofs.trees.RoomLemmas.{length-row_places, length-rows_from}
+use Rattle.capnp_layout.proofs.words.SubsliceLemmas.{Holds, holds_none, holds_same}
+use Rattle.capnp_layout.proofs.words.DigitLemmas.{length-digits}
+use Rattle.capnp_layout.proofs.layouts.SizeLemmas.{length-run}
+use Rattle.capnp_layout.proofs.pointers.SlotLemmas.{Linked, placed-run, placed-row_run}
+use Rattle.capnp_layout.proofs.objects.FieldLemmas.{length-places}
+use Rattle.capnp_layout.proofs.trees.RoomLemmas.{length-row_places, length-rows_from}
 
 holds_rest : (segment : List ℕ) (start : ℕ) (words : List ℕ) (h : Holds segment start words) → drop (start + length words) segment ≡ h.rest
 holds_rest segment start words h =

@@ -1,20 +1,21 @@
 -- Lists that are copied: nothing is below numbers, and pointers have no other words.
 use Rattle.std.proofs.Common.{◌≡◌, ℕ, ◌+◌, ◌-◌, Bool, List, [], ◌∷◌, ◌<◌, ◌^◌, length, refl, sym, subst, arith}
-use Rattle.capnp_wire.specs.Pointer.{words_of}
-use Rattle.capnp_wire.specs.Element.{code_of, width, words_for}
-use Rattle.capnp_wire.specs.Object.{places}
-use Rattle.capnp_wire.specs.Landing.{IsObject}
-use Rattle.capnp_wire.specs.Layout.{run}
-use Rattle.capnp_wire.specs.Rows.{slots_of}
-use Rattle.capnp_wire.specs.Local.{object_of, pointers_of}
-use Rattle.capnp_wire.specs.Copy.{CanCopy, Copies, Begins, BeginsRun, pointer_of_body, put_own}
-use Rattle.capnp_wire.specs.declared.layout.place.Place.{Place}
-use Rattle.capnp_wire.specs.declared.layout.number_list.NumberList.{NumberList}
-use Rattle.capnp_wire.specs.declared.layout.pointer_run.PointerRun.{PointerRun}
-use Rattle.capnp_wire.specs.declared.layout.object.Body.TheVariants.{Numbers, Pointers}
+use Rattle.capnp_layout.specs.Pointer.{words_of}
+use Rattle.capnp_layout.specs.Element.{code_of, width, words_for}
+use Rattle.capnp_layout.specs.Object.{places}
+use Rattle.capnp_layout.specs.Landing.{IsObject}
+use Rattle.capnp_layout.specs.Layout.{run}
+use Rattle.capnp_layout.specs.Rows.{slots_of}
+use Rattle.capnp_layout.specs.Local.{object_of, pointers_of}
+use Rattle.capnp_wire.specs.Copy.{CanCopy, Copies, Begins, BeginsRun, put_own}
+use Rattle.capnp_layout.specs.Output.{pointer_of_body}
+use Rattle.capnp_layout.specs.declared.place.Place.{Place}
+use Rattle.capnp_layout.specs.declared.number_list.NumberList.{NumberList}
+use Rattle.capnp_layout.specs.declared.pointer_run.PointerRun.{PointerRun}
+use Rattle.capnp_layout.specs.declared.object.Body.TheVariants.{Numbers, Pointers}
 use Rattle.capnp_wire.proofs.layouts.CopyLemmas.{copies_none}
 use Rattle.capnp_wire.proofs.layouts.CopiedLemmas.{opened_here, object_begins, in_run}
-use Rattle.capnp_wire.proofs.pointers.LocalLemmas.{list_output}
+use Rattle.capnp_layout.proofs.pointers.LocalLemmas.{list_output}
 use Rattle.capnp_wire.proofs.layouts.OpenLemmas.{Opened}
 
 pub number_list_opened : {m : List (List ℕ)} {place : Place} {nesting : ℕ} {c : Bool} {next room : ℕ} (list : NumberList) (can : CanCopy m (place ∷ []) nesting c next room)

@@ -1,34 +1,35 @@
 -- An object that is copied: its own words, then what its pointers lead to.
 use Rattle.std.proofs.lemmas.List.{append-nil}
-use Rattle.capnp_wire.proofs.pointers.SlotLemmas.{AllOf}
-use Rattle.capnp_wire.proofs.layouts.SizeLemmas.{length-woven, rows_even}
-use Rattle.capnp_wire.proofs.objects.ObjectLemmas.{one_object}
-use Rattle.capnp_wire.proofs.trees.TrimLemmas.{room_trim}
+use Rattle.capnp_layout.proofs.pointers.SlotLemmas.{AllOf}
+use Rattle.capnp_layout.proofs.layouts.SizeLemmas.{length-woven, rows_even}
+use Rattle.capnp_layout.proofs.objects.ObjectLemmas.{one_object}
+use Rattle.capnp_layout.proofs.trees.TrimLemmas.{room_trim}
 use Rattle.capnp_wire.proofs.layouts.CopyLemmas.{none_output, fill_nothing}
-use Rattle.capnp_wire.proofs.trees.RoomLemmas.{length-rows_from}
+use Rattle.capnp_layout.proofs.trees.RoomLemmas.{length-rows_from}
 use Rattle.std.proofs.Common.{◌≡◌, ℕ, ◌+◌, ◌-◌, ◌*◌, ◌<◌, ◌≤◌, ◌^◌, ◌==◌, if◌then◌else◌, Bool, true, false, List, [], ◌∷◌, ◌++◌, length, take, drop, refl, sym, ◌∙◌, ap, subst}
 use Rattle.std.proofs.Common.{arith, length-take, length-drop}
-use Rattle.capnp_wire.specs.Pointer.{number_of, words_from}
-use Rattle.capnp_wire.specs.Element.{code_of, width, words_for}
-use Rattle.capnp_wire.specs.Tree.{Form, struct, numbers, pointers, structs, Trees, none, tree, count, depth, object_size, total_words}
-use Rattle.capnp_wire.specs.Object.{Shape, PointsTo, places, rows_from, elements as numerals}
-use Rattle.capnp_wire.specs.Landing.{words_in}
-use Rattle.capnp_wire.specs.Reached.{At, nowhere, at}
-use Rattle.capnp_wire.specs.Layout.{pointer, body, own, slots, run, row_run, woven, pointer_to, output, struct_pointer, list_pointer, minus_one, AllHaveRoom}
-use Rattle.capnp_wire.specs.Block.{put, put_rows, fill, moved}
-use Rattle.capnp_wire.specs.Copy.{CanCopy, put_own, list_length, element_count, pointer_of_body}
-use Rattle.capnp_wire.specs.Rows.{row_size, kept_in, slots_of, kept_places, row_slots}
-use Rattle.capnp_wire.specs.declared.layout.place.Place.{Place}
-use Rattle.capnp_wire.specs.declared.layout.element.ElementSize.{ElementSize}
-use Rattle.capnp_wire.specs.declared.layout.pointer.Elements.{Elements}
-use Rattle.capnp_wire.specs.declared.layout.pointer.StructSize.{StructSize}
-use Rattle.capnp_wire.specs.declared.layout.object.Body.{Body}
-use Rattle.capnp_wire.specs.declared.layout.object.Body.TheVariants.{Struct, Numbers, Pointers, Structs}
-use Rattle.capnp_wire.proofs.layouts.BlockLemmas.{put_both, length-put, put_none}
+use Rattle.capnp_layout.specs.Pointer.{number_of, words_from}
+use Rattle.capnp_layout.specs.Element.{code_of, width, words_for}
+use Rattle.capnp_layout.specs.Tree.{Form, struct, numbers, pointers, structs, Trees, none, tree, count, depth, object_size, total_words}
+use Rattle.capnp_layout.specs.Object.{Shape, PointsTo, places, rows_from, elements as numerals}
+use Rattle.capnp_layout.specs.Landing.{words_in}
+use Rattle.capnp_layout.specs.Reached.{At, nowhere, at}
+use Rattle.capnp_layout.specs.Layout.{pointer, body, own, slots, run, row_run, woven, pointer_to, output, struct_pointer, list_pointer, minus_one, AllHaveRoom}
+use Rattle.capnp_layout.specs.Block.{put, put_rows, fill, moved}
+use Rattle.capnp_wire.specs.Copy.{CanCopy, put_own, element_count}
+use Rattle.capnp_layout.specs.Output.{list_length, pointer_of_body}
+use Rattle.capnp_layout.specs.Rows.{row_size, kept_in, slots_of, kept_places, row_slots}
+use Rattle.capnp_layout.specs.declared.place.Place.{Place}
+use Rattle.capnp_layout.specs.declared.element_size.ElementSize.{ElementSize}
+use Rattle.capnp_layout.specs.declared.pointer.Elements.{Elements}
+use Rattle.capnp_layout.specs.declared.pointer.StructSize.{StructSize}
+use Rattle.capnp_layout.specs.declared.object.Body.{Body}
+use Rattle.capnp_layout.specs.declared.object.Body.TheVariants.{Struct, Numbers, Pointers, Structs}
+use Rattle.capnp_layout.proofs.layouts.BlockLemmas.{put_both, length-put, put_none}
 use Rattle.capnp_wire.proofs.layouts.FillLemmas.{fill_is}
-use Rattle.capnp_wire.proofs.words.DigitLemmas.{length-digits}
+use Rattle.capnp_layout.proofs.words.DigitLemmas.{length-digits}
 use Rattle.capnp_wire.proofs.layouts.BlockRowLemmas.{moved_run, moved_rows, put_short, put_rows_woven}
-use Rattle.capnp_wire.proofs.trees.PlacedLemmas.{no_trees}
+use Rattle.capnp_layout.proofs.trees.PlacedLemmas.{no_trees}
 
 -- what an object opens to: the places of the pointers that are copied, and what is still to be put
 -- into the block

@@ -1,29 +1,30 @@
 -- Each object opens to what is copied of it.
-use Rattle.std.proofs.Common.{◌≡◌, ℕ, zero, suc, ◌+◌, ◌-◌, ◌*◌, ◌<◌, ◌≤◌, Bool, true, false, if◌then◌else◌, List, [], ◌∷◌, length, map, take, Some, slice_get, refl, sym, ◌∙◌, ap, subst, arith}
-use Rattle.capnp_wire.specs.Pointer.{words_from}
-use Rattle.capnp_wire.specs.Tree.{Form, struct, structs, Trees, none, tree, count, depth, is_null, total_words}
-use Rattle.capnp_wire.specs.Trim.{first, narrowed, cut_zeros, cut_nulls, least_data, least_pointers, trim}
-use Rattle.capnp_wire.specs.Object.{PointsTo, places, row_places, rows_from}
-use Rattle.capnp_wire.specs.Landing.{shape_of, room_of, words_in}
-use Rattle.capnp_wire.specs.Reached.{At}
-use Rattle.capnp_wire.specs.Layout.{output, AllHaveRoom}
-use Rattle.capnp_wire.specs.Block.{most_used}
-use Rattle.capnp_wire.specs.Copy.{CanCopy, least_size, output_body_of}
-use Rattle.capnp_wire.specs.Rows.{kept_places}
-use Rattle.capnp_wire.specs.declared.layout.place.Place.{Place}
-use Rattle.capnp_wire.specs.declared.layout.pointer.Elements.{Elements}
-use Rattle.capnp_wire.specs.declared.layout.pointer.StructSize.{StructSize}
-use Rattle.capnp_wire.specs.declared.layout.object.Body.{Body}
-use Rattle.capnp_wire.specs.declared.layout.object.Body.TheVariants.{Struct, Numbers, Pointers, Structs}
-use Rattle.capnp_wire.proofs.trees.StandLemmas.{count_at}
-use Rattle.capnp_wire.proofs.trees.TrimLemmas.{count-trim}
-use Rattle.capnp_wire.proofs.words.UsedLemmas.{most_within}
-use Rattle.capnp_wire.proofs.trees.RoomLemmas.{length-rows_from}
+use Rattle.std.proofs.Common.{◌≡◌, ℕ, ◌+◌, ◌-◌, ◌*◌, ◌<◌, ◌≤◌, Bool, true, false, if◌then◌else◌, List, [], ◌∷◌, length, map, take, Some, slice_get, refl, sym, ◌∙◌, ap, subst, arith}
+use Rattle.capnp_layout.specs.Pointer.{words_from}
+use Rattle.capnp_layout.specs.Tree.{Form, struct, structs, Trees, none, tree, count, depth, is_null, total_words}
+use Rattle.capnp_layout.specs.Trim.{first, narrowed, cut_zeros, cut_nulls, least_data, least_pointers, trim}
+use Rattle.capnp_layout.specs.Object.{PointsTo, places, row_places, rows_from}
+use Rattle.capnp_layout.specs.Landing.{shape_of, room_of, words_in}
+use Rattle.capnp_layout.specs.Reached.{At}
+use Rattle.capnp_layout.specs.Layout.{output, AllHaveRoom}
+use Rattle.capnp_layout.specs.Block.{most_used}
+use Rattle.capnp_wire.specs.Copy.{CanCopy}
+use Rattle.capnp_layout.specs.Output.{least_size, output_body_of}
+use Rattle.capnp_layout.specs.Rows.{kept_places}
+use Rattle.capnp_layout.specs.declared.place.Place.{Place}
+use Rattle.capnp_layout.specs.declared.pointer.Elements.{Elements}
+use Rattle.capnp_layout.specs.declared.pointer.StructSize.{StructSize}
+use Rattle.capnp_layout.specs.declared.object.Body.{Body}
+use Rattle.capnp_layout.specs.declared.object.Body.TheVariants.{Struct, Numbers, Pointers, Structs}
+use Rattle.capnp_layout.proofs.trees.StandLemmas.{count_at}
+use Rattle.capnp_layout.proofs.trees.TrimLemmas.{count-trim}
+use Rattle.capnp_layout.proofs.trees.RoomLemmas.{length-rows_from}
 use Rattle.capnp_wire.proofs.layouts.OpenLemmas.{Opened, OpenedRows, under, room_output, struct_opens, pointers_open, numbers_open, rows_open, structs_open}
-use Rattle.capnp_wire.proofs.pointers.PointerSlotLemmas.{kept_all}
-use Rattle.capnp_wire.proofs.trees.KeptLemmas.{front_stands, kept_stand, long_places, used_where_some, least_data_is, rows_take, least_pointers_are, shallow_first, shallow_narrowed, rooms_first}
-use Rattle.capnp_wire.proofs.trees.KeptLemmas.{rooms_narrowed}
-use Rattle.capnp_wire.proofs.trees.FrontLemmas.{trim_first, trim_narrowed, first_cut, count_cut_trim, cut_words}
+use Rattle.capnp_layout.proofs.pointers.PointerSlotLemmas.{kept_all}
+use Rattle.capnp_layout.proofs.trees.KeptLemmas.{front_stands, kept_stand, long_places, used_where_some, least_data_is, rows_take, least_pointers_are, shallow_first, shallow_narrowed, rooms_first}
+use Rattle.capnp_layout.proofs.trees.KeptLemmas.{rooms_narrowed}
+use Rattle.capnp_layout.proofs.trees.FrontLemmas.{trim_first, trim_narrowed, first_cut, count_cut_trim, cut_words}
+use Rattle.capnp_layout.proofs.layouts.OpenedLemmas.{most_within_rows}
 
 under_depth : (nesting : ℕ) (form : Form) (children trees : Trees) → trees ≡ tree form children none → is_null form ≡ false → depth trees ≤ nesting → depth children ≤ nesting - 1
 under_depth nesting form children trees whole some shallow =
@@ -33,10 +34,6 @@ under_depth nesting form children trees whole some shallow =
 
 under_rooms : (form : Form) (children trees : Trees) → trees ≡ tree form children none → AllHaveRoom trees → AllHaveRoom children
 under_rooms form children trees whole rooms = (subst AllHaveRoom whole rooms).1
-
-pub most_within_rows : (words : List ℕ) (start k step n : ℕ) → most_used words start k step n ≤ k
-most_within_rows words start k step zero = omega arith
-most_within_rows words start k step (suc n) = omega (arith, most_within words start k, most_within_rows words (start + step) k step n)
 
 pub struct_plain : (m : List (List ℕ)) (words : List ℕ) (start : Place) (size : StructSize) (nesting next room : ℕ) (trees children : Trees) (inside : ℕ)
     → trees ≡ tree (struct (words_from words start.word size.data_words)) children none → At m (places start.segment (start.word + size.data_words) size.pointers) children inside

@@ -1,34 +1,34 @@
 -- Structs that are read, as values.
-use Rattle.std.proofs.Common.{◌≡◌, ◌≢◌, ℕ, zero, suc, [], ◌+◌, ◌<◌, ◌≤◌, ◌^◌, Bool, true, false, List, length, drop, Option, Result, Ok, Err, MatchResult, inl, inr, refl, sym, ◌∙◌, ap}
-use Rattle.std.proofs.Common.{subst, arith, Some, slice_get, length-take}
+use Rattle.std.proofs.Common.{◌≡◌, ◌≢◌, ℕ, zero, suc, [], ◌+◌, ◌<◌, ◌≤◌, ◌^◌, Bool, true, false, List, length, Option, Result, Ok, Err, MatchResult, inl, inr, refl, sym, ◌∙◌, ap}
+use Rattle.std.proofs.Common.{subst, arith, Some, slice_get}
 use Rattle.std.specs.Prelude.{All}
 use Rattle.capnp_frame.specs.declared.error.Error.{Error}
-use Rattle.capnp_wire.specs.Pointer.{words_from}
-use Rattle.capnp_wire.specs.Tree.{struct, Trees, none, tree, count, object_size, total_words}
-use Rattle.capnp_wire.specs.Object.{places}
-use Rattle.capnp_wire.specs.Landing.{words_in}
-use Rattle.capnp_wire.specs.Reached.{At}
+use Rattle.capnp_layout.specs.Pointer.{words_from}
+use Rattle.capnp_layout.specs.Tree.{struct, Trees, none, tree, object_size, total_words}
+use Rattle.capnp_layout.specs.Object.{places}
+use Rattle.capnp_layout.specs.Landing.{words_in}
+use Rattle.capnp_layout.specs.Reached.{At}
 use Rattle.capnp_wire.specs.Traversed.{WalkedAll}
-use Rattle.capnp_wire.specs.Layout.{output, HasRoom, AllHaveRoom}
-use Rattle.capnp_wire.specs.Block.{fill}
-use Rattle.capnp_wire.specs.Copy.{output_body_of, pointer_of_body, put_own, IsCopied, CopiesAll}
+use Rattle.capnp_layout.specs.Layout.{output, AllHaveRoom}
+use Rattle.capnp_layout.specs.Block.{fill}
+use Rattle.capnp_layout.specs.Output.{output_body_of, pointer_of_body}
+use Rattle.capnp_wire.specs.Copy.{put_own, IsCopied, CopiesAll}
 use Rattle.capnp_wire.specs.declared.layout.copy.Copied.{Copied}
-use Rattle.capnp_wire.specs.Rows.{row_size, kept_in, slots_of}
+use Rattle.capnp_layout.specs.Rows.{row_size, kept_in, slots_of}
 use Rattle.capnp_wire.specs.Values.{HasWords, LacksWords, HasRoomAt, IsTreeOf, StopsInside, HoldsPointers, fields_at, too_large}
-use Rattle.capnp_wire.specs.declared.layout.place.Place.{Place}
-use Rattle.capnp_wire.specs.declared.layout.pointer.StructSize.{StructSize}
-use Rattle.capnp_wire.specs.declared.layout.object.Body.{Body}
-use Rattle.capnp_wire.specs.declared.layout.object.Body.TheVariants.{Struct}
-use Rattle.capnp_wire.proofs.pointers.PointerSlotLemmas.{kept_nothing}
-use Rattle.capnp_wire.proofs.objects.FieldLemmas.{length-places}
-use Rattle.capnp_wire.proofs.objects.ObjectLemmas.{one_tree}
-use Rattle.capnp_wire.proofs.trees.StandLemmas.{count_at}
-use Rattle.capnp_wire.proofs.trees.RoomLemmas.{words_below}
-use Rattle.capnp_wire.proofs.trees.TrimLemmas.{room_trim}
-use Rattle.capnp_wire.proofs.objects.OwnWordLemmas.{own_words_are}
-use Rattle.capnp_wire.proofs.trees.StoodLemmas.{struct_total}
+use Rattle.capnp_layout.specs.declared.place.Place.{Place}
+use Rattle.capnp_layout.specs.declared.pointer.StructSize.{StructSize}
+use Rattle.capnp_layout.specs.declared.object.Body.{Body}
+use Rattle.capnp_layout.specs.declared.object.Body.TheVariants.{Struct}
+use Rattle.capnp_layout.proofs.pointers.PointerSlotLemmas.{kept_nothing}
+use Rattle.capnp_layout.proofs.objects.ObjectLemmas.{one_tree}
+use Rattle.capnp_layout.proofs.trees.StandLemmas.{count_at}
+use Rattle.capnp_layout.proofs.trees.TrimLemmas.{room_trim}
+use Rattle.capnp_layout.proofs.objects.OwnWordLemmas.{own_words_are}
+use Rattle.capnp_layout.proofs.trees.StoodLemmas.{struct_total}
 use Rattle.capnp_wire.proofs.layouts.OpenLemmas.{Opened}
 use Rattle.capnp_wire.proofs.layouts.OpenedLemmas.{struct_plain, struct_trimmed}
+use Rattle.capnp_layout.proofs.objects.StructLemmas.{struct_room}
 
 -- its own words, with those of the trees below it
 output_total : (m : List (List ℕ)) (words : List ℕ) (start : Place) (size : StructSize) (c : Bool) (children : Trees) (inside : ℕ) → HoldsPointers m words start size
@@ -40,14 +40,6 @@ output_total m words start size false children inside here room stand rooms =
     omega (arith, own, ap (object_size (struct (words_from words start.word size.data_words))) many)
 output_total m words start size true children inside here room stand rooms =
     struct_total m words start.segment start.word size.data_words size.pointers children inside here stand (room_trim children rooms)
-
-struct_room : (m : List (List ℕ)) (words : List ℕ) (start : Place) (size : StructSize) (children : Trees) (inside : ℕ) → size.data_words < 2 ^ 16 → size.pointers < 2 ^ 16 → All (λ w. w < 2 ^ 64) words
-    → At m (places start.segment (start.word + size.data_words) size.pointers) children inside → HasRoom (struct (words_from words start.word size.data_words)) (count children)
-struct_room m words start size children inside d p all stand = (
-  omega (arith, length-take size.data_words (drop start.word words)),
-  omega (arith, count_at m (places start.segment (start.word + size.data_words) size.pointers) children inside stand, length-places start.segment (start.word + size.data_words) size.pointers),
-  words_below words start.word size.data_words all,
-)
 
 tree_of : (m : List (List ℕ)) (words : List ℕ) (start : Place) (size : StructSize) (nesting : ℕ) (limit left : Option ℕ) (c : Bool) (counted_then counted_now : Option ℕ)
     → (w : WalkedAll m c (places start.segment (start.word + size.data_words) size.pointers) nesting limit left counted_then counted_now)

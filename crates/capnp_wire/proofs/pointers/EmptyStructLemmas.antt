@@ -1,40 +1,24 @@
 -- Structs of no words that begin where their pointers do: a walk meets no words there, and their copies are such pointers.
-use Rattle.std.proofs.Common.{◌≡◌, ℕ, ◌<◌, ◌^◌, Bool, true, false, List, [], Option, Some, slice_get, inl, inr, refl, sym, ◌∙◌, ap, subst, arith, lit<}
+use Rattle.std.proofs.Common.{◌≡◌, ℕ, ◌<◌, ◌^◌, Bool, List, [], Option, Some, slice_get, inl, inr, sym, ◌∙◌, ap, subst, arith, lit<}
 use Rattle.std.proofs.lemmas.List.Elements.{All-nil}
-use Rattle.std.proofs.lemmas.Option.{slice_get_within}
-use Rattle.capnp_wire.specs.Tree.{struct, Trees, none, tree, total_words}
-use Rattle.capnp_wire.specs.Object.{Shape, PointsTo, local, a_struct, is_object, is_null as null_there}
-use Rattle.capnp_wire.specs.Reached.{nowhere, at}
-use Rattle.capnp_wire.specs.Layout.{body, pointer_to, output}
-use Rattle.capnp_wire.specs.Block.{put}
-use Rattle.capnp_wire.specs.Local.{empty_struct, IsNullOrEmptyStruct}
+use Rattle.capnp_layout.specs.Tree.{struct, Trees, none, tree, total_words}
+use Rattle.capnp_layout.specs.Object.{is_null as null_there}
+use Rattle.capnp_layout.specs.Reached.{nowhere, at}
+use Rattle.capnp_layout.specs.Layout.{body, pointer_to, output}
+use Rattle.capnp_layout.specs.Block.{put}
+use Rattle.capnp_layout.specs.Local.{empty_struct, IsNullOrEmptyStruct}
 use Rattle.capnp_wire.specs.Traversed.{Walked}
 use Rattle.capnp_wire.specs.Copy.{Copies}
-use Rattle.capnp_wire.specs.declared.layout.place.Place.{Place}
-use Rattle.capnp_wire.proofs.pointers.LocalLemmas.{word_there}
-use Rattle.capnp_wire.proofs.trees.StandLemmas.{within_none, less_none, counts_none}
-use Rattle.capnp_wire.proofs.layouts.BlockLemmas.{put_none}
+use Rattle.capnp_layout.specs.declared.place.Place.{Place}
+use Rattle.capnp_layout.proofs.pointers.LocalLemmas.{word_there}
+use Rattle.capnp_layout.proofs.trees.StandLemmas.{within_none, less_none}
+use Rattle.capnp_wire.proofs.trees.StandLemmas.{counts_none}
+use Rattle.capnp_layout.proofs.layouts.BlockLemmas.{put_none}
 use Rattle.capnp_wire.proofs.layouts.CopyLemmas.{none_at}
 use Rattle.capnp_wire.proofs.layouts.OpenLemmas.{under}
 use Rattle.capnp_wire.proofs.layouts.CopiedLemmas.{null_is_copied}
 use Rattle.capnp_wire.proofs.walks.ProgressLemmas.{walked_null}
-
-abbrev empty_shape : Shape
-empty_shape = record { form = struct []; children = []; traversed = 0 }
-
-abbrev empty_tree : Trees
-empty_tree = tree (struct []) none none
-
-empty_output : (c : Bool) → output c empty_tree ≡ empty_tree
-empty_output true = refl
-empty_output false = refl
-
--- such a struct is where its pointer is
-empty_struct_stands : {m : List (List ℕ)} {place : Place} {words : List ℕ} → slice_get m place.segment ≡ Some words → slice_get words place.word ≡ Some empty_struct
-    → PointsTo m place empty_shape
-empty_struct_stands {m} {place} {words} there is =
-    is_object {start = place.word} (local (word_there m place words empty_struct there is) (lit< tt) (lit< tt)) there (omega arith)
-    (a_struct refl (omega (arith, slice_get_within words place.word empty_struct is)))
+use Rattle.capnp_layout.proofs.pointers.EmptyStructLemmas.{empty_output, empty_shape, empty_struct_stands, empty_tree}
 
 -- a walk over it counts nothing
 empty_struct_walked : {m : List (List ℕ)} {place : Place} {words : List ℕ} {nesting : ℕ} {left counted_now : Option ℕ} (c : Bool) → slice_get m place.segment ≡ Some words

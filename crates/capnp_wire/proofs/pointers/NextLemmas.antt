@@ -1,24 +1,19 @@
 -- A pointer leads to the next free word exactly where its word is that of a layout.
 use Rattle.std.proofs.Common.{◌≡◌, ℕ, zero, suc, ◌+◌, ◌-◌, ◌*◌, ◌/◌, ◌^◌, ◌<◌, ◌≤◌, List, [], ◌∷◌, length, refl, sym, ◌∙◌, ap, arith, drop, length-take, length-drop}
 use Rattle.std.specs.Prelude.{◌↔◌}
-use Rattle.capnp_wire.specs.Pointer.{pointer_kind, offset, data_words, pointer_words, code, list_count, words_from, number_of}
-use Rattle.capnp_wire.specs.Element.{width, words_for}
-use Rattle.capnp_wire.specs.Tree.{struct, object_size}
-use Rattle.capnp_wire.specs.Object.{Shape, ShapeStands, places, rows_from, elements, a_struct, some_numbers, some_pointers, some_structs}
-use Rattle.capnp_wire.specs.Layout.{struct_pointer, list_pointer, minus_one, pointer, Reaches}
+use Rattle.capnp_layout.specs.Pointer.{pointer_kind, offset, data_words, pointer_words, code, list_count, words_from, number_of}
+use Rattle.capnp_layout.specs.Element.{width, words_for}
+use Rattle.capnp_layout.specs.Tree.{struct, object_size}
+use Rattle.capnp_layout.specs.Object.{Shape, ShapeStands, places, rows_from, elements, a_struct, some_numbers, some_pointers, some_structs}
+use Rattle.capnp_layout.specs.Layout.{struct_pointer, list_pointer, minus_one, pointer, Reaches}
 use Rattle.capnp_wire.specs.Tested.{LeadsTo, IsNext}
-use Rattle.capnp_wire.specs.declared.layout.place.Place.{Place}
-use Rattle.capnp_wire.proofs.layouts.LayoutLemmas.{if_positive}
-use Rattle.capnp_wire.proofs.objects.FieldLemmas.{length-places}
-use Rattle.capnp_wire.proofs.trees.RoomLemmas.{length-rows_from}
-use Rattle.capnp_wire.proofs.words.DigitLemmas.{length-digits}
-use Rattle.capnp_wire.proofs.pointers.TagLemmas.{struct_fields, list_fields}
-
-list_parts : (word o c n : ℕ) → pointer_kind word ≡ 1 → code word ≡ c → list_count word ≡ n → offset word ≡ o → word ≡ list_pointer o c n
-list_parts word o c n k is many at = omega arith
-
-struct_parts : (word o d p : ℕ) → pointer_kind word ≡ 0 → data_words word ≡ d → pointer_words word ≡ p → offset word ≡ o → word ≡ struct_pointer o d p
-struct_parts word o d p k is many at = omega arith
+use Rattle.capnp_layout.specs.declared.place.Place.{Place}
+use Rattle.capnp_layout.proofs.layouts.LayoutLemmas.{if_positive}
+use Rattle.capnp_layout.proofs.objects.FieldLemmas.{length-places}
+use Rattle.capnp_layout.proofs.trees.RoomLemmas.{length-rows_from}
+use Rattle.capnp_layout.proofs.words.DigitLemmas.{length-digits}
+use Rattle.capnp_layout.proofs.pointers.TagLemmas.{struct_fields, list_fields}
+use Rattle.capnp_layout.proofs.pointers.NextLemmas.{lead_start, list_parts, struct_parts}
 
 -- a list that counts n
 list_next : (tag word next c n : ℕ) → pointer_kind tag ≡ 1 → code tag ≡ c → c < 8
@@ -83,9 +78,6 @@ next_is_laid_out segment start tag word next shape (some_pointers k c room) =
     list_counted tag word next 6 (length (places start.segment start.word (list_count tag))) k c (omega arith) (length-places start.segment start.word (list_count tag))
 next_is_laid_out segment start tag word next shape (some_structs {tag = inner} k c room there l fits) =
     list_next tag word next 7 (length (rows_from segment (start.word + 1) (data_words inner) (pointer_words inner) (offset inner)) * (data_words inner + pointer_words inner)) k c (omega arith)
-
-pub lead_start : (word next start off : ℕ) → word < next → (off ≡ next - (word + 1)) × (next - (word + 1) < 2 ^ 29) → start + 2 ^ 30 * (off / 2 ^ 29) ≡ word + 1 + off → start ≡ next
-lead_start word next start off before leads target = omega (arith, leads.0, leads.1)
 
 struct_room : (segment : List ℕ) (start tag word next : ℕ) (words : List ℕ) (n : ℕ) → start + length words + n ≤ length segment → word < next → next ≤ length segment
     → start + 2 ^ 30 * (offset tag / 2 ^ 29) ≡ word + 1 + offset tag

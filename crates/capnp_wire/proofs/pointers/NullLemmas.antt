@@ -2,11 +2,11 @@
 use Rattle.std.proofs.Common.{◌≡◌, ℕ, nat_eq, true, Some, ap, subst, ◌∙◌}
 use Rattle.std.proofs.lemmas.Bool.{eq-eqb, eqb-true}
 use Rattle.capnp_frame.specs.declared.error.ErrorKind.{ErrorKind}
-use Rattle.capnp_wire.specs.Object.{word_at, PointsTo, nothing, is_null as null_there}
+use Rattle.capnp_layout.specs.Object.{word_at, PointsTo, nothing, is_null as null_there}
 use Rattle.capnp_wire.specs.Views.{Pointer, Denotes, nowhere, at_place}
-use Rattle.capnp_wire.specs.Faults.{NoWord}
-use Rattle.capnp_wire.specs.declared.layout.place.Place.{Place}
-use Rattle.capnp_wire.proofs.pointers.FaultLemmas.{no_word_there, word_of_object, word_of_null}
+use Rattle.capnp_layout.specs.Faults.{NoWord}
+use Rattle.capnp_layout.specs.declared.place.Place.{Place}
+use Rattle.capnp_layout.proofs.pointers.FaultLemmas.{no_word_there, word_of_object, word_of_null}
 
 pub null_by_word : (p : Pointer) (place : Place) (word : ℕ) → p.place ≡ Some place → word_at p.message place ≡ Some word → nat_eq word 0 ≡ true → Denotes p nothing
 null_by_word p place word e f is = at_place e (null_there (f ∙ ap Some (eqb-true word 0 is))) (λ not. cc)

@@ -5,21 +5,21 @@ use Rattle.std.proofs.Math.Seq.{take-suc, get_or-append_seam}
 use Rattle.capnp_frame.specs.declared.error.Error.{Error}
 use Rattle.capnp_frame.specs.declared.error.ErrorKind.{ErrorKind}
 use Rattle.capnp_frame.specs.declared.error.ErrorKind.TheVariants.{WrongPointerKind, TextNotTerminated}
-use Rattle.capnp_wire.specs.Pointer.{words_of, words_from}
-use Rattle.capnp_wire.specs.Element.{code_of}
-use Rattle.capnp_wire.specs.Tree.{Form, numbers}
-use Rattle.capnp_wire.specs.Object.{elements, places}
-use Rattle.capnp_wire.specs.Traversed.{Within}
-use Rattle.capnp_wire.specs.Landing.{shape_of}
+use Rattle.capnp_layout.specs.Pointer.{words_of, words_from}
+use Rattle.capnp_layout.specs.Element.{code_of}
+use Rattle.capnp_layout.specs.Tree.{Form, numbers}
+use Rattle.capnp_layout.specs.Object.{elements, places}
+use Rattle.capnp_layout.specs.Traversed.{Within}
+use Rattle.capnp_layout.specs.Landing.{shape_of}
 use Rattle.capnp_wire.specs.Views.{Pointer, at_place, Shows, Reads, Refuses, IsText, HasData, TakesNumbers, TakesText, TakesStruct, DeclinesNumbers, DeclinesText, DeclinesStruct}
 use Rattle.capnp_wire.specs.Readers.{IsEntered, form_of}
-use Rattle.capnp_wire.specs.declared.layout.place.Place.{Place}
-use Rattle.capnp_wire.specs.declared.layout.element.ElementSize.{ElementSize}
-use Rattle.capnp_wire.specs.declared.layout.element.ElementSize.TheVariants.{Void, Bit, Byte, TwoBytes, FourBytes, EightBytes}
-use Rattle.capnp_wire.specs.declared.layout.object.Body.{Body}
-use Rattle.capnp_wire.specs.declared.layout.object.Body.TheVariants.{Struct, Numbers, Pointers, Structs}
-use Rattle.capnp_wire.specs.declared.layout.pointer.StructSize.{StructSize}
-use Rattle.capnp_wire.specs.declared.layout.object.Object.{Object as ReadObject}
+use Rattle.capnp_layout.specs.declared.place.Place.{Place}
+use Rattle.capnp_layout.specs.declared.element_size.ElementSize.{ElementSize}
+use Rattle.capnp_layout.specs.declared.element_size.ElementSize.TheVariants.{Void, Bit, Byte, TwoBytes, FourBytes, EightBytes}
+use Rattle.capnp_layout.specs.declared.object.Body.{Body}
+use Rattle.capnp_layout.specs.declared.object.Body.TheVariants.{Struct, Numbers, Pointers, Structs}
+use Rattle.capnp_layout.specs.declared.pointer.StructSize.{StructSize}
+use Rattle.capnp_layout.specs.declared.object.Object.{Object as ReadObject}
 
 -- what holds of the form of an object that was entered is shown of its pointer, and read of it
 pub entered_shows : (p : Pointer) (object : ReadObject) (fact : Form → Type 0) → IsEntered p object → fact (form_of object) → Shows p (λ shape. fact shape.form)

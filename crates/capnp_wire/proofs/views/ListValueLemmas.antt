@@ -4,34 +4,36 @@ use Rattle.std.proofs.Common.{inl, inr, refl, sym, ◌∙◌, ap, subst, arith}
 use Rattle.std.specs.Prelude.{All}
 use Rattle.capnp_frame.specs.declared.error.Error.{Error}
 use Rattle.capnp_frame.specs.declared.error.ErrorKind.TheVariants.{InvalidSegmentId}
-use Rattle.capnp_wire.specs.Tree.{Form, pointers, Trees, none, tree, count, total_words}
-use Rattle.capnp_wire.specs.Object.{places, row_places, rows_from}
-use Rattle.capnp_wire.specs.Reached.{At}
-use Rattle.capnp_wire.specs.Faults.{StopsWalk, no_word, no_segment, at_pointer}
+use Rattle.capnp_layout.specs.Tree.{Form, pointers, Trees, none, tree, count, total_words}
+use Rattle.capnp_layout.specs.Object.{places, row_places, rows_from}
+use Rattle.capnp_layout.specs.Reached.{At}
+use Rattle.capnp_layout.specs.Faults.{StopsWalk, no_word, no_segment, at_pointer}
 use Rattle.capnp_wire.specs.Traversed.{WalkedAll}
-use Rattle.capnp_wire.specs.Layout.{run, output, struct_pointer, list_pointer, HasRoom, AllHaveRoom}
-use Rattle.capnp_wire.specs.Block.{put, put_rows, fill}
-use Rattle.capnp_wire.specs.Copy.{CanCopy, CopiesAll, IsCopied, least_size}
-use Rattle.capnp_wire.specs.Rows.{kept_places, row_slots}
+use Rattle.capnp_layout.specs.Layout.{run, output, struct_pointer, list_pointer, HasRoom, AllHaveRoom}
+use Rattle.capnp_layout.specs.Block.{put, put_rows, fill}
+use Rattle.capnp_wire.specs.Copy.{CanCopy, CopiesAll, IsCopied}
+use Rattle.capnp_layout.specs.Output.{least_size}
+use Rattle.capnp_layout.specs.Rows.{kept_places, row_slots}
 use Rattle.capnp_wire.specs.Values.{HasWords, LacksWords, HasRoomAt, HoldsPointers, too_large}
 use Rattle.capnp_wire.specs.ListViews.{PointerList}
 use Rattle.capnp_wire.specs.ListValues.{IsListTree, StopsInList, pointers_along, pointers_of_structs, structs_along}
 use Rattle.capnp_wire.specs.declared.layout.copy.Copied.{Copied}
-use Rattle.capnp_wire.specs.declared.layout.place.Place.{Place}
-use Rattle.capnp_wire.specs.declared.layout.pointer.Elements.{Elements}
-use Rattle.capnp_wire.specs.declared.layout.pointer.StructSize.{StructSize}
-use Rattle.capnp_wire.specs.declared.layout.object.Body.TheVariants.{Pointers}
-use Rattle.capnp_wire.proofs.objects.ObjectLemmas.{one_tree}
-use Rattle.capnp_wire.proofs.trees.RoomLemmas.{length-rows_from, length-row_places, rows_below}
-use Rattle.capnp_wire.proofs.trees.StandLemmas.{count_at}
-use Rattle.capnp_wire.proofs.trees.KeptLemmas.{long_places}
-use Rattle.capnp_wire.proofs.trees.TrimLemmas.{count-trim, room_trim}
-use Rattle.capnp_wire.proofs.trees.StoodLemmas.{structs_total}
+use Rattle.capnp_layout.specs.declared.place.Place.{Place}
+use Rattle.capnp_layout.specs.declared.pointer.Elements.{Elements}
+use Rattle.capnp_layout.specs.declared.pointer.StructSize.{StructSize}
+use Rattle.capnp_layout.specs.declared.object.Body.TheVariants.{Pointers}
+use Rattle.capnp_layout.proofs.objects.ObjectLemmas.{one_tree}
+use Rattle.capnp_layout.proofs.trees.RoomLemmas.{length-rows_from, length-row_places, rows_below}
+use Rattle.capnp_layout.proofs.trees.StandLemmas.{count_at}
+use Rattle.capnp_layout.proofs.trees.KeptLemmas.{long_places}
+use Rattle.capnp_layout.proofs.trees.TrimLemmas.{count-trim, room_trim}
+use Rattle.capnp_layout.proofs.trees.StoodLemmas.{structs_total}
 use Rattle.capnp_wire.proofs.walks.StopLemmas.{stops_has_no_trees, one_stop}
 use Rattle.capnp_wire.proofs.walks.ProgressLemmas.{progress_begins, progress_done}
-use Rattle.capnp_wire.proofs.pointers.PointerSlotLemmas.{kept_nothing}
+use Rattle.capnp_layout.proofs.pointers.PointerSlotLemmas.{kept_nothing}
 use Rattle.capnp_wire.proofs.layouts.CopyLemmas.{split_first}
-use Rattle.capnp_wire.proofs.layouts.CopiedLemmas.{fault_no_tree, in_run}
+use Rattle.capnp_layout.proofs.layouts.CopiedLemmas.{fault_no_tree}
+use Rattle.capnp_wire.proofs.layouts.CopiedLemmas.{in_run}
 use Rattle.capnp_wire.proofs.layouts.OpenLemmas.{Opened, OpenedRows, pointers_open, room_output}
 use Rattle.capnp_wire.proofs.layouts.OpenedLemmas.{rows_plain, rows_trimmed}
 use Rattle.capnp_wire.proofs.views.OneValueLemmas.{IsOne}

@@ -3,18 +3,18 @@ use Rattle.std.proofs.Common.{◌≡◌, ℕ, ◌-◌, ◌<◌, ◌≤◌, ◌^�
 use Rattle.std.proofs.Common.{inl, refl, sym, ◌∙◌, ap, arith}
 use Rattle.capnp_frame.specs.declared.error.Error.{Error}
 use Rattle.capnp_frame.specs.declared.error.ErrorKind.TheVariants.{AllocationTooLarge}
-use Rattle.capnp_wire.specs.Pointer.{number_of, words_from}
-use Rattle.capnp_wire.specs.Element.{code_of, width, words_for}
-use Rattle.capnp_wire.specs.Tree.{numbers, none, tree, total_words}
-use Rattle.capnp_wire.specs.Object.{elements as numerals}
-use Rattle.capnp_wire.specs.Layout.{output}
+use Rattle.capnp_layout.specs.Pointer.{number_of, words_from}
+use Rattle.capnp_layout.specs.Element.{code_of, width, words_for}
+use Rattle.capnp_layout.specs.Tree.{numbers, none, tree, total_words}
+use Rattle.capnp_layout.specs.Object.{elements as numerals}
+use Rattle.capnp_layout.specs.Layout.{output}
 use Rattle.capnp_wire.specs.Values.{HasWords, LacksWords}
 use Rattle.capnp_wire.specs.ListValues.{IsNumbersTree, TooManyNumbers}
-use Rattle.capnp_wire.specs.declared.layout.element.ElementSize.{ElementSize}
-use Rattle.capnp_wire.specs.declared.layout.element.ElementSize.TheVariants.{Void, Bit, Byte, TwoBytes, FourBytes, EightBytes}
+use Rattle.capnp_layout.specs.declared.element_size.ElementSize.{ElementSize}
+use Rattle.capnp_layout.specs.declared.element_size.ElementSize.TheVariants.{Void, Bit, Byte, TwoBytes, FourBytes, EightBytes}
 use Rattle.std.proofs.lemmas.Nat.{pow_pos}
-use Rattle.capnp_wire.proofs.words.DigitLemmas.{length-digits}
-use Rattle.capnp_wire.proofs.trees.RoomLemmas.{digits_below}
+use Rattle.capnp_layout.proofs.words.DigitLemmas.{length-digits}
+use Rattle.capnp_layout.proofs.trees.RoomLemmas.{digits_below}
 use Rattle.capnp_wire.proofs.layouts.FreeLemmas.{numbers_total}
 use Rattle.capnp_wire.proofs.views.OneValueLemmas.{IsOne}
 

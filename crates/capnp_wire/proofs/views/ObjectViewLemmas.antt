@@ -3,15 +3,15 @@ use Rattle.std.proofs.Common.{◌≡◌, ℕ, List, Result, Ok, Err, MatchResult
 use Rattle.capnp_frame.specs.declared.error.Error.{Error}
 use Rattle.capnp_frame.specs.declared.error.ErrorKind.{ErrorKind}
 use Rattle.capnp_frame.specs.declared.message.segments.ReaderSegments.{Ghosts}
-use Rattle.capnp_wire.specs.Pointer.{words_of}
-use Rattle.capnp_wire.specs.Tree.{Form}
-use Rattle.capnp_wire.specs.Landing.{shape_of}
+use Rattle.capnp_layout.specs.Pointer.{words_of}
+use Rattle.capnp_layout.specs.Tree.{Form}
+use Rattle.capnp_layout.specs.Landing.{shape_of}
 use Rattle.capnp_wire.specs.Views.{Pointer, IsViewOf, Accepts, Refuses, RejectsReading}
 use Rattle.capnp_wire.specs.Readers.{IsEntered}
 use Rattle.capnp_wire.specs.ObjectViews.{IsObjectView, TakesAll}
 use Rattle.capnp_wire.specs.declared.any_object.reader.Reader.{Reader}
-use Rattle.capnp_wire.specs.declared.layout.object.Body.{Body}
-use Rattle.capnp_wire.specs.declared.layout.object.Object.{Object as ReadObject}
+use Rattle.capnp_layout.specs.declared.object.Body.{Body}
+use Rattle.capnp_layout.specs.declared.object.Object.{Object as ReadObject}
 use Rattle.capnp_wire.proofs.views.FormLemmas.{entered_shows}
 use Rattle.capnp_wire.proofs.views.ViewLemmas.{Decides, is_view_of}
 

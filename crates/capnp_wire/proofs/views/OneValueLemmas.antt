@@ -3,13 +3,13 @@ use Rattle.std.proofs.Common.{◌≡◌, ℕ, Bool, List, [], ◌∷◌, Option,
 use Rattle.std.specs.Result.{IsErrAnd}
 use Rattle.capnp_frame.specs.declared.error.Error.{Error}
 use Rattle.capnp_frame.specs.declared.error.ErrorKind.{ErrorKind}
-use Rattle.capnp_wire.specs.Tree.{null, struct, Trees, none, tree, total_words}
-use Rattle.capnp_wire.specs.Layout.{output}
-use Rattle.capnp_wire.specs.Faults.{StopsWalk}
+use Rattle.capnp_layout.specs.Tree.{null, struct, Trees, none, tree, total_words}
+use Rattle.capnp_layout.specs.Layout.{output}
+use Rattle.capnp_layout.specs.Faults.{StopsWalk}
 use Rattle.capnp_wire.specs.Views.{Pointer, Struct}
 use Rattle.capnp_wire.specs.Values.{TreeAt, HasWords, LacksWords, LeadsToTree, StopsWalkFrom, IsTreeOf, StopsInside, too_large}
-use Rattle.capnp_wire.specs.declared.layout.place.Place.{Place}
-use Rattle.capnp_wire.proofs.objects.ObjectLemmas.{one_tree}
+use Rattle.capnp_layout.specs.declared.place.Place.{Place}
+use Rattle.capnp_layout.proofs.objects.ObjectLemmas.{one_tree}
 use Rattle.capnp_wire.proofs.walks.StopLemmas.{stops_has_no_trees, one_stop}
 use Rattle.capnp_wire.proofs.views.SetterLemmas.{from_tree}
 

@@ -8,27 +8,27 @@ use Rattle.std.proofs.Common.{w64}
 use Rattle.capnp_frame.specs.Words.{bytes_of}
 use Rattle.capnp_frame.specs.declared.error.Error.{Error}
 use Rattle.capnp_frame.specs.declared.words.Word.{Word}
-use Rattle.capnp_wire.specs.Pointer.{number_of, words_of}
-use Rattle.capnp_wire.specs.Tree.{Form, null, Trees, none, tree, total_words}
-use Rattle.capnp_wire.specs.Trim.{trim, trim_form, trim_children}
-use Rattle.capnp_wire.specs.Reached.{At, nowhere, at, root}
-use Rattle.capnp_wire.specs.Layout.{body, layout, canon, output, AllHaveRoom, AllReach}
+use Rattle.capnp_layout.specs.Pointer.{number_of, words_of}
+use Rattle.capnp_layout.specs.Tree.{Form, null, Trees, none, tree, total_words}
+use Rattle.capnp_layout.specs.Trim.{trim, trim_form, trim_children}
+use Rattle.capnp_layout.specs.Reached.{At, nowhere, at, root}
+use Rattle.capnp_layout.specs.Layout.{body, layout, canon, output, AllHaveRoom, AllReach}
 use Rattle.capnp_wire.specs.Canonical.{IsCanonical}
 use Rattle.capnp_wire.specs.Views.{Pointer}
-use Rattle.capnp_wire.specs.Block.{numbers_of}
+use Rattle.capnp_layout.specs.Block.{numbers_of}
 use Rattle.capnp_wire.specs.Copy.{IsCopied}
 use Rattle.capnp_wire.specs.Values.{TreeAt, Measured, RejectsTreeSize, HasWords, LacksWords, LeadsToTree, StopsWalkFrom, IsCanonicalForm}
 use Rattle.capnp_wire.specs.declared.layout.copy.Copied.{Copied}
-use Rattle.capnp_wire.specs.declared.layout.place.Place.{Place}
+use Rattle.capnp_layout.specs.declared.place.Place.{Place}
 use Rattle.capnp_wire.proofs.forms.CanonLemmas.{root_of_canon, canon_tells}
 use Rattle.capnp_wire.proofs.layouts.LayoutLemmas.{small_reaches}
-use Rattle.capnp_wire.proofs.trees.TrimLemmas.{trim_twice}
-use Rattle.capnp_wire.proofs.layouts.SizeLemmas.{length-body}
+use Rattle.capnp_layout.proofs.trees.TrimLemmas.{trim_twice}
+use Rattle.capnp_layout.proofs.layouts.SizeLemmas.{length-body}
 use Rattle.capnp_wire.proofs.layouts.OpenLemmas.{room_output}
 use Rattle.capnp_wire.proofs.layouts.FreeLemmas.{whole_written}
-use Rattle.capnp_wire.proofs.objects.PartLemmas.{one_word}
-use Rattle.capnp_wire.proofs.words.WordLemmas.{length-words_of}
-use Rattle.capnp_wire.proofs.words.PutLemmas.{words_split, length-numbers_of}
+use Rattle.capnp_layout.proofs.objects.PartLemmas.{one_word}
+use Rattle.capnp_layout.proofs.words.WordLemmas.{length-words_of}
+use Rattle.capnp_layout.proofs.words.PutLemmas.{words_split, length-numbers_of}
 use Rattle.capnp_wire.proofs.views.ValueLemmas.{drop_past}
 
 to_tree : (p : Pointer) (place : Place) (trees : Trees) → p.place ≡ Some place → TreeAt p.message place p.nesting p.limit trees → LeadsToTree p trees

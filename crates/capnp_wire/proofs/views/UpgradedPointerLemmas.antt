@@ -3,22 +3,22 @@ use Rattle.std.proofs.Math.Seq.{drop-append-add}
 use Rattle.std.proofs.Common.{◌≡◌, ℕ, zero, suc, ◌+◌, ◌-◌, ◌*◌, ◌<◌, ◌≤◌, List, ◌∷◌, ◌++◌, length, drop, Some, slice_get, inr, refl, sym, ◌∙◌, ap, subst, arith}
 use Rattle.capnp_frame.specs.declared.error.ErrorKind.{ErrorKind}
 use Rattle.capnp_frame.specs.declared.error.ErrorKind.TheVariants.{WrongPointerKind}
-use Rattle.capnp_wire.specs.Pointer.{words_of}
-use Rattle.capnp_wire.specs.Tree.{Form, null, struct, numbers, pointers, structs}
-use Rattle.capnp_wire.specs.Object.{places, row_places, rows_from}
-use Rattle.capnp_wire.specs.Landing.{shape_of}
+use Rattle.capnp_layout.specs.Pointer.{words_of}
+use Rattle.capnp_layout.specs.Tree.{Form, null, struct, numbers, pointers, structs}
+use Rattle.capnp_layout.specs.Object.{places, row_places, rows_from}
+use Rattle.capnp_layout.specs.Landing.{shape_of}
 use Rattle.capnp_wire.specs.Views.{Pointer, Accepts, Refuses}
 use Rattle.capnp_wire.specs.Readers.{IsEntered}
 use Rattle.capnp_wire.specs.ListViews.{PointerList}
 use Rattle.capnp_wire.specs.UpgradedViews.{first_pointers, ReadsAsPointers, TakesFirstPointers, DeclinesFirstPointers, IsUpgradedPointers}
 use Rattle.capnp_wire.specs.UpgradedReaders.{stepped_places, pointers_from}
-use Rattle.capnp_wire.specs.declared.layout.place.Place.{Place}
-use Rattle.capnp_wire.specs.declared.layout.object.Body.{Body}
-use Rattle.capnp_wire.specs.declared.layout.object.Body.TheVariants.{Struct, Numbers, Pointers, Structs}
-use Rattle.capnp_wire.specs.declared.layout.pointer.Elements.{Elements}
-use Rattle.capnp_wire.specs.declared.layout.object.Object.{Object as ReadObject}
-use Rattle.capnp_wire.proofs.objects.FieldLemmas.{length-places}
-use Rattle.capnp_wire.proofs.trees.RoomLemmas.{length-rows_from}
+use Rattle.capnp_layout.specs.declared.place.Place.{Place}
+use Rattle.capnp_layout.specs.declared.object.Body.{Body}
+use Rattle.capnp_layout.specs.declared.object.Body.TheVariants.{Struct, Numbers, Pointers, Structs}
+use Rattle.capnp_layout.specs.declared.pointer.Elements.{Elements}
+use Rattle.capnp_layout.specs.declared.object.Object.{Object as ReadObject}
+use Rattle.capnp_layout.proofs.objects.FieldLemmas.{length-places}
+use Rattle.capnp_layout.proofs.trees.RoomLemmas.{length-rows_from}
 use Rattle.capnp_wire.proofs.views.FormLemmas.{entered_shown, entered_shows}
 use Rattle.capnp_wire.proofs.views.ViewLemmas.{Decides, wrong_kind_once, wrong_kind_unlimited}
 

@@ -4,25 +4,25 @@ use Rattle.std.proofs.Common.{◌≡◌, ◌≢◌, ℕ, zero, suc, ◌+◌, ◌
 use Rattle.std.specs.Prelude.{replicate}
 use Rattle.capnp_frame.specs.declared.error.ErrorKind.{ErrorKind}
 use Rattle.capnp_frame.specs.declared.error.ErrorKind.TheVariants.{WrongPointerKind}
-use Rattle.capnp_wire.specs.Pointer.{words_of}
-use Rattle.capnp_wire.specs.Element.{code_of, width}
-use Rattle.capnp_wire.specs.Tree.{Form, null, struct, numbers, pointers, structs}
-use Rattle.capnp_wire.specs.Object.{elements, places, row_places, rows_from}
-use Rattle.capnp_wire.specs.Landing.{shape_of}
+use Rattle.capnp_layout.specs.Pointer.{words_of}
+use Rattle.capnp_layout.specs.Element.{code_of, width}
+use Rattle.capnp_layout.specs.Tree.{Form, null, struct, numbers, pointers, structs}
+use Rattle.capnp_layout.specs.Object.{elements, places, row_places, rows_from}
+use Rattle.capnp_layout.specs.Landing.{shape_of}
 use Rattle.capnp_wire.specs.Views.{Pointer, Accepts, Refuses}
 use Rattle.capnp_wire.specs.Readers.{IsEntered, form_of}
 use Rattle.capnp_wire.specs.ListViews.{StructList, structs_in}
 use Rattle.capnp_wire.specs.UpgradedViews.{number_row, ReadsAsRows, TakesRows, DeclinesRows, IsUpgradedStructs, elements_without_data}
-use Rattle.capnp_wire.specs.declared.layout.place.Place.{Place}
-use Rattle.capnp_wire.specs.declared.layout.element.ElementSize.{ElementSize}
-use Rattle.capnp_wire.specs.declared.layout.element.ElementSize.TheVariants.{Void, Bit, Byte, TwoBytes, FourBytes, EightBytes}
-use Rattle.capnp_wire.specs.declared.layout.object.Body.{Body}
-use Rattle.capnp_wire.specs.declared.layout.object.Body.TheVariants.{Struct, Numbers, Pointers, Structs}
-use Rattle.capnp_wire.specs.declared.layout.pointer.Elements.{Elements}
-use Rattle.capnp_wire.specs.declared.layout.pointer.StructSize.{StructSize}
-use Rattle.capnp_wire.specs.declared.layout.object.Object.{Object as ReadObject}
-use Rattle.capnp_wire.proofs.words.DigitLemmas.{length-digits}
-use Rattle.capnp_wire.proofs.objects.FieldLemmas.{length-places}
+use Rattle.capnp_layout.specs.declared.place.Place.{Place}
+use Rattle.capnp_layout.specs.declared.element_size.ElementSize.{ElementSize}
+use Rattle.capnp_layout.specs.declared.element_size.ElementSize.TheVariants.{Void, Bit, Byte, TwoBytes, FourBytes, EightBytes}
+use Rattle.capnp_layout.specs.declared.object.Body.{Body}
+use Rattle.capnp_layout.specs.declared.object.Body.TheVariants.{Struct, Numbers, Pointers, Structs}
+use Rattle.capnp_layout.specs.declared.pointer.Elements.{Elements}
+use Rattle.capnp_layout.specs.declared.pointer.StructSize.{StructSize}
+use Rattle.capnp_layout.specs.declared.object.Object.{Object as ReadObject}
+use Rattle.capnp_layout.proofs.words.DigitLemmas.{length-digits}
+use Rattle.capnp_layout.proofs.objects.FieldLemmas.{length-places}
 use Rattle.capnp_wire.proofs.views.FormLemmas.{entered_shown, entered_shows}
 use Rattle.capnp_wire.proofs.views.ViewLemmas.{Decides, wrong_kind_once, wrong_kind_unlimited}
 

@@ -2,26 +2,26 @@
 use Rattle.std.proofs.Common.{◌≡◌, ℕ, ◌+◌, ◌-◌, ◌^◌, ◌<◌, ◌≤◌, List, [], ◌∷◌, length, Option, Some, slice_get, slice_index_or, refl, sym, ◌∙◌, ap, subst, arith}
 use Rattle.std.specs.Prelude.{All}
 use Rattle.capnp_frame.specs.declared.error.ErrorKind.{ErrorKind}
-use Rattle.capnp_wire.specs.Pointer.{pointer_kind}
-use Rattle.capnp_wire.specs.Tree.{Trees, none, tree, count, object_size, total_words}
-use Rattle.capnp_wire.specs.Trim.{trim_form, trim_children}
-use Rattle.capnp_wire.specs.Object.{Shape}
-use Rattle.capnp_wire.specs.Reached.{At, nowhere, at}
-use Rattle.capnp_wire.specs.Traversed.{less, TreesAt}
-use Rattle.capnp_wire.specs.Faults.{StopsWalk, at_pointer as stops_at, over_limit as stops_over, inside as stops_inside, later as stops_later}
-use Rattle.capnp_wire.specs.Layout.{pointer, slots, HasRoom, placed, Trimmed}
+use Rattle.capnp_layout.specs.Pointer.{pointer_kind}
+use Rattle.capnp_layout.specs.Tree.{Trees, none, tree, count, object_size, total_words}
+use Rattle.capnp_layout.specs.Trim.{trim_form, trim_children}
+use Rattle.capnp_layout.specs.Object.{Shape}
+use Rattle.capnp_layout.specs.Reached.{At, nowhere, at}
+use Rattle.capnp_layout.specs.Traversed.{less, TreesAt}
+use Rattle.capnp_layout.specs.Faults.{StopsWalk, at_pointer as stops_at, over_limit as stops_over, inside as stops_inside, later as stops_later}
+use Rattle.capnp_layout.specs.Layout.{pointer, slots, HasRoom, placed, Trimmed}
 use Rattle.capnp_wire.specs.Canonical.{Padded, IsInPreorder}
 use Rattle.capnp_wire.specs.Tested.{IsFarAt, IsLaidOut, MeetsObject, Passes, refused, not_canonical, Ends, far, at_pointer, over_limit, elsewhere, inside, later}
-use Rattle.capnp_wire.specs.declared.layout.place.Place.{Place}
-use Rattle.capnp_wire.proofs.objects.ObjectLemmas.{one_object, one_tree}
-use Rattle.capnp_wire.proofs.layouts.SizeLemmas.{Before, slots_before}
+use Rattle.capnp_layout.specs.declared.place.Place.{Place}
+use Rattle.capnp_layout.proofs.objects.ObjectLemmas.{one_object, one_tree}
+use Rattle.capnp_layout.proofs.layouts.SizeLemmas.{Before, slots_before}
 use Rattle.capnp_wire.proofs.forms.PreorderLemmas.{preorder_object}
-use Rattle.capnp_wire.proofs.trees.StandLemmas.{count_at}
+use Rattle.capnp_layout.proofs.trees.StandLemmas.{count_at}
 use Rattle.capnp_wire.proofs.walks.StepLemmas.{preorder_step}
-use Rattle.capnp_wire.proofs.trees.RoomLemmas.{object_room, one_segment}
+use Rattle.capnp_layout.proofs.trees.RoomLemmas.{object_room, one_segment}
 use Rattle.capnp_wire.proofs.forms.TruncatedLemmas.{or_there}
 use Rattle.capnp_wire.proofs.layouts.LaidOutLemmas.{word_of, IsPlaced, laid_is_placed, laid_room, truncated_is_trimmed}
-use Rattle.capnp_wire.proofs.trees.PlacedLemmas.{pointer_local}
+use Rattle.capnp_layout.proofs.trees.PlacedLemmas.{pointer_local}
 
 -- errors stop every walk
 stand_of : (segment : List ℕ) (places : List Place) (nesting traversed next after : ℕ) (p : Passes segment places nesting traversed next after) → TreesAt (segment ∷ []) places nesting traversed (total_words p.trees)

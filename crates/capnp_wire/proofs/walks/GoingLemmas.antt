@@ -4,20 +4,20 @@ use Rattle.std.proofs.Common.{arith, append_assoc, ◌^◌}
 use Rattle.std.proofs.lemmas.List.{append-nil}
 use Rattle.std.specs.Prelude.{All}
 use Rattle.capnp_frame.specs.declared.error.Error.{Error}
-use Rattle.capnp_wire.specs.Tree.{Trees, none, tree, null, count, depth, object_size, total_words}
-use Rattle.capnp_wire.specs.Trim.{before}
-use Rattle.capnp_wire.specs.Object.{nothing, is_null}
-use Rattle.capnp_wire.specs.Reached.{At, nowhere, at}
-use Rattle.capnp_wire.specs.Traversed.{Within, less}
+use Rattle.capnp_layout.specs.Tree.{Trees, none, tree, null, count, depth, object_size, total_words}
+use Rattle.capnp_layout.specs.Trim.{before}
+use Rattle.capnp_layout.specs.Object.{nothing, is_null}
+use Rattle.capnp_layout.specs.Reached.{At, nowhere, at}
+use Rattle.capnp_layout.specs.Traversed.{Within, less}
 use Rattle.capnp_wire.specs.Canonical.{IsInPreorder}
-use Rattle.capnp_wire.specs.Rows.{places_in}
+use Rattle.capnp_layout.specs.Rows.{places_in}
 use Rattle.capnp_wire.specs.Tested.{Passes, PassesAt, MeetsPointers, Ending, refused, not_canonical, Ends, far, at_pointer, over_limit, elsewhere, inside, later}
-use Rattle.capnp_wire.specs.declared.layout.place.Place.{Place}
-use Rattle.capnp_wire.specs.declared.layout.pointer_slots.PointerSlots.{PointerSlots}
-use Rattle.capnp_wire.proofs.trees.StandLemmas.{within_none, less_none, within_both, within_first, within_rest, less_both, at_both, depth_both}
+use Rattle.capnp_layout.specs.declared.place.Place.{Place}
+use Rattle.capnp_layout.specs.declared.pointer_slots.PointerSlots.{PointerSlots}
+use Rattle.capnp_layout.proofs.trees.StandLemmas.{within_none, less_none, within_both, within_first, within_rest, less_both, at_both, depth_both}
 use Rattle.capnp_wire.proofs.layouts.LaidOutLemmas.{passes_over}
-use Rattle.capnp_wire.specs.Layout.{Trimmed}
-use Rattle.capnp_wire.proofs.trees.ChunkLemmas.{total-before}
+use Rattle.capnp_layout.specs.Layout.{Trimmed}
+use Rattle.capnp_layout.proofs.trees.ChunkLemmas.{total-before}
 
 -- trees that pass, and others after them
 preorder_both : (segment : List ℕ) (ps qs : List Place) (a b : Trees) (traversed next middle : ℕ) → At (segment ∷ []) ps a traversed → IsInPreorder segment ps next a → middle ≡ next + total_words a

@@ -5,13 +5,14 @@ use Rattle.std.specs.Result.{IsErrAnd}
 use Rattle.capnp_frame.specs.declared.error.Error.{Error}
 use Rattle.capnp_frame.specs.declared.error.ErrorKind.{ErrorKind}
 use Rattle.capnp_frame.specs.declared.error.ErrorKind.TheVariants.{AllocationTooLarge}
-use Rattle.capnp_wire.specs.Tree.{total_words}
-use Rattle.capnp_wire.specs.Traversed.{Within, TreesAt, TreesWithRoom, Walked}
-use Rattle.capnp_wire.specs.Faults.{StopsWalk}
+use Rattle.capnp_layout.specs.Tree.{total_words}
+use Rattle.capnp_layout.specs.Traversed.{Within, TreesAt}
+use Rattle.capnp_wire.specs.Traversed.{TreesWithRoom, Walked}
+use Rattle.capnp_layout.specs.Faults.{StopsWalk}
 use Rattle.capnp_wire.specs.Views.{Pointer, Measures, RejectsMeasuring}
-use Rattle.capnp_wire.specs.declared.layout.place.Place.{Place}
+use Rattle.capnp_layout.specs.declared.place.Place.{Place}
 use Rattle.capnp_wire.specs.declared.message_size.MessageSize.{MessageSize}
-use Rattle.capnp_wire.proofs.objects.ObjectLemmas.{one_tree}
+use Rattle.capnp_layout.proofs.objects.ObjectLemmas.{one_tree}
 use Rattle.capnp_wire.proofs.walks.StopLemmas.{stops_has_no_trees, one_stop}
 
 pub measures_nothing : (p : Pointer) → p.place ≡ None → Measures p 0

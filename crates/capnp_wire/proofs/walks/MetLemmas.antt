@@ -4,24 +4,25 @@ use Rattle.std.proofs.Common.{refl, sym, ◌∙◌, ap, subst, arith}
 use Rattle.std.specs.Prelude.{◌↔◌}
 use Rattle.capnp_frame.specs.declared.error.ErrorKind.{ErrorKind}
 use Rattle.capnp_frame.specs.declared.error.ErrorKind.TheVariants.{ReadLimitExceeded}
-use Rattle.capnp_wire.specs.Pointer.{pointer_kind, offset, words_of}
-use Rattle.capnp_wire.specs.Tree.{is_null}
-use Rattle.capnp_wire.specs.Object.{word_at}
-use Rattle.capnp_wire.specs.Traversed.{Within, Exceeds, less}
-use Rattle.capnp_wire.specs.Rows.{places_in, end_of}
-use Rattle.capnp_wire.specs.Faults.{NoWord, Fault, no_word}
-use Rattle.capnp_wire.specs.Layout.{minus_one}
-use Rattle.capnp_wire.specs.Landing.{IsObject, shape_of, words_in}
+use Rattle.capnp_layout.specs.Pointer.{pointer_kind, offset, words_of}
+use Rattle.capnp_layout.specs.Tree.{is_null}
+use Rattle.capnp_layout.specs.Object.{word_at}
+use Rattle.capnp_layout.specs.Traversed.{Within, Exceeds, less}
+use Rattle.capnp_layout.specs.Rows.{places_in, end_of}
+use Rattle.capnp_layout.specs.Faults.{NoWord, Fault, no_word}
+use Rattle.capnp_layout.specs.Layout.{minus_one}
+use Rattle.capnp_layout.specs.Landing.{IsObject, shape_of, words_in}
 use Rattle.capnp_wire.specs.Tested.{IsFarAt, LeadsTo, NextOf, PaddedOf, IsTruncated, links_at, IsLaidOut, MeetsObject, MeetsPointers, Ends, refused, at_pointer, over_limit}
-use Rattle.capnp_wire.specs.declared.layout.place.Place.{Place}
-use Rattle.capnp_wire.specs.declared.layout.pointer_slots.PointerSlots.{PointerSlots}
-use Rattle.capnp_wire.specs.declared.layout.object.Body.{Body}
-use Rattle.capnp_wire.specs.declared.layout.object.Body.TheVariants.{Struct, Numbers, Pointers, Structs}
-use Rattle.capnp_wire.specs.declared.layout.object.Object.{Object as ReadObject}
-use Rattle.capnp_wire.proofs.pointers.FaultLemmas.{no_word_there}
-use Rattle.capnp_wire.proofs.pointers.NextLemmas.{lead_start}
-use Rattle.capnp_wire.proofs.objects.ReadLocalLemmas.{ReadLocal, read_local, read_room, shape_as, laid_out_is}
-use Rattle.capnp_wire.proofs.objects.OwnWordLemmas.{own_words_are}
+use Rattle.capnp_layout.specs.declared.place.Place.{Place}
+use Rattle.capnp_layout.specs.declared.pointer_slots.PointerSlots.{PointerSlots}
+use Rattle.capnp_layout.specs.declared.object.Body.{Body}
+use Rattle.capnp_layout.specs.declared.object.Body.TheVariants.{Struct, Numbers, Pointers, Structs}
+use Rattle.capnp_layout.specs.declared.object.Object.{Object as ReadObject}
+use Rattle.capnp_layout.proofs.pointers.FaultLemmas.{no_word_there}
+use Rattle.capnp_layout.proofs.pointers.NextLemmas.{lead_start}
+use Rattle.capnp_layout.proofs.objects.ReadLocalLemmas.{ReadLocal, read_local, shape_as}
+use Rattle.capnp_wire.proofs.objects.ReadLocalLemmas.{read_room, laid_out_is}
+use Rattle.capnp_layout.proofs.objects.OwnWordLemmas.{own_words_are}
 
 body_some : (segment : List ℕ) (start : Place) (body : Body) → is_null (shape_of segment start body).form ≡ false
 body_some segment start (Struct size) = refl

@@ -1,15 +1,15 @@
 -- A walk comes to an object that has a run of pointers, and then goes over these.
 use Rattle.std.proofs.Common.{◌≡◌, ◌≢◌, Bool, ℕ, ◌+◌, ◌-◌, List, [], ◌∷◌, ◌++◌, length, slice_get, Option, refl, ◌∙◌, ap, arith, length-append}
 use Rattle.capnp_frame.specs.declared.error.ErrorKind.{ErrorKind}
-use Rattle.capnp_wire.specs.Object.{places}
-use Rattle.capnp_wire.specs.Local.{local_struct_of}
+use Rattle.capnp_layout.specs.Object.{places}
+use Rattle.capnp_layout.specs.Local.{local_struct_of}
 use Rattle.capnp_wire.specs.Traversed.{EntersObject, EntersRun, Walked, WalkedAll, WalkedTo}
-use Rattle.capnp_wire.specs.Faults.{StopsWalk}
-use Rattle.capnp_wire.specs.Rows.{places_in}
-use Rattle.capnp_wire.specs.declared.layout.place.Place.{Place}
-use Rattle.capnp_wire.specs.declared.layout.pointer_slots.PointerSlots.{PointerSlots}
-use Rattle.capnp_wire.specs.declared.layout.fast_path.LocalStruct.{LocalStruct}
-use Rattle.capnp_wire.specs.declared.layout.pointer_run.PointerRun.{PointerRun}
+use Rattle.capnp_layout.specs.Faults.{StopsWalk}
+use Rattle.capnp_layout.specs.Rows.{places_in}
+use Rattle.capnp_layout.specs.declared.place.Place.{Place}
+use Rattle.capnp_layout.specs.declared.pointer_slots.PointerSlots.{PointerSlots}
+use Rattle.capnp_layout.specs.declared.fast_path.LocalStruct.{LocalStruct}
+use Rattle.capnp_layout.specs.declared.pointer_run.PointerRun.{PointerRun}
 use Rattle.capnp_wire.proofs.walks.ProgressLemmas.{Progress, Going, entered, progress_front, progress_over, progress_next, progress_stops, walk_over, walk_stops_inside}
 
 -- a struct that is entered has its pointers

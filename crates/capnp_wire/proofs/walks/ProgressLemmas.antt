@@ -3,19 +3,22 @@ use Rattle.std.proofs.Common.{◌≡◌, ◌≢◌, arith, length, Bool, ℕ, �
 use Rattle.std.proofs.lemmas.List.{append-nil}
 use Rattle.capnp_frame.specs.declared.error.Error.{Error}
 use Rattle.capnp_frame.specs.declared.error.ErrorKind.{ErrorKind}
-use Rattle.capnp_wire.specs.Pointer.{words_of}
-use Rattle.capnp_wire.specs.Tree.{total_words}
-use Rattle.capnp_wire.specs.Object.{Shape, PointsTo, nothing}
-use Rattle.capnp_wire.specs.Landing.{shape_of, words_in}
-use Rattle.capnp_wire.specs.Traversed.{Within, CountsMore, EntersObject, Walked, WalkedAll, less, TreesWithRoom}
-use Rattle.capnp_wire.specs.Copy.{output_body_of}
-use Rattle.capnp_wire.specs.Faults.{StopsWalk, inside}
-use Rattle.capnp_wire.specs.Rows.{places_in, Takes}
-use Rattle.capnp_wire.specs.declared.layout.place.Place.{Place}
-use Rattle.capnp_wire.specs.declared.layout.pointer_slots.PointerSlots.{PointerSlots}
-use Rattle.capnp_wire.specs.declared.layout.object.Object.{Object as ReadObject}
-use Rattle.capnp_wire.proofs.trees.StandLemmas.{within_none, less_none, within_both, less_both, counts_none, counts_both}
-use Rattle.capnp_wire.proofs.trees.StoodLemmas.{OwnOf, own_output, stood_nowhere, stood_both, stood_over, stood_null, plain_stand}
+use Rattle.capnp_layout.specs.Pointer.{words_of}
+use Rattle.capnp_layout.specs.Tree.{total_words}
+use Rattle.capnp_layout.specs.Object.{Shape, PointsTo, nothing}
+use Rattle.capnp_layout.specs.Landing.{shape_of, words_in}
+use Rattle.capnp_layout.specs.Traversed.{Within, less}
+use Rattle.capnp_wire.specs.Traversed.{CountsMore, EntersObject, Walked, WalkedAll, TreesWithRoom}
+use Rattle.capnp_layout.specs.Output.{output_body_of}
+use Rattle.capnp_layout.specs.Faults.{StopsWalk, inside}
+use Rattle.capnp_layout.specs.Rows.{places_in, Takes}
+use Rattle.capnp_layout.specs.declared.place.Place.{Place}
+use Rattle.capnp_layout.specs.declared.pointer_slots.PointerSlots.{PointerSlots}
+use Rattle.capnp_layout.specs.declared.object.Object.{Object as ReadObject}
+use Rattle.capnp_layout.proofs.trees.StandLemmas.{within_none, less_none, within_both, less_both}
+use Rattle.capnp_wire.proofs.trees.StandLemmas.{counts_none, counts_both}
+use Rattle.capnp_layout.proofs.trees.StoodLemmas.{OwnOf, own_output}
+use Rattle.capnp_wire.proofs.trees.StoodLemmas.{stood_nowhere, stood_both, stood_over, stood_null, plain_stand}
 use Rattle.capnp_wire.proofs.walks.StopLemmas.{stops_more, stops_after}
 
 -- How far a walk over the pointers of an object has come: which are done, and what is left of the

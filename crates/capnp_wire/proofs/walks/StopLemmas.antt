@@ -2,16 +2,16 @@
 use Rattle.std.proofs.Common.{◌≡◌, ℕ, ◌+◌, ◌-◌, ◌<◌, ◌≤◌, max, Bool, true, false, if◌then◌else◌, List, [], ◌∷◌, ◌++◌, Option, Some, refl, sym, ◌∙◌, ap, subst, arith}
 use Rattle.capnp_frame.specs.declared.error.ErrorKind.{ErrorKind}
 use Rattle.capnp_frame.specs.declared.error.ErrorKind.TheVariants.{ReadLimitExceeded}
-use Rattle.capnp_wire.specs.Tree.{Trees, none, tree, depth, is_null, total_words}
-use Rattle.capnp_wire.specs.Object.{Shape, PointsTo, places, is_null as null_there, is_object}
-use Rattle.capnp_wire.specs.Reached.{At, nowhere, at}
-use Rattle.capnp_wire.specs.Traversed.{Within, Exceeds, less, TreesAt}
-use Rattle.capnp_wire.specs.Faults.{StopsWalk, at_pointer, over_limit, inside, later}
-use Rattle.capnp_wire.specs.declared.layout.place.Place.{Place}
-use Rattle.capnp_wire.proofs.objects.ObjectLemmas.{one_object, one_tree}
-use Rattle.capnp_wire.proofs.pointers.FaultLemmas.{invalid_pointer_has_no_object, not_null}
-use Rattle.capnp_wire.proofs.pointers.RefusalLemmas.{one_refusal}
-use Rattle.capnp_wire.proofs.trees.StandLemmas.{less_none, within_first, within_rest, less_both}
+use Rattle.capnp_layout.specs.Tree.{Trees, none, tree, depth, is_null, total_words}
+use Rattle.capnp_layout.specs.Object.{Shape, PointsTo, places, is_null as null_there, is_object}
+use Rattle.capnp_layout.specs.Reached.{At, nowhere, at}
+use Rattle.capnp_layout.specs.Traversed.{Within, Exceeds, less, TreesAt}
+use Rattle.capnp_layout.specs.Faults.{StopsWalk, at_pointer, over_limit, inside, later}
+use Rattle.capnp_layout.specs.declared.place.Place.{Place}
+use Rattle.capnp_layout.proofs.objects.ObjectLemmas.{one_object, one_tree}
+use Rattle.capnp_layout.proofs.pointers.FaultLemmas.{invalid_pointer_has_no_object, not_null}
+use Rattle.capnp_layout.proofs.pointers.RefusalLemmas.{one_refusal}
+use Rattle.capnp_layout.proofs.trees.StandLemmas.{less_none, within_first, within_rest, less_both}
 
 -- a walk that stops at the first of some places stops
 pub stops_more : (m : List (List ℕ)) (place : Place) (rest : List Place) (nesting : ℕ) (limit : Option ℕ) (kind : ErrorKind)

@@ -1,20 +1,20 @@
 -- The tests of a walk hold exactly where the words are those of a layout.
 use Rattle.std.proofs.Common.{◌≡◌, ℕ, ◌+◌, ◌-◌, ◌^◌, ◌<◌, ◌≤◌, List, [], ◌∷◌, ◌++◌, length, Some, slice_get, refl, sym, subst, arith, length-append}
-use Rattle.capnp_wire.specs.Pointer.{digits, number_of}
-use Rattle.capnp_wire.specs.Element.{width, words_for}
-use Rattle.capnp_wire.specs.Tree.{Form, null, struct, numbers, pointers, structs, Trees, none, tree, count, object_size, total_words}
-use Rattle.capnp_wire.specs.declared.layout.place.Place.{Place}
-use Rattle.capnp_wire.specs.Reached.{At}
-use Rattle.capnp_wire.specs.Layout.{pointer, slots, pointers_to, own, body, HasRoom, AllHaveRoom, Reaches, AllReach, placed}
+use Rattle.capnp_layout.specs.Pointer.{digits, number_of}
+use Rattle.capnp_layout.specs.Element.{width, words_for}
+use Rattle.capnp_layout.specs.Tree.{Form, null, struct, numbers, pointers, structs, Trees, none, tree, count, object_size, total_words}
+use Rattle.capnp_layout.specs.declared.place.Place.{Place}
+use Rattle.capnp_layout.specs.Reached.{At}
+use Rattle.capnp_layout.specs.Layout.{pointer, slots, pointers_to, own, body, HasRoom, AllHaveRoom, Reaches, AllReach, placed}
 use Rattle.capnp_wire.specs.Canonical.{Padded, IsInPreorder}
-use Rattle.capnp_wire.proofs.words.SubsliceLemmas.{Holds, holds_none, holds_words}
-use Rattle.capnp_wire.proofs.words.DigitLemmas.{length-digits}
-use Rattle.capnp_wire.proofs.pointers.SlotLemmas.{Linked}
-use Rattle.capnp_wire.proofs.layouts.SizeLemmas.{links_of, length-links, length-own_of, length-body, length-slots, slots_before, Before, before_more}
+use Rattle.capnp_layout.proofs.words.SubsliceLemmas.{Holds, holds_none, holds_words}
+use Rattle.capnp_layout.proofs.words.DigitLemmas.{length-digits}
+use Rattle.capnp_layout.proofs.pointers.SlotLemmas.{Linked}
+use Rattle.capnp_layout.proofs.layouts.SizeLemmas.{links_of, length-links, length-own_of, length-body, length-slots, slots_before, Before, before_more}
 use Rattle.capnp_wire.proofs.layouts.ExactLemmas.{Exactly, holds_join}
 use Rattle.capnp_wire.proofs.forms.PreorderLemmas.{at_parts, preorder_object}
-use Rattle.capnp_wire.proofs.trees.StandLemmas.{count_at}
-use Rattle.capnp_wire.proofs.layouts.LayoutLemmas.{first_read}
+use Rattle.capnp_layout.proofs.trees.StandLemmas.{count_at}
+use Rattle.capnp_layout.proofs.layouts.LayoutLemmas.{first_read}
 
 -- the pointers of some trees are in slots, and the trees' bodies from a word on
 pub record Laid (segment : List ℕ) (base : ℕ) (slots : List ℕ) (next : ℕ) (trees : Trees) : Type 0 where

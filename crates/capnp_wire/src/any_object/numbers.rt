@@ -1,10 +1,10 @@
 //! Readers of lists of numbers of any size.
 ghost use Rattle.std.specs.Prelude.{◌≡◌, ◌*◌, length};
-ghost use Rattle.capnp_wire.specs.Element.{code_of, width, words_for};
+ghost use Rattle.capnp_layout.specs.Element.{code_of, width, words_for};
 
-use crate::layout::element::ElementSize;
-use crate::layout::object::words_fit;
-use crate::layout::place::word;
+use capnp_layout::element_size::ElementSize;
+use capnp_layout::object::words_fit;
+use capnp_layout::place::word;
 
 /// A list of numbers, of bools or of `Void` in a message, whatever the size of its elements.
 #[derive(Drop)]

@@ -3,12 +3,12 @@ ghost use Rattle.std.specs.Prelude.{MatchResult};
 
 use crate::any_object::Numbers;
 use crate::any_struct::StructReader;
-use crate::layout::object::{Body, Object, words_fit};
 use crate::object_content::words_at;
 use crate::traits::FromPointerReader;
 use crate::{any_pointer, any_pointer_list, struct_list};
 use capnp_frame::Result;
 use capnp_frame::message::ReaderSegments;
+use capnp_layout::object::{Body, Object, words_fit};
 
 /// What a pointer leads to: null, or a view of the kind of object that is there. The object is
 /// counted once against the traversal limit. What its own pointers lead to is counted when they are

@@ -1,19 +1,19 @@
 //! Fast paths to what most pointers lead to.
 ghost use Rattle.std.specs.Prelude.{◌≡◌, ◌<◌, IfSome, Some};
-ghost use Rattle.capnp_wire.specs.Object.{message_of};
-ghost use Rattle.capnp_wire.specs.Landing.{IsObject};
-ghost use Rattle.capnp_wire.specs.Local.{object_of, local_struct_of};
+ghost use Rattle.capnp_layout.specs.Object.{message_of};
+ghost use Rattle.capnp_layout.specs.Landing.{IsObject};
+ghost use Rattle.capnp_layout.specs.Local.{object_of, local_struct_of};
 ghost use Rattle.capnp_wire.specs.Readers.{pointer_of, IsEntered};
-ghost use Rattle.capnp_wire.specs.declared.layout.place.Place.{Place};
+ghost use Rattle.capnp_layout.specs.declared.place.Place.{Place};
 
 use crate::any_pointer::Reader;
-use crate::layout::element::ElementSize;
-use crate::layout::fast_path::{LocalStruct, local_list, local_struct};
-use crate::layout::number_list::NumberList;
-use crate::layout::object::{Body, Object};
-use crate::layout::place::word;
 use crate::read_limiter::traversed;
 use capnp_frame::message::ReaderSegments;
+use capnp_layout::element_size::ElementSize;
+use capnp_layout::fast_path::{LocalStruct, local_list, local_struct};
+use capnp_layout::number_list::NumberList;
+use capnp_layout::object::{Body, Object};
+use capnp_layout::place::word;
 
 // Views of numbers and of structs ask here first. `None` says nothing about what is there; then
 // `enter` finds it.

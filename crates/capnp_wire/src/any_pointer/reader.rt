@@ -3,18 +3,18 @@ ghost use Rattle.std.specs.Prelude.{⊤, ◌≡◌, ◌≢◌, ◌↔◌, ◌⊎
 ghost use Rattle.std.specs.Result.{IsErrAnd};
 ghost use Rattle.capnp_frame.specs.declared.error.ErrorKind.{ErrorKind};
 ghost use Rattle.capnp_frame.specs.declared.error.ErrorKind.TheVariants.{ReadLimitExceeded};
-ghost use Rattle.capnp_wire.specs.Object.{nothing};
+ghost use Rattle.capnp_layout.specs.Object.{nothing};
 ghost use Rattle.capnp_wire.specs.Views.{Pointer, IsViewOf, Denotes, RejectsReading, IsInvalidPointer, MeetsLimit, Measures, RejectsMeasuring};
 ghost use Rattle.capnp_wire.specs.Readers.{pointer_of, unlimited_root, IsEntered};
 
-use crate::layout::object::{Object, object_at};
-use crate::layout::place::{Place, pointer_at};
 use crate::layout::walk::Walk;
 use crate::message_size::MessageSize;
 use crate::read_limiter::{ReadLimiter, limit_in_words, traversed};
 use crate::traits::FromPointerReader;
 use capnp_frame::message::ReaderSegments;
 use capnp_frame::{Error, ErrorKind, Result};
+use capnp_layout::object::{Object, object_at};
+use capnp_layout::place::{Place, pointer_at};
 
 /// A pointer of a message. A pointer past the last one of a struct is null.
 #[derive(Drop)]

@@ -2,13 +2,13 @@
 ghost use Rattle.std.specs.Prelude.{◌≡◌, ◌+◌, ◌^◌, ◌<◌, length, MatchResult};
 
 use crate::any_pointer;
-use crate::layout::object::words_fit;
-use crate::layout::place::Place;
 use crate::object_content::wrong_kind;
 use crate::read_limiter::ReadLimiter;
 use crate::traits::{FromPointerReader, IndexMove, ListIter};
 use capnp_frame::Result;
 use capnp_frame::message::ReaderSegments;
+use capnp_layout::object::words_fit;
+use capnp_layout::place::Place;
 
 /// A list of pointers in a message.
 #[derive(Drop)]

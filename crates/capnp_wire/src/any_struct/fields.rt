@@ -1,18 +1,18 @@
 //! Fields of structs by their width (encoding document, "Structs").
 ghost use Rattle.std.specs.Prelude.{◌≡◌, ◌↔◌, ◌^◌, ◌<◌, length, slice_index, bit_xor, IsTrue, Ok};
-ghost use Rattle.capnp_wire.specs.Element.{code_of, width};
+ghost use Rattle.capnp_layout.specs.Element.{code_of, width};
 ghost use Rattle.capnp_wire.specs.Fields.{field};
-ghost use Rattle.capnp_wire.specs.Object.{nothing};
+ghost use Rattle.capnp_layout.specs.Object.{nothing};
 ghost use Rattle.capnp_wire.specs.Readers.{struct_of};
 ghost use Rattle.capnp_wire.specs.Views.{Denotes, IsViewOf, pointer_in};
 
 use crate::any_struct::StructReader;
-use crate::layout::element::ElementSize;
-use crate::layout::object::words_fit;
 use crate::primitive_element::PrimitiveElement;
 use crate::traits::FromPointerReader;
 use capnp_frame::Result;
 use capnp_frame::message::ReaderSegments;
+use capnp_layout::element_size::ElementSize;
+use capnp_layout::object::words_fit;
 
 impl<'a, S: ReaderSegments> StructReader<'a, S> {
     /// A field of the data section, at an offset in units of its own width. Its bits are zero where

@@ -3,7 +3,7 @@
 ghost use Rattle.std.specs.Prelude.{◌≡◌};
 ghost use Rattle.capnp_wire.specs.Parts.{own_part};
 
-use crate::layout::element::ElementSize;
+use capnp_layout::element_size::ElementSize;
 
 /// Which part of a word is an element of a list of numbers.
 #[derive(Clone, Copy)]

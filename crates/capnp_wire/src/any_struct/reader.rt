@@ -1,19 +1,19 @@
 //! Readers of structs.
 ghost use Rattle.std.specs.Prelude.{◌≡◌, ◌≢◌, ◌+◌, ◌/◌, ◌≤◌, length, slice_index, None, MatchResult};
-ghost use Rattle.capnp_wire.specs.Pointer.{words_of};
-ghost use Rattle.capnp_wire.specs.Object.{message_of};
+ghost use Rattle.capnp_layout.specs.Pointer.{words_of};
+ghost use Rattle.capnp_layout.specs.Object.{message_of};
 ghost use Rattle.capnp_wire.specs.Values.{HoldsPointers};
 
 use crate::any_pointer;
 use crate::any_struct::part::{self, WordPart};
-use crate::layout::object::Object;
-use crate::layout::place::{Place, word};
-use crate::layout::pointer::StructSize;
 use crate::object_content::{by_value, wrong_kind};
 use crate::read_limiter::ReadLimiter;
 use crate::traits::FromPointerReader;
 use capnp_frame::Result;
 use capnp_frame::message::ReaderSegments;
+use capnp_layout::object::Object;
+use capnp_layout::place::{Place, word};
+use capnp_layout::pointer::StructSize;
 
 /// A struct in a message.
 #[derive(Drop)]

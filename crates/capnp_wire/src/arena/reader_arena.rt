@@ -3,21 +3,21 @@ ghost use Rattle.std.specs.Prelude.{◌≡◌, ◌≢◌, ◌↔◌, ◌<◌, �
 ghost use Rattle.std.specs.Result.{IsErrAnd};
 ghost use Rattle.capnp_frame.specs.Message.{size_in_words};
 ghost use Rattle.capnp_frame.specs.declared.error.ErrorKind.{ErrorKind};
-ghost use Rattle.capnp_wire.specs.Object.{message_of, word_at};
-ghost use Rattle.capnp_wire.specs.Tree.{Form, Trees, none, tree, depth};
-ghost use Rattle.capnp_wire.specs.Reached.{root, Root};
-ghost use Rattle.capnp_wire.specs.Traversed.{Within};
-ghost use Rattle.capnp_wire.specs.Faults.{NoWord, StopsWalk};
+ghost use Rattle.capnp_layout.specs.Object.{message_of, word_at};
+ghost use Rattle.capnp_layout.specs.Tree.{Form, Trees, none, tree, depth};
+ghost use Rattle.capnp_layout.specs.Reached.{root, Root};
+ghost use Rattle.capnp_layout.specs.Traversed.{Within};
+ghost use Rattle.capnp_layout.specs.Faults.{NoWord, StopsWalk};
 ghost use Rattle.capnp_wire.specs.Canonical.{IsCanonical};
 ghost use Rattle.capnp_wire.specs.Tested.{RejectsCanonicity};
 ghost use Rattle.capnp_wire.specs.Readers.{pointer_of, nesting_of};
 
 use crate::any_pointer;
 use crate::layout::canonical::is_canonical;
-use crate::layout::place::{Place, pointer_at};
 use crate::read_limiter::ReadLimiter;
 use capnp_frame::message::{ReaderOptions, ReaderSegments};
 use capnp_frame::{Error, ErrorKind, Result};
+use capnp_layout::place::{Place, pointer_at};
 
 /// The segments of a message, read in place, and what readers may read of them.
 #[derive(Drop)]

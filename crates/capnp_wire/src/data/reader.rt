@@ -1,16 +1,16 @@
 //! Readers of `Data`.
 ghost use Rattle.std.specs.Prelude.{◌+◌, ◌/◌, ◌≤◌, length, MatchResult};
-ghost use Rattle.capnp_wire.specs.Landing.{room_of};
+ghost use Rattle.capnp_layout.specs.Landing.{room_of};
 ghost use Rattle.capnp_wire.specs.Views.{IsViewOf, Accepts, Reads, Refuses, Declines, IsData, TakesNumbers, DeclinesNumbers};
 ghost use Rattle.capnp_wire.specs.Readers.{pointer_of, form_of};
 
 use crate::any_pointer;
-use crate::layout::element::ElementSize;
-use crate::layout::object::Object;
 use crate::object_content::{by_value, object_bytes};
 use crate::traits::FromPointerReader;
 use capnp_frame::Result;
 use capnp_frame::message::ReaderSegments;
+use capnp_layout::element_size::ElementSize;
+use capnp_layout::object::Object;
 
 /// The bytes of a `Data` in a message.
 pub type Reader<'a> = &'a [u8];

@@ -1,24 +1,24 @@
 //! Walks that test whether objects are laid out in canonical form.
 ghost use Rattle.std.specs.Prelude.{◌≡◌, ◌≢◌, ◌↔◌, ◌+◌, ◌/◌, ◌^◌, ◌<◌, ◌≤◌, ℕ, [], ◌∷◌, length, slice_get, Option, Some, IfOk, IfErr, IsTrue, true, false};
-ghost use Rattle.capnp_wire.specs.Pointer.{words_of, pointer_kind};
-ghost use Rattle.capnp_wire.specs.Object.{message_of};
-ghost use Rattle.capnp_wire.specs.Landing.{IsObject, shape_of, room_of, words_in};
+ghost use Rattle.capnp_layout.specs.Pointer.{words_of, pointer_kind};
+ghost use Rattle.capnp_layout.specs.Object.{message_of};
+ghost use Rattle.capnp_layout.specs.Landing.{IsObject, shape_of, room_of, words_in};
 ghost use Rattle.std.specs.Result.{IsErrAnd};
 ghost use Rattle.capnp_frame.specs.declared.error.ErrorKind.{ErrorKind};
-ghost use Rattle.capnp_wire.specs.Reached.{root};
+ghost use Rattle.capnp_layout.specs.Reached.{root};
 ghost use Rattle.capnp_wire.specs.Canonical.{IsCanonical};
-ghost use Rattle.capnp_wire.specs.Rows.{places_in, end_of};
+ghost use Rattle.capnp_layout.specs.Rows.{places_in, end_of};
 ghost use Rattle.capnp_wire.specs.Tested.{NextOf, PaddedOf, IsTruncated, links_at, PassesAt, MeetsAt, FailsAt, Ends, refused, not_canonical};
-ghost use Rattle.capnp_wire.specs.declared.layout.place.Place.{Place};
+ghost use Rattle.capnp_layout.specs.declared.place.Place.{Place};
 
 use crate::layout::canonical_rules::{body_has_zero_padding, is_next, is_truncated};
-use crate::layout::fast_path::{local_list, local_struct};
-use crate::layout::object::{Object, object_in};
-use crate::layout::place::{Place, existing_word, pointer_at};
-use crate::layout::pointer_slots::PointerSlots;
 use crate::layout::walk::Walk;
 use capnp_frame::Result;
 use capnp_frame::message::ReaderSegments;
+use capnp_layout::fast_path::{local_list, local_struct};
+use capnp_layout::object::{Object, object_in};
+use capnp_layout::place::{Place, existing_word, pointer_at};
+use capnp_layout::pointer_slots::PointerSlots;
 
 /// A walk over the objects of a message of one segment, and the first word after those that were
 /// tested.

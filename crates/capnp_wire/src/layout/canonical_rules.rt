@@ -1,17 +1,17 @@
 //! What the canonical form requires of an object alone: its place, its padding and its sizes.
 ghost use Rattle.std.specs.Prelude.{◌≢◌, ◌↔◌, ◌+◌, ◌*◌, ◌-◌, ◌/◌, ◌^◌, ◌<◌, ◌≤◌, ℕ, length, slice_index_or, IsTrue};
-ghost use Rattle.capnp_wire.specs.Pointer.{words_of, words_from};
-ghost use Rattle.capnp_wire.specs.Element.{code_of, width, words_for};
-ghost use Rattle.capnp_wire.specs.Object.{elements, rows_from, row_places};
-ghost use Rattle.capnp_wire.specs.Tree.{numbers};
-ghost use Rattle.capnp_wire.specs.Landing.{shape_of, room_of, words_in};
+ghost use Rattle.capnp_layout.specs.Pointer.{words_of, words_from};
+ghost use Rattle.capnp_layout.specs.Element.{code_of, width, words_for};
+ghost use Rattle.capnp_layout.specs.Object.{elements, rows_from, row_places};
+ghost use Rattle.capnp_layout.specs.Tree.{numbers};
+ghost use Rattle.capnp_layout.specs.Landing.{shape_of, room_of, words_in};
 ghost use Rattle.capnp_wire.specs.Canonical.{EndsFull, Padded};
 ghost use Rattle.capnp_wire.specs.Tested.{NextOf, PaddedOf, IsTruncated, NeedData, NeedPointers, links_at};
 
-use crate::layout::element::ElementSize;
-use crate::layout::object::{Body, Object};
-use crate::layout::place::word;
-use crate::layout::pointer::{Elements, Offset};
+use capnp_layout::element_size::ElementSize;
+use capnp_layout::object::{Body, Object};
+use capnp_layout::place::word;
+use capnp_layout::pointer::{Elements, Offset};
 
 /// Whether the pointer at a word leads to the next free word.
 #[inline(always)]

@@ -1,17 +1,17 @@
 //! Copies of objects, laid out one after the other in one block of words.
 ghost use Rattle.std.specs.Prelude.{◌≡◌, ◌-◌, ◌^◌, ◌<◌, ◌≤◌, [], ◌∷◌, length, slice_get, Some};
-ghost use Rattle.capnp_wire.specs.Pointer.{words_of};
-ghost use Rattle.capnp_wire.specs.Object.{message_of};
+ghost use Rattle.capnp_layout.specs.Pointer.{words_of};
+ghost use Rattle.capnp_layout.specs.Object.{message_of};
 ghost use Rattle.capnp_wire.specs.Copy.{CanCopy, Copies};
 
-use crate::layout::block::BlockItem;
 use crate::layout::copy_rows::{copy_pointers, copy_run};
-use crate::layout::fast_path::{
+use crate::layout::pending::{StructCopy, begin, begin_list, begin_struct, copy_list};
+use capnp_frame::message::ReaderSegments;
+use capnp_layout::block::BlockItem;
+use capnp_layout::fast_path::{
     has_fast_path, local_list, local_pointers, local_struct, null_or_empty_struct,
 };
-use crate::layout::pending::{StructCopy, begin, begin_list, begin_struct, copy_list};
-use crate::layout::place::{Place, word};
-use capnp_frame::message::ReaderSegments;
+use capnp_layout::place::{Place, word};
 
 /// The pointer word to a copy, and the first free word after it.
 #[derive(Clone, Copy)]

@@ -1,15 +1,16 @@
 //! The pointers of an object beside those of its copy.
 ghost use Rattle.std.specs.Prelude.{◌≡◌, ◌≢◌, ◌↔◌, ◌+◌, ◌*◌, ◌/◌, ◌^◌, ◌<◌, ◌≤◌, [], length, IsTrue};
-ghost use Rattle.capnp_wire.specs.Object.{places};
-ghost use Rattle.capnp_wire.specs.Landing.{room_of, words_in};
-ghost use Rattle.capnp_wire.specs.Layout.{run};
-ghost use Rattle.capnp_wire.specs.Rows.{row_size, kept_in, kept_places, row_slots, slots_of, places_in};
-ghost use Rattle.capnp_wire.specs.Copy.{IsNarrower, ArePaired, TakesPair};
+ghost use Rattle.capnp_layout.specs.Object.{places};
+ghost use Rattle.capnp_layout.specs.Landing.{room_of, words_in};
+ghost use Rattle.capnp_layout.specs.Layout.{run};
+ghost use Rattle.capnp_layout.specs.Rows.{row_size, kept_in, kept_places, row_slots, slots_of, places_in};
+ghost use Rattle.capnp_layout.specs.Output.{IsNarrower};
+ghost use Rattle.capnp_wire.specs.Copy.{ArePaired, TakesPair};
 
-use crate::layout::object::{Body, Object, words_fit};
-use crate::layout::place::Place;
-use crate::layout::pointer::{Elements, StructSize};
-use crate::layout::pointer_slots::PointerSlots;
+use capnp_layout::object::{Body, Object, words_fit};
+use capnp_layout::place::Place;
+use capnp_layout::pointer::{Elements, StructSize};
+use capnp_layout::pointer_slots::PointerSlots;
 
 /// Where a copy of an object's pointers is: at the next pointer that is left to copy, and at its
 /// slot, the word of the copy that the pointer there is put into.

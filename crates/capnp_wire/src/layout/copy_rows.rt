@@ -1,18 +1,19 @@
 //! Copies of what the pointers of an object lead to, row by row.
 ghost use Rattle.std.specs.Prelude.{◌≡◌, ◌≢◌, ◌+◌, ◌/◌, ◌^◌, ◌<◌, ◌≤◌, [], length, slice_get, Some};
-ghost use Rattle.capnp_wire.specs.Pointer.{words_of};
-ghost use Rattle.capnp_wire.specs.Object.{message_of, places};
-ghost use Rattle.capnp_wire.specs.Landing.{room_of, words_in};
-ghost use Rattle.capnp_wire.specs.Layout.{run};
-ghost use Rattle.capnp_wire.specs.Rows.{row_size, kept_in, slots_of, places_in, slots_in};
-ghost use Rattle.capnp_wire.specs.Copy.{CanCopy, CanCopyRows, CopiesAll, IsNarrower};
+ghost use Rattle.capnp_layout.specs.Pointer.{words_of};
+ghost use Rattle.capnp_layout.specs.Object.{message_of, places};
+ghost use Rattle.capnp_layout.specs.Landing.{room_of, words_in};
+ghost use Rattle.capnp_layout.specs.Layout.{run};
+ghost use Rattle.capnp_layout.specs.Rows.{row_size, kept_in, slots_of, places_in, slots_in};
+ghost use Rattle.capnp_wire.specs.Copy.{CanCopy, CanCopyRows, CopiesAll};
+ghost use Rattle.capnp_layout.specs.Output.{IsNarrower};
 
-use crate::layout::block::{BlockItem, put_word};
 use crate::layout::copy::copy_target;
 use crate::layout::copy_cursor::CopyCursor;
-use crate::layout::object::{Body, Object, words_fit};
-use crate::layout::place::Place;
 use capnp_frame::message::ReaderSegments;
+use capnp_layout::block::{BlockItem, put_word};
+use capnp_layout::object::{Body, Object, words_fit};
+use capnp_layout::place::Place;
 
 /// Copies what the pointers of an object lead to, one after the other, to the words after the
 /// object's own copy, which begins at the word `next`, and puts the pointers to these copies into

@@ -1,16 +1,17 @@
 //! The words of an object except for its pointers.
 ghost use Rattle.std.specs.Prelude.{◌≡◌, ◌+◌, ◌-◌, ◌*◌, ◌/◌, ◌^◌, ◌<◌, ◌≤◌, length};
-ghost use Rattle.capnp_wire.specs.Pointer.{words_of};
-ghost use Rattle.capnp_wire.specs.Object.{rows_from};
-ghost use Rattle.capnp_wire.specs.Landing.{room_of, words_in};
-ghost use Rattle.capnp_wire.specs.Block.{put_rows};
-ghost use Rattle.capnp_wire.specs.Copy.{put_own, element_count, IsNarrower};
+ghost use Rattle.capnp_layout.specs.Pointer.{words_of};
+ghost use Rattle.capnp_layout.specs.Object.{rows_from};
+ghost use Rattle.capnp_layout.specs.Landing.{room_of, words_in};
+ghost use Rattle.capnp_layout.specs.Block.{put_rows};
+ghost use Rattle.capnp_wire.specs.Copy.{put_own, element_count};
+ghost use Rattle.capnp_layout.specs.Output.{IsNarrower};
 
-use crate::layout::block::{BlockItem, put_elements, put_word, put_words};
-use crate::layout::number_list::NumberList;
-use crate::layout::object::{Body, Object};
-use crate::layout::pointer::Elements;
-use crate::pointer_word::struct_word;
+use capnp_layout::block::{BlockItem, put_elements, put_word, put_words};
+use capnp_layout::number_list::NumberList;
+use capnp_layout::object::{Body, Object};
+use capnp_layout::pointer::Elements;
+use capnp_layout::pointer_word::struct_word;
 
 /// Puts the words of a copy into a block, except for its pointers.
 #[inline(always)]

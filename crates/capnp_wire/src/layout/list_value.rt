@@ -1,24 +1,24 @@
 //! Lists of pointers that are read, as values: they are measured, and written into a block.
 ghost use Rattle.std.specs.Prelude.{◌≡◌, ◌+◌, ◌-◌, ◌^◌, ◌<◌, ◌≤◌, ℕ, Option, length, IfErr, MatchResult, OnOk};
-ghost use Rattle.capnp_wire.specs.Pointer.{words_of};
-ghost use Rattle.capnp_wire.specs.Tree.{pointers, Trees};
-ghost use Rattle.capnp_wire.specs.Object.{message_of, places};
+ghost use Rattle.capnp_layout.specs.Pointer.{words_of};
+ghost use Rattle.capnp_layout.specs.Tree.{pointers, Trees};
+ghost use Rattle.capnp_layout.specs.Object.{message_of, places};
 ghost use Rattle.capnp_wire.specs.Traversed.{counted, WalkedAll};
-ghost use Rattle.capnp_wire.specs.Faults.{StopsWalk};
-ghost use Rattle.capnp_wire.specs.Layout.{output};
+ghost use Rattle.capnp_layout.specs.Faults.{StopsWalk};
+ghost use Rattle.capnp_layout.specs.Layout.{output};
 ghost use Rattle.capnp_wire.specs.Copy.{IsCopied};
 ghost use Rattle.capnp_wire.specs.Values.{HasWords, LacksWords, HasRoomAt};
 ghost use Rattle.capnp_wire.specs.ListValues.{IsListTree, StopsInList, pointers_along};
 
 use crate::layout::copy::Copied;
 use crate::layout::copy_rows::copy_run;
-use crate::layout::place::{Place, segment};
-use crate::layout::pointer_slots::PointerSlots;
 use crate::layout::value::checked_word_count;
 use crate::layout::walk::Walk;
-use crate::pointer_word::list_word;
 use capnp_frame::Result;
 use capnp_frame::message::ReaderSegments;
+use capnp_layout::place::{Place, segment};
+use capnp_layout::pointer_slots::PointerSlots;
+use capnp_layout::pointer_word::list_word;
 
 /// The number of words of a list of pointers with all below it, without the pointer to it, as it is
 /// or in canonical form.

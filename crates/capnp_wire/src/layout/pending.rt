@@ -1,25 +1,25 @@
 //! Copies in progress: the words of an object are in the block, but not yet what its pointers lead
 //! to.
 ghost use Rattle.std.specs.Prelude.{◌≡◌, ◌+◌, ◌-◌, ◌^◌, ◌<◌, ◌≤◌, ◌/◌, Bool, ℕ, List, [], ◌∷◌, length, slice_get, Some, MatchOption};
-ghost use Rattle.capnp_wire.specs.Pointer.{words_of};
-ghost use Rattle.capnp_wire.specs.Object.{message_of};
-ghost use Rattle.capnp_wire.specs.Landing.{IsObject};
-ghost use Rattle.capnp_wire.specs.Local.{object_of, local_struct_of, pointers_of};
+ghost use Rattle.capnp_layout.specs.Pointer.{words_of};
+ghost use Rattle.capnp_layout.specs.Object.{message_of};
+ghost use Rattle.capnp_layout.specs.Landing.{IsObject};
+ghost use Rattle.capnp_layout.specs.Local.{object_of, local_struct_of, pointers_of};
 ghost use Rattle.capnp_wire.specs.Copy.{CanCopy, Copies, IsCopyable, BeginsObject, BeginsRun, BeginsStruct};
 ghost use Rattle.capnp_wire.specs.declared.layout.copy.Copied.{Copied};
 
-use crate::layout::block::{BlockItem, put_elements, put_words};
-use crate::layout::body_word::{pointer_word, struct_pointer_word};
 use crate::layout::copy::Copied;
 use crate::layout::data_words::put_data_words;
-use crate::layout::fast_path::LocalStruct;
-use crate::layout::number_list::NumberList;
-use crate::layout::object::{Body, Object, object_there};
-use crate::layout::output_size::output_body;
-use crate::layout::place::Place;
-use crate::layout::pointer_run::PointerRun;
-use crate::pointer_word::list_word;
 use capnp_frame::message::ReaderSegments;
+use capnp_layout::block::{BlockItem, put_elements, put_words};
+use capnp_layout::body_word::{pointer_word, struct_pointer_word};
+use capnp_layout::fast_path::LocalStruct;
+use capnp_layout::number_list::NumberList;
+use capnp_layout::object::{Body, Object, object_there};
+use capnp_layout::output_size::output_body;
+use capnp_layout::place::Place;
+use capnp_layout::pointer_run::PointerRun;
+use capnp_layout::pointer_word::list_word;
 
 /// An object whose copy is in progress, the body of the copy, and the pointer to it.
 #[derive(Drop)]

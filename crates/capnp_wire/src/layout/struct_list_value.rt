@@ -1,28 +1,29 @@
 //! Lists of structs that are read, as values: they are measured, and written into a block.
 ghost use Rattle.std.specs.Prelude.{◌≡◌, if◌then◌else◌, ◌+◌, ◌-◌, ◌*◌, ◌/◌, ◌^◌, ◌<◌, ◌≤◌, ℕ, Option, length, MatchResult};
-ghost use Rattle.capnp_wire.specs.Pointer.{words_of};
-ghost use Rattle.capnp_wire.specs.Tree.{Trees};
-ghost use Rattle.capnp_wire.specs.Object.{message_of};
-ghost use Rattle.capnp_wire.specs.Layout.{output};
-ghost use Rattle.capnp_wire.specs.Copy.{IsCopied, least_size};
+ghost use Rattle.capnp_layout.specs.Pointer.{words_of};
+ghost use Rattle.capnp_layout.specs.Tree.{Trees};
+ghost use Rattle.capnp_layout.specs.Object.{message_of};
+ghost use Rattle.capnp_layout.specs.Layout.{output};
+ghost use Rattle.capnp_wire.specs.Copy.{IsCopied};
+ghost use Rattle.capnp_layout.specs.Output.{least_size};
 ghost use Rattle.capnp_wire.specs.Values.{HasWords, LacksWords, HasRoomAt, HoldsPointers};
 ghost use Rattle.capnp_wire.specs.ListValues.{IsListTree, StopsInList, pointers_of_structs, structs_along};
 
-use crate::layout::block::put_word;
 use crate::layout::copy::Copied;
 use crate::layout::copy_cursor::CopyCursor;
 use crate::layout::copy_rows::copy_rows;
 use crate::layout::data_words::put_rows;
-use crate::layout::object::words_fit;
-use crate::layout::output_size::output_size;
-use crate::layout::place::Place;
-use crate::layout::pointer::Elements;
-use crate::layout::pointer_slots::PointerSlots;
 use crate::layout::value::checked_word_count;
 use crate::layout::walk::Walk;
-use crate::pointer_word::{list_word, struct_word};
 use capnp_frame::Result;
 use capnp_frame::message::ReaderSegments;
+use capnp_layout::block::put_word;
+use capnp_layout::object::words_fit;
+use capnp_layout::output_size::output_size;
+use capnp_layout::place::Place;
+use capnp_layout::pointer::Elements;
+use capnp_layout::pointer_slots::PointerSlots;
+use capnp_layout::pointer_word::{list_word, struct_word};
 
 /// The number of words of a list of structs with all below it, without the pointer to it, as it is
 /// or in canonical form. The elements begin at a place of a segment.

@@ -1,24 +1,24 @@
 //! Structs that are read, as values: they are measured, and written into a block.
 ghost use Rattle.std.specs.Prelude.{◌≡◌, ◌+◌, ◌-◌, ◌/◌, ◌^◌, ◌<◌, ◌≤◌, ℕ, Option, length, MatchResult};
-ghost use Rattle.capnp_wire.specs.Pointer.{words_of};
-ghost use Rattle.capnp_wire.specs.Tree.{Trees};
-ghost use Rattle.capnp_wire.specs.Object.{message_of};
-ghost use Rattle.capnp_wire.specs.Layout.{output};
+ghost use Rattle.capnp_layout.specs.Pointer.{words_of};
+ghost use Rattle.capnp_layout.specs.Tree.{Trees};
+ghost use Rattle.capnp_layout.specs.Object.{message_of};
+ghost use Rattle.capnp_layout.specs.Layout.{output};
 ghost use Rattle.capnp_wire.specs.Copy.{IsCopied};
 ghost use Rattle.capnp_wire.specs.Values.{HasWords, LacksWords, HasRoomAt, IsTreeOf, StopsInside, HoldsPointers, fields_at};
 
-use crate::layout::body_word::pointer_word;
 use crate::layout::copy::Copied;
 use crate::layout::copy_rows::copy_pointers;
 use crate::layout::data_words::put_data_words;
-use crate::layout::object::{Body, Object, words_fit};
-use crate::layout::output_size::output_body;
-use crate::layout::place::Place;
-use crate::layout::pointer::StructSize;
 use crate::layout::value::checked_word_count;
 use crate::layout::walk::Walk;
 use capnp_frame::Result;
 use capnp_frame::message::ReaderSegments;
+use capnp_layout::body_word::pointer_word;
+use capnp_layout::object::{Body, Object, words_fit};
+use capnp_layout::output_size::output_body;
+use capnp_layout::place::Place;
+use capnp_layout::pointer::StructSize;
 
 /// The number of words of a struct with all below it, without the pointer to it, as it is or in
 /// canonical form.

@@ -1,24 +1,24 @@
 //! Trees of a message as values that are measured; lists of bytes and of numbers, which are written
 //! as well.
 ghost use Rattle.std.specs.Prelude.{◌≡◌, ◌<◌, ◌≤◌, ◌+◌, ◌-◌, ◌++◌, ◌*◌, ◌/◌, ◌^◌, ℕ, All, [], ◌∷◌, length, min, MatchResult};
-ghost use Rattle.capnp_wire.specs.Pointer.{digits, number_of, words_of};
-ghost use Rattle.capnp_wire.specs.Element.{code_of, width, words_for};
-ghost use Rattle.capnp_wire.specs.Tree.{numbers, none, tree};
-ghost use Rattle.capnp_wire.specs.Object.{elements, message_of};
+ghost use Rattle.capnp_layout.specs.Pointer.{digits, number_of, words_of};
+ghost use Rattle.capnp_layout.specs.Element.{code_of, width, words_for};
+ghost use Rattle.capnp_layout.specs.Tree.{numbers, none, tree};
+ghost use Rattle.capnp_layout.specs.Object.{elements, message_of};
 ghost use Rattle.capnp_wire.specs.Traversed.{Counts};
-ghost use Rattle.capnp_wire.specs.Block.{put};
+ghost use Rattle.capnp_layout.specs.Block.{put};
 ghost use Rattle.capnp_wire.specs.Copy.{IsCopied};
 ghost use Rattle.capnp_wire.specs.Values.{Measured, RejectsTreeSize, too_large, ManyBytes, IsFreeFrom};
 
-use crate::layout::block::put_elements;
 use crate::layout::copy::Copied;
-use crate::layout::element::ElementSize;
-use crate::layout::number_list::NumberList;
-use crate::layout::place::Place;
 use crate::layout::walk::Walk;
-use crate::pointer_word::list_word;
 use capnp_frame::message::ReaderSegments;
 use capnp_frame::{Error, ErrorKind, Result};
+use capnp_layout::block::put_elements;
+use capnp_layout::element_size::ElementSize;
+use capnp_layout::number_list::NumberList;
+use capnp_layout::place::Place;
+use capnp_layout::pointer_word::list_word;
 
 /// The number of words of the tree at a place, without the pointer to it, as it is or in canonical
 /// form.

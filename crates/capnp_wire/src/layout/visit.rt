@@ -1,20 +1,20 @@
 //! What a walk does at one pointer, without going below.
 ghost use Rattle.std.specs.Prelude.{◌≡◌, ◌+◌, ◌/◌, ◌<◌, ◌≤◌, Bool, ℕ, List, [], ◌∷◌, length, slice_get, Some, IfErr, IfOk, OnOk, MatchOption, IsTrue};
-ghost use Rattle.capnp_wire.specs.Pointer.{words_of};
-ghost use Rattle.capnp_wire.specs.Object.{message_of};
-ghost use Rattle.capnp_wire.specs.Landing.{IsObject};
-ghost use Rattle.capnp_wire.specs.Local.{object_of, local_struct_of, pointers_of};
+ghost use Rattle.capnp_layout.specs.Pointer.{words_of};
+ghost use Rattle.capnp_layout.specs.Object.{message_of};
+ghost use Rattle.capnp_layout.specs.Landing.{IsObject};
+ghost use Rattle.capnp_layout.specs.Local.{object_of, local_struct_of, pointers_of};
 ghost use Rattle.capnp_wire.specs.Traversed.{counted, EntersObject, Walked};
-ghost use Rattle.capnp_wire.specs.Faults.{StopsWalk};
+ghost use Rattle.capnp_layout.specs.Faults.{StopsWalk};
 
-use crate::layout::fast_path::LocalStruct;
-use crate::layout::number_list::NumberList;
-use crate::layout::object::{Object, object_in};
-use crate::layout::place::Place;
-use crate::layout::pointer_run::PointerRun;
 use crate::layout::walk::Walk;
 use capnp_frame::Result;
 use capnp_frame::message::ReaderSegments;
+use capnp_layout::fast_path::LocalStruct;
+use capnp_layout::number_list::NumberList;
+use capnp_layout::object::{Object, object_in};
+use capnp_layout::place::Place;
+use capnp_layout::pointer_run::PointerRun;
 
 impl Walk {
     /// Enters the object that the pointer at a place of this segment leads to, and nothing below

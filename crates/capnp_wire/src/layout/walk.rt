@@ -1,24 +1,25 @@
 //! Walks over all objects that a pointer leads to.
 ghost use Rattle.std.specs.Prelude.{◌≡◌, ◌≢◌, ◌+◌, ◌-◌, ◌/◌, ◌^◌, ◌<◌, ◌≤◌, [], ◌∷◌, length, slice_get, Some, IfErr, IfOk, OnOk, MatchOption};
 ghost use Rattle.capnp_frame.specs.declared.error.ErrorKind.{ErrorKind};
-ghost use Rattle.capnp_wire.specs.Pointer.{words_of};
-ghost use Rattle.capnp_wire.specs.Object.{message_of, places};
-ghost use Rattle.capnp_wire.specs.Landing.{room_of, words_in};
-ghost use Rattle.capnp_wire.specs.Traversed.{counted, Within, Exceeds, CountsMore, Walked, WalkedAll, WalkedTo, less};
-ghost use Rattle.capnp_wire.specs.Faults.{StopsWalk};
-ghost use Rattle.capnp_wire.specs.Copy.{output_body_of};
-ghost use Rattle.capnp_wire.specs.Rows.{places_in};
+ghost use Rattle.capnp_layout.specs.Pointer.{words_of};
+ghost use Rattle.capnp_layout.specs.Object.{message_of, places};
+ghost use Rattle.capnp_layout.specs.Landing.{room_of, words_in};
+ghost use Rattle.capnp_wire.specs.Traversed.{counted, CountsMore, Walked, WalkedAll, WalkedTo};
+ghost use Rattle.capnp_layout.specs.Traversed.{Within, Exceeds, less};
+ghost use Rattle.capnp_layout.specs.Faults.{StopsWalk};
+ghost use Rattle.capnp_layout.specs.Output.{output_body_of};
+ghost use Rattle.capnp_layout.specs.Rows.{places_in};
 
-use crate::layout::fast_path::{
-    has_fast_path, local_list, local_pointers, local_struct, null_or_empty_struct,
-};
-use crate::layout::object::{Object, words_fit};
-use crate::layout::output_size::output_body;
-use crate::layout::place::{Place, segment, word};
-use crate::layout::pointer_run::PointerRun;
-use crate::layout::pointer_slots::PointerSlots;
 use capnp_frame::message::ReaderSegments;
 use capnp_frame::{Error, ErrorKind, Result};
+use capnp_layout::fast_path::{
+    has_fast_path, local_list, local_pointers, local_struct, null_or_empty_struct,
+};
+use capnp_layout::object::{Object, words_fit};
+use capnp_layout::output_size::output_body;
+use capnp_layout::place::{Place, segment, word};
+use capnp_layout::pointer_run::PointerRun;
+use capnp_layout::pointer_slots::PointerSlots;
 
 /// How many more words a walk may count against the traversal limit, and how many words the objects
 /// that it has entered have.

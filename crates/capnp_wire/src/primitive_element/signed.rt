@@ -2,7 +2,7 @@
 ghost use Rattle.std.specs.Int.{w8, w16, w32, w64, cast_signed, cast_unsigned};
 
 use super::PrimitiveElement;
-use crate::layout::element::ElementSize;
+use capnp_layout::element_size::ElementSize;
 
 impl PrimitiveElement for i8 {
     ghost code = { 2 };

@@ -1,6 +1,6 @@
 //! Unsigned numbers.
 use super::PrimitiveElement;
-use crate::layout::element::ElementSize;
+use capnp_layout::element_size::ElementSize;
 
 impl PrimitiveElement for u8 {
     ghost code = { 2 };

@@ -1,17 +1,17 @@
 //! Readers of lists of numbers.
 ghost use Rattle.std.specs.Prelude.{◌≡◌, ◌+◌, ◌*◌, ◌/◌, ◌<◌, ◌≤◌, length, slice_index, MatchResult};
-ghost use Rattle.capnp_wire.specs.Element.{code_of, width, words_for};
-ghost use Rattle.capnp_wire.specs.Landing.{room_of};
+ghost use Rattle.capnp_layout.specs.Element.{code_of, width, words_for};
+ghost use Rattle.capnp_layout.specs.Landing.{room_of};
 
 use crate::any_pointer;
-use crate::layout::number_list::NumberList;
-use crate::layout::object::{Object, words_fit};
-use crate::layout::place::{Place, word};
 use crate::object_content::{by_value, object_numbers};
 use crate::primitive_element::PrimitiveElement;
 use crate::traits::{FromPointerReader, IndexMove, ListIter};
 use capnp_frame::Result;
 use capnp_frame::message::ReaderSegments;
+use capnp_layout::number_list::NumberList;
+use capnp_layout::object::{Object, words_fit};
+use capnp_layout::place::{Place, word};
 use std::marker::PhantomData;
 
 /// A list of numbers, of bools or of `Void` in a message.

@@ -1,19 +1,19 @@
 //! Readers of lists of structs.
 ghost use Rattle.std.specs.Prelude.{◌≡◌, ◌+◌, ◌*◌, ◌/◌, ◌^◌, ◌<◌, ◌≤◌, length, MatchResult};
-ghost use Rattle.capnp_wire.specs.Pointer.{words_of};
-ghost use Rattle.capnp_wire.specs.Object.{message_of};
+ghost use Rattle.capnp_layout.specs.Pointer.{words_of};
+ghost use Rattle.capnp_layout.specs.Object.{message_of};
 ghost use Rattle.capnp_wire.specs.Values.{HoldsPointers};
 
 use crate::any_pointer;
 use crate::any_struct::StructReader;
-use crate::layout::object::{Object, words_fit};
-use crate::layout::place::Place;
-use crate::layout::pointer::{Elements, StructSize};
 use crate::object_content::wrong_kind;
 use crate::read_limiter::ReadLimiter;
 use crate::traits::{FromPointerReader, IndexMove, ListIter};
 use capnp_frame::Result;
 use capnp_frame::message::ReaderSegments;
+use capnp_layout::object::{Object, words_fit};
+use capnp_layout::place::Place;
+use capnp_layout::pointer::{Elements, StructSize};
 
 /// A list of structs in a message, all of one size.
 #[derive(Drop)]

@@ -1,17 +1,17 @@
 //! Readers of `Text`.
 ghost use Rattle.std.specs.Prelude.{◌≡◌, ◌↔◌, ◌+◌, ◌/◌, ◌≤◌, ◌++◌, ◌∷◌, [], ℕ, List, length, IsTrue, MatchResult, MatchOption};
 ghost use Rattle.std.specs.Str.{IsUtf8, IsValidUpTo, valid_up_to};
-ghost use Rattle.capnp_wire.specs.Landing.{room_of};
+ghost use Rattle.capnp_layout.specs.Landing.{room_of};
 ghost use Rattle.capnp_wire.specs.Views.{IsViewOf, Accepts, Reads, Refuses, Declines, IsText, TakesText, DeclinesText};
 ghost use Rattle.capnp_wire.specs.Readers.{pointer_of, form_of};
 
 use crate::any_pointer;
-use crate::layout::element::ElementSize;
-use crate::layout::object::Object;
 use crate::object_content::{by_value, object_bytes};
 use crate::traits::FromPointerReader;
 use capnp_frame::message::ReaderSegments;
 use capnp_frame::{Error, ErrorKind, Result};
+use capnp_layout::element_size::ElementSize;
+use capnp_layout::object::Object;
 use std::str::{Utf8Error, from_utf8};
 
 /// A `Text` in a message, by its bytes.

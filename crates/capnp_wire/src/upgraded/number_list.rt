@@ -1,19 +1,19 @@
 //! Lists that are read as lists of numbers.
 ghost use Rattle.std.specs.Prelude.{◌≡◌, ◌↔◌, ◌+◌, ◌*◌, ◌/◌, ◌<◌, ◌≤◌, length, slice_index, IsTrue, MatchResult};
-ghost use Rattle.capnp_wire.specs.Element.{code_of, width};
-ghost use Rattle.capnp_wire.specs.Landing.{room_of, words_in};
+ghost use Rattle.capnp_layout.specs.Element.{code_of, width};
+ghost use Rattle.capnp_layout.specs.Landing.{room_of, words_in};
 ghost use Rattle.capnp_wire.specs.UpgradedViews.{IsFirstField};
 
-use crate::layout::element::ElementSize;
-use crate::layout::object::{Object, words_fit};
-use crate::layout::place::word;
-use crate::layout::pointer::StructSize;
 use crate::object_content::{object_numbers, wrong_kind};
 use crate::primitive_element::PrimitiveElement;
 use crate::traits::{FromPointerReader, IndexMove, ListIter};
 use crate::{any_pointer, primitive_list};
 use capnp_frame::Result;
 use capnp_frame::message::ReaderSegments;
+use capnp_layout::element_size::ElementSize;
+use capnp_layout::object::{Object, words_fit};
+use capnp_layout::place::word;
+use capnp_layout::pointer::StructSize;
 use std::marker::PhantomData;
 
 /// A list of numbers in a message, or of structs whose first field is such a number.

@@ -1,21 +1,21 @@
 //! Lists that are read as lists of structs.
 ghost use Rattle.std.specs.Prelude.{◌≡◌, ◌+◌, ◌*◌, ◌/◌, ◌^◌, ◌<◌, ◌≤◌, length, MatchResult};
-ghost use Rattle.capnp_wire.specs.Element.{code_of, width, words_for};
-ghost use Rattle.capnp_wire.specs.declared.layout.object.Body.{Body};
+ghost use Rattle.capnp_layout.specs.Element.{code_of, width, words_for};
+ghost use Rattle.capnp_layout.specs.declared.object.Body.{Body};
 ghost use Rattle.capnp_wire.specs.UpgradedViews.{elements_without_data as elements_of};
 
 use crate::any_struct::StructReader;
 use crate::any_struct::part::WordPart;
-use crate::layout::element::ElementSize;
-use crate::layout::object::{Body, Object, words_fit};
-use crate::layout::place::Place;
-use crate::layout::pointer::{Elements, StructSize};
 use crate::object_content::{words_at, wrong_kind};
 use crate::read_limiter::ReadLimiter;
 use crate::traits::{FromPointerReader, IndexMove, ListIter};
 use crate::{any_pointer, struct_list};
 use capnp_frame::Result;
 use capnp_frame::message::ReaderSegments;
+use capnp_layout::element_size::ElementSize;
+use capnp_layout::object::{Body, Object, words_fit};
+use capnp_layout::place::Place;
+use capnp_layout::pointer::{Elements, StructSize};
 
 /// A list of structs, of numbers or of pointers in a message, read as a list of structs: a number
 /// is in the low bits of its struct's one data word, and a pointer is its struct's one pointer.

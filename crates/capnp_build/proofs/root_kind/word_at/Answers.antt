@@ -2,8 +2,8 @@
 use Rattle.std.proofs.Common.{◌≡◌, ℕ, ◌/◌, ◌<◌, ◌≤◌, length, nat_lt, false, Some, slice_get, slice_index_or, List, w64, sym, ◌∙◌, ap, arith}
 use Rattle.std.specs.Int.{from_le_bytes}
 use borrow.Author.Tests.{ltb-true, ltb-false}
-use Rattle.capnp_wire.specs.Pointer.{words_of}
-use Rattle.capnp_wire.proofs.words.WordLemmas.{word_of_chunk, no_word}
+use Rattle.capnp_layout.specs.Pointer.{words_of}
+use Rattle.capnp_layout.proofs.words.WordLemmas.{word_of_chunk, no_word}
 use Rattle.capnp_build.proofs.WordLemmas.{got_word, no_word_got}
 use Rattle.capnp_build.proofs.root_kind.word_at.Goals as goal
 

@@ -1,10 +1,10 @@
 -- A far pointer leads on by a landing pad of one word, or of two.
 use Rattle.std.proofs.Common.{◌≡◌, subst, arith}
-use Rattle.capnp_wire.specs.Pointer.{has_wide_landing_pad}
-use Rattle.capnp_wire.specs.Object.{message_of}
-use Rattle.capnp_wire.specs.Faults.{NoWord, bad_landing_pad, no_landing_pad}
-use Rattle.capnp_wire.specs.declared.layout.place.Place.{Place as ReadPlace}
-use Rattle.capnp_wire.proofs.pointers.LandingPadLemmas.{narrow_refused}
+use Rattle.capnp_layout.specs.Pointer.{has_wide_landing_pad}
+use Rattle.capnp_layout.specs.Object.{message_of}
+use Rattle.capnp_layout.specs.Faults.{NoWord, bad_landing_pad, no_landing_pad}
+use Rattle.capnp_layout.specs.declared.place.Place.{Place as ReadPlace}
+use Rattle.capnp_layout.proofs.pointers.LandingPadLemmas.{narrow_refused}
 use Rattle.capnp_show.specs.Objects.{IsFarTo}
 use Rattle.capnp_show.proofs.ObjectLemmas.{passed_on, then_refused, then_found}
 use Rattle.capnp_show.proofs.FarLemmas.{first_word, narrow_object, narrow_fault}

@@ -1,11 +1,11 @@
 -- The first word of a landing pad of two words says where the content is, the second what it is.
 use Rattle.std.proofs.Common.{◌≡◌, ℕ, None, slice_get, sym, ap, subst, arith}
 use Rattle.capnp_frame.specs.declared.error.ErrorKind.TheVariants.{InvalidSegmentId}
-use Rattle.capnp_wire.specs.Pointer.{landing_pad_segment}
-use Rattle.capnp_wire.specs.Object.{message_of}
-use Rattle.capnp_wire.specs.Faults.{NoWord, BadLandingPad, bad_landing_pad, not_far, no_content}
-use Rattle.capnp_wire.specs.declared.layout.place.Place.{Place as ReadPlace}
-use Rattle.capnp_wire.proofs.words.MessageLemmas.{no_segment_stands}
+use Rattle.capnp_layout.specs.Pointer.{landing_pad_segment}
+use Rattle.capnp_layout.specs.Object.{message_of}
+use Rattle.capnp_layout.specs.Faults.{NoWord, BadLandingPad, bad_landing_pad, not_far, no_content}
+use Rattle.capnp_layout.specs.declared.place.Place.{Place as ReadPlace}
+use Rattle.capnp_layout.proofs.words.MessageLemmas.{no_segment_stands}
 use Rattle.capnp_show.proofs.ObjectLemmas.{passed_on, then_refused, then_found}
 use Rattle.capnp_show.proofs.FarLemmas.{second_is, second_missing, first_of, tag_at, wide_is, wide_declined, wide_found, wide_fault}
 use Rattle.capnp_show.proofs.landing.wide_object.Goals as goal

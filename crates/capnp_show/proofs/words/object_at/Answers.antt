@@ -1,9 +1,9 @@
 -- What a pointer leads to, and each error on the way.
 use Rattle.std.proofs.Common.{◌≡◌, ◌<◌, arith}
-use Rattle.capnp_wire.specs.Pointer.{words_of, pointer_kind}
-use Rattle.capnp_wire.specs.Object.{message_of, following, local}
-use Rattle.capnp_wire.specs.Faults.{no_word, capability}
-use Rattle.capnp_wire.proofs.words.MessageLemmas.{segment_stands}
+use Rattle.capnp_layout.specs.Pointer.{words_of, pointer_kind}
+use Rattle.capnp_layout.specs.Object.{message_of, following, local}
+use Rattle.capnp_layout.specs.Faults.{no_word, capability}
+use Rattle.capnp_layout.proofs.words.MessageLemmas.{segment_stands}
 use Rattle.capnp_show.specs.Objects.{read_place}
 use Rattle.capnp_show.proofs.ObjectLemmas.{passed_on}
 use Rattle.capnp_show.proofs.FarLemmas.{segment_of, misses_fault, object_local}

@@ -1,8 +1,8 @@
 -- The elements of a list of structs are after its tag.
 use Rattle.std.proofs.Common.{◌*◌, ◌<◌, refl, arith}
-use Rattle.capnp_wire.specs.Pointer.{pointer_kind, offset}
-use Rattle.capnp_wire.proofs.pointers.LandingLemmas.{structs_misfit, odd_tag_misfits, many_elements_misfit}
-use Rattle.capnp_wire.proofs.words.WordLemmas.{length-words_of}
+use Rattle.capnp_layout.specs.Pointer.{pointer_kind, offset}
+use Rattle.capnp_layout.proofs.pointers.LandingLemmas.{structs_misfit, odd_tag_misfits, many_elements_misfit}
+use Rattle.capnp_layout.proofs.words.WordLemmas.{length-words_of}
 use Rattle.capnp_show.specs.Objects.{size_of}
 use Rattle.capnp_show.proofs.ObjectLemmas.{room_in, word_here, not_missing, elements_words, passed_on}
 use Rattle.capnp_show.proofs.words.structs_at.Goals as goal

@@ -2,10 +2,10 @@
 use Rattle.std.proofs.Common.{◌≡◌, ℕ, ◌/◌, ◌<◌, ◌≤◌, length, nat_lt, false, Some, slice_get, slice_index_or, List, w64, sym, ◌∙◌, ap, arith}
 use Rattle.std.specs.Int.{from_le_bytes}
 use borrow.Author.Tests.{ltb-true, ltb-false}
-use Rattle.capnp_wire.specs.Pointer.{words_of}
-use Rattle.capnp_wire.specs.Faults.{no_segment, past_segment}
-use Rattle.capnp_wire.proofs.words.WordLemmas.{word_of_chunk, no_word}
-use Rattle.capnp_wire.proofs.words.MessageLemmas.{segment_stands, no_segment_stands, word_stands}
+use Rattle.capnp_layout.specs.Pointer.{words_of}
+use Rattle.capnp_layout.specs.Faults.{no_segment, past_segment}
+use Rattle.capnp_layout.proofs.words.WordLemmas.{word_of_chunk, no_word}
+use Rattle.capnp_layout.proofs.words.MessageLemmas.{segment_stands, no_segment_stands, word_stands}
 use Rattle.capnp_show.specs.Objects.{read_place}
 use Rattle.capnp_show.proofs.words.word_at.Goals as goal
 

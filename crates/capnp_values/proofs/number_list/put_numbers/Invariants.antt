@@ -1,8 +1,8 @@
 -- The words so far are put.
 use Rattle.std.proofs.Common.{◌≡◌, ◌^◌, length, map, take}
-use Rattle.capnp_wire.specs.Pointer.{digits, number_of, words_of}
-use Rattle.capnp_wire.specs.Block.{put}
-use Rattle.capnp_wire.specs.Element.{width, words_for}
+use Rattle.capnp_layout.specs.Pointer.{digits, number_of, words_of}
+use Rattle.capnp_layout.specs.Block.{put}
+use Rattle.capnp_layout.specs.Element.{width, words_for}
 use Rattle.capnp_values.proofs.number_list.put_numbers.Given as goal
 
 abbrev pub invariant-loop-index : goal.invariant-loop-index

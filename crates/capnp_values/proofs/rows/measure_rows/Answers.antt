@@ -3,7 +3,7 @@ use Rattle.std.specs.Prelude.{All}
 use Rattle.std.proofs.Common.{rules, ◌<◌, ◌^◌, ◌≡◌, ◌*◌, ◌≤◌, ◌∙◌, [], ℕ, List, Err, Result, length, refl, subst, sym, ap, arith}
 use Rattle.std.proofs.Math.Nat.{mul-le-mul_left}
 use Rattle.capnp_frame.specs.declared.error.Error.{Error}
-use Rattle.capnp_wire.specs.Tree.{none}
+use Rattle.capnp_layout.specs.Tree.{none}
 use Rattle.capnp_values.specs.Structs.{kept_words}
 use Rattle.capnp_values.specs.StructLists.{reach_of, ReachesRows}
 use Rattle.capnp_values.specs.declared.rows.Reach.{Reach}

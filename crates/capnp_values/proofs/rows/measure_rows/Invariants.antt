@@ -1,6 +1,6 @@
 -- How far the structs so far reach.
 use Rattle.std.proofs.Common.{[]}
-use Rattle.capnp_wire.specs.Tree.{none}
+use Rattle.capnp_layout.specs.Tree.{none}
 use Rattle.capnp_values.specs.StructLists.{reach_of}
 use Rattle.capnp_values.proofs.RowMeasureLemmas.{RowsMeasured}
 use Rattle.capnp_values.proofs.rows.measure_rows.Given as goal

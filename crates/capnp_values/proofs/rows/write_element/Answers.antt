@@ -1,7 +1,7 @@
 -- A struct's data words, and the pointers that are kept of it.
 use Rattle.std.proofs.Common.{◌≡◌, ◌+◌, ◌≤◌, ℕ, List, length, take, subst, ap, arith, length-take}
-use Rattle.capnp_wire.specs.Pointer.{words_of}
-use Rattle.capnp_wire.specs.Block.{put}
+use Rattle.capnp_layout.specs.Pointer.{words_of}
+use Rattle.capnp_layout.specs.Block.{put}
 use Rattle.capnp_values.specs.Fields.{IsRowWritten}
 use Rattle.capnp_values.proofs.rows.write_element.Goals as goal
 

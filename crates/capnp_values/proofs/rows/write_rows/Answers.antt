@@ -1,9 +1,9 @@
 -- Each struct is written after those before it.
 use Rattle.std.proofs.Common.{◌+◌, ◌*◌, ℕ, List, length, take, refl, sym, ap, arith, subst}
-use Rattle.capnp_wire.specs.Pointer.{words_of}
-use Rattle.capnp_wire.specs.Block.{put}
+use Rattle.capnp_layout.specs.Pointer.{words_of}
+use Rattle.capnp_layout.specs.Block.{put}
 use Rattle.capnp_values.specs.Fields.{IsRowWritten}
-use Rattle.capnp_wire.proofs.words.WordLemmas.{length-words_of}
+use Rattle.capnp_layout.proofs.words.WordLemmas.{length-words_of}
 use Rattle.capnp_values.proofs.StructRowLemmas.{RowsWritten, writing_begins, row_room, writing_goes_on, writing_ends}
 use Rattle.capnp_values.proofs.SourceLemmas.{row_made, row_declared}
 use Rattle.capnp_values.proofs.rows.write_rows.Goals as goal

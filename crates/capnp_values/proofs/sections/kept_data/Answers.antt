@@ -1,6 +1,6 @@
 -- No more are kept than there are.
 use Rattle.std.proofs.Common.{arith}
-use Rattle.capnp_wire.proofs.words.CutLemmas.{length-cut}
+use Rattle.capnp_layout.proofs.words.CutLemmas.{length-cut}
 use Rattle.capnp_values.proofs.sections.kept_data.Goals as goal
 
 pub returns-then-canonical-clause-bound : goal.returns-then-canonical-clause-bound

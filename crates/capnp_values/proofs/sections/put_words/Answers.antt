@@ -1,7 +1,7 @@
 -- Each word is put after those before it.
 use Rattle.std.proofs.Common.{◌+◌, ◌-◌, ◌*◌, slice_index_or, refl, arith}
-use Rattle.capnp_wire.specs.Pointer.{words_of}
-use Rattle.capnp_wire.proofs.words.WordLemmas.{length-words_of}
+use Rattle.capnp_layout.specs.Pointer.{words_of}
+use Rattle.capnp_layout.proofs.words.WordLemmas.{length-words_of}
 use Rattle.capnp_values.proofs.SectionLemmas.{word_put, there_is, all_put}
 use Rattle.capnp_values.proofs.sections.put_words.Goals as goal
 

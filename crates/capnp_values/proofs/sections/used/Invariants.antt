@@ -1,7 +1,7 @@
 -- The words from here on are zero.
 use Rattle.std.proofs.Common.{◌≡◌, ◌≤◌, length}
-use Rattle.capnp_wire.specs.Pointer.{words_from}
-use Rattle.capnp_wire.specs.Trim.{cut_zeros}
+use Rattle.capnp_layout.specs.Pointer.{words_from}
+use Rattle.capnp_layout.specs.Trim.{cut_zeros}
 use Rattle.capnp_values.proofs.sections.used.Given as goal
 
 abbrev pub invariant-words : goal.invariant-words

@@ -1,7 +1,7 @@
 -- The data words, and then the pointers.
 use Rattle.std.proofs.Common.{◌+◌, ◌-◌, ◌*◌, ◌∙◌, ℕ, List, length, drop, refl, subst, arith, length-take, length-drop}
-use Rattle.capnp_wire.specs.Pointer.{words_of}
-use Rattle.capnp_wire.proofs.words.WordLemmas.{length-words_of}
+use Rattle.capnp_layout.specs.Pointer.{words_of}
+use Rattle.capnp_layout.proofs.words.WordLemmas.{length-words_of}
 use Rattle.capnp_values.specs.Fields.{CanWriteRow, IsRowWritten}
 use Rattle.capnp_values.proofs.SectionLemmas.{data_is_put}
 use Rattle.capnp_values.proofs.sections.write_sections.Goals as goal

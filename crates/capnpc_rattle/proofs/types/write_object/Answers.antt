@@ -5,7 +5,7 @@ use Rattle.capnp_wire.specs.Readers.{pointer_of}
 use Rattle.capnp_wire.specs.Tree.{Trees, total_words}
 use Rattle.capnp_wire.specs.Views.{Pointer}
 use Rattle.capnp_wire.specs.Values.{LeadsToTree}
-use Rattle.capnp_wire.proofs.words.WordLemmas.{length-words_of}
+use Rattle.capnp_layout.proofs.words.WordLemmas.{length-words_of}
 use Rattle.capnp_wire.proofs.layouts.FreeLemmas.{free_block, has_room, whole_written}
 use Rattle.capnp_wire.proofs.views.OneValueLemmas.{one_there}
 use Rattle.capnpc_rattle.proofs.types.write_object.Goals as goal

@@ -1,6 +1,6 @@
 -- A new object is one tree, which is measured.
 use Rattle.std.proofs.Common.{◌≡◌, ap, ◌∙◌, sym, Ok}
-use Rattle.capnp_wire.specs.Tree.{none, tree}
+use Rattle.capnp_layout.specs.Tree.{none, tree}
 use Rattle.capnp_wire.proofs.views.OneValueLemmas.{IsOne, measured_found, measured_exactly}
 use Rattle.capnp_build.specs.NewBody.{zero_form, words_of_body}
 use Rattle.capnp_build.specs.declared.object.NewBody.{NewBody}

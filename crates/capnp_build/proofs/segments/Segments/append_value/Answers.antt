@@ -2,10 +2,10 @@
 use Rattle.std.proofs.Common.{rules, ◌≡◌, length, w64, ap, sym, ◌∙◌, arith}
 use Rattle.std.specs.Int.{from_le_bytes}
 use Rattle.capnp_frame.specs.Words.{bytes_of}
-use Rattle.capnp_wire.specs.Tree.{count}
-use Rattle.capnp_wire.specs.Layout.{pointer}
+use Rattle.capnp_layout.specs.Tree.{count}
+use Rattle.capnp_layout.specs.Layout.{pointer}
 use Rattle.capnp_build.specs.BuilderState.{BuilderState}
-use Rattle.capnp_wire.proofs.words.WordLemmas.{number_of_eight}
+use Rattle.capnp_layout.proofs.words.WordLemmas.{number_of_eight}
 use Rattle.capnp_build.proofs.PointLemmas.{block_there, longer_by}
 use Rattle.capnp_build.proofs.ReadyLemmas.{ready}
 use Rattle.capnp_build.proofs.segments.Segments.append_value.Goals as goal

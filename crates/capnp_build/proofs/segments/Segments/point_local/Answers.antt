@@ -1,7 +1,7 @@
 -- The root's word leads to the body.
 use Rattle.std.proofs.Common.{length, w64, ap, sym, ◌∙◌, arith}
 use Rattle.std.specs.Int.{to_le_bytes}
-use Rattle.capnp_wire.specs.Tree.{count}
+use Rattle.capnp_layout.specs.Tree.{count}
 use Rattle.capnp_build.specs.BuilderState.{BuilderState}
 use Rattle.capnp_build.proofs.KeptLemmas.{kept_past}
 use Rattle.capnp_build.proofs.PointLemmas.{local_points, first_room, rewritten_by}

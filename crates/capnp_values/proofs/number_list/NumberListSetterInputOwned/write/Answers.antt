@@ -1,9 +1,9 @@
 -- The numbers, in just their words.
 use Rattle.std.proofs.Common.{◌≡◌, ◌+◌, ◌-◌, ◌*◌, ◌∙◌, ℕ, List, map, length, ap, sym, arith}
 use Rattle.std.proofs.lemmas.List.{length-map}
-use Rattle.capnp_wire.specs.Element.{width, words_for}
-use Rattle.capnp_wire.specs.Layout.{list_pointer}
-use Rattle.capnp_wire.proofs.words.WordLemmas.{length-words_of}
+use Rattle.capnp_layout.specs.Element.{width, words_for}
+use Rattle.capnp_layout.specs.Layout.{list_pointer}
+use Rattle.capnp_layout.proofs.words.WordLemmas.{length-words_of}
 use Rattle.capnp_wire.proofs.layouts.FreeLemmas.{numbers_copied, as_output, body_long}
 use Rattle.capnp_values.specs.NumberLists.{IsNumberList}
 use Rattle.capnp_values.proofs.NumberListLemmas.{list_fits, list_room, numbers_put, part_long}

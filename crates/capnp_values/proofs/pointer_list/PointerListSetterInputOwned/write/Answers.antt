@@ -1,8 +1,8 @@
 -- The pointers, and then what they lead to.
 use Rattle.std.proofs.Common.{◌+◌, ◌-◌, length, sym, arith}
-use Rattle.capnp_wire.specs.Pointer.{words_of}
+use Rattle.capnp_layout.specs.Pointer.{words_of}
 use Rattle.capnp_wire.proofs.layouts.FreeLemmas.{free_later}
-use Rattle.capnp_wire.proofs.layouts.SizeLemmas.{length-body}
+use Rattle.capnp_layout.proofs.layouts.SizeLemmas.{length-body}
 use Rattle.capnp_wire.proofs.layouts.OpenLemmas.{room_output}
 use Rattle.capnp_values.proofs.ItemLemmas.{items_settled}
 use Rattle.capnp_values.proofs.PointerListLemmas.{values_total, values_rooms, values_begin, list_copied}

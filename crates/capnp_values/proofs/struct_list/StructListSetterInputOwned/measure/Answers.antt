@@ -3,7 +3,7 @@ use Rattle.std.specs.Prelude.{MatchResult}
 use Rattle.std.proofs.Common.{rules, ◌≡◌, ℕ, Err, Result, inl, sym, subst}
 use Rattle.capnp_frame.specs.declared.error.Error.{Error}
 use Rattle.capnp_frame.specs.declared.error.ErrorKind.{ErrorKind}
-use Rattle.capnp_wire.specs.Tree.{Trees}
+use Rattle.capnp_layout.specs.Tree.{Trees}
 use Rattle.capnp_wire.specs.Values.{HasWords, LacksWords}
 use Rattle.capnp_values.specs.StructLists.{IsStructList, RefusesStructList}
 use Rattle.capnp_values.proofs.MeasuredLemmas.{whole_returned, whole_found, whole_exact}

@@ -3,7 +3,7 @@ use Rattle.std.specs.Prelude.{MatchResult}
 use Rattle.std.proofs.Common.{rules, ◌≡◌, Err, Result, false, inl, sym, subst}
 use Rattle.capnp_frame.specs.declared.error.Error.{Error}
 use Rattle.capnp_frame.specs.declared.error.ErrorKind.{ErrorKind}
-use Rattle.capnp_wire.specs.Tree.{Trees}
+use Rattle.capnp_layout.specs.Tree.{Trees}
 use Rattle.capnp_wire.specs.Values.{HasPart, LacksWords}
 use Rattle.capnp_wire.specs.declared.traits.PartWords.{PartWords}
 use Rattle.capnp_values.specs.StructLists.{IsStructList, RefusesStructList}

@@ -1,5 +1,5 @@
 -- The words of a list of pointers that is read, with all below it, are those of its tree.
-use Rattle.capnp_wire.specs.Tree.{pointers}
+use Rattle.capnp_layout.specs.Tree.{pointers}
 use Rattle.capnp_wire.specs.ListViews.{pointer_list_of}
 use Rattle.capnp_wire.specs.ListValues.{IsListTree, StopsInList}
 use Rattle.capnp_wire.proofs.views.OneValueLemmas.{measured_found, measured_exactly}

@@ -1,5 +1,5 @@
 -- What is written of a list of pointers is the body of its tree.
-use Rattle.capnp_wire.specs.Tree.{pointers}
+use Rattle.capnp_layout.specs.Tree.{pointers}
 use Rattle.capnp_wire.specs.Readers.{limit_of}
 use Rattle.capnp_wire.specs.ListViews.{pointer_list_of}
 use Rattle.capnp_wire.specs.ListValues.{IsListTree}

@@ -1,12 +1,12 @@
 -- The walk from the root, and whether it has passed all words.
 use Rattle.std.proofs.Common.{◌≡◌, ◌≤◌, ◌/◌, [], ◌∷◌, length, refl, sym, ◌∙◌, arith, false}
 use Rattle.std.proofs.lemmas.Bool.Decides.{nat_tests}
-use Rattle.capnp_wire.specs.Pointer.{words_of}
-use Rattle.capnp_wire.specs.Reached.{root}
-use Rattle.capnp_wire.proofs.words.WordLemmas.{length-words_of}
-use Rattle.capnp_wire.proofs.objects.ElementLemmas.{all_words_below}
+use Rattle.capnp_layout.specs.Pointer.{words_of}
+use Rattle.capnp_layout.specs.Reached.{root}
+use Rattle.capnp_layout.proofs.words.WordLemmas.{length-words_of}
+use Rattle.capnp_layout.proofs.objects.ElementLemmas.{all_words_below}
 use Rattle.capnp_frame.proofs.AskLemmas.{passed_on}
-use Rattle.capnp_wire.proofs.pointers.LandingPadLemmas.{passed_kind}
+use Rattle.capnp_layout.proofs.pointers.LandingPadLemmas.{passed_kind}
 use Rattle.capnp_wire.proofs.walks.MetLemmas.{no_word_ends}
 use Rattle.capnp_wire.proofs.walks.OneEndLemmas.{refused_passes, one_way_to_end, one_refusal_ends}
 use Rattle.capnp_wire.proofs.forms.CanonicalLemmas.{ended_is_not, whole_or_not, root_some}

@@ -1,11 +1,11 @@
 -- Each kind of object by its words.
 use Rattle.std.proofs.Common.{◌≡◌, ◌+◌, ℕ, List, length, sym, subst, arith}
-use Rattle.capnp_wire.specs.Pointer.{words_of, words_from}
-use Rattle.capnp_wire.specs.Object.{places, row_places, rows_from}
+use Rattle.capnp_layout.specs.Pointer.{words_of, words_from}
+use Rattle.capnp_layout.specs.Object.{places, row_places, rows_from}
 use Rattle.capnp_wire.specs.Canonical.{EndsFull}
 use Rattle.capnp_wire.specs.Tested.{links_at}
-use Rattle.capnp_wire.proofs.words.WordLemmas.{length-words_of}
-use Rattle.capnp_wire.proofs.trees.RoomLemmas.{length-rows_from}
+use Rattle.capnp_layout.proofs.words.WordLemmas.{length-words_of}
+use Rattle.capnp_layout.proofs.trees.RoomLemmas.{length-rows_from}
 use Rattle.capnp_wire.proofs.forms.TruncatedLemmas.{links_places}
 use Rattle.capnp_wire.proofs.layout.canonical_rules.is_truncated.Goals as goal
 

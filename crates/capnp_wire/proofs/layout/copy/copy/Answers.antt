@@ -1,8 +1,8 @@
 -- The pointer is in a segment, since a tree is at its place.
 use Rattle.std.proofs.Common.{sym}
-use Rattle.capnp_wire.specs.Faults.{no_word, no_segment}
-use Rattle.capnp_wire.proofs.words.MessageLemmas.{segment_stands, no_segment_stands}
-use Rattle.capnp_wire.proofs.layouts.CopiedLemmas.{fault_no_tree}
+use Rattle.capnp_layout.specs.Faults.{no_word, no_segment}
+use Rattle.capnp_layout.proofs.words.MessageLemmas.{segment_stands, no_segment_stands}
+use Rattle.capnp_layout.proofs.layouts.CopiedLemmas.{fault_no_tree}
 use Rattle.capnp_wire.proofs.layout.copy.copy.Goals as goal
 
 pub copy_target-requires-clause-content : goal.copy_target-requires-clause-content

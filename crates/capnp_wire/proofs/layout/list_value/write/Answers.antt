@@ -1,11 +1,11 @@
 -- A list of pointers has no other words, so what they lead to is all that is copied.
 use Rattle.std.proofs.Common.{◌-◌, ◌+◌, ℕ, sym, refl, ap, subst}
-use Rattle.capnp_wire.specs.Pointer.{words_of}
-use Rattle.capnp_wire.specs.Tree.{pointers, Trees}
-use Rattle.capnp_wire.specs.Object.{message_of, places}
-use Rattle.capnp_wire.specs.Layout.{run, output}
+use Rattle.capnp_layout.specs.Pointer.{words_of}
+use Rattle.capnp_layout.specs.Tree.{pointers, Trees}
+use Rattle.capnp_layout.specs.Object.{message_of, places}
+use Rattle.capnp_layout.specs.Layout.{run, output}
 use Rattle.capnp_wire.specs.Copy.{IsCopied}
-use Rattle.capnp_wire.proofs.words.MessageLemmas.{segment_stands, no_segment_stands}
+use Rattle.capnp_layout.proofs.words.MessageLemmas.{segment_stands, no_segment_stands}
 use Rattle.capnp_wire.proofs.layouts.CopyLemmas.{copies_none}
 use Rattle.capnp_wire.proofs.views.ListValueLemmas.{pointers_opened, pointers_copyable, pointers_written, no_pointers_there, same_list}
 use Rattle.capnp_wire.proofs.layout.list_value.write.Goals as goal

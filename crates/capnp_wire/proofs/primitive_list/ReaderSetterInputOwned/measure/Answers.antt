@@ -1,8 +1,8 @@
 -- The count of a list of numbers determines its words.
 use Rattle.std.proofs.Common.{ℕ, MatchResult, subst}
-use Rattle.capnp_wire.specs.Pointer.{words_of}
+use Rattle.capnp_layout.specs.Pointer.{words_of}
 use Rattle.capnp_wire.specs.NumberViews.{numbers_of}
-use Rattle.capnp_wire.specs.Object.{elements}
+use Rattle.capnp_layout.specs.Object.{elements}
 use Rattle.capnp_wire.specs.Values.{HasWords, LacksWords}
 use Rattle.capnp_wire.specs.ListValues.{IsNumbersTree, TooManyNumbers}
 use Rattle.capnp_wire.proofs.views.OneValueLemmas.{measured_found, measured_exactly}

@@ -1,8 +1,8 @@
 -- The bytes of the block are those of the root's tree.
 use Rattle.std.proofs.Common.{◌≡◌, ℕ, ◌*◌, ◌<◌, List, [], take, drop, Option, Some, slice_index_or, ap, sym, subst, ◌∙◌}
 use Rattle.std.specs.Option.{option_copied}
-use Rattle.capnp_wire.specs.Tree.{Form, null}
-use Rattle.capnp_wire.specs.Reached.{Root}
+use Rattle.capnp_layout.specs.Tree.{Form, null}
+use Rattle.capnp_layout.specs.Reached.{Root}
 use Rattle.capnp_build.specs.Bytes.{Space}
 use Rattle.capnp_build.specs.BuilderState.{space_at}
 use Rattle.capnp_build.specs.Built.{Built, message, HasNullRoot, IsBuilt}

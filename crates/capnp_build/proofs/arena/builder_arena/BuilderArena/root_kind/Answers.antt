@@ -3,9 +3,9 @@ use Rattle.std.proofs.Common.{◌≡◌, ℕ, List, Option, Some, subst, sym}
 use Rattle.capnp_build.specs.Bytes.{Space}
 use Rattle.capnp_build.specs.Built.{IsRootKind, message, HasNullRoot, Built, IsBuilt}
 use Rattle.capnp_build.specs.RootKind.{ShowsRoot}
-use Rattle.capnp_wire.specs.Tree.{Form, Trees, count}
-use Rattle.capnp_wire.specs.Reached.{Root}
-use Rattle.capnp_wire.specs.Layout.{pointer, HasRoom}
+use Rattle.capnp_layout.specs.Tree.{Form, Trees, count}
+use Rattle.capnp_layout.specs.Reached.{Root}
+use Rattle.capnp_layout.specs.Layout.{pointer, HasRoom}
 use Rattle.capnp_build.specs.declared.root_kind.RootKind.{RootKind}
 use Rattle.capnp_build.specs.declared.arena.location.RootLocation.{RootLocation}
 use Rattle.capnp_build.proofs.LaidLemmas.{laid_as}

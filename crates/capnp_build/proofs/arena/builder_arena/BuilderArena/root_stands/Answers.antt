@@ -2,8 +2,8 @@
 use Rattle.std.proofs.Common.{ℕ, ◌<◌, List, [], ◌∷◌, length, Option, Some, None, subst}
 use Rattle.capnp_build.specs.Bytes.{Space}
 use Rattle.capnp_build.specs.Built.{message, Built, IsBuilt}
-use Rattle.capnp_wire.specs.Tree.{Form, null, Trees, none, tree}
-use Rattle.capnp_wire.specs.Reached.{At, root}
+use Rattle.capnp_layout.specs.Tree.{Form, null, Trees, none, tree}
+use Rattle.capnp_layout.specs.Reached.{At, root}
 use Rattle.capnp_build.specs.declared.arena.location.RootLocation.{RootLocation}
 use Rattle.capnp_build.proofs.LaidLemmas.{laid_root}
 use Rattle.capnp_build.proofs.NullLemmas.{null_root}

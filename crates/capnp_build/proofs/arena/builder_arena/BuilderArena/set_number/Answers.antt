@@ -1,6 +1,6 @@
 -- A number of the list at the root is another one, and all else stays.
 use Rattle.std.proofs.Common.{◌+◌, ◌*◌, List, length, Option, Some, slice_set, ap, sym, subst, arith}
-use Rattle.capnp_wire.specs.Tree.{numbers, none}
+use Rattle.capnp_layout.specs.Tree.{numbers, none}
 use Rattle.capnp_build.specs.Bytes.{Space}
 use Rattle.capnp_build.specs.BuilderState.{BuilderState}
 use Rattle.capnp_build.specs.Built.{Built, HasNullRoot, IsBuilt}

@@ -4,7 +4,7 @@ use Rattle.capnp_build.specs.Bytes.{Space}
 use Rattle.capnp_build.specs.BuilderState.{BuilderState}
 use Rattle.capnp_build.specs.Built.{Built, HasNullRoot, IsBuilt}
 use Rattle.capnp_build.specs.Written.{IsWritten, HasField, IsFieldSet}
-use Rattle.capnp_wire.specs.Tree.{null, struct}
+use Rattle.capnp_layout.specs.Tree.{null, struct}
 use Rattle.capnp_build.specs.declared.arena.location.RootLocation.{RootLocation}
 use Rattle.capnp_build.proofs.FieldLemmas.{field_laid}
 use Rattle.capnp_build.proofs.NullLemmas.{null_only}

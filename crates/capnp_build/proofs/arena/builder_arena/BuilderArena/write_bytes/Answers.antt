@@ -1,7 +1,7 @@
 -- Some bytes of the list at the root are others, and all else stays.
 use Rattle.std.proofs.Common.{ℕ, ◌+◌, ◌*◌, List, length, Option, Some, ap, sym, subst, arith}
 use Rattle.std.specs.Option.{option_copied}
-use Rattle.capnp_wire.specs.Tree.{numbers, none}
+use Rattle.capnp_layout.specs.Tree.{numbers, none}
 use Rattle.capnp_build.specs.Bytes.{Space}
 use Rattle.capnp_build.specs.BuilderState.{BuilderState}
 use Rattle.capnp_build.specs.Built.{Built, HasNullRoot, IsBuilt}

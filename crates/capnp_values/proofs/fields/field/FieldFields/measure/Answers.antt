@@ -1,6 +1,6 @@
 -- A row reaches as far as its first value and what is after it.
 use Rattle.std.proofs.Common.{rules, ◌≡◌, ◌∙◌, refl, sym, ap, Ok, Err, inr, arith}
-use Rattle.capnp_wire.specs.Tree.{Trees, tree}
+use Rattle.capnp_layout.specs.Tree.{Trees, tree}
 use Rattle.capnp_wire.specs.declared.traits.PartWords.{PartWords}
 use Rattle.capnp_wire.proofs.views.PartWordLemmas.{as_is_words}
 use Rattle.capnp_values.specs.Fields.{RefusesRow, extent_of}

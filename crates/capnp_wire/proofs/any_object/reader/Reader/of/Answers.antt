@@ -1,9 +1,9 @@
 -- The view of each kind of object shows what it shows where one asks for this kind alone.
 use Rattle.std.proofs.Common.{◌≡◌, ℕ, List, refl, sym, subst}
-use Rattle.capnp_wire.specs.Pointer.{words_of}
-use Rattle.capnp_wire.specs.Element.{code_of}
-use Rattle.capnp_wire.specs.Tree.{numbers, structs}
-use Rattle.capnp_wire.specs.Object.{elements}
+use Rattle.capnp_layout.specs.Pointer.{words_of}
+use Rattle.capnp_layout.specs.Element.{code_of}
+use Rattle.capnp_layout.specs.Tree.{numbers, structs}
+use Rattle.capnp_layout.specs.Object.{elements}
 use Rattle.capnp_wire.specs.Views.{Accepts}
 use Rattle.capnp_wire.specs.Readers.{pointer_of}
 use Rattle.capnp_wire.specs.ListViews.{StructList, IsStructList, structs_in}

@@ -1,10 +1,10 @@
 -- A struct that the pointer leads to in its segment is in the message.
 use Rattle.std.proofs.Common.{◌≡◌, ◌<◌, ℕ, List, Option, Some, None, IfSome, sym}
-use Rattle.capnp_wire.specs.Landing.{IsObject}
-use Rattle.capnp_wire.specs.Local.{local_struct_of}
-use Rattle.capnp_wire.specs.declared.layout.place.Place.{Place}
-use Rattle.capnp_wire.specs.declared.layout.fast_path.LocalStruct.{LocalStruct}
-use Rattle.capnp_wire.proofs.words.MessageLemmas.{segment_stands}
+use Rattle.capnp_layout.specs.Landing.{IsObject}
+use Rattle.capnp_layout.specs.Local.{local_struct_of}
+use Rattle.capnp_layout.specs.declared.place.Place.{Place}
+use Rattle.capnp_layout.specs.declared.fast_path.LocalStruct.{LocalStruct}
+use Rattle.capnp_layout.proofs.words.MessageLemmas.{segment_stands}
 use Rattle.capnp_wire.proofs.any_pointer.reader.Reader.local_fields.Goals as goal
 
 stands : (m : List (List ℕ)) (place : Place) (at : Option Place) (nesting : ℕ) (found : Option LocalStruct) → at ≡ Some place

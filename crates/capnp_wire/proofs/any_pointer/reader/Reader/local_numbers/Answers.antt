@@ -1,10 +1,10 @@
 -- A list that the pointer leads to in its segment is in the message.
 use Rattle.std.proofs.Common.{◌≡◌, ◌<◌, ℕ, List, Option, Some, None, IfSome, sym}
-use Rattle.capnp_wire.specs.Landing.{IsObject}
-use Rattle.capnp_wire.specs.Local.{object_of}
-use Rattle.capnp_wire.specs.declared.layout.place.Place.{Place}
-use Rattle.capnp_wire.specs.declared.layout.number_list.NumberList.{NumberList}
-use Rattle.capnp_wire.proofs.words.MessageLemmas.{segment_stands}
+use Rattle.capnp_layout.specs.Landing.{IsObject}
+use Rattle.capnp_layout.specs.Local.{object_of}
+use Rattle.capnp_layout.specs.declared.place.Place.{Place}
+use Rattle.capnp_layout.specs.declared.number_list.NumberList.{NumberList}
+use Rattle.capnp_layout.proofs.words.MessageLemmas.{segment_stands}
 use Rattle.capnp_wire.proofs.any_pointer.reader.Reader.local_numbers.Goals as goal
 
 stands : (m : List (List ℕ)) (place : Place) (at : Option Place) (nesting : ℕ) (found : Option NumberList) → at ≡ Some place

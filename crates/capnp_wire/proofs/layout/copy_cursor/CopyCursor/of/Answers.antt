@@ -1,6 +1,6 @@
 -- The pointers that a copy keeps, and their slots.
 use Rattle.std.proofs.Common.{◌∙◌, ap, sym, length, arith}
-use Rattle.capnp_wire.specs.declared.layout.pointer_slots.RowSize.{RowSize}
+use Rattle.capnp_layout.specs.declared.pointer_slots.RowSize.{RowSize}
 use Rattle.capnp_wire.proofs.layouts.CopyLemmas.{paired}
 use Rattle.capnp_wire.proofs.layouts.CopiedLemmas.{fewer_pointers, as_many}
 use Rattle.capnp_wire.proofs.layout.copy_cursor.CopyCursor.of.Goals as goal

@@ -1,6 +1,6 @@
 -- A walk meets an object, and then goes over its pointers.
 use Rattle.std.proofs.Common.{◌∙◌, refl, arith}
-use Rattle.capnp_wire.specs.Rows.{places_in}
+use Rattle.capnp_layout.specs.Rows.{places_in}
 use Rattle.capnp_wire.specs.Traversed.{counted}
 use Rattle.capnp_wire.proofs.pointers.EmptyStructLemmas.{null_or_empty_walked}
 use Rattle.capnp_frame.proofs.AskLemmas.{passed_on}

@@ -1,8 +1,8 @@
 -- How far a walk over the pointers of an object has come.
 use Rattle.std.proofs.Common.{◌+◌, ◌-◌, ◌*◌, length}
-use Rattle.capnp_wire.specs.Pointer.{words_of}
-use Rattle.capnp_wire.specs.Object.{message_of}
-use Rattle.capnp_wire.specs.Rows.{places_in}
+use Rattle.capnp_layout.specs.Pointer.{words_of}
+use Rattle.capnp_layout.specs.Object.{message_of}
+use Rattle.capnp_layout.specs.Rows.{places_in}
 use Rattle.capnp_wire.specs.Traversed.{counted}
 use Rattle.capnp_wire.proofs.walks.ProgressLemmas.{Going}
 use Rattle.capnp_wire.proofs.layout.walk.Walk.+walk.Given as goal

@@ -1,9 +1,9 @@
 -- The numbers are those of a list of numbers of this size.
 use Rattle.std.proofs.Common.{◌≡◌, ℕ, refl, sym, subst}
 use Rattle.std.proofs.lemmas.Result.{err_from_is_err_and}
-use Rattle.capnp_wire.specs.Pointer.{words_of}
-use Rattle.capnp_wire.specs.Tree.{numbers}
-use Rattle.capnp_wire.specs.Object.{elements}
+use Rattle.capnp_layout.specs.Pointer.{words_of}
+use Rattle.capnp_layout.specs.Tree.{numbers}
+use Rattle.capnp_layout.specs.Object.{elements}
 use Rattle.capnp_wire.specs.Views.{DeclinesNumbers}
 use Rattle.capnp_wire.specs.NumberViews.{IsNumbers}
 use Rattle.capnp_wire.specs.Readers.{form_of}

@@ -1,7 +1,7 @@
 -- The pointers are those of the object, or the first ones of its structs.
 use Rattle.std.proofs.Common.{◌≡◌, ◌<◌, ℕ, refl, sym, ◌∙◌, ap, arith}
 use Rattle.capnp_wire.specs.Readers.{pointer_of}
-use Rattle.capnp_wire.specs.declared.layout.pointer.Elements.{Elements}
+use Rattle.capnp_layout.specs.declared.pointer.Elements.{Elements}
 use Rattle.capnp_wire.proofs.views.UpgradedPointerLemmas.{pointers_read, first_pointers_read, no_first_pointers}
 use Rattle.capnp_wire.proofs.upgraded.pointer_list.PointerList.of.Goals as goal
 

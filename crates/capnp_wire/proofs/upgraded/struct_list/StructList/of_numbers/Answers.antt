@@ -1,13 +1,13 @@
 -- Numbers are read as structs, unless they are bits.
 use Rattle.std.proofs.Common.{◌≡◌, ℕ, [], map, ap, ◌∙◌, sym, arith}
-use Rattle.capnp_wire.specs.Element.{code_of, width}
-use Rattle.capnp_wire.specs.Pointer.{words_of}
-use Rattle.capnp_wire.specs.Object.{elements}
+use Rattle.capnp_layout.specs.Element.{code_of, width}
+use Rattle.capnp_layout.specs.Pointer.{words_of}
+use Rattle.capnp_layout.specs.Object.{elements}
 use Rattle.capnp_wire.specs.Readers.{pointer_of}
 use Rattle.capnp_wire.specs.ListViews.{StructList}
 use Rattle.capnp_wire.specs.UpgradedViews.{number_row}
-use Rattle.capnp_wire.specs.declared.layout.element.ElementSize.{ElementSize}
-use Rattle.capnp_wire.specs.declared.layout.object.Body.TheVariants.{Numbers}
+use Rattle.capnp_layout.specs.declared.element_size.ElementSize.{ElementSize}
+use Rattle.capnp_layout.specs.declared.object.Body.TheVariants.{Numbers}
 use Rattle.capnp_wire.proofs.views.UpgradedRowLemmas.{nothings_upgraded, numbers_upgraded, bits_declined, one_bit, no_bit, other_than_bits}
 use Rattle.capnp_wire.proofs.views.ListViewLemmas.{few_numbers}
 use Rattle.capnp_wire.proofs.upgraded.struct_list.StructList.of_numbers.Goals as goal

@@ -1,0 +1,9 @@
+-- The words so far are those of the chunks so far.
+use Rattle.std.proofs.Common.{◌≡◌, map, take}
+use Rattle.capnp_layout.specs.Pointer.{number_of}
+use Rattle.capnp_layout.specs.Block.{put, numbers_of}
+use Rattle.capnp_layout.proofs.block.WordBlockItem.put_bytes.Given as goal
+
+abbrev pub invariant-loop-index : goal.invariant-loop-index
+invariant-loop-index l =
+    (numbers_of l.block ≡ put l.at (map (number_of 256) (take l.index l.chunks)) (numbers_of l.fn.block))

@@ -1,0 +1,10 @@
+-- The most words of the parts so far, and the parts that are left.
+use Rattle.std.proofs.Common.{◌≡◌, ◌≤◌, ◌+◌, ◌-◌, ◌*◌, ◌/◌, max, length}
+use Rattle.capnp_layout.specs.Pointer.{words_of}
+use Rattle.capnp_layout.specs.Block.{most_used}
+use Rattle.capnp_layout.proofs.block.most_used.Given as goal
+
+abbrev pub invariant-rows : goal.invariant-rows
+invariant-rows l =
+    (max l.most (most_used (words_of l.segment) l.row l.count l.step (l.rows - l._row)) ≡ most_used (words_of l.segment) l.fn.start l.count l.step l.rows)
+    × (l.row + (l.rows - l._row) * l.step ≤ length l.segment / 8 + (l.step - l.count)) × (l.most ≤ l.count)

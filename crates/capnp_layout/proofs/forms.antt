@@ -1,0 +1,3 @@
+-- Canonical forms.
+pub mod PreorderLemmas
+pub mod TruncatedLemmas

@@ -1,0 +1,57 @@
+-- A far pointer leads on through a landing pad of one word, or of two.
+use Rattle.std.proofs.Common.{◌≡◌, ℕ, Some, sym, subst}
+use Rattle.capnp_layout.specs.PointerWord.{IsFarPointer}
+use Rattle.capnp_layout.specs.Landing.{HasWideLandingPad}
+use Rattle.capnp_layout.specs.Object.{message_of, word_at, landing_pad}
+use Rattle.capnp_layout.specs.Faults.{BadLandingPad, no_tag}
+use Rattle.capnp_frame.proofs.AskLemmas.{passed_on}
+use Rattle.capnp_layout.proofs.pointers.LandingPadLemmas.{not_is_true, not_is_false, narrow_landing, landing_pad_word, no_second_word, no_landing_pad_segment, no_landing_pad_word, narrow_refused, is_narrow}
+use Rattle.capnp_layout.proofs.pointers.LandingPadLemmas.{is_double_far, wide_landing_pad, wide_found, wide_declined}
+use Rattle.capnp_layout.proofs.landing_pad.resolve_far.Given as given
+use Rattle.capnp_layout.proofs.landing_pad.resolve_far.Goals as goal
+use Rattle.capnp_layout.proofs.landing_pad.resolve_far.Goals.{In_ok-first, In_ok-tag}
+
+-- the landing pad's first word is in the message
+first_there : (g : given.Over) (c : In_ok-first g) (word : ℕ) → IsFarPointer word c.args.far → word_at (message_of (g.S.ReaderSegments.segments c.args.segments.now))
+    (landing_pad word) ≡ Some c.in_ok-first.first
+first_there g c word far_is = landing_pad_word _ word c.args.far _ c.in_ok-first.first far_is c.in_ok-landing_pad.ensures c.in_ok-first.ensures.0
+
+pub returns-in_err-landing_pad-clause-refused : goal.returns-in_err-landing_pad-clause-refused
+returns-in_err-landing_pad-clause-refused g c =
+    passed_on _ _ c.from_residual.ensures.1 (λ word far_is. no_landing_pad_segment _ word c.args.far _ far_is c.in_err-landing_pad.ensures.0 c.in_err-landing_pad.ensures.1)
+
+pub returns-in_err-first-clause-refused : goal.returns-in_err-first-clause-refused
+returns-in_err-first-clause-refused g c =
+    passed_on _ _ c.from_residual-in_err-first.ensures.1 (λ word far_is. no_landing_pad_word _ word c.args.far _ _ far_is c.in_ok-landing_pad.ensures c.in_err-first.ensures.0 c.in_err-first.ensures.1)
+
+pub returns-in_err-local-clause-refused : goal.returns-in_err-local-clause-refused
+returns-in_err-local-clause-refused g c =
+    passed_on _ _ c.from_residual-in_err-local.ensures.1 (λ word far_is.
+    narrow_refused _ word c.in_ok-first.first _ (is_narrow word c.args.far far_is (not_is_true c.args.far.is_double_far c.if-not-far.true))
+    (first_there g (goal.at.returns-in_err-local-clause-refused g c).In_ok-first word far_is) c.in_err-local.ensures.refused)
+
+pub returns-then-not-far-clause-found : goal.returns-then-not-far-clause-found
+returns-then-not-far-clause-found g c = λ place word there far_is.
+    let landed = c.resolve_local.ensures in
+    narrow_landing _ place word c.args.far _ c.in_ok-first.first c.in_ok-local.local c.resolve_local.result there far_is (not_is_true c.args.far.is_double_far c.if-not-far.true)
+    c.in_ok-landing_pad.ensures c.in_ok-first.ensures.0 c.in_ok-local.ensures.found
+    (record { segment = landed.segment; number = landed.number; shape = landed.shape; landing_pads_are = landed.landing_pads; start = landed.start })
+
+pub returns-in_err-tag-clause-refused : goal.returns-in_err-tag-clause-refused
+returns-in_err-tag-clause-refused g c =
+    passed_on _ _ c.from_residual-in_err-tag.ensures.1 (λ word far_is. subst (BadLandingPad _ word) (sym c.in_err-tag.ensures.1)
+    (no_tag (is_double_far word c.args.far far_is (not_is_false c.args.far.is_double_far c.if-not-far.false))
+    (first_there g (goal.at.returns-in_err-tag-clause-refused g c).In_ok-first word far_is)
+    (no_second_word _ word c.args.far _ far_is c.in_ok-landing_pad.ensures c.in_err-tag.ensures.0)))
+
+-- the landing pad has two words
+both_there : (g : given.Over) (c : In_ok-tag g) (word : ℕ) → IsFarPointer word c.args.far
+    → HasWideLandingPad (message_of (g.S.ReaderSegments.segments c.args.segments.now)) word c.in_ok-first.first c.in_ok-tag.tag
+both_there g c word far_is =
+    wide_landing_pad _ word c.args.far far_is (not_is_false c.args.far.is_double_far c.if-not-far.false) c.in_ok-landing_pad.ensures c.in_ok-first.ensures.0 c.in_ok-tag.ensures.0
+
+pub returns-clause-found : goal.returns-clause-found
+returns-clause-found g c = wide_found c.resolve_double_far.result (both_there g (goal.at.returns-clause-found g c).In_ok-tag) c.resolve_double_far.ensures.found
+
+pub returns-clause-refused : goal.returns-clause-refused
+returns-clause-refused g c = wide_declined c.resolve_double_far.result (both_there g (goal.at.returns-clause-refused g c).In_ok-tag) c.resolve_double_far.ensures.refused

@@ -1,0 +1,8 @@
+-- The pointers of an object are all those of its shape.
+use Rattle.std.proofs.Common.{◌∙◌}
+use Rattle.capnp_layout.specs.Pointer.{words_of}
+use Rattle.capnp_layout.proofs.pointers.PointerSlotLemmas.{kept_children}
+use Rattle.capnp_layout.proofs.object.Object.pointers.Goals as goal
+
+pub returns-clause-places : goal.returns-clause-places
+returns-clause-places c = rw c.row_size.ensures at c.of.ensures.places ∙ kept_children (words_of c.args.self.now.segment.now) c.args.self.now.start c.args.self.now.body

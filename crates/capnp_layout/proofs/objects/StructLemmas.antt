@@ -1,0 +1,22 @@
+-- Structs that are read, as values.
+use Rattle.std.proofs.Common.{ℕ, ◌+◌, ◌<◌, ◌^◌, List, drop}
+use Rattle.std.proofs.Common.{arith, length-take}
+use Rattle.std.specs.Prelude.{All}
+use Rattle.capnp_layout.specs.Pointer.{words_from}
+use Rattle.capnp_layout.specs.Tree.{struct, Trees, count}
+use Rattle.capnp_layout.specs.Object.{places}
+use Rattle.capnp_layout.specs.Reached.{At}
+use Rattle.capnp_layout.specs.Layout.{HasRoom}
+use Rattle.capnp_layout.specs.declared.place.Place.{Place}
+use Rattle.capnp_layout.specs.declared.pointer.StructSize.{StructSize}
+use Rattle.capnp_layout.proofs.objects.FieldLemmas.{length-places}
+use Rattle.capnp_layout.proofs.trees.StandLemmas.{count_at}
+use Rattle.capnp_layout.proofs.trees.RoomLemmas.{words_below}
+
+pub struct_room : (m : List (List ℕ)) (words : List ℕ) (start : Place) (size : StructSize) (children : Trees) (inside : ℕ) → size.data_words < 2 ^ 16 → size.pointers < 2 ^ 16 → All (λ w. w < 2 ^ 64) words
+    → At m (places start.segment (start.word + size.data_words) size.pointers) children inside → HasRoom (struct (words_from words start.word size.data_words)) (count children)
+struct_room m words start size children inside d p all stand = (
+  omega (arith, length-take size.data_words (drop start.word words)),
+  omega (arith, count_at m (places start.segment (start.word + size.data_words) size.pointers) children inside stand, length-places start.segment (start.word + size.data_words) size.pointers),
+  words_below words start.word size.data_words all,
+)

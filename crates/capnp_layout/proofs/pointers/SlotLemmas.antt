@@ -1,0 +1,100 @@
+-- Pointers in their slots: a run of slots, and the slots of rows.
+use Rattle.std.proofs.lemmas.List.{take-append-drop}
+use Rattle.std.proofs.lemmas.List.Elements.{All-head, All-tail}
+use Rattle.std.proofs.Common.{◌≡◌, ℕ, zero, suc, ◌+◌, ◌*◌, List, [], ◌∷◌, ◌++◌, length, take, drop, Some, slice_get, refl, sym, ap, subst, arith, length-append, length-take, length-drop}
+use Rattle.std.specs.Prelude.{All}
+use Rattle.capnp_layout.specs.Pointer.{words_from}
+use Rattle.capnp_layout.specs.declared.place.Place.{Place}
+use Rattle.capnp_layout.specs.Object.{places, row_places, rows_from}
+use Rattle.capnp_layout.specs.Layout.{run, row_run, woven}
+use Rattle.capnp_layout.specs.Layout.{placed}
+use Rattle.capnp_layout.proofs.words.SubsliceLemmas.{Holds, holds_left, holds_right, holds_words, holds_first}
+
+-- each of some links is in its slot, counted from a base
+abbrev pub Linked : List ℕ → ℕ → List ℕ → List ℕ → Type 0
+Linked segment base [] links = links ≡ []
+Linked segment base (slot ∷ slots) [] = ⊥
+Linked segment base (slot ∷ slots) (link ∷ links) = (slice_get segment (base + slot) ≡ Some link) × Linked segment base slots links
+
+pub linked_append : (segment : List ℕ) (base : ℕ) (s t xs ys : List ℕ) → Linked segment base s xs → Linked segment base t ys → Linked segment base (s ++ t) (xs ++ ys)
+linked_append segment base [] t xs ys first second = subst (λ (l : List ℕ). Linked segment base t (l ++ ys)) (sym first) second
+linked_append segment base (slot ∷ s) t [] ys first second = absurd first
+linked_append segment base (slot ∷ s) t (x ∷ xs) ys first second = (first.0, linked_append segment base s t xs ys first.1 second)
+
+pub linked_run : (segment : List ℕ) (base at start : ℕ) (links : List ℕ) → base + start ≡ at → Holds segment at links → Linked segment base (run start (length links)) links
+linked_run segment base at start [] here h = refl
+linked_run segment base at start (x ∷ xs) here h =
+    let first : slice_get segment (base + start) ≡ Some x = rw here (holds_first segment at x xs h) in
+    let rest : Holds segment (at + 1) xs = holds_right segment at 1 (x ∷ []) xs refl h in
+    (first, linked_run segment base (at + 1) (start + 1) xs (omega arith) rest)
+
+pub placed-append : (k base : ℕ) (s t : List ℕ) → placed k base (s ++ t) ≡ placed k base s ++ placed k base t
+placed-append k base [] t = refl
+placed-append k base (x ∷ s) t = ap (λ (l : List Place). record { segment = k; word = base + x } ∷ l) (placed-append k base s t)
+
+pub placed-run : (k base at start n : ℕ) → base + start ≡ at → placed k base (run start n) ≡ places k at n
+placed-run k base at start zero here = refl
+placed-run k base at start (suc n) here =
+    let rest : placed k base (run (start + 1) n) ≡ places k (at + 1) n = placed-run k base (at + 1) (start + 1) n (omega arith) in
+    rw (here, rest) refl
+
+pub placed-row_run : (k base at start d p : ℕ) (rows : List (List ℕ)) → base + start ≡ at → placed k base (row_run start d p rows) ≡ row_places k at d p (length rows)
+placed-row_run k base at start d p [] here = refl
+placed-row_run k base at start d p (row ∷ rows) here =
+    let first : placed k base (run (start + d) p) ≡ places k (at + d) p = placed-run k base (at + d) (start + d) p (omega arith) in
+    let rest : placed k base (row_run (start + d + p) d p rows) ≡ row_places k (at + d + p) d p (length rows) = placed-row_run k base (at + d + p) (start + d + p) d p rows (omega arith) in
+    rw (placed-append k base (run (start + d) p) (row_run (start + d + p) d p rows), first, rest) refl
+
+-- rows of d words
+abbrev pub AllOf : ℕ → List (List ℕ) → Type 0
+AllOf d rows = All (λ row. length row ≡ d) rows
+
+-- the parts of a row: its data, its links, and the rows after it
+record Row (segment : List ℕ) (at d p : ℕ) (row : List ℕ) (rows : List (List ℕ)) (links : List ℕ) : Type 0 where
+  data_words : Holds segment at row
+  own_links : Holds segment (at + d) (take p links)
+  own_long : length (take p links) ≡ p
+  others : Holds segment (at + d + p) (woven p rows (drop p links))
+  others_long : length (drop p links) ≡ length rows * p
+
+row_parts : (segment : List ℕ) (at d p : ℕ) (row : List ℕ) (rows : List (List ℕ)) (links : List ℕ) → length row ≡ d → length links ≡ suc (length rows) * p
+    → Holds segment at (woven p (row ∷ rows) links) → Row segment at d p row rows links
+row_parts segment at d p row rows links wide long h =
+    let split : suc (length rows) * p ≡ p + length rows * p = omega arith in
+    let long_take : length (take p links) ≡ p = omega (arith, length-take p links) in
+    let long_drop : length (drop p links) ≡ length rows * p = omega (arith, length-drop p links) in
+    let both : length (row ++ take p links) ≡ d + p = omega (arith, length-append row (take p links)) in
+    let front : Holds segment at (row ++ take p links) = holds_left segment at (row ++ take p links) (woven p rows (drop p links)) h in
+    let back : Holds segment (at + (d + p)) (woven p rows (drop p links)) = holds_right segment at (d + p) (row ++ take p links) (woven p rows (drop p links)) both h in
+    let next : at + (d + p) ≡ at + d + p = omega arith in
+    record {
+      data_words = holds_left segment at row (take p links) front;
+      own_links = holds_right segment at d row (take p links) wide front;
+      own_long = long_take;
+      others = subst (λ (n : ℕ). Holds segment n (woven p rows (drop p links))) next back;
+      others_long = long_drop;
+    }
+
+pub linked_rows : (segment : List ℕ) (base at start d p : ℕ) (rows : List (List ℕ)) (links : List ℕ) → base + start ≡ at → AllOf d rows → length links ≡ length rows * p
+    → Holds segment at (woven p rows links) → Linked segment base (row_run start d p rows) links
+linked_rows segment base at start d p [] [] here even long h = refl
+linked_rows segment base at start d p [] (x ∷ links) here even long h = absurd (omega arith)
+linked_rows segment base at start d p (row ∷ rows) links here even long h =
+    let parts = row_parts segment at d p row rows links (All-head (λ r. length r ≡ d) row rows even) long h in
+    let first : Linked segment base (run (start + d) (length (take p links))) (take p links) = linked_run segment base (at + d) (start + d) (take p links) (omega arith) parts.own_links in
+    let whole : Linked segment base (run (start + d) p) (take p links) = subst (λ (n : ℕ). Linked segment base (run (start + d) n) (take p links)) parts.own_long first in
+    let rest : Linked segment base (row_run (start + d + p) d p rows) (drop p links) =
+    linked_rows segment base (at + d + p) (start + d + p) d p rows (drop p links) (omega arith) (All-tail (λ r. length r ≡ d) row rows even) parts.others_long parts.others in
+    subst (λ (l : List ℕ). Linked segment base (run (start + d) p ++ row_run (start + d + p) d p rows) l) (take-append-drop p links)
+    (linked_append segment base (run (start + d) p) (row_run (start + d + p) d p rows) (take p links) (drop p links) whole rest)
+
+pub rows_woven : (segment : List ℕ) (at d p : ℕ) (rows : List (List ℕ)) (links : List ℕ) → AllOf d rows → length links ≡ length rows * p
+    → Holds segment at (woven p rows links) → rows_from segment at d p (length rows) ≡ rows
+rows_woven segment at d p [] links even long h = refl
+rows_woven segment at d p (row ∷ rows) links even long h =
+    let wide : length row ≡ d = All-head (λ r. length r ≡ d) row rows even in
+    let parts = row_parts segment at d p row rows links wide long h in
+    let first : words_from segment at d ≡ row = holds_words segment at d row wide parts.data_words in
+    let rest : rows_from segment (at + d + p) d p (length rows) ≡ rows = rows_woven segment (at + d + p) d p rows (drop p links) (All-tail
+    (λ r. length r ≡ d) row rows even) parts.others_long parts.others in
+    cc

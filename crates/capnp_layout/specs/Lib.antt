@@ -1,0 +1,15 @@
+pub mod Pointer
+pub mod Element
+pub mod Tree
+pub mod Trim
+pub mod Object
+pub mod PointerWord
+pub mod Landing
+pub mod Local
+pub mod Reached
+pub mod Traversed
+pub mod Faults
+pub mod Layout
+pub mod Block
+pub mod Rows
+pub mod Output

@@ -1,0 +1,27 @@
+//! The layout of Cap'n Proto messages, for authors of views and programs: places, pointer words,
+//! landing pads, and the objects that pointers lead to.
+//!
+//! A [`Place`](place::Place) is that of a pointer in a message, whose segments are any
+//! [`ReaderSegments`](capnp_frame::message::ReaderSegments). [`object::object_at`] returns the
+//! [`Object`](object::Object) that it leads to, by way of landing pads and within bounds, or the
+//! error that says what is wrong; [`Object::pointers`](object::Object::pointers) goes on to what
+//! that object holds. Pointer words are read and made here alone ([`pointer`], [`pointer_word`],
+//! [`body_word`]); views of objects are those of `capnp_wire`. The words are those of the
+//! [encoding document].
+//!
+//! [encoding document]: https://capnproto.org/encoding.html
+#![tactic(auto)]
+
+pub mod block;
+pub mod body_word;
+pub mod element_size;
+pub mod fast_path;
+pub mod landing_pad;
+pub mod number_list;
+pub mod object;
+pub mod output_size;
+pub mod place;
+pub mod pointer;
+pub mod pointer_run;
+pub mod pointer_slots;
+pub mod pointer_word;

@@ -1,8 +1,0 @@
--- The pointers of an object are all those of its shape.
-use Rattle.std.proofs.Common.{◌∙◌}
-use Rattle.capnp_wire.specs.Pointer.{words_of}
-use Rattle.capnp_wire.proofs.pointers.PointerSlotLemmas.{kept_children}
-use Rattle.capnp_wire.proofs.layout.object.Object.pointers.Goals as goal
-
-pub returns-clause-places : goal.returns-clause-places
-returns-clause-places c = rw c.row_size.ensures at c.of.ensures.places ∙ kept_children (words_of c.args.self.now.segment.now) c.args.self.now.start c.args.self.now.body

@@ -1,8 +1,0 @@
--- Where there is a tree, no error is met.
-use Rattle.capnp_wire.specs.Object.{message_of}
-use Rattle.capnp_wire.proofs.layouts.CopiedLemmas.{fault_no_tree}
-use Rattle.capnp_wire.proofs.layout.object.object_there.Goals as goal
-
-pub returns-in-Err : goal.returns-in-Err
-returns-in-Err g c =
-    absurd (fault_no_tree (message_of (g.S.ReaderSegments.segments c.args.segments.now)) c.args.place c.args.nesting _ c.requires.tree.0 c.requires.tree.1 c.in-Err.ensures.refused c.requires.tree.2 c.requires.tree.3)

@@ -1,7 +1,0 @@
--- A number of eight bytes is below 2 ^ 64.
-use Rattle.std.proofs.Common.{arith}
-use Rattle.capnp_wire.proofs.objects.ElementLemmas.{all_words_below}
-use Rattle.capnp_wire.proofs.layout.object.words_fit.Goals as goal
-
-pub returns-clause-words : goal.returns-clause-words
-returns-clause-words c = all_words_below c.args.segment.now (λ i. omega (arith, c.type_inv.segment i))
