@@ -28,7 +28,8 @@ pub struct Landing<'a> {
     pub landing_pads: u64,
 }
 
-/// Where the pointer at a place of this segment leads; `None` for null.
+/// Where the pointer at a place of this segment leads; `None` for null. Fails where it has no word,
+/// is a capability, or its landing pad leads nowhere.
 #[inline(always)]
 pub fn resolve<'a, S: ReaderSegments>(
     segments: &'a S,

@@ -43,7 +43,8 @@ pub enum Body {
 }
 
 /// The object that the pointer at a place leads to, where it may be entered at this nesting depth;
-/// `None` for null.
+/// `None` for null. Where there is none the error says what is there: `specs/Faults.antt` has the
+/// cases in their order.
 #[inline(always)]
 pub fn object_at<S: ReaderSegments>(
     segments: &S,
@@ -60,7 +61,7 @@ pub fn object_at<S: ReaderSegments>(
     object_in(segments, segment, place, nesting)
 }
 
-/// Does the same where the segment of the pointer is known.
+/// Does the same where the segment of the pointer is known. Fails as `object_at` does.
 #[inline(always)]
 pub fn object_in<'a, S: ReaderSegments>(
     segments: &'a S,

@@ -69,6 +69,7 @@ pub struct FarPointer {
 // waits (workloads `log`, `far`).
 
 impl PointerWord {
+    /// What a word says; null reads as the pointer to a struct of no words.
     #[inline(always)]
     pub fn read(word: u64) -> PointerWord
         ensures { IsPointerWord word result }
@@ -95,6 +96,7 @@ impl PointerWord {
 }
 
 impl Offset {
+    /// The offset of a struct or list pointer, or the number of elements of a tag.
     #[inline(always)]
     pub fn read(word: u64) -> Offset
         ensures { result.0 ≡ offset word }
@@ -122,6 +124,7 @@ impl Offset {
 }
 
 impl StructSize {
+    /// The size in a struct pointer or a tag.
     #[inline(always)]
     pub fn read(word: u64) -> StructSize
         ensures data { result.data_words ≡ word / 2 ^ 32 % 2 ^ 16 }
@@ -133,6 +136,7 @@ impl StructSize {
         }
     }
 
+    /// The words of both sections.
     #[inline(always)]
     pub fn words(self) -> u64
         ensures { result ≡ self.data_words + self.pointers }
