@@ -47,7 +47,10 @@ kept_in start body q =
 abbrev pub slots_of : ℕ → Body → List ℕ
 slots_of start body = row_slots (first_row body start) (row_size body).data_words (row_size body).pointers (row_count body)
 
--- the places of the pointers that are left, their words, and the word after the last one
+-- the segment of the pointers that are left, their places, their words, and the word after the last one
+abbrev pub segment_of : PointerSlots → ℕ
+segment_of rows = rows.next.segment
+
 abbrev pub places_in : PointerSlots → List Place
 places_in rows =
     places rows.next.segment rows.next.word rows.here

@@ -4,7 +4,7 @@ ghost use Rattle.std.specs.Prelude.{◌≡◌, ◌⊎◌, ◌↔◌, ℕ, List, 
 ghost use Rattle.capnp_layout.specs.Pointer.{words_of, pointer_kind, code};
 ghost use Rattle.capnp_layout.specs.Object.{places};
 ghost use Rattle.capnp_layout.specs.Landing.{IsObject};
-ghost use Rattle.capnp_layout.specs.Rows.{places_in};
+ghost use Rattle.capnp_layout.specs.Rows.{segment_of, places_in};
 ghost use Rattle.capnp_layout.specs.Local.{AreNull, IsNullOrEmptyStruct, object_of, local_struct_of, pointers_of};
 ghost use Rattle.capnp_layout.specs.Output.{output_body_of, IsNarrower};
 ghost use Rattle.capnp_layout.specs.declared.object.Body.{Body};
@@ -260,7 +260,7 @@ impl<'a> PointerRun<'a> {
     pub fn rows(&self) -> PointerSlots
         ensures places { places_in result
             ≡ places self.now.first.segment self.now.first.word self.now.count }
-        ensures segment { result.next.segment ≡ self.now.first.segment }
+        ensures segment { segment_of result ≡ self.now.first.segment }
     {
         PointerSlots::run(self.first, self.count)
     }

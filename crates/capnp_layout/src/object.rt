@@ -8,7 +8,7 @@ ghost use Rattle.capnp_layout.specs.Tree.{numbers, Trees, depth};
 ghost use Rattle.capnp_layout.specs.Reached.{At};
 ghost use Rattle.capnp_layout.specs.Landing.{IsObject, shape_of, room_of, words_in, traversed_of};
 ghost use Rattle.capnp_layout.specs.Faults.{RejectsSize, Fault};
-ghost use Rattle.capnp_layout.specs.Rows.{places_in, end_of};
+ghost use Rattle.capnp_layout.specs.Rows.{segment_of, places_in, end_of};
 ghost use Rattle.capnp_layout.specs.declared.place.Place.{Place};
 ghost use Rattle.capnp_layout.specs.declared.pointer.Elements.{Elements};
 ghost use Rattle.capnp_layout.specs.declared.pointer.StructSize.{StructSize};
@@ -213,7 +213,7 @@ impl<'a> Object<'a> {
         ensures places { places_in result
             ≡ (shape_of (words_of self.now.segment.now) self.now.start self.now.body).children }
         ensures end { end_of result ≤ self.now.start.word + words_in self.now.body }
-        ensures segment { result.next.segment ≡ self.now.start.segment }
+        ensures segment { segment_of result ≡ self.now.start.segment }
     {
         PointerSlots::of(self.start, self.body, self.body.row_size().pointers)
     }

@@ -101,7 +101,7 @@ impl PointerSlots {
     ghost use Rattle.capnp_layout.specs.Landing.{words_in};
     ghost use Rattle.capnp_layout.specs.Object.{places};
     ghost use Rattle.capnp_layout.specs.Layout.{run};
-    ghost use Rattle.capnp_layout.specs.Rows.{row_size, kept_places, row_slots, kept_in, slots_of, places_in, slots_in, end_of, Takes};
+    ghost use Rattle.capnp_layout.specs.Rows.{segment_of, row_size, kept_places, row_slots, kept_in, slots_of, places_in, slots_in, end_of, Takes};
 
     /// The first `kept` pointers in each row of an object that begins at a place.
     #[inline(always)]
@@ -112,7 +112,7 @@ impl PointerSlots {
         ensures slots { kept ≡ (row_size body).pointers →
             slots_in result ≡ slots_of start.word body }
         ensures end { end_of result ≤ start.word + words_in body }
-        ensures segment { result.next.segment ≡ start.segment }
+        ensures segment { segment_of result ≡ start.segment }
     {
         let first = Place {
             segment: start.segment,
@@ -131,7 +131,7 @@ impl PointerSlots {
         ensures slots { kept ≡ size.pointers →
             slots_in result ≡ row_slots first.word size.data_words size.pointers rows }
         ensures end { end_of result ≤ first.word + rows * (size.data_words + size.pointers) }
-        ensures segment { result.next.segment ≡ first.segment }
+        ensures segment { segment_of result ≡ first.segment }
     {
         if kept == 0 || rows == 0 {
             return PointerSlots {
@@ -162,7 +162,7 @@ impl PointerSlots {
         ensures places { places_in result ≡ places first.segment first.word count }
         ensures slots { slots_in result ≡ run first.word count }
         ensures end { end_of result ≡ first.word + count }
-        ensures segment { result.next.segment ≡ first.segment }
+        ensures segment { segment_of result ≡ first.segment }
     {
         PointerSlots {
             next: first,
@@ -187,8 +187,8 @@ impl PointerSlots {
         requires { places_in self.old ≢ [] }
         ensures taken { Takes self.old self.new result }
         ensures within { result.word < end_of self.old }
-        ensures segment { result.segment ≡ self.old.next.segment }
-        ensures same_segment { self.new.next.segment ≡ self.old.next.segment }
+        ensures segment { result.segment ≡ segment_of self.old }
+        ensures same_segment { segment_of self.new ≡ segment_of self.old }
     {
         if self.here == 0 {
             self.open_row();
@@ -204,7 +204,7 @@ impl PointerSlots {
         ensures places { places_in self.new ≡ places_in self.old }
         ensures slots { slots_in self.new ≡ slots_in self.old }
         ensures end { end_of self.new ≡ end_of self.old }
-        ensures segment { self.new.next.segment ≡ self.old.next.segment }
+        ensures segment { segment_of self.new ≡ segment_of self.old }
     {
         self.next.word += self.gap;
         self.here = self.pointers;
@@ -217,8 +217,8 @@ impl PointerSlots {
         requires { 0 < self.old.here }
         ensures taken { Takes self.old self.new result }
         ensures within { result.word < end_of self.old }
-        ensures segment { result.segment ≡ self.old.next.segment }
-        ensures same_segment { self.new.next.segment ≡ self.old.next.segment }
+        ensures segment { result.segment ≡ segment_of self.old }
+        ensures same_segment { segment_of self.new ≡ segment_of self.old }
     {
         let place = self.next;
         self.next.word += 1;

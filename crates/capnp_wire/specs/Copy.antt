@@ -10,7 +10,7 @@ use Rattle.capnp_layout.specs.Landing.{IsObject, room_of, words_in}
 use Rattle.capnp_layout.specs.Block.{put, put_rows, fill}
 use Rattle.capnp_layout.specs.Object.{places}
 use Rattle.capnp_layout.specs.Layout.{run}
-use Rattle.capnp_layout.specs.Rows.{row_size, kept_in, slots_of, places_in, slots_in, end_of, Takes}
+use Rattle.capnp_layout.specs.Rows.{segment_of, row_size, kept_in, slots_of, places_in, slots_in, end_of, Takes}
 use Rattle.capnp_layout.specs.Reached.{At}
 use Rattle.capnp_layout.specs.declared.place.Place.{Place}
 use Rattle.capnp_wire.specs.declared.layout.copy.Copied.{Copied}
@@ -69,7 +69,7 @@ pub record CopiesAll (m : List (List ℕ)) (at : List Place) (canonical : Bool) 
 -- what pointers of a segment lead to can be copied from a word on, after the slots of their copies
 pub record CanCopyRows (m : List (List ℕ)) (words : List ℕ) (rows : CopyCursor) (nesting : ℕ) (canonical : Bool) (next room : ℕ) : Type 0 where
   pub there : CanCopy m (places_in rows.from) nesting canonical next room
-  pub content : places_in rows.from ≢ [] → slice_get m rows.from.next.segment ≡ Some words
+  pub content : places_in rows.from ≢ [] → slice_get m (segment_of rows.from) ≡ Some words
   pub as_many : length (places_in rows.from) ≡ length (places_in rows.to)
   pub before : end_of rows.to ≤ next
 
@@ -88,8 +88,8 @@ pub record TakesPair (old new : CopyCursor) (place : Place) (slot : ℕ) : Type 
   pub as_many : length (places_in old.to) ≡ length (places_in new.to) + 1
   pub before : slot < end_of old.to
   pub same_end : end_of new.to ≡ end_of old.to
-  pub in_segment : place.segment ≡ old.from.next.segment
-  pub same_segment : new.from.next.segment ≡ old.from.next.segment
+  pub in_segment : place.segment ≡ segment_of old.from
+  pub same_segment : segment_of new.from ≡ segment_of old.from
 
 -- some pointer that can be copied leads to this object
 pub record IsCopyable (object : Object) (canonical : Bool) (next room : ℕ) : Type 0 where

@@ -13,7 +13,7 @@ use Rattle.capnp_layout.specs.Faults.{Fault}
 use Rattle.capnp_layout.specs.Layout.{minus_one, Trimmed}
 use Rattle.capnp_wire.specs.Canonical.{EndsFull, Padded, IsInPreorder}
 use Rattle.capnp_layout.specs.declared.place.Place.{Place}
-use Rattle.capnp_layout.specs.Rows.{places_in, end_of}
+use Rattle.capnp_layout.specs.Rows.{segment_of, places_in, end_of}
 use Rattle.capnp_wire.specs.declared.layout.canonical.CanonicalWalk.{CanonicalWalk}
 use Rattle.capnp_wire.specs.declared.layout.canonical.Met.{Met}
 use Rattle.capnp_wire.specs.declared.layout.canonical.Met.TheVariants.{Null, NotCanonical, Pointers}
@@ -142,7 +142,7 @@ pub record MeetsPointers (segment : List ℕ) (place : Place) (nesting : ℕ) (l
   pub meets : MeetsObject segment place nesting limit shape
   pub laid_out : IsLaidOut segment place next shape
   pub all : places_in pointers ≡ shape.children
-  pub first : pointers.next.segment ≡ 0
+  pub first : segment_of pointers ≡ 0
   pub before : end_of pointers ≤ after
   pub left_is : left ≡ less limit shape.traversed
   pub after_is : after ≡ next + object_size shape.form (length shape.children)

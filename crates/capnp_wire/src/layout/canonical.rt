@@ -7,7 +7,7 @@ ghost use Rattle.std.specs.Result.{IsErrAnd};
 ghost use Rattle.capnp_frame.specs.declared.error.ErrorKind.{ErrorKind};
 ghost use Rattle.capnp_layout.specs.Reached.{root};
 ghost use Rattle.capnp_wire.specs.Canonical.{IsCanonical};
-ghost use Rattle.capnp_layout.specs.Rows.{places_in, end_of};
+ghost use Rattle.capnp_layout.specs.Rows.{segment_of, places_in, end_of};
 ghost use Rattle.capnp_wire.specs.Tested.{NextOf, PaddedOf, IsTruncated, links_at, PassesAt, MeetsAt, FailsAt, Ends, refused, not_canonical};
 ghost use Rattle.capnp_layout.specs.declared.place.Place.{Place};
 
@@ -108,7 +108,7 @@ impl CanonicalWalk {
         nesting: u32,
     ) -> Result<bool>
         requires one { message_of (S.segments segments.now) ≡ words_of segment.now ∷ [] }
-        requires first { pointers.next.segment ≡ 0 }
+        requires first { segment_of pointers ≡ 0 }
         requires before { end_of pointers ≤ self.now.next }
         requires within { self.now.next ≤ length segment.now / 8 }
         ensures passed { IfOk result (λ passes. passes ≡ true →

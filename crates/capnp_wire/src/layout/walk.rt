@@ -8,7 +8,7 @@ ghost use Rattle.capnp_wire.specs.Traversed.{counted, CountsMore, Walked, Walked
 ghost use Rattle.capnp_layout.specs.Traversed.{Within, Exceeds, less};
 ghost use Rattle.capnp_layout.specs.Faults.{StopsWalk};
 ghost use Rattle.capnp_layout.specs.Output.{output_body_of};
-ghost use Rattle.capnp_layout.specs.Rows.{places_in};
+ghost use Rattle.capnp_layout.specs.Rows.{segment_of, places_in};
 
 use capnp_frame::message::ReaderSegments;
 use capnp_frame::{Error, ErrorKind, Result};
@@ -195,7 +195,7 @@ impl Walk {
         canonical: bool,
     ) -> Result<()>
         requires content { places_in pointers ≢ [] →
-            slice_get (message_of (S.segments segments.now)) pointers.next.segment
+            slice_get (message_of (S.segments segments.now)) (segment_of pointers)
             ≡ Some (words_of segment.now) }
         ensures found { let m = message_of (S.segments segments.now) in
             OnOk result (WalkedAll m canonical (places_in pointers) nesting
@@ -249,7 +249,7 @@ impl Walk {
         canonical: bool,
     ) -> Result<Option<PointerRun<'a>>>
         requires content { places_in pointers.old ≢ [] →
-            slice_get (message_of (S.segments segments.now)) pointers.old.next.segment
+            slice_get (message_of (S.segments segments.now)) (segment_of pointers.old)
             ≡ Some (words_of segment.now) }
         ensures found { let m = message_of (S.segments segments.now) in
             IfOk result (λ met. MatchOption met
@@ -257,7 +257,7 @@ impl Walk {
             self.old.left self.new.left (counted self.old) (counted self.new))
             (λ children. WalkedTo m canonical (places_in pointers.old) (places_in pointers.new)
             children nesting self.old.left self.new.left (counted self.old) (counted self.new)
-            × (pointers.new.next.segment ≡ pointers.old.next.segment))) }
+            × (segment_of pointers.new ≡ segment_of pointers.old))) }
         ensures refused { let m = message_of (S.segments segments.now) in
             IfErr result (λ error.
             StopsWalk m (places_in pointers.old) nesting self.old.left error.kind) }
