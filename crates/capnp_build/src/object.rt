@@ -2,7 +2,7 @@
 ghost use Rattle.std.specs.Prelude.{◌≡◌, ℕ, ◌+◌, ◌*◌, ◌^◌, ◌<◌, ◌≤◌};
 ghost use Rattle.capnp_build.specs.NewBody.{words_of_body, Fits, body_pointer_word};
 
-use capnp_wire::pointer_word::{list_word, struct_word};
+use capnp_layout::pointer_word::{list_word, struct_word};
 
 /// What a new object is: one without pointers, whose words are zero.
 #[derive(Clone, Copy)]

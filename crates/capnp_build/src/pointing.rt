@@ -9,7 +9,7 @@ ghost use Rattle.capnp_build.specs.Blocks.{PointsRoot, ZeroesRoot};
 use crate::allocator::Allocator;
 use crate::arena::location::RootLocation;
 use crate::segments::Segments;
-use capnp_wire::pointer_word::{far_word, moved};
+use capnp_layout::pointer_word::{far_word, moved};
 use capnp_wire::traits::SetterInput;
 
 impl<A: Allocator> Segments<A> {

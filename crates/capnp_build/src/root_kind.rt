@@ -5,7 +5,7 @@ ghost use Rattle.capnp_layout.specs.Tree.{Form};
 ghost use Rattle.capnp_layout.specs.Layout.{pointer, HasRoom};
 ghost use Rattle.capnp_build.specs.RootKind.{ShowsRoot};
 
-use capnp_wire::pointer_word::{LocalShape, local_shape};
+use capnp_layout::pointer_word::{LocalShape, local_shape};
 
 /// What a pointer leads to, for the objects of which builders have views.
 #[derive(Clone, Copy)]

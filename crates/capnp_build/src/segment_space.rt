@@ -5,7 +5,7 @@ ghost use Rattle.capnp_build.specs.Bytes.{IsOverwritten};
 ghost use Rattle.capnp_build.specs.Filled.{IsFilled};
 
 use capnp_frame::Word;
-use capnp_wire::pointer_word::word_of;
+use capnp_layout::pointer_word::word_of;
 use capnp_wire::traits::SetterInput;
 
 /// The bytes of a segment. Their number, and whether they are caller-provided, never change.

@@ -1,5 +1,5 @@
 -- How trees are laid out in one segment, and the canonical form.
-use Rattle.std.specs.Prelude.{◌≡◌, ◌<◌, ◌≤◌, ⊤, All, Bool, true, false, ℕ, zero, suc, ◌+◌, ◌-◌, ◌*◌, ◌^◌, ◌==◌, if◌then◌else◌, List, [], ◌∷◌, ◌++◌, length, take, drop}
+use Rattle.std.specs.Prelude.{◌/◌, ◌%◌, ◌≡◌, ◌<◌, ◌≤◌, ⊤, All, Bool, true, false, ℕ, zero, suc, ◌+◌, ◌-◌, ◌*◌, ◌^◌, ◌==◌, if◌then◌else◌, List, [], ◌∷◌, ◌++◌, length, take, drop}
 use Rattle.capnp_layout.specs.Pointer.{digits, number_of, words_from}
 use Rattle.capnp_layout.specs.Element.{width, words_for}
 use Rattle.capnp_layout.specs.Tree.{Form, null, struct, numbers, pointers, structs, Trees, none, tree, count, object_size, total_words}
@@ -16,6 +16,14 @@ list_pointer offset code count = 1 + 4 * offset + 2 ^ 32 * code + 2 ^ 35 * count
 -- the far pointer to a landing pad of one word
 abbrev pub far_pointer : ℕ → ℕ → ℕ
 far_pointer segment position = 2 + 8 * position + 2 ^ 32 * segment
+
+-- The pointer at a place of a segment to where a word leads that has, in place of the offset, the
+-- index of the word at which the object begins. Null, and the pointer to a struct of no words,
+-- stay as they are.
+abbrev pub link : ℕ → ℕ → ℕ
+link word place =
+    if word % 4 + word / 2 ^ 32 == 0 then word
+    else 2 ^ 32 * (word / 2 ^ 32) + (word % 2 ^ 32 + 2 ^ 32 - 4 * (place + 1)) % 2 ^ 32
 
 -- the offset -1, in 30 bits
 abbrev pub minus_one : ℕ

@@ -6,7 +6,7 @@ ghost use Rattle.capnp_layout.specs.Pointer.{number_of, pointer_kind, words_of};
 ghost use Rattle.capnp_layout.specs.Block.{put};
 ghost use Rattle.capnp_layout.specs.PointerWord.{IsLocalShape};
 ghost use Rattle.capnp_layout.specs.Tree.{Form};
-ghost use Rattle.capnp_layout.specs.Layout.{far_pointer, list_pointer, pointer, struct_pointer, HasRoom};
+ghost use Rattle.capnp_layout.specs.Layout.{far_pointer, link, list_pointer, pointer, struct_pointer, HasRoom};
 
 use crate::block;
 use crate::pointer::PointerWord;
@@ -67,6 +67,21 @@ pub fn moved(tag: u64, offset: u32) -> u64
         return tag;
     }
     tag + 4 * offset as u64
+}
+
+/// The pointer from the word at `place` of a segment to where a word leads that has, in place of the
+/// offset, the index of the word at which the object begins.
+#[inline(always)]
+pub fn link(word: u64, place: u32) -> u64
+    requires { place < 2 ^ 29 }
+    ensures { result ≡ link word place }
+{
+    let low = word % (1 << 32);
+    let high = word / (1 << 32);
+    if word % 4 == 0 && word < 1 << 32 {
+        return word;
+    }
+    high * (1 << 32) + (low + (1 << 32) - 4 * (place as u64 + 1)) % (1 << 32)
 }
 
 /// Replaces a word of a block of words.

@@ -2,18 +2,13 @@
 -- everything below it is written, and no word of it changes after that; of the segment only the
 -- first word, the root's, does. What comes after that word is called the body of the segment here.
 use Rattle.std.specs.Prelude.{◌≡◌, ℕ, ◌+◌, ◌-◌, ◌*◌, ◌/◌, ◌%◌, ◌^◌, ◌<◌, ◌==◌, if◌then◌else◌, List, [], ◌∷◌, ◌++◌, Some, slice_get}
+pub use Rattle.capnp_layout.specs.Layout.{link}
 use Rattle.capnp_layout.specs.Tree.{Form, Trees, none, tree}
 use Rattle.capnp_layout.specs.Reached.{At}
 
 -- The word of an orphan is the pointer to it, with the index of the word at which it begins in
--- place of the offset. This is the pointer that leads to it from a given place. Null, and the
--- pointer to a struct of no words, stay as they are.
-abbrev pub link : ℕ → ℕ → ℕ
-link word place =
-    if word % 4 + word / 2 ^ 32 == 0 then word
-    else 2 ^ 32 * (word / 2 ^ 32) + (word % 2 ^ 32 + 2 ^ 32 - 4 * (place + 1)) % 2 ^ 32
-
--- the pointers from one place on
+-- place of the offset; `link` is the pointer that leads to it from a given place. The pointers
+-- from one place on:
 abbrev pub links : List ℕ → ℕ → List ℕ
 links [] place = []
 links (word ∷ words) place = link word place ∷ links words (place + 1)

@@ -1,6 +1,5 @@
 //! Objects to which no pointer leads yet.
 ghost use Rattle.std.specs.Prelude.{◌≡◌, ◌<◌, ◌^◌, ℕ};
-ghost use Rattle.capnp_orphans.specs.Orphans.{link};
 
 use std::marker::PhantomData;
 
@@ -76,18 +75,4 @@ impl OrphanWord for u64 {
     fn word(&self) -> u64 {
         *self
     }
-}
-
-/// The pointer to an orphan from the word at `place` of its segment, which it is to be put into.
-#[inline(always)]
-pub(crate) fn link(word: u64, place: u32) -> u64
-    requires { place < 2 ^ 29 }
-    ensures { result ≡ link word place }
-{
-    let low = word % (1 << 32);
-    let high = word / (1 << 32);
-    if word % 4 == 0 && word < 1 << 32 {
-        return word;
-    }
-    high * (1 << 32) + (low + (1 << 32) - 4 * (place as u64 + 1)) % (1 << 32)
 }

@@ -5,7 +5,7 @@ use crate::object::{Object, allocation_too_large};
 use crate::orphan::Orphan;
 use crate::written::put_links;
 use capnp_frame::Result;
-use capnp_wire::pointer_word::list_word;
+use capnp_layout::pointer_word::list_word;
 
 /// A list of the pointers to some orphans (encoding document, "Lists").
 #[derive(Drop)]

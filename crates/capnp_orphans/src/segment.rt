@@ -5,7 +5,7 @@ ghost use Rattle.capnp_orphans.specs.Segments.{Segment, IsSegment, AppendsObject
 
 use crate::object::Object;
 use capnp_frame::Result;
-use capnp_wire::pointer_word::put_word;
+use capnp_layout::pointer_word::put_word;
 
 /// The bytes of a segment, to which objects are appended. None of its words except the root's
 /// changes.

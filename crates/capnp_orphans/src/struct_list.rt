@@ -8,8 +8,8 @@ use crate::draft_source::DraftSource;
 use crate::object::{Object, allocation_too_large};
 use crate::written::put_struct;
 use capnp_frame::{Error, ErrorKind, Result};
+use capnp_layout::pointer_word::{list_word, struct_word};
 use capnp_values::put_words;
-use capnp_wire::pointer_word::{list_word, struct_word};
 use std::marker::PhantomData;
 
 /// A list of structs (encoding document, "Lists", the elements of code 7).

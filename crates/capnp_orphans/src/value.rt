@@ -3,7 +3,7 @@ ghost use Rattle.std.specs.Prelude.{◌≡◌};
 
 use crate::object::Object;
 use capnp_frame::Result;
-use capnp_wire::pointer_word::moved;
+use capnp_layout::pointer_word::moved;
 use capnp_wire::traits::SetterInput;
 use std::marker::PhantomData;
 

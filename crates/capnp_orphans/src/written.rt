@@ -3,9 +3,9 @@ ghost use Rattle.std.specs.Prelude.{◌≡◌, ◌+◌, ◌*◌, ◌^◌, ◌<�
 ghost use Rattle.capnp_layout.specs.Pointer.{words_of};
 ghost use Rattle.capnp_orphans.specs.Orphans.{links};
 
-use crate::orphan::{OrphanWord, link};
+use crate::orphan::OrphanWord;
+use capnp_layout::pointer_word::{link, put_word};
 use capnp_values::put_words;
-use capnp_wire::pointer_word::put_word;
 
 /// Puts the pointers to orphans into a block of exactly these, which begins at this word of the
 /// segment.

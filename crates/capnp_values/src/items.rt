@@ -8,7 +8,7 @@ ghost use Rattle.capnp_values.specs.Lists.{AreItems, RefusesItems, HasRoomForIte
 use crate::measured::TreeWords;
 use crate::sources::ValueSource;
 use capnp_frame::Result;
-use capnp_wire::pointer_word::put_word;
+use capnp_layout::pointer_word::put_word;
 use capnp_wire::traits::SetterInput;
 
 /// The number of words of all these values, as they are and in the form that is written.

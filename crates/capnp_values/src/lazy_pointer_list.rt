@@ -6,8 +6,8 @@ use crate::measured::{checked_part_words, checked_word_count};
 use crate::pointer_list::measure_list;
 use crate::sources::ValueSource;
 use capnp_frame::Result;
+use capnp_layout::pointer_word::list_word;
 use capnp_wire::list_list::Owned;
-use capnp_wire::pointer_word::list_word;
 use capnp_wire::traits::{Copied, PartWords, SetterInput};
 use std::marker::PhantomData;
 

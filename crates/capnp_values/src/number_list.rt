@@ -5,7 +5,7 @@ ghost use Rattle.capnp_layout.specs.Element.{width, words_for};
 
 use crate::measured::allocation_too_large;
 use capnp_frame::Result;
-use capnp_wire::pointer_word::{list_word, put_word};
+use capnp_layout::pointer_word::{list_word, put_word};
 use capnp_wire::primitive_element::PrimitiveElement;
 use capnp_wire::primitive_list::Owned;
 use capnp_wire::traits::{Copied, SetterInput};

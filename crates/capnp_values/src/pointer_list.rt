@@ -7,8 +7,8 @@ use crate::items::{measure_items, write_items};
 use crate::measured::{TreeWords, allocation_too_large, checked_part_words, checked_word_count};
 use crate::sources::ValueSource;
 use capnp_frame::Result;
+use capnp_layout::pointer_word::list_word;
 use capnp_wire::list_list::Owned;
-use capnp_wire::pointer_word::list_word;
 use capnp_wire::traits::{Copied, PartWords, SetterInput};
 use std::marker::PhantomData;
 

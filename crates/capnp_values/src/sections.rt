@@ -9,7 +9,8 @@ ghost use Rattle.capnp_values.specs.Fields.{CanWriteRow, IsRowWritten};
 ghost use Rattle.capnp_values.specs.Structs.{kept_words};
 
 use crate::fields::Fields;
-use capnp_wire::pointer_word;
+use capnp_layout::body_word::struct_pointer_word;
+use capnp_layout::pointer::StructSize;
 
 /// Whether a pointer can say that there are this many data words, and this many pointers.
 pub(crate) fn fits(words: &[u64], fields: u32) -> bool
@@ -63,12 +64,11 @@ pub(crate) fn struct_word(words: usize, pointers: u32, gap: usize) -> u64
     requires gap { gap < 2 ^ 29 }
     ensures { result ≡ struct_pointer (if words + pointers == 0 then minus_one else gap) words pointers }
 {
-    let offset = if words == 0 && pointers == 0 {
-        (1 << 30) - 1
-    } else {
-        gap as u64
+    let size = StructSize {
+        data_words: words as u16,
+        pointers: pointers as u16,
     };
-    pointer_word::struct_word(offset, words as u16, pointers as u16)
+    struct_pointer_word(size, gap as u64)
 }
 
 /// Writes data words into a block from the word `at` on, then the first pointers of a row, and what

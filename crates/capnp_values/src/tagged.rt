@@ -16,7 +16,7 @@ use crate::measured::{TreeWords, allocation_too_large};
 use crate::rows::{KeptWords, Reach, kept_by_each, measure_rows, write_rows};
 use crate::sources::StructSource;
 use capnp_frame::{Error, ErrorKind, Result};
-use capnp_wire::pointer_word::{list_word, put_word, struct_word};
+use capnp_layout::pointer_word::{list_word, put_word, struct_word};
 use capnp_wire::traits::Copied;
 
 /// The number of words of a list of some structs.

@@ -6,8 +6,9 @@ use crate::draft::StructDraft;
 use crate::object::Object;
 use crate::written::put_struct;
 use capnp_frame::{Error, ErrorKind, Result};
+use capnp_layout::body_word::struct_pointer_word;
+use capnp_layout::pointer::StructSize;
 use capnp_values::words_fit;
-use capnp_wire::pointer_word::struct_word;
 
 // The data words, and then the pointers. 2^16 or more of either fail with `AllocationTooLarge`.
 impl<T, const D: usize, const P: usize> Object for StructDraft<T, D, P> {
@@ -64,10 +65,9 @@ fn struct_orphan(start: u32, words: usize, pointers: usize) -> u64
     ensures { result ≡ struct_pointer (if words + pointers == 0 then minus_one else start)
         words pointers }
 {
-    let offset = if words + pointers == 0 {
-        (1 << 30) - 1
-    } else {
-        start as u64
+    let size = StructSize {
+        data_words: words as u16,
+        pointers: pointers as u16,
     };
-    struct_word(offset, words as u16, pointers as u16)
+    struct_pointer_word(size, start as u64)
 }

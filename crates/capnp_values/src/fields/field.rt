@@ -6,7 +6,7 @@ ghost use Rattle.capnp_values.specs.Fields.{IsBounded, IsPart, is_left_out, exte
 
 use crate::fields::{Extent, Fields};
 use capnp_frame::Result;
-use capnp_wire::pointer_word::put_word;
+use capnp_layout::pointer_word::put_word;
 use capnp_wire::traits::{PartWords, SetterInput};
 use std::marker::PhantomData;
 
