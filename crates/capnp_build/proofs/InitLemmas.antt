@@ -1,10 +1,9 @@
 -- What making the root a new object keeps, from what its steps keep.
-use Rattle.std.proofs.Common.{◌≡◌, ◌∙◌, inl, inr, ℕ, List, length, Result, Ok, Err, refl, ap, subst, sym, arith}
+use Rattle.std.proofs.Common.{◌≡◌, ◌∙◌, inl, inr, ℕ, length, Result, Ok, Err, refl, ap, sym, arith}
 use Rattle.capnp_frame.specs.declared.error.Error.{Error}
 use Rattle.capnp_layout.specs.Tree.{Form, null}
 use Rattle.capnp_build.specs.declared.allocator.Allocator as allocator
 use Rattle.capnp_build.specs.declared.owned_builder.OwnedBuilder as owned_builder
-use Rattle.capnp_build.specs.Bytes.{Space}
 use Rattle.capnp_frame.specs.Source.{IsPreorder}
 use Rattle.capnp_build.specs.Built.{Built}
 use Rattle.capnp_build.specs.Placed.{NewWords, InitWords}

@@ -1,5 +1,5 @@
 -- The bytes of a root's block are those of its tree.
-use Rattle.std.proofs.Common.{◌≡◌, ℕ, ◌*◌, ◌<◌, List, [], length, take, drop, Option, Some, slice_index_or, refl, ap, ◌∙◌, arith}
+use Rattle.std.proofs.Common.{◌≡◌, ℕ, ◌*◌, ◌<◌, List, [], length, take, drop, Some, slice_index_or, refl, ap, ◌∙◌, arith}
 use Rattle.capnp_layout.specs.Tree.{Form, Trees, total_words}
 use Rattle.capnp_layout.specs.Layout.{body}
 use Rattle.capnp_layout.specs.Reached.{Root}

@@ -1,5 +1,5 @@
 -- Words of segments.
-use Rattle.std.proofs.Common.{slice_index_or, slice_get, None, Some, ◌≡◌, ℕ, zero, suc, ◌+◌, ◌*◌, ◌/◌, ◌^◌, ◌<◌, ◌≤◌, List, [], ◌∷◌, length, map, take, drop, slice_set, w64, refl, ap, sym}
+use Rattle.std.proofs.Common.{◌≡◌, ℕ, zero, suc, ◌+◌, ◌*◌, ◌/◌, ◌^◌, ◌<◌, ◌≤◌, List, ◌∷◌, length, map, take, drop, slice_set, w64, refl, ap, sym}
 use Rattle.std.proofs.Common.{◌∙◌, arith, length-take, length-drop}
 use Rattle.std.specs.Int.{to_le_bytes}
 use Rattle.std.specs.Simd.{first_chunks}
@@ -63,14 +63,3 @@ words_set bytes i x w within small is eight =
     ap (λ (n : ℕ). map (number_of 256) (first_chunks 8 (n / 8) (written bytes (8 * i) w))) long
     ∙ set_chunk k i bytes w (omega arith) inside eight
     ∙ ap (λ (v : ℕ). slice_set (words_of bytes) i v) (word_back x w small is eight)
-
--- a word that is looked up, 0 past the end
-pub got_word : (xs : List ℕ) (i x : ℕ) → slice_get xs i ≡ Some x → slice_index_or xs i 0 ≡ x
-got_word [] i x e = cc
-got_word (y ∷ xs) zero x e = cc
-got_word (y ∷ xs) (suc i) x e = got_word xs i x e
-
-pub no_word_got : (xs : List ℕ) (i : ℕ) → slice_get xs i ≡ None → slice_index_or xs i 0 ≡ 0
-no_word_got [] i e = refl
-no_word_got (y ∷ xs) zero e = cc
-no_word_got (y ∷ xs) (suc i) e = no_word_got xs i e

@@ -2,7 +2,9 @@
 ghost use Rattle.std.specs.Prelude.{◌≡◌, ℕ, ◌+◌, ◌*◌, ◌^◌, ◌<◌, ◌≤◌};
 ghost use Rattle.capnp_build.specs.NewBody.{words_of_body, Fits, body_pointer_word};
 
-use capnp_layout::pointer_word::{list_word, struct_word};
+use capnp_layout::body_word::struct_pointer_word;
+use capnp_layout::pointer::StructSize;
+use capnp_layout::pointer_word::list_word;
 
 /// What a new object is: one without pointers, whose words are zero.
 #[derive(Clone, Copy)]
@@ -37,8 +39,13 @@ impl NewBody {
         match self {
             NewBody::Bytes(n) => list_word(offset as u64, 2, n as u64),
             NewBody::Words(n) => list_word(offset as u64, 5, n as u64),
-            NewBody::Struct(d) if d == 0 => struct_word((1 << 30) - 1, 0, 0),
-            NewBody::Struct(d) => struct_word(offset as u64, d as u16, 0),
+            NewBody::Struct(d) => {
+                let size = StructSize {
+                    data_words: d as u16,
+                    pointers: 0,
+                };
+                struct_pointer_word(size, offset as u64)
+            }
         }
     }
 }

@@ -5,6 +5,7 @@ ghost use Rattle.capnp_layout.specs.Tree.{Form};
 ghost use Rattle.capnp_layout.specs.Layout.{pointer, HasRoom};
 ghost use Rattle.capnp_build.specs.RootKind.{ShowsRoot};
 
+use capnp_layout::place::word;
 use capnp_layout::pointer_word::{LocalShape, local_shape};
 
 /// What a pointer leads to, for the objects of which builders have views.
@@ -43,9 +44,5 @@ pub(crate) fn read_pointer_word(word: u64) -> RootKind
 pub(crate) fn word_at(bytes: &[u8], index: u32) -> u64
     ensures { result ≡ slice_index_or (words_of bytes.now) index 0 }
 {
-    let (words, _) = bytes.as_chunks::<8>();
-    match words.get(index as usize) {
-        Some(word) => u64::from_le_bytes(*word),
-        None => 0,
-    }
+    word(bytes, index as usize).unwrap_or(0)
 }
