@@ -83,10 +83,10 @@ new_object_words b c n fits is few = record {
   few = few;
 }
 
-body_tag_at : (gap : ℕ) (b : NewBody) → pointer (zero_form b) 0 gap ≡ body_pointer_word gap b
-body_tag_at gap (Bytes n) = omega (arith, long n)
-body_tag_at gap (Words n) = omega (arith, long n)
-body_tag_at gap (Struct d) = ap (λ (k : ℕ). struct_pointer (if k + 0 == 0 then minus_one else gap) k 0) (long d) ∙ struct_tag_at gap d
+body_pointer_word_at : (gap : ℕ) (b : NewBody) → pointer (zero_form b) 0 gap ≡ body_pointer_word gap b
+body_pointer_word_at gap (Bytes n) = omega (arith, long n)
+body_pointer_word_at gap (Words n) = omega (arith, long n)
+body_pointer_word_at gap (Struct d) = ap (λ (k : ℕ). struct_pointer (if k + 0 == 0 then minus_one else gap) k 0) (long d) ∙ struct_tag_at gap d
 
 -- zeros that are put among zeros
 zeros_put : (n next : ℕ) (ws : List ℕ) → drop next ws ≡ replicate (length ws - next) 0 → next + n ≤ length ws → put next (replicate n 0) ws ≡ ws
@@ -109,7 +109,7 @@ new_object_written b c gap next tag end block w f tag_is end_is trees is =
     let total : total_words (output c w.trees) ≡ words_of_body (output_new_object c b) = ap (λ (t : Trees). total_words (output c t)) w.tree_is ∙ ap total_words (output_new c b) ∙ zero_total (output_new_object c b) in
     subst (λ (t : Trees). IsCopied t gap next (words_of block) (words_of block) (record { pointer = tag; next = end })) (sym (ap (output c) is ∙ output_new c b)) (record {
       words_are = sym (ap (λ (l : List ℕ). put next l (words_of block)) (zero_body made) ∙ zeros_put (words_of_body made) next (words_of block) f.zero (omega (arith, w.fits, total)));
-      pointer_is = tag_is ∙ sym (body_tag_at gap made);
+      pointer_is = tag_is ∙ sym (body_pointer_word_at gap made);
       next_is = end_is ∙ ap (λ (n : ℕ). next + n) (sym (zero_total made));
     })
 
