@@ -18,7 +18,9 @@ use crate::packed::pack_into;
 use crate::provided_text::ProvidedText;
 use capnp_frame::io::Write;
 use capnp_frame::message::{DEFAULT_READER_OPTIONS, ReaderSegments};
-use capnp_frame::serialize::{NoAllocBufferSegments, NoAllocSliceSegments};
+use capnp_frame::serialize::{
+    NoAllocBufferSegments, NoAllocSliceSegments, SEGMENTS_COUNT_LIMIT,
+};
 use capnp_frame::{Error, ErrorKind, Result};
 use capnp_pack::stream::try_read_packed_framed_into;
 
@@ -106,7 +108,7 @@ pub extern "C" fn linsjoar_unpack_message(
 // The message that these bytes are. Where bytes follow it, fails as for a message that is cut.
 fn whole_message<'a>(framed: &'a [u8]) -> Result<NoAllocSliceSegments<'a>>
     ensures whole { IfOk result (λ held. IsMessage framed.now held.segments) }
-    ensures few { IfOk result (λ held. length held.segments < 512) }
+    ensures few { IfOk result (λ held. length held.segments < SEGMENTS_COUNT_LIMIT) }
     ensures accepted { (segments : List (List ℕ)) → IsMessage framed.now segments → IsOk result }
     ensures trailing { (segments : List (List ℕ)) (rest : List ℕ) →
         IsAtFront framed.now segments rest → 0 < length rest →
@@ -126,7 +128,7 @@ fn whole_message<'a>(framed: &'a [u8]) -> Result<NoAllocSliceSegments<'a>>
 // The table of the message that these bytes are.
 fn table_of<'a>(framed: &'a [u8], segments: &NoAllocSliceSegments<'a>) -> &'a [u8]
     requires whole { IsMessage framed.now segments.now.segments }
-    requires few { length segments.now.segments < 512 }
+    requires few { length segments.now.segments < SEGMENTS_COUNT_LIMIT }
     ensures table { result.now ≡ zero_padded_table (lengths segments.now.segments) }
     ensures word { 8 ≤ length result.now }
 {

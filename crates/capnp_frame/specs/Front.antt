@@ -10,6 +10,7 @@ use Rattle.capnp_frame.specs.declared.serialize.segment_table.Padding.TheVariant
 use Rattle.capnp_frame.specs.Frame.{IsFrame}
 use Rattle.capnp_frame.specs.Limits.{IsWithin}
 use Rattle.capnp_frame.specs.declared.serialize.segment_table_info.NoAllocSegmentTableInfo.{NoAllocSegmentTableInfo}
+use Rattle.capnp_frame.specs.declared.serialize.segment_table.TheConstants.{SEGMENTS_COUNT_LIMIT}
 
 -- a framed encoding of the message is at the front, with a padding that the rule accepts, and
 -- `rest` after it
@@ -62,7 +63,7 @@ pub record SpellsLengths (bytes : List ℕ) (count : ℕ) : Type 0 where
 -- a table of a given number of segments is at the front
 pub record DeclaresTable (bytes : List ℕ) (count : ℕ) : Type 0 where
   pub some : 0 < count
-  pub few : count < 512
+  pub few : count < SEGMENTS_COUNT_LIMIT
   pub counted : field (count - 1) ≡ take 4 bytes
   pub lengths : SpellsLengths bytes count
   pub room : table_size count ≤ length bytes

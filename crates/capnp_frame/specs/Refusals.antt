@@ -8,6 +8,7 @@ use Rattle.capnp_frame.specs.SegmentTable.{field, FitsField, IsTable, table_size
 use Rattle.capnp_frame.specs.Source.{Giving, Refusing}
 use Rattle.capnp_frame.specs.Limits.{AreWithin}
 use Rattle.capnp_frame.specs.Requests.{TableStands}
+use Rattle.capnp_frame.specs.declared.serialize.segment_table.TheConstants.{SEGMENTS_COUNT_LIMIT}
 
 -- A test: its own line where it holds, and the lines after it where it does not.
 abbrev pub Unless : Type 0 → Type 0 → Type 0 → Type 0
@@ -23,12 +24,12 @@ Tells word count = (last : ℕ) × FitsField last × (field last ≡ take 4 word
 
 -- no reader accepts this number of segments
 abbrev pub IsOutOfRange : ℕ → Type 0
-IsOutOfRange count = (count ≡ 0) ⊎ (512 ≤ count)
+IsOutOfRange count = (count ≡ 0) ⊎ (SEGMENTS_COUNT_LIMIT ≤ count)
 
 -- the first word of a table declares this number of segments, and it is accepted
 pub record DeclaresAccepted (word : List ℕ) (count : ℕ) : Type 0 where
   pub some : 0 < count
-  pub few : count < 512
+  pub few : count < SEGMENTS_COUNT_LIMIT
   pub declared : field (count - 1) ≡ take 4 word
 
 -- more words than the limit, where there is one

@@ -6,6 +6,7 @@ use Rattle.capnp_frame.specs.declared.error.ErrorKind.{ErrorKind}
 use Rattle.capnp_frame.specs.declared.error.ErrorKind.TheVariants.{InvalidNumberOfSegments}
 use Rattle.capnp_frame.specs.Message.{IsWholeWords, lengths, size_in_words}
 use Rattle.capnp_frame.specs.SegmentTable.{FitsField, zero_padded_table}
+use Rattle.capnp_frame.specs.declared.serialize.segment_table.TheConstants.{SEGMENTS_COUNT_LIMIT}
 
 -- what a writer asks of a message: 1 to 2 ^ 32 - 1 segments, each of whole words and fewer than 2 ^ 32 of them
 pub record IsWritable (segments : List (List ℕ)) : Type 0 where
@@ -16,11 +17,11 @@ pub record IsWritable (segments : List (List ℕ)) : Type 0 where
 
 -- no more segments than a reader accepts
 abbrev pub IsWithinSegmentLimit : List (List ℕ) → Type 0
-IsWithinSegmentLimit segments = length segments < 512
+IsWithinSegmentLimit segments = length segments < SEGMENTS_COUNT_LIMIT
 
 -- more than that
 abbrev pub ExceedsSegmentLimit : List (List ℕ) → Type 0
-ExceedsSegmentLimit segments = 512 ≤ length segments
+ExceedsSegmentLimit segments = SEGMENTS_COUNT_LIMIT ≤ length segments
 
 -- there are more, and the failure carries their number
 abbrev pub RefusesMany : List (List ℕ) → ErrorKind → Type 0

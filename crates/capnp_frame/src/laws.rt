@@ -16,7 +16,7 @@ ghost use Rattle.capnp_frame.specs.declared.error.ErrorKind.{ErrorKind};
 ghost use Rattle.capnp_frame.specs.declared.serialize.segment_table.Padding.{Padding};
 
 use crate::io::{Read, Write};
-use crate::serialize::Padding;
+use crate::serialize::{Padding, SEGMENTS_COUNT_LIMIT};
 
 /// A message has a framed encoding: the one that is written.
 pub fn message_has_a_frame()
@@ -62,7 +62,7 @@ pub fn plain_requests_take_a_frame()
 /// it has.
 pub fn message_past_the_limit_is_refused<R: Read>()
     ensures { (rule : Padding) (limit : Option ℕ) (m : List (List ℕ)) (raw rest : List ℕ) →
-        MessageStands rule R.gives m raw rest → length m < 512 → IsTooLarge (lengths m) limit →
+        MessageStands rule R.gives m raw rest → length m < SEGMENTS_COUNT_LIMIT → IsTooLarge (lengths m) limit →
         (left : List ℕ) × RefusesStream rule R.gives R.refuses limit None
         (ErrorKind.MessageTooLarge (size_in_words m)) raw left }
 {}

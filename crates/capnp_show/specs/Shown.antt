@@ -3,16 +3,17 @@ use Rattle.std.specs.Prelude.{◌≡◌, ◌<◌, ◌≤◌, ◌-◌, ◌^◌, �
 use Rattle.capnp_frame.specs.Message.{size_in_words}
 use Rattle.capnp_frame.specs.Sink.{Appending, Adds}
 use Rattle.capnp_frame.specs.Source.{IfKnown}
+use Rattle.capnp_frame.specs.declared.serialize.segment_table.TheConstants.{SEGMENTS_COUNT_LIMIT}
 use Rattle.capnp_show.specs.declared.listing.Listed.{Listed}
 
 -- What is listed of a message whose segments are these: its place, and how many segments and words it has. A message
--- that is read has no more than 511 segments; of others the first 512 are listed.
+-- that is read has fewer than SEGMENTS_COUNT_LIMIT segments; of others so many are listed.
 pub record Lists (number start size : ℕ) (message : List (List ℕ)) (listed : Listed) : Type 0 where
   pub index : listed.index ≡ number
   pub offset : listed.offset ≡ start
   pub bytes : listed.bytes ≡ size
-  pub segments : listed.segments ≡ min (length message) 512
-  pub words : listed.words ≡ min (size_in_words (take 512 message)) (2 ^ 64 - 1)
+  pub segments : listed.segments ≡ min (length message) SEGMENTS_COUNT_LIMIT
+  pub words : listed.words ≡ min (size_in_words (take SEGMENTS_COUNT_LIMIT message)) (2 ^ 64 - 1)
 
 -- A text that was `old` is `new`, and a sink was known to hold `before` and holds `after`: a text of `most` bytes or more
 -- is written as it is and cleared, and a shorter one stays, and nothing is written.

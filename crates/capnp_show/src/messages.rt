@@ -19,7 +19,7 @@ use crate::settings::Form;
 use crate::shown::{Showing, show_count, show_message};
 use capnp::io::{BufRead, Write};
 use capnp::message::{Reader, ReaderOptions, ReaderSegments};
-use capnp::serialize::OwnedSegments;
+use capnp::serialize::{OwnedSegments, SEGMENTS_COUNT_LIMIT};
 use capnp::streams::{Format, MessageWriter};
 use capnp::{Result, Way, serialize, serialize_packed};
 use std::alloc::Global;
@@ -149,14 +149,15 @@ fn listed<S: ReaderSegments>(index: u64, offset: u64, bytes: u64, segments: &S) 
     }
 }
 
-// How many segments a message has, 512 at most, and the words of these.
+// How many segments a message has, `SEGMENTS_COUNT_LIMIT` at most, and the words of these.
 fn segments_and_words<S: ReaderSegments>(segments: &S) -> (u64, u64)
-    ensures segments { result.0 ≡ min (length (S.segments segments.now)) 512 }
-    ensures words { result.1 ≡ min (size_in_words (take 512 (S.segments segments.now))) (2 ^ 64 - 1) }
+    ensures segments { result.0 ≡ min (length (S.segments segments.now)) SEGMENTS_COUNT_LIMIT }
+    ensures words { result.1
+        ≡ min (size_in_words (take SEGMENTS_COUNT_LIMIT (S.segments segments.now))) (2 ^ 64 - 1) }
 {
     let mut count: u64 = 0;
     let mut words: u64 = 0;
-    for id in 0..512 {
+    for id in 0..SEGMENTS_COUNT_LIMIT as u32 {
         let Some(segment) = segments.get_segment(id) else {
             break;
         };

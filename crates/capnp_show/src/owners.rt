@@ -8,6 +8,7 @@ use crate::tree::{Found, Label, Node, Walk};
 use crate::words::{ElementSize, LandingPad, Object, Place, Shape, StructSize};
 use capnp::ErrorKind;
 use capnp::message::{ReaderOptions, ReaderSegments};
+use capnp::serialize::SEGMENTS_COUNT_LIMIT;
 use std::alloc::{AllocError, Global};
 
 /// How many nodes of a message are followed at most.
@@ -145,7 +146,7 @@ impl Owners {
     // The words of a message before the walk.
     fn free<S: ReaderSegments>(alloc: Global, segments: &S) -> Result<Owners, AllocError> {
         let mut words = Vec::new(alloc);
-        for id in 0..512 {
+        for id in 0..SEGMENTS_COUNT_LIMIT as u32 {
             let Some(segment) = segments.get_segment(id) else {
                 break;
             };

@@ -14,7 +14,7 @@ use crate::error::{Error, ErrorKind, Result};
 pub const SEGMENTS_COUNT_LIMIT: usize = 512;
 
 /// The length of the longest table that is read, in bytes: that of 511 segments.
-pub(crate) const LONGEST_TABLE: usize = 2048;
+pub(crate) const LONGEST_TABLE: usize = 4 * SEGMENTS_COUNT_LIMIT;
 
 /// What a reader accepts as the padding of a segment table: the four bytes after an even number of
 /// lengths. Encoding document, "Serialization Over a Stream".
