@@ -1,6 +1,7 @@
 //! Pointer words.
-ghost use Rattle.std.specs.Prelude.{◌≡◌, ◌+◌, ◌*◌, ◌/◌, ◌%◌, ◌^◌, ◌<◌, ℕ, Some, MatchOption};
-ghost use Rattle.capnp_layout.specs.Pointer.{pointer_kind, offset};
+ghost use Rattle.std.specs.Prelude.{◌≡◌, ◌↔◌, ◌+◌, ◌*◌, ◌/◌, ◌%◌, ◌^◌, ◌<◌, ℕ, Some, MatchOption, IsTrue};
+ghost use Rattle.capnp_layout.specs.Layout.{minus_one};
+ghost use Rattle.capnp_layout.specs.Pointer.{pointer_kind, offset, code, list_count};
 ghost use Rattle.capnp_layout.specs.PointerWord.{IsPointerWord, IsLocalShape, IsElementsTag};
 
 use crate::element_size::ElementSize;
@@ -104,6 +105,14 @@ impl Offset {
         Offset((word / 4 % (1 << 30)) as u32)
     }
 
+    /// Whether it is -1, the offset of a pointer to a struct of no words.
+    #[inline(always)]
+    pub fn is_minus_one(self) -> bool
+        ensures { IsTrue result ↔ (self.0 ≡ minus_one) }
+    {
+        self.0 == (1 << 30) - 1
+    }
+
     /// The word at which the target of a pointer begins, where the pointer is at a word of the same
     /// segment.
     #[inline(always)]
@@ -173,14 +182,31 @@ impl Elements {
     }
 }
 
+/// The code of a list pointer's elements.
+#[inline(always)]
+pub fn list_code(word: u64) -> u64
+    ensures { result ≡ code word }
+{
+    word / (1 << 32) % 8
+}
+
+/// How many elements a list pointer says that there are; of structs, how many words these have
+/// together.
+#[inline(always)]
+pub fn list_count(word: u64) -> u64
+    ensures { result ≡ list_count word }
+{
+    word / (1 << 35)
+}
+
 // What a word is as a list pointer.
 #[inline(always)]
 fn list_shape(word: u64) -> LocalShape
     requires { pointer_kind word ≡ 1 }
     ensures { IsLocalShape word result }
 {
-    let count = (word / (1 << 35)) as u32;
-    match word / (1 << 32) % 8 {
+    let count = list_count(word) as u32;
+    match list_code(word) {
         0 => LocalShape::Numbers(ElementSize::Void, count),
         1 => LocalShape::Numbers(ElementSize::Bit, count),
         2 => LocalShape::Numbers(ElementSize::Byte, count),

@@ -2,6 +2,7 @@
 use crate::code::{Code, Holes};
 use crate::schema::Value;
 use crate::templates::WORDS;
+use capnp_layout::pointer_word::list_word;
 use std::alloc::{AllocError, Global};
 use std::fmt::Write;
 
@@ -36,9 +37,11 @@ pub fn sets_no_pointers(value: &Value) -> bool {
 // where it is a text.
 fn list_of_bytes(alloc: Global, bytes: &[u8], is_text: bool) -> Result<Vec<u8>, AllocError> {
     let count = (bytes.len() as u64).saturating_add(is_text as u64);
-    let root = 1u64
-        .wrapping_add(2 << 32)
-        .wrapping_add(count.wrapping_shl(35));
+    // No list pointer says that there are more, so none was read.
+    if count >= 1 << 29 {
+        return Err(AllocError);
+    }
+    let root = list_word(0, 2, count);
     let mut words = Vec::from_slice(alloc, &root.to_le_bytes())?;
     words.extend_from_slice(bytes)?;
     if is_text {

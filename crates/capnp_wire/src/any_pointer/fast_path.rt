@@ -14,6 +14,7 @@ use capnp_layout::fast_path::{LocalStruct, local_list, local_struct};
 use capnp_layout::number_list::NumberList;
 use capnp_layout::object::{Body, Object};
 use capnp_layout::place::word;
+use capnp_layout::pointer::list_code;
 
 // Views of numbers and of structs ask here first. `None` says nothing about what is there; then
 // `enter` finds it.
@@ -76,7 +77,7 @@ impl<'a, S: ReaderSegments> Reader<'a, S> {
         let place = self.place?;
         let segment = self.segments.get_segment(place.segment)?;
         let pointer = word(segment, place.word)?;
-        if pointer / (1 << 32) % 8 != size.code() {
+        if list_code(pointer) != size.code() {
             return None;
         }
         local_list(segment, place, self.nesting)

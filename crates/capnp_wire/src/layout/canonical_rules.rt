@@ -11,7 +11,7 @@ ghost use Rattle.capnp_wire.specs.Tested.{NextOf, PaddedOf, IsTruncated, NeedDat
 use capnp_layout::element_size::ElementSize;
 use capnp_layout::object::{Body, Object};
 use capnp_layout::place::word;
-use capnp_layout::pointer::{Elements, Offset};
+use capnp_layout::pointer::{Elements, Offset, list_count};
 
 /// Whether the pointer at a word leads to the next free word.
 #[inline(always)]
@@ -19,20 +19,20 @@ pub(crate) fn is_next(pointer: u64, word: usize, next: usize, body: Body) -> boo
     requires { word < next }
     ensures { IsTrue result ↔ NextOf pointer word next body }
 {
-    let offset = Offset::read(pointer).0 as usize;
+    let offset = Offset::read(pointer);
     let ahead = next - (word + 1);
-    let leads_there = offset == ahead && ahead < 1 << 29;
+    let leads_there = offset.0 as usize == ahead && ahead < 1 << 29;
     match body {
         Body::Struct(size) => {
             if size.words() == 0 {
-                offset == (1 << 30) - 1
+                offset.is_minus_one()
             } else {
                 leads_there
             }
         }
         Body::Numbers(_, _) => leads_there,
         Body::Pointers(_) => leads_there,
-        Body::Structs(elements, _) => leads_there && pointer / (1 << 35) == elements.words(),
+        Body::Structs(elements, _) => leads_there && list_count(pointer) == elements.words(),
     }
 }
 
