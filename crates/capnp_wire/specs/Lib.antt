@@ -27,3 +27,4 @@ pub mod Values
 pub mod ListValues
 pub mod Canonical
 pub mod Tested
+pub mod Constants

@@ -15,6 +15,7 @@ pub mod any_pointer_list;
 pub mod any_struct;
 pub mod arena;
 pub mod canonical;
+pub mod constant;
 pub mod data;
 pub mod data_list;
 pub mod laws;

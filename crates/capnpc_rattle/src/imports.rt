@@ -32,10 +32,6 @@ const DEFINITIONS: &[(&str, &[&str])] = &[
         &["w8", "w16", "w32", "w64", "cast_signed", "cast_unsigned"],
     ),
     (
-        "capnp_constant.specs.Constants",
-        &["segments_of", "root_of", "IsDefaultData"],
-    ),
-    (
         "capnp_orphans.specs.Adding",
         &["Adds", "AddsRoot", "Fails", "Writes"],
     ),
@@ -54,6 +50,10 @@ const DEFINITIONS: &[(&str, &[&str])] = &[
     ),
     ("capnp_orphans.specs.Segments", &["body_of"]),
     ("capnp_values.specs.DataSections", &["with_field"]),
+    (
+        "capnp_wire.specs.Constants",
+        &["segments_of", "root_of", "IsDefaultData"],
+    ),
     ("capnp_wire.specs.Fields", &["field"]),
     ("capnp_wire.specs.ListViews", &["element_of"]),
     ("capnp_wire.specs.Lists", &["FindsElement", "IsIterator"]),
@@ -264,10 +264,10 @@ fn push_line(alloc: Global, lines: &mut Vec<String>, name: &str) -> Result<(), A
 // Adds the line that imports what constants and defaults are made of.
 fn push_words(alloc: Global, lines: &mut Vec<String>, text: &str) -> Result<(), AllocError> {
     if text.contains("OrDefault<") {
-        return push_line(alloc, lines, "capnp_constant::{OrDefault, Words}");
+        return push_line(alloc, lines, "capnp_wire::constant::{OrDefault, Words}");
     }
     if text.contains(": Words<") {
-        return push_line(alloc, lines, "capnp_constant::Words");
+        return push_line(alloc, lines, "capnp_wire::constant::Words");
     }
     Ok(())
 }

@@ -14,7 +14,6 @@ const MODULES: &[&str] = &[
     "box",
     "builder",
     "break",
-    "capnp_constant",
     "capnp_frame",
     "capnp_orphans",
     "capnp_wire",

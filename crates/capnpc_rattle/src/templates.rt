@@ -134,7 +134,7 @@ if pointer.is_null() {
 /// How a struct is read whose default sets no pointers.
 pub const DEFAULT_DATA_BODY: &str = "let pointer = self.fields.get_pointer(@offset@);
 if pointer.is_null() {
-    match capnp_constant::default_data(&pointer, &@default@) {
+    match capnp_wire::constant::default_data(&pointer, &@default@) {
         Ok(fields) => Ok(@path@::Reader { fields }),
         Err(error) => Err(error),
     }
@@ -164,7 +164,7 @@ pub const GET_WORDS: &str = "
     ensures { let pointer = root_of @name@ in
         @fact@ }
 {
-    capnp_constant::view_of(&@name@)
+    capnp_wire::constant::view_of(&@name@)
 }
 ";
 

@@ -2,12 +2,12 @@
 ghost use Rattle.std.specs.Prelude.{◌≡◌, ◌≤◌, ◌<◌, ◌==◌, ◌↔◌, ◌≢◌, if◌then◌else◌, IfOk, IsTrue, bit_xor, from_bits, to_bits, length, map, replicate, slice_index_or, slice_set};
 ghost use Rattle.std.specs.Float.{binary64};
 ghost use Rattle.std.specs.Int.{w32, w64, cast_signed, cast_unsigned};
-ghost use Rattle.capnp_constant.specs.Constants.{segments_of, root_of, IsDefaultData};
 ghost use Rattle.capnp_orphans.specs.Adding.{Adds, AddsRoot, Fails, Writes};
 ghost use Rattle.capnp_orphans.specs.Copied.{words_in, Copies};
 ghost use Rattle.capnp_orphans.specs.Held.{word_of, HoldsStruct, HoldsStructs, TakesStruct as StructWords, TakesStructs, ExceedsPointer, ManyStructs};
 ghost use Rattle.capnp_orphans.specs.Segments.{body_of};
 ghost use Rattle.capnp_values.specs.DataSections.{with_field};
+ghost use Rattle.capnp_wire.specs.Constants.{segments_of, root_of, IsDefaultData};
 ghost use Rattle.capnp_wire.specs.Fields.{field};
 ghost use Rattle.capnp_wire.specs.ListViews.{element_of};
 ghost use Rattle.capnp_wire.specs.Lists.{FindsElement, IsIterator};
@@ -17,8 +17,8 @@ ghost use Rattle.capnp_wire.specs.UpgradedReaders.{upgraded_structs_of, upgraded
 ghost use Rattle.capnp_wire.specs.UpgradedViews.{IsUpgradedStructs, IsUpgradedPointers, ReadsAsNumbers, TakesRows, TakesFields, TakesFirstPointers, DeclinesRows, DeclinesFields, DeclinesFirstPointers};
 ghost use Rattle.capnp_wire.specs.Views.{Struct, IsViewOf, IsStruct, IsText, IsData, Accepts, Refuses, Declines, Denotes, Reads, TakesStruct, TakesText, TakesNumbers, DeclinesStruct, DeclinesText, DeclinesNumbers, pointer_in};
 
-use capnp_constant::Words;
 use capnp_frame::Result;
+use capnp_wire::constant::Words;
 
 pub const LIMIT: u32 = 1000;
 
@@ -36,7 +36,7 @@ pub fn get_corner() -> Result<point::Reader<'static, Words<16>>>
         (Accepts pointer TakesStruct) (Refuses pointer DeclinesStruct)
         (Declines pointer DeclinesStruct) result }
 {
-    capnp_constant::view_of(&CORNER)
+    capnp_wire::constant::view_of(&CORNER)
 }
 
 /// A point of a plane.
@@ -719,11 +719,11 @@ impl Color {
 /// A struct with a field of each kind.
 pub mod sample {
     use super::Color;
-    use capnp_constant::Words;
     use capnp_frame::Result;
     use capnp_frame::message::ReaderSegments;
     use capnp_orphans::{Draft, Drafts, GrowingSegment, Orphan, Orphanage, StructDraft};
     use capnp_wire::any_struct::StructReader;
+    use capnp_wire::constant::Words;
     use capnp_wire::primitive_element::PrimitiveElement;
     use capnp_wire::traits::{self, FromPointerReader, IndexMove, ListIter};
     use capnp_wire::{any_pointer, text, upgraded};
@@ -977,7 +977,7 @@ pub mod sample {
         {
             let pointer = self.fields.get_pointer(7);
             if pointer.is_null() {
-                match capnp_constant::default_data(&pointer, &TARGET_DEFAULT) {
+                match capnp_wire::constant::default_data(&pointer, &TARGET_DEFAULT) {
                     Ok(fields) => Ok(super::point::Reader { fields }),
                     Err(error) => Err(error),
                 }
@@ -1544,7 +1544,7 @@ pub mod sample {
             (Accepts pointer TakesText) (Refuses pointer DeclinesText)
             (Declines pointer DeclinesText) result }
     {
-        capnp_constant::view_of(&NOTE_DEFAULT)
+        capnp_wire::constant::view_of(&NOTE_DEFAULT)
     }
 
     #[rattlefmt::skip]
@@ -1561,7 +1561,7 @@ pub mod sample {
             (Accepts pointer TakesStruct) (Refuses pointer DeclinesStruct)
             (Declines pointer DeclinesStruct) result }
     {
-        capnp_constant::view_of(&TARGET_DEFAULT)
+        capnp_wire::constant::view_of(&TARGET_DEFAULT)
     }
 
     /// What is seen of it.
@@ -2089,11 +2089,11 @@ pub mod shape {
 
 /// Colors, and a name for each.
 pub mod palette {
-    use capnp_constant::{OrDefault, Words};
     use capnp_frame::Result;
     use capnp_frame::message::ReaderSegments;
     use capnp_orphans::{Draft, Drafts, GrowingSegment, Orphan, Orphanage, StructDraft};
     use capnp_wire::any_struct::StructReader;
+    use capnp_wire::constant::{OrDefault, Words};
     use capnp_wire::traits::{self, FromPointerReader, IndexMove, ListIter};
     use capnp_wire::{any_pointer, text, upgraded};
 
@@ -2434,6 +2434,6 @@ pub mod palette {
             (Accepts pointer TakesFirstPointers) (Refuses pointer DeclinesFirstPointers)
             (Declines pointer DeclinesFirstPointers) result }
     {
-        capnp_constant::view_of(&NAMES_DEFAULT)
+        capnp_wire::constant::view_of(&NAMES_DEFAULT)
     }
 }

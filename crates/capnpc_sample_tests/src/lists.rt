@@ -4,8 +4,8 @@ use crate::read::FILLED;
 use crate::sample_capnp::{Color, palette, point};
 use crate::shown::{coordinates, message_of, sample_of};
 use capnp::message::{Reader, ReaderSegments};
-use capnp_constant::OrDefault;
 use capnp_frame::Result;
+use capnp_wire::constant::OrDefault;
 use capnp_wire::upgraded::EnumList;
 
 // (colors = [green, deepBlue, red], names = ["leaf"]), with 7 as the number of the second color

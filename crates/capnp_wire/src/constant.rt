@@ -1,19 +1,17 @@
 //! Constants of a schema that are structs or lists, and defaults of pointers: messages that are
 //! part of a program.
 //!
-//! Code that `capnpc-rattle` writes uses this crate where its schema has them.
-#![tactic(auto)]
-
+//! Code that `capnpc-rattle` writes uses this module where its schema has them.
 ghost use Rattle.std.specs.Prelude.{◌≡◌, ◌∷◌, []};
-ghost use Rattle.capnp_constant.specs.Constants.{IsDefaultData};
+ghost use Rattle.capnp_wire.specs.Constants.{IsDefaultData};
 ghost use Rattle.capnp_wire.specs.Readers.{pointer_of, struct_of};
 ghost use Rattle.capnp_wire.specs.Views.{Pointer, IsViewOf, Accepts, Refuses, Declines, TakesStruct, DeclinesStruct};
 
+use crate::any_pointer;
+use crate::any_struct::StructReader;
+use crate::traits::FromPointerReader;
 use capnp_frame::Result;
 use capnp_frame::message::ReaderSegments;
-use capnp_wire::any_pointer;
-use capnp_wire::any_struct::StructReader;
-use capnp_wire::traits::FromPointerReader;
 
 /// The words of a message of one segment, for a `static`.
 #[derive(Clone, Copy)]
@@ -73,7 +71,7 @@ pub fn default_data<'a, S: ReaderSegments, C: Constant>(
 }
 
 impl<const N: usize> Constant for Words<N> {
-    ghost use Rattle.capnp_constant.specs.Constants.{root_of};
+    ghost use Rattle.capnp_wire.specs.Constants.{root_of};
 
     ghost root = { λ words. root_of words };
 
@@ -83,7 +81,7 @@ impl<const N: usize> Constant for Words<N> {
 }
 
 impl<const N: usize> Words<N> {
-    ghost use Rattle.capnp_constant.specs.Constants.{segments_of, root_of};
+    ghost use Rattle.capnp_wire.specs.Constants.{segments_of, root_of};
 
     /// The root pointer, which is read without limits: a part of the program is only as large and
     /// as deep as it was written.

@@ -1,8 +1,8 @@
--- Constants and defaults, as messages of one segment (src/lib.rt).
+-- Constants and defaults, as messages of one segment (src/constant.rt).
 use Rattle.std.specs.Prelude.{◌≡◌, ℕ, List, [], ◌∷◌}
 use Rattle.capnp_wire.specs.Readers.{unlimited_root}
 use Rattle.capnp_wire.specs.Views.{Pointer, Struct, IsStruct, data_struct}
-use Rattle.capnp_constant.specs.declared.Words.{Words}
+use Rattle.capnp_wire.specs.declared.constant.Words.{Words}
 
 -- the one segment
 abbrev pub segments_of : {size : ℕ} → Words size → List (List ℕ)
