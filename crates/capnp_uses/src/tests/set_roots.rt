@@ -1,11 +1,11 @@
 //! The callers that set a root to what another message holds, by the words that the segment then
 //! has.
-use crate::fixtures::{Message, Source, expect, message_of, roomy_message};
+use crate::setting::{set_canonical, set_tree, set_tree_and_word};
+use crate::tests::fixtures::{Message, Source, expect, message_of, roomy_message};
 use capnp::Result;
 use capnp::message::{Builder, HeapAllocator, ReaderOptions};
 use capnp_frame_tests::messages::has_segments;
 use capnp_frame_tests::refusals::refusal;
-use capnp_uses::setting::{set_canonical, set_tree, set_tree_and_word};
 use std::alloc::Global;
 use std::process::Abort;
 

@@ -1,17 +1,17 @@
 //! The callers over other limits than the default ones, and over what fails.
-use crate::callers::{FRAMED, both, declared_of, declared_of_log};
-use crate::examples::PACKED as PACKED_HELLO;
-use crate::fixtures::{expect, limited};
+use crate::canonical::canonical_words;
+use crate::packed_struct::read_packed_words;
+use crate::packing::{pack_words, unpack_words, words_are_unpacked};
+use crate::reading::{borrowed_message, first_message, root_text};
+use crate::record_log::two_records_are_read_back;
+use crate::streaming::{next_message, skip_message};
+use crate::tests::callers::{FRAMED, both, declared_of, declared_of_log};
+use crate::tests::examples::PACKED as PACKED_HELLO;
+use crate::tests::fixtures::{expect, limited};
 use capnp::Result;
 use capnp::message::{DEFAULT_READER_OPTIONS, ReaderOptions, SegmentArray};
 use capnp::streams::Format;
 use capnp_frame_tests::refusals::{numbered, refusal};
-use capnp_uses::canonical::canonical_words;
-use capnp_uses::packed_struct::read_packed_words;
-use capnp_uses::packing::{pack_words, unpack_words, words_are_unpacked};
-use capnp_uses::reading::{borrowed_message, first_message, root_text};
-use capnp_uses::record_log::two_records_are_read_back;
-use capnp_uses::streaming::{next_message, skip_message};
 use std::alloc::{AllocError, Global};
 use std::process::Abort;
 

@@ -1,13 +1,13 @@
 //! The callers that build a root: what they read back, and the words that the segment then has.
-use crate::fixtures::{expect, roomy_message};
+use crate::building::{
+    a_struct_is_read_back, data_is_read_back, null_is_read_back, numbers_are_read_back,
+    text_is_read_back, write_data, write_null, write_numbers, write_struct, write_text,
+};
+use crate::tests::fixtures::{expect, roomy_message};
 use capnp::Result;
 use capnp::message::{Allocator, Builder, HeapAllocator, SingleSegmentAllocator};
 use capnp_frame_tests::messages::has_segments;
 use capnp_frame_tests::refusals::numbered;
-use capnp_uses::building::{
-    a_struct_is_read_back, data_is_read_back, null_is_read_back, numbers_are_read_back,
-    text_is_read_back, write_data, write_null, write_numbers, write_struct, write_text,
-};
 use std::alloc::Global;
 use std::process::Abort;
 

@@ -1,5 +1,5 @@
 //! Traversal limits of many words: what views and sizes count of them.
-use crate::fixtures::{Message, Source, expect, limited, message_of, set_root};
+use crate::tests::fixtures::{Message, Source, expect, limited, message_of, set_root};
 use capnp::message::Builder;
 use capnp_frame::Result;
 use capnp_frame::message::{DEFAULT_READER_OPTIONS, SegmentArray};

@@ -1,6 +1,6 @@
 //! The messages of a stream as an iterator, up to its end or its first error.
-use crate::callers::both;
-use crate::fixtures::expect;
+use crate::tests::callers::both;
+use crate::tests::fixtures::expect;
 use capnp::Result;
 use capnp::devices::Input;
 use capnp::io::BufRead;

@@ -1,6 +1,13 @@
 //! Each caller once, on bytes of the encoding document and of the C++ tool.
-use crate::examples::{HELLO, PACKED as PACKED_HELLO};
-use crate::fixtures::expect;
+use crate::building::write_struct;
+use crate::canonical::canonical_words;
+use crate::packed_struct::{a_struct_is_read_packed, packed_text, read_packed_words};
+use crate::packing::{pack_words, unpack_words, words_are_unpacked};
+use crate::reading::{borrowed_message, first_message, root_text};
+use crate::record_log::two_records_are_read_back;
+use crate::streaming::next_message;
+use crate::tests::examples::{HELLO, PACKED as PACKED_HELLO};
+use crate::tests::fixtures::expect;
 use capnp::Result;
 use capnp::message::{
     Builder, DEFAULT_READER_OPTIONS, Reader, ReaderOptions, ReaderSegments, SegmentArray,
@@ -8,13 +15,6 @@ use capnp::message::{
 use capnp::record_log::{append_segments, read_log};
 use capnp::serialize::{OwnedSegments, Padding};
 use capnp::streams::{Format, StreamRead, every_message};
-use capnp_uses::building::write_struct;
-use capnp_uses::canonical::canonical_words;
-use capnp_uses::packed_struct::{a_struct_is_read_packed, packed_text, read_packed_words};
-use capnp_uses::packing::{pack_words, unpack_words, words_are_unpacked};
-use capnp_uses::reading::{borrowed_message, first_message, root_text};
-use capnp_uses::record_log::two_records_are_read_back;
-use capnp_uses::streaming::next_message;
 use std::alloc::{AllocError, Global};
 
 // Segments [] and [1, 2, 3, 4, 5, 6, 7, 8], framed, and packed.

@@ -1,10 +1,10 @@
 //! Accounts that are built from the bottom up, by worked bytes.
+use crate::account;
+use crate::account_list::{NewAccount, accounts_are_read_back, list_of_accounts};
 use capnp::ErrorKind;
 use capnp::message::{DEFAULT_READER_OPTIONS, ReaderOptions, ReaderSegments};
 use capnp::serialize::OwnedSegments;
 use capnp_orphans::Orphanage;
-use capnp_uses::account;
-use capnp_uses::account_list::{NewAccount, accounts_are_read_back, list_of_accounts};
 use std::test::Fail;
 
 // The root leads over the two names, "A" and none, to the list: a tag, then 7 and 8, each of which

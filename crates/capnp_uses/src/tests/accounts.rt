@@ -1,8 +1,8 @@
 //! A type over structs, read from worked bytes.
-use crate::fixtures::{expect, message_of};
+use crate::account;
+use crate::tests::fixtures::{expect, message_of};
 use capnp::message::{DEFAULT_READER_OPTIONS, SegmentArray};
 use capnp::{ErrorKind, Result};
-use capnp_uses::account;
 
 // A struct of one data word and one pointer, the number 7, and the text "Alice".
 const ALICE: &[u8] = b"\0\0\0\0\x01\0\x01\0\x07\0\0\0\0\0\0\0\x01\0\0\0\x32\0\0\0Alice\0\0\0";

@@ -1,6 +1,6 @@
 //! What the traversal limit counts while a message is walked over: views alone, from where they
 //! were.
-use crate::fixtures::{
+use crate::tests::fixtures::{
     Message, Source, canonical_text, expect, limited, message_of, set_root, set_root_canonical,
 };
 use capnp::message::Builder;

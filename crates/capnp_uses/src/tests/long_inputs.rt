@@ -1,6 +1,6 @@
 //! Chunks of many bytes, and streams of many messages.
-use crate::callers::{declared_of, declared_of_log};
-use crate::fixtures::{expect, transcoded};
+use crate::tests::callers::{declared_of, declared_of_log};
+use crate::tests::fixtures::{expect, transcoded};
 use capnp::io::{Read, Write};
 use capnp::message::DEFAULT_READER_OPTIONS;
 use capnp::streams::Format;

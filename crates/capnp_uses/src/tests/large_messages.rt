@@ -1,5 +1,5 @@
 //! Messages of many words through each call that reads, writes and canonicalizes.
-use crate::fixtures::{
+use crate::tests::fixtures::{
     Message, canonical_text, expect, message_of, set_root, set_root_canonical, transcoded,
 };
 use capnp::message::{Builder, DEFAULT_READER_OPTIONS, HeapAllocator, Reader, ReaderSegments};

@@ -1,8 +1,8 @@
 //! A view that takes several kinds of objects, read from worked bytes.
-use crate::fixtures::{expect, message_of};
+use crate::any_numbers;
+use crate::tests::fixtures::{expect, message_of};
 use capnp::ErrorKind;
 use capnp::message::DEFAULT_READER_OPTIONS;
-use capnp_uses::any_numbers;
 
 // Lists of two numbers, of 1, 2, 4 and 8 bytes, and of two bits.
 #[rattlefmt::skip]

@@ -1,12 +1,12 @@
 //! The callers that build over a region, and those that set a root and read it back, by the words
 //! that the segment then has.
-use crate::fixtures::{Message, expect, message_of, roomy_message};
+use crate::regions::{region_comes_home, set_in_region};
+use crate::roots::{copy_root, set_text_is_read_back};
+use crate::tests::fixtures::{Message, expect, message_of, roomy_message};
 use capnp::message::{Allocator, Builder, HeapAllocator, ReaderOptions};
 use capnp::{Result, text};
 use capnp_frame_tests::messages::has_segments;
 use capnp_frame_tests::refusals::refusal;
-use capnp_uses::regions::{region_comes_home, set_in_region};
-use capnp_uses::roots::{copy_root, set_text_is_read_back};
 
 // A text of one word has room after the root in two words, and not in one; either way the region is
 // zero once the message is gone.

@@ -1,13 +1,13 @@
 //! The callers that read back values that are composed, by worked bytes (encoding document,
 //! "Lists").
-use crate::fixtures::expect;
+use crate::tests::fixtures::expect;
+use crate::values::{contact_is_read_back, person_is_read_back, phone};
 use capnp::Result;
 use capnp::any_struct::StructReader;
 use capnp::message::{Builder, Reader, ReaderOptions};
 use capnp::serialize::OwnedSegments;
 use capnp::streams::Format;
 use capnp_frame_tests::messages::has_segments;
-use capnp_uses::values::{contact_is_read_back, person_is_read_back, phone};
 
 // A number, pointers to a text and to a struct of no data words, and what these lead to.
 #[rattlefmt::skip]

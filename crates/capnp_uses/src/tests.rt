@@ -1,0 +1,19 @@
+//! The examples of public items, the callers by worked bytes, and messages and limits of many
+//! words.
+mod account_lists;
+mod accounts;
+mod any_numbers;
+mod built_roots;
+mod callers;
+mod composed;
+mod entries;
+mod examples;
+mod fixtures;
+mod large_limits;
+mod large_messages;
+mod long_inputs;
+mod message_streams;
+mod other_options;
+mod regions;
+mod set_roots;
+mod walks;
