@@ -34,6 +34,7 @@ mod pointer_setters;
 mod request;
 mod reserved;
 mod schema;
+mod schema_capnp;
 mod set_words;
 mod setters;
 mod signatures;
@@ -46,9 +47,9 @@ mod words;
 
 use crate::output::{Output, outputs_of, write_outputs};
 use crate::schema::Request;
+use crate::schema_capnp::code_generator_request;
 use anyhow::{Context, Result};
 use capnp_frame::serialize::OwnedSegments;
-use capnp_schema::schema_capnp::code_generator_request;
 use std::alloc::Global;
 use std::env;
 use std::process::ExitCode;

@@ -1,10 +1,10 @@
 //! The request that the schema compiler hands to its plugins, read with the types that this
 //! compiler has made from `schema.capnp`.
 use crate::schema::{Body, Field, Node, Place, Request, RequestedFile, Slot, Struct};
+use crate::schema_capnp::{code_generator_request, field, node};
 use crate::types::{read_type, read_value};
 use anyhow::{Result, bail};
 use capnp_frame::message::ReaderSegments;
-use capnp_schema::schema_capnp::{code_generator_request, field, node};
 use capnp_wire::text;
 use std::alloc::Global;
 use std::str::from_utf8;

@@ -8,9 +8,9 @@ ghost use Rattle.capnp_wire.specs.Values.{HasWords, LeadsToTree};
 
 use crate::request::read_text;
 use crate::schema::{Base, Type, Value};
+use crate::schema_capnp::{type_, value};
 use anyhow::{Result, bail};
 use capnp_frame::message::ReaderSegments;
-use capnp_schema::schema_capnp::{type_, value};
 use capnp_wire::any_pointer;
 use capnp_wire::traits::SetterInput;
 use std::alloc::Global;
