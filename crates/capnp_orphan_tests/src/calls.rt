@@ -5,4 +5,5 @@ mod drafts;
 mod examples;
 mod read_lists;
 mod rows;
+mod schema_types;
 mod trees;

@@ -1,4 +1,5 @@
-//! Tests of messages that are built from the bottom up, and callers with contracts.
+//! Tests of messages that are built from the bottom up, and of the types that the schema compiler
+//! writes, and callers with contracts.
 #![tactic(auto)]
 
 #[cfg(test)]
@@ -14,3 +15,6 @@ mod refusals;
 #[cfg(test)]
 mod regions;
 mod uses;
+
+#[cfg(test)]
+use capnpc_sample::{addressbook_capnp, sample_capnp};

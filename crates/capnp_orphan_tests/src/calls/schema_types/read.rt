@@ -1,7 +1,9 @@
 //! Messages that the C++ tool wrote of `sample.capnp`, read by the types that are made of it.
-use crate::assertions::{expect, expect_bytes, expect_that};
+use crate::calls::schema_types::assertions::{expect, expect_bytes, expect_that};
+use crate::calls::schema_types::shown::{
+    coordinates, counts, has_color_and_ratio, label, note, origin, title,
+};
 use crate::sample_capnp::{Color, LIMIT, get_corner, point, sample};
-use crate::shown::{coordinates, counts, has_color_and_ratio, label, note, origin, title};
 use capnp_frame::Result;
 use capnp_frame::message::{ReaderOptions, ReaderSegments, SegmentArray};
 use capnp_wire::arena::ReaderArena;

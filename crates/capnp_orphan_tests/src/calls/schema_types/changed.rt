@@ -1,12 +1,14 @@
 //! What was read is changed, and written again.
-use crate::address_book::{Job, with_email};
 use crate::addressbook_capnp::person;
 use crate::addressbook_capnp::person::phone_number;
-use crate::assertions::{expect, expect_bytes, expect_that};
-use crate::people::{email, has_job, name, person_of};
-use crate::read::FILLED;
+use crate::calls::schema_types::address_book::{Job, with_email};
+use crate::calls::schema_types::assertions::{expect, expect_bytes, expect_that};
+use crate::calls::schema_types::people::{email, has_job, name, person_of};
+use crate::calls::schema_types::read::FILLED;
+use crate::calls::schema_types::shown::{
+    has_title_and_label, made_counts, message_in, message_of, sample_of,
+};
 use crate::sample_capnp::{point, sample, shape};
-use crate::shown::{has_title_and_label, made_counts, message_in, message_of, sample_of};
 use capnp::message::ReaderSegments;
 use capnp_frame::{ErrorKind, Result};
 use capnp_frame_tests::retried;

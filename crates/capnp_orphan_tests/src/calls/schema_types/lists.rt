@@ -1,8 +1,8 @@
 //! Lists of the types that the compiler makes, element by element.
-use crate::assertions::{expect, expect_bytes};
-use crate::read::FILLED;
+use crate::calls::schema_types::assertions::{expect, expect_bytes};
+use crate::calls::schema_types::read::FILLED;
+use crate::calls::schema_types::shown::{coordinates, message_of, sample_of};
 use crate::sample_capnp::{Color, palette, point};
-use crate::shown::{coordinates, message_of, sample_of};
 use capnp::message::{Reader, ReaderSegments};
 use capnp_frame::Result;
 use capnp_wire::constant::OrDefault;

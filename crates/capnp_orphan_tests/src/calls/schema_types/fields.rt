@@ -1,11 +1,11 @@
 //! Builders whose fields are set, and samples that have them.
-use crate::assertions::{expect, expect_bytes, expect_that};
-use crate::builders::point_at;
-use crate::read::{EMPTY, FILLED};
-use crate::sample_capnp::{Color, point, sample};
-use crate::shown::{
+use crate::calls::schema_types::assertions::{expect, expect_bytes, expect_that};
+use crate::calls::schema_types::builders::point_at;
+use crate::calls::schema_types::read::{EMPTY, FILLED};
+use crate::calls::schema_types::shown::{
     has_title_and_label, label, made_counts, message_in, message_of, sample_of, size,
 };
+use crate::sample_capnp::{Color, point, sample};
 use capnp_frame::Result;
 use capnp_orphans::{Orphan, Orphanage};
 use std::process::Abort;

@@ -1,9 +1,9 @@
 //! Messages of the address book's types, and what people of it show.
-use crate::address_book::{Job, append_people, people, write_address_book};
 use crate::addressbook_capnp::person::employment;
 use crate::addressbook_capnp::{address_book, person};
-use crate::assertions::{expect, expect_bytes};
-use crate::shown::message_in;
+use crate::calls::schema_types::address_book::{Job, append_people, people, write_address_book};
+use crate::calls::schema_types::assertions::{expect, expect_bytes};
+use crate::calls::schema_types::shown::message_in;
 use capnp::message::{DEFAULT_READER_OPTIONS, Reader, ReaderSegments};
 use capnp::serialize;
 use capnp_frame::Result;

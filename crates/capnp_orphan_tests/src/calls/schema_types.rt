@@ -1,0 +1,12 @@
+//! Messages that are read and built by the types that the schema compiler makes of two small
+//! schemas.
+mod address_book;
+mod assertions;
+mod builders;
+mod changed;
+mod fields;
+mod lists;
+mod people;
+mod read;
+mod shown;
+mod trees;
