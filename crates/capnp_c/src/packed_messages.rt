@@ -18,9 +18,7 @@ use crate::packed::pack_into;
 use crate::provided_text::ProvidedText;
 use capnp_frame::io::Write;
 use capnp_frame::message::{DEFAULT_READER_OPTIONS, ReaderSegments};
-use capnp_frame::serialize::{
-    NoAllocBufferSegments, NoAllocSliceSegments, SEGMENTS_COUNT_LIMIT,
-};
+use capnp_frame::serialize::{NoAllocBufferSegments, NoAllocSliceSegments, SEGMENTS_COUNT_LIMIT};
 use capnp_frame::{Error, ErrorKind, Result};
 use capnp_pack::stream::try_read_packed_framed_into;
 

@@ -7,7 +7,7 @@ use Rattle.capnp_frame.specs.declared.serialize.segment_table.TheConstants.{SEGM
 use Rattle.capnp_show.specs.declared.listing.Listed.{Listed}
 
 -- What is listed of a message whose segments are these: its place, and how many segments and words it has. A message
--- that is read has fewer than SEGMENTS_COUNT_LIMIT segments; of others so many are listed.
+-- that is read has fewer than SEGMENTS_COUNT_LIMIT segments; of others that many are listed.
 pub record Lists (number start size : ℕ) (message : List (List ℕ)) (listed : Listed) : Type 0 where
   pub index : listed.index ≡ number
   pub offset : listed.offset ≡ start
