@@ -85,12 +85,7 @@ impl<T: AsBytes + Drop> BufferSegments<T> {
         ensures reads { ReadsFlat (buffer_rules Padding.Zero options.traversal_limit_in_words)
             (T.bytes buffer) None (λ found. found.segments) result }
     {
-        BufferSegments::find(
-            alloc,
-            buffer,
-            options.traversal_limit_in_words,
-            Padding::Zero,
-        )
+        BufferSegments::new_with_padding(alloc, buffer, Padding::Zero, options)
     }
 
     /// Finds the message at the front of a buffer as `new` does, but accepts any padding in the
@@ -104,30 +99,28 @@ impl<T: AsBytes + Drop> BufferSegments<T> {
         ensures reads { ReadsFlat (buffer_rules Padding.Any options.traversal_limit_in_words)
             (T.bytes buffer) None (λ found. found.segments) result }
     {
-        BufferSegments::find(
-            alloc,
-            buffer,
-            options.traversal_limit_in_words,
-            Padding::Any,
-        )
+        BufferSegments::new_with_padding(alloc, buffer, Padding::Any, options)
     }
 
-    // The message at the front of a buffer.
-    fn find(
+    /// Finds the message at the front of a buffer as `new` does, by this rule of padding.
+    ///
+    /// Fails as `new` does: with `NonZeroPadding` where `padding` is `Padding::Zero` and the
+    /// padding isn't zero, and never where it is `Padding::Any`.
+    pub fn new_with_padding(
         alloc: Global,
         buffer: T,
-        limit: Option<usize>,
-        rule: Padding,
+        padding: Padding,
+        options: ReaderOptions,
     ) -> Result<BufferSegments<T>>
         ensures buffer { IfOk result (λ found. found.buffer ≡ buffer) }
-        ensures reads { ReadsFlat (buffer_rules rule limit) (T.bytes buffer) None
-            (λ found. found.segments) result }
+        ensures reads { ReadsFlat (buffer_rules padding options.traversal_limit_in_words)
+            (T.bytes buffer) None (λ found. found.segments) result }
     {
         let (lengths, table_len) = find_message(
             alloc,
             buffer.as_bytes(),
-            limit,
-            rule,
+            options.traversal_limit_in_words,
+            padding,
             ErrorKind::EmptyBuffer,
         )?;
         Ok(BufferSegments::from_parts(buffer, table_len, lengths.to_segment_indices()))
@@ -166,12 +159,7 @@ pub fn take_segments<'a>(
     ensures reads { ReadsFlat (slice_rules Padding.Zero options.traversal_limit_in_words)
         slice.old.now (Some slice.new.now) (λ found. found.segments) result }
 {
-    take_front(
-        alloc,
-        slice,
-        options.traversal_limit_in_words,
-        Padding::Zero,
-    )
+    take_segments_with_padding(alloc, slice, Padding::Zero, options)
 }
 
 /// Finds the message at the front of a slice as `take_segments` does, but accepts any padding in
@@ -185,22 +173,26 @@ pub fn take_segments_lenient<'a>(
     ensures reads { ReadsFlat (slice_rules Padding.Any options.traversal_limit_in_words)
         slice.old.now (Some slice.new.now) (λ found. found.segments) result }
 {
-    take_front(alloc, slice, options.traversal_limit_in_words, Padding::Any)
+    take_segments_with_padding(alloc, slice, Padding::Any, options)
 }
 
-// The message at the front of a slice, which moves after it.
-fn take_front<'a>(
+/// Finds the message at the front of a slice as `take_segments` does, by this rule of padding.
+///
+/// Fails as that does, and the slice is then as it was: with `NonZeroPadding` where `padding` is
+/// `Padding::Zero` and the padding isn't zero, and never where it is `Padding::Any`.
+pub fn take_segments_with_padding<'a>(
     alloc: Global,
     slice: &mut &'a [u8],
-    limit: Option<usize>,
-    rule: Padding,
+    padding: Padding,
+    options: ReaderOptions,
 ) -> Result<BufferSegments<&'a [u8]>>
     ensures buffer { IfOk result (λ found. found.buffer.now ≡ slice.old.now) }
-    ensures reads { ReadsFlat (slice_rules rule limit) slice.old.now (Some slice.new.now)
-        (λ found. found.segments) result }
+    ensures reads { ReadsFlat (slice_rules padding options.traversal_limit_in_words)
+        slice.old.now (Some slice.new.now) (λ found. found.segments) result }
 {
     let all: &'a [u8] = *slice;
-    let (lengths, table_len) = find_message(alloc, all, limit, rule, ErrorKind::EmptySlice)?;
+    let limit = options.traversal_limit_in_words;
+    let (lengths, table_len) = find_message(alloc, all, limit, padding, ErrorKind::EmptySlice)?;
     *slice = &all[table_len + 8 * lengths.total_words()..];
     Ok(lengths.into_slice_segments(all, table_len))
 }

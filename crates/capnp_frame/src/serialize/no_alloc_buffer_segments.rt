@@ -85,7 +85,7 @@ impl<T: AsBytes + Drop> NoAllocBufferSegments<T> {
         ensures reads { ReadsFlat (no_alloc_rules Padding.Zero options.traversal_limit_in_words)
             (T.bytes buffer) None (λ found. found.segments) result }
     {
-        NoAllocBufferSegments::find(buffer, options.traversal_limit_in_words, Padding::Zero)
+        NoAllocBufferSegments::from_buffer_with_padding(buffer, Padding::Zero, options)
     }
 
     /// Finds the message at the front of a buffer as `from_buffer` does, but accepts any padding in
@@ -98,16 +98,24 @@ impl<T: AsBytes + Drop> NoAllocBufferSegments<T> {
         ensures reads { ReadsFlat (no_alloc_rules Padding.Any options.traversal_limit_in_words)
             (T.bytes buffer) None (λ found. found.segments) result }
     {
-        NoAllocBufferSegments::find(buffer, options.traversal_limit_in_words, Padding::Any)
+        NoAllocBufferSegments::from_buffer_with_padding(buffer, Padding::Any, options)
     }
 
-    // The message at the front of a buffer.
-    fn find(buffer: T, limit: Option<usize>, rule: Padding) -> Result<NoAllocBufferSegments<T>>
+    /// Finds the message at the front of a buffer as `from_buffer` does, by this rule of padding.
+    ///
+    /// Fails as `from_buffer` does: with `NonZeroPadding` where `padding` is `Padding::Zero` and
+    /// the padding isn't zero, and never where it is `Padding::Any`.
+    pub fn from_buffer_with_padding(
+        buffer: T,
+        padding: Padding,
+        options: ReaderOptions,
+    ) -> Result<NoAllocBufferSegments<T>>
         ensures buffer { IfOk result (λ found. found.buffer ≡ buffer) }
-        ensures reads { ReadsFlat (no_alloc_rules rule limit) (T.bytes buffer) None
-            (λ found. found.segments) result }
+        ensures reads { ReadsFlat (no_alloc_rules padding options.traversal_limit_in_words)
+            (T.bytes buffer) None (λ found. found.segments) result }
     {
-        let info = read_table_info(buffer.as_bytes(), limit, rule)?;
+        let limit = options.traversal_limit_in_words;
+        let info = read_table_info(buffer.as_bytes(), limit, padding)?;
         Ok(NoAllocBufferSegments::of_message(buffer, info.segments_count))
     }
 }
@@ -123,7 +131,7 @@ impl<'b> NoAllocBufferSegments<&'b [u8]> {
         ensures { ReadsFlat (no_alloc_rules Padding.Zero options.traversal_limit_in_words)
             slice.old.now (Some slice.new.now) (λ found. found.segments) result }
     {
-        NoAllocBufferSegments::take_front(slice, options.traversal_limit_in_words, Padding::Zero)
+        NoAllocBufferSegments::from_slice_with_padding(slice, Padding::Zero, options)
     }
 
     /// Finds the message at the front of a slice as `from_slice` does, but accepts any padding in
@@ -135,20 +143,22 @@ impl<'b> NoAllocBufferSegments<&'b [u8]> {
         ensures { ReadsFlat (no_alloc_rules Padding.Any options.traversal_limit_in_words)
             slice.old.now (Some slice.new.now) (λ found. found.segments) result }
     {
-        NoAllocBufferSegments::take_front(slice, options.traversal_limit_in_words, Padding::Any)
+        NoAllocBufferSegments::from_slice_with_padding(slice, Padding::Any, options)
     }
 
-    // The message at the front of a slice, which moves after it.
-    fn take_front(
+    /// Finds the message at the front of a slice as `from_slice` does, by this rule of padding.
+    ///
+    /// Fails as `from_buffer_with_padding` does, and the slice is then as it was.
+    pub fn from_slice_with_padding(
         slice: &mut &'b [u8],
-        limit: Option<usize>,
-        rule: Padding,
+        padding: Padding,
+        options: ReaderOptions,
     ) -> Result<NoAllocBufferSegments<&'b [u8]>>
-        ensures { ReadsFlat (no_alloc_rules rule limit) slice.old.now (Some slice.new.now)
-            (λ found. found.segments) result }
+        ensures { ReadsFlat (no_alloc_rules padding options.traversal_limit_in_words)
+            slice.old.now (Some slice.new.now) (λ found. found.segments) result }
     {
         let all: &'b [u8] = *slice;
-        let info = read_table_info(all, limit, rule)?;
+        let info = read_table_info(all, options.traversal_limit_in_words, padding)?;
         let end = info.segment_table_length_bytes + info.total_segments_length_bytes;
         *slice = &all[end..];
         Ok(NoAllocBufferSegments::of_message(all, info.segments_count))

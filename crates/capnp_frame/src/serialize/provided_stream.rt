@@ -40,12 +40,7 @@ pub fn try_read_segments_into<'b, R: Read>(
         (framed_rules Padding.Zero R.gives R.refuses) options.traversal_limit_in_words
         (length buffer.old) (next_in (λ message. message.segments) result) }
 {
-    next_into(
-        source,
-        buffer,
-        options.traversal_limit_in_words,
-        Padding::Zero,
-    )
+    try_read_segments_into_with_padding(source, buffer, Padding::Zero, options)
 }
 
 /// Reads the next message as `try_read_segments_into` does, but accepts any padding in the segment
@@ -59,25 +54,25 @@ pub fn try_read_segments_into_lenient<'b, R: Read>(
         (framed_rules Padding.Any R.gives R.refuses) options.traversal_limit_in_words
         (length buffer.old) (next_in (λ message. message.segments) result) }
 {
-    next_into(
-        source,
-        buffer,
-        options.traversal_limit_in_words,
-        Padding::Any,
-    )
+    try_read_segments_into_with_padding(source, buffer, Padding::Any, options)
 }
 
-// The next message of a source in a buffer, or none at the source's end.
-fn next_into<'b, R: Read>(
+/// Reads the next message as `try_read_segments_into` does, by this rule of padding.
+///
+/// Fails as that does: with `NonZeroPadding`, the table consumed, where `padding` is
+/// `Padding::Zero` and the padding isn't zero, and never where it is `Padding::Any`.
+pub fn try_read_segments_into_with_padding<'b, R: Read>(
     source: &mut R,
     buffer: &'b mut [u8],
-    limit: Option<usize>,
-    rule: Padding,
+    padding: Padding,
+    options: ReaderOptions,
 ) -> Result<Option<NoAllocBufferSegments<&'b [u8]>>>
-    ensures { ReadsStreamInto R.Read source.old source.new (framed_rules rule R.gives R.refuses)
-        limit (length buffer.old) (next_in (λ message. message.segments) result) }
+    ensures { ReadsStreamInto R.Read source.old source.new
+        (framed_rules padding R.gives R.refuses) options.traversal_limit_in_words
+        (length buffer.old) (next_in (λ message. message.segments) result) }
 {
-    let Some(info) = read_into(source, buffer, limit, rule)? else {
+    let limit = options.traversal_limit_in_words;
+    let Some(info) = read_into(source, buffer, limit, padding)? else {
         return Ok(None);
     };
     Ok(Some(NoAllocBufferSegments::of_message(buffer, info.segments_count)))

@@ -36,12 +36,7 @@ pub fn try_skip_segments<R: BufRead>(
         (skipping_rules Padding.Zero R.gives R.refuses (length spare))
         options.traversal_limit_in_words) result }
 {
-    skip_next(
-        source,
-        options.traversal_limit_in_words,
-        Padding::Zero,
-        spare.to_segment_indices(),
-    )
+    try_skip_segments_with_padding(source, Padding::Zero, options, spare)
 }
 
 /// Skips the next message as `try_skip_segments` does, but accepts any padding in the segment
@@ -55,25 +50,25 @@ pub fn try_skip_segments_lenient<R: BufRead>(
         (skipping_rules Padding.Any R.gives R.refuses (length spare))
         options.traversal_limit_in_words) result }
 {
-    skip_next(
-        source,
-        options.traversal_limit_in_words,
-        Padding::Any,
-        spare.to_segment_indices(),
-    )
+    try_skip_segments_with_padding(source, Padding::Any, options, spare)
 }
 
-// The lengths of the next message, which is skipped, or none at the source's end.
-fn skip_next<R: BufRead>(
+/// Skips the next message as `try_skip_segments` does, by this rule of padding.
+///
+/// Fails as that does: with `NonZeroPadding`, the table consumed, where `padding` is
+/// `Padding::Zero` and the padding isn't zero, and never where it is `Padding::Any`.
+pub fn try_skip_segments_with_padding<R: BufRead>(
     source: &mut R,
-    limit: Option<usize>,
-    rule: Padding,
-    memory: Vec<(usize, usize)>,
+    padding: Padding,
+    options: ReaderOptions,
+    spare: SegmentLengthsBuilder,
 ) -> Result<Option<SegmentLengthsBuilder>>
     ensures { SkipsMessage (ReadsStream R.Read source.old source.new
-        (skipping_rules rule R.gives R.refuses (length memory.items)) limit) result }
+        (skipping_rules padding R.gives R.refuses (length spare))
+        options.traversal_limit_in_words) result }
 {
-    skip_segments(source, limit, rule, memory)
+    let limit = options.traversal_limit_in_words;
+    skip_segments(source, limit, padding, spare.to_segment_indices())
 }
 
 // Reads the table, and skips the segments.

@@ -44,13 +44,7 @@ pub fn try_read_segments<R: Read>(
     ensures { ReadsStream R.Read source.old source.new
         (framed_rules Padding.Zero R.gives R.refuses) options.traversal_limit_in_words result }
 {
-    next_segments(
-        source,
-        options.traversal_limit_in_words,
-        Padding::Zero,
-        Vec::new(alloc),
-        Vec::new(alloc),
-    )
+    try_read_segments_with_padding(alloc, source, Padding::Zero, options)
 }
 
 /// Reads the next message as `try_read_segments` does, but accepts any padding in the segment
@@ -63,13 +57,25 @@ pub fn try_read_segments_lenient<R: Read>(
     ensures { ReadsStream R.Read source.old source.new
         (framed_rules Padding.Any R.gives R.refuses) options.traversal_limit_in_words result }
 {
-    next_segments(
-        source,
-        options.traversal_limit_in_words,
-        Padding::Any,
-        Vec::new(alloc),
-        Vec::new(alloc),
-    )
+    try_read_segments_with_padding(alloc, source, Padding::Any, options)
+}
+
+/// Reads the next message as `try_read_segments` does, by this rule of padding.
+///
+/// Fails as the module `serialize` lists: with `MessageTooLarge` where the segments have more words
+/// than the limit of `options`; with `NonZeroPadding`, the table consumed, where `padding` is
+/// `Padding::Zero` and the padding isn't zero, and never where it is `Padding::Any`.
+pub fn try_read_segments_with_padding<R: Read>(
+    alloc: Global,
+    source: &mut R,
+    padding: Padding,
+    options: ReaderOptions,
+) -> Result<Option<OwnedSegments>>
+    ensures { ReadsStream R.Read source.old source.new
+        (framed_rules padding R.gives R.refuses) options.traversal_limit_in_words result }
+{
+    let spare = OwnedSegments::empty(alloc);
+    try_read_segments_reusing_with_padding(source, padding, options, spare)
 }
 
 /// Reads the next message as `try_read_segments` does, into the memory of an earlier message, which
@@ -82,14 +88,7 @@ pub fn try_read_segments_reusing<R: Read>(
     ensures { ReadsStream R.Read source.old source.new
         (framed_rules Padding.Zero R.gives R.refuses) options.traversal_limit_in_words result }
 {
-    let (memory, bytes) = spare.into_parts();
-    next_segments(
-        source,
-        options.traversal_limit_in_words,
-        Padding::Zero,
-        memory,
-        bytes,
-    )
+    try_read_segments_reusing_with_padding(source, Padding::Zero, options, spare)
 }
 
 /// Reads the next message as `try_read_segments_reusing` does, but accepts any padding in the
@@ -102,28 +101,23 @@ pub fn try_read_segments_reusing_lenient<R: Read>(
     ensures { ReadsStream R.Read source.old source.new
         (framed_rules Padding.Any R.gives R.refuses) options.traversal_limit_in_words result }
 {
-    let (memory, bytes) = spare.into_parts();
-    next_segments(
-        source,
-        options.traversal_limit_in_words,
-        Padding::Any,
-        memory,
-        bytes,
-    )
+    try_read_segments_reusing_with_padding(source, Padding::Any, options, spare)
 }
 
-// The next message of a source, or none at its end.
-fn next_segments<R: Read>(
+/// Reads the next message as `try_read_segments_with_padding` does, into the memory of an earlier
+/// message, which grows where it is too small. Fails as that does.
+pub fn try_read_segments_reusing_with_padding<R: Read>(
     source: &mut R,
-    limit: Option<usize>,
-    rule: Padding,
-    memory: Vec<(usize, usize)>,
-    spare: Vec<u8>,
+    padding: Padding,
+    options: ReaderOptions,
+    spare: OwnedSegments,
 ) -> Result<Option<OwnedSegments>>
-    ensures { ReadsStream R.Read source.old source.new (framed_rules rule R.gives R.refuses) limit
-        result }
+    ensures { ReadsStream R.Read source.old source.new
+        (framed_rules padding R.gives R.refuses) options.traversal_limit_in_words result }
 {
-    read_segments(source, limit, rule, memory, spare)
+    let limit = options.traversal_limit_in_words;
+    let (memory, bytes) = spare.into_parts();
+    read_segments(source, limit, padding, memory, bytes)
 }
 
 // Reads the table and the segments.

@@ -3,7 +3,7 @@ use Rattle.std.proofs.Common.{◌*◌, ◌∙◌, length, refl, sym, ap}
 use Rattle.std.specs.Prelude.{sum}
 use Rattle.capnp_frame.proofs.HeldLemmas.{moved, slice_parts_are, keeps_declared}
 use Rattle.capnp_frame.proofs.FlatReaderLemmas.{reads_none, reads_held}
-use Rattle.capnp_frame.proofs.serialize.buffer_segments.take_front.Goals as goal
+use Rattle.capnp_frame.proofs.serialize.buffer_segments.take_segments_with_padding.Goals as goal
 
 pub returns-in_err-lengths-clause-reads : goal.returns-in_err-lengths-clause-reads
 returns-in_err-lengths-clause-reads c = reads_none _ _ _ _ _ _ c.from_residual.ensures.1 refl c.in_err-lengths.ensures.refused
@@ -16,5 +16,5 @@ returns-clause-reads c =
     let found = c.in_ok-lengths.ensures in
     reads_held _ _ _ _ _ (length ns) found.holds
     (slice_parts_are bytes ns size c.into_slice_segments.result.segments found.lengths found.table c.into_slice_segments.ensures.segments)
-    (keeps_declared bytes ns c.args.limit found.lengths found.within) found.padding
+    (keeps_declared bytes ns c.args.options.traversal_limit_in_words found.lengths found.within) found.padding
     (moved bytes (length ns) size (8 * c.total_words.result) found.table (ap (λ k. 8 * k) (c.total_words.ensures ∙ ap sum (sym found.lengths))))

@@ -2,7 +2,7 @@
 use Rattle.std.proofs.Common.{length, ap}
 use Rattle.capnp_frame.proofs.HeldLemmas.{parts_are, keeps_declared}
 use Rattle.capnp_frame.proofs.FlatReaderLemmas.{reads_none, reads_held}
-use Rattle.capnp_frame.proofs.serialize.buffer_segments.BufferSegments.find.Goals as goal
+use Rattle.capnp_frame.proofs.serialize.buffer_segments.BufferSegments.new_with_padding.Goals as goal
 
 pub returns-in_err-lengths-clause-reads : goal.returns-in_err-lengths-clause-reads
 returns-in_err-lengths-clause-reads g c =
@@ -19,4 +19,4 @@ returns-clause-reads g c =
     reads_held _ _ _ _ _ (length ns) holds
     (parts_are bytes c.to_segment_indices.result.items ns c.in_ok-lengths.table_len c.from_parts.result.segments
     c.to_segment_indices.ensures declared c.in_ok-lengths.ensures.table (ap (λ message. message.segments) c.from_parts.ensures))
-    (keeps_declared bytes ns c.args.limit declared c.in_ok-lengths.ensures.within) kept tt
+    (keeps_declared bytes ns c.args.options.traversal_limit_in_words declared c.in_ok-lengths.ensures.within) kept tt

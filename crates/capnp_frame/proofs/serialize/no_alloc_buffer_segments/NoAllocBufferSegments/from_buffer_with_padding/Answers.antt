@@ -1,7 +1,7 @@
 -- The message at the front is the one that is held.
 use Rattle.std.proofs.Common.{ap}
 use Rattle.capnp_frame.proofs.FlatReaderLemmas.{reads_none, reads_held}
-use Rattle.capnp_frame.proofs.serialize.no_alloc_buffer_segments.NoAllocBufferSegments.find.Goals as goal
+use Rattle.capnp_frame.proofs.serialize.no_alloc_buffer_segments.NoAllocBufferSegments.from_buffer_with_padding.Goals as goal
 
 pub returns-in_err-info-clause-reads : goal.returns-in_err-info-clause-reads
 returns-in_err-info-clause-reads g c =

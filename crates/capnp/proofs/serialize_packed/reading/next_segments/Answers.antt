@@ -1,8 +1,0 @@
--- The reader of this rule.
-use Rattle.capnp.proofs.serialize_packed.reading.next_segments.Goals as goal
-
-pub returns-in-Zero : goal.returns-in-Zero
-returns-in-Zero g c = rw c.in-Zero.is c.try_read_packed_segments.ensures
-
-pub returns-in-Any : goal.returns-in-Any
-returns-in-Any g c = rw c.in-Any.is c.try_read_packed_segments_lenient.ensures

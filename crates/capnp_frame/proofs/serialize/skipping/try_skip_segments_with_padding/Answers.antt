@@ -1,0 +1,12 @@
+-- What is known of the call is what a reader keeps, and the memory of `spare` has as many lengths as it.
+use Rattle.std.proofs.Common.{◌≡◌, ◌∙◌, length, ap}
+use Rattle.capnp_frame.proofs.Ranges.{length-ranges}
+use Rattle.capnp_frame.proofs.SkippingLemmas.{skips_stream}
+use Rattle.capnp_frame.proofs.serialize.skipping.try_skip_segments_with_padding.Goals as goal
+
+pub returns : goal.returns
+returns g c =
+    let declared = c.skip_segments.ensures in
+    let kept : length c.to_segment_indices.result.items ≡ length c.args.spare = ap length c.to_segment_indices.ensures ∙ length-ranges c.args.spare in
+    let asks = rw kept at c.skip_segments.ensures.asks in
+    skips_stream c.args.padding g.R.Read g.met.R.Read.lawful _ _ _ _ c.skip_segments.result declared.found declared.within asks
