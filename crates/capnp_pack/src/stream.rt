@@ -10,11 +10,13 @@ use capnp_frame::Result;
 use capnp_frame::io::BufRead;
 use capnp_frame::message::ReaderOptions;
 use capnp_frame::serialize::{
-    OwnedSegments, Padding, try_read_segments, try_read_segments_lenient,
-    try_read_segments_reusing, try_read_segments_reusing_lenient,
+    OwnedSegments, Padding, try_read_segments_reusing_with_padding, try_read_segments_with_padding,
 };
 pub use framed::try_read_packed_framed_into;
-pub use provided::{try_read_packed_segments_into, try_read_packed_segments_into_lenient};
+pub use provided::{
+    try_read_packed_segments_into, try_read_packed_segments_into_lenient,
+    try_read_packed_segments_into_with_padding,
+};
 use std::alloc::Global;
 
 /// Reads the next packed message of a source, or returns `None` where nothing is unread.
@@ -30,8 +32,7 @@ pub fn try_read_packed_segments<R: BufRead>(
     ensures { ReadsStream R.Read source.old source.new (packed_rules Padding.Zero)
         options.traversal_limit_in_words result }
 {
-    let mut packed = PackedRead::new(source);
-    try_read_segments(alloc, &mut packed, options)
+    try_read_packed_segments_with_padding(alloc, source, Padding::Zero, options)
 }
 
 /// Reads the next packed message as `try_read_packed_segments` does, but accepts any padding in the
@@ -44,8 +45,24 @@ pub fn try_read_packed_segments_lenient<R: BufRead>(
     ensures { ReadsStream R.Read source.old source.new (packed_rules Padding.Any)
         options.traversal_limit_in_words result }
 {
+    try_read_packed_segments_with_padding(alloc, source, Padding::Any, options)
+}
+
+/// Reads the next packed message as `try_read_packed_segments` does, by this rule of padding.
+///
+/// Fails as that does: with `NonZeroPadding` where `padding` is `Padding::Zero` and the padding
+/// isn't zero, and never where it is `Padding::Any`.
+pub fn try_read_packed_segments_with_padding<R: BufRead>(
+    alloc: Global,
+    source: &mut R,
+    padding: Padding,
+    options: ReaderOptions,
+) -> Result<Option<OwnedSegments>>
+    ensures { ReadsStream R.Read source.old source.new (packed_rules padding)
+        options.traversal_limit_in_words result }
+{
     let mut packed = PackedRead::new(source);
-    try_read_segments_lenient(alloc, &mut packed, options)
+    try_read_segments_with_padding(alloc, &mut packed, padding, options)
 }
 
 /// Reads the next packed message as `try_read_packed_segments` does, into the memory of an earlier
@@ -58,8 +75,7 @@ pub fn try_read_packed_segments_reusing<R: BufRead>(
     ensures { ReadsStream R.Read source.old source.new (packed_rules Padding.Zero)
         options.traversal_limit_in_words result }
 {
-    let mut packed = PackedRead::new(source);
-    try_read_segments_reusing(&mut packed, options, spare)
+    try_read_packed_segments_reusing_with_padding(source, Padding::Zero, options, spare)
 }
 
 /// Reads the next packed message as `try_read_packed_segments_reusing` does, but accepts any
@@ -72,6 +88,20 @@ pub fn try_read_packed_segments_reusing_lenient<R: BufRead>(
     ensures { ReadsStream R.Read source.old source.new (packed_rules Padding.Any)
         options.traversal_limit_in_words result }
 {
+    try_read_packed_segments_reusing_with_padding(source, Padding::Any, options, spare)
+}
+
+/// Reads the next packed message as `try_read_packed_segments_with_padding` does, into the memory
+/// of an earlier message, which grows where it is too small. Fails as that does.
+pub fn try_read_packed_segments_reusing_with_padding<R: BufRead>(
+    source: &mut R,
+    padding: Padding,
+    options: ReaderOptions,
+    spare: OwnedSegments,
+) -> Result<Option<OwnedSegments>>
+    ensures { ReadsStream R.Read source.old source.new (packed_rules padding)
+        options.traversal_limit_in_words result }
+{
     let mut packed = PackedRead::new(source);
-    try_read_segments_reusing_lenient(&mut packed, options, spare)
+    try_read_segments_reusing_with_padding(&mut packed, padding, options, spare)
 }
