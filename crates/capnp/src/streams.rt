@@ -8,8 +8,7 @@ ghost use Rattle.capnp_frame.specs.Message.{IsWholeWords};
 ghost use Rattle.capnp_frame.specs.Refusals.{IsReaderKind};
 ghost use Rattle.capnp_frame.specs.Source.{IfKnown, Advances, Fails};
 ghost use Rattle.capnp_frame.specs.Sink.{Appending, Leaving, Declining, Adds, Grows};
-ghost use Rattle.capnp_frame.specs.Streams.{framed_rules, ReadsStream};
-ghost use Rattle.capnp_pack.specs.PackedStreams.{packed_rules};
+ghost use Rattle.capnp_frame.specs.Streams.{ReadsStream};
 ghost use Rattle.capnp.specs.Streams.{refuses_of, rules_of};
 ghost use Rattle.capnp.specs.Runs.{Writing, DecliningWriting, IsWritingFault, BreaksOffOr, IsRunFault, HasRun, WritesEach};
 
@@ -18,13 +17,9 @@ mod reading;
 
 use capnp_frame::io::{BufRead, Write};
 use capnp_frame::message::ReaderOptions;
-use capnp_frame::serialize::{
-    OwnedSegments, Padding, try_read_segments_reusing, try_read_segments_reusing_lenient,
-};
+use capnp_frame::serialize::{OwnedSegments, Padding, try_read_segments_reusing_with_padding};
 use capnp_frame::{Error, Result};
-use capnp_pack::stream::{
-    try_read_packed_segments_reusing, try_read_packed_segments_reusing_lenient,
-};
+use capnp_pack::stream::try_read_packed_segments_reusing_with_padding;
 pub use message_stream::{MessageStream, open_file};
 pub use reading::{StreamRead, every_message, is_cut, next_message};
 use std::alloc::Global;
@@ -160,39 +155,9 @@ fn read_next<R: BufRead>(
         options.traversal_limit_in_words result }
 {
     match format {
-        Format::Framed => read_framed(padding, options, source, spare),
-        Format::Packed => read_packed(padding, options, source, spare),
-    }
-}
-
-// The next framed message.
-fn read_framed<R: BufRead>(
-    padding: Padding,
-    options: ReaderOptions,
-    source: &mut R,
-    spare: OwnedSegments,
-) -> Result<Option<OwnedSegments>>
-    ensures { ReadsStream R.Read source.old source.new (framed_rules padding R.gives R.refuses)
-        options.traversal_limit_in_words result }
-{
-    match padding {
-        Padding::Zero => try_read_segments_reusing(source, options, spare),
-        Padding::Any => try_read_segments_reusing_lenient(source, options, spare),
-    }
-}
-
-// The next packed message.
-fn read_packed<R: BufRead>(
-    padding: Padding,
-    options: ReaderOptions,
-    source: &mut R,
-    spare: OwnedSegments,
-) -> Result<Option<OwnedSegments>>
-    ensures { ReadsStream R.Read source.old source.new (packed_rules padding)
-        options.traversal_limit_in_words result }
-{
-    match padding {
-        Padding::Zero => try_read_packed_segments_reusing(source, options, spare),
-        Padding::Any => try_read_packed_segments_reusing_lenient(source, options, spare),
+        Format::Framed => try_read_segments_reusing_with_padding(source, padding, options, spare),
+        Format::Packed => {
+            try_read_packed_segments_reusing_with_padding(source, padding, options, spare)
+        }
     }
 }

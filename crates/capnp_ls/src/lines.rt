@@ -12,9 +12,7 @@ use crate::listing::{push_decimal, push_spaced};
 use capnp::Result;
 use capnp::io::{BufRead, Write};
 use capnp::message::DEFAULT_READER_OPTIONS;
-use capnp::serialize::{
-    Padding, SegmentLengthsBuilder, try_skip_message, try_skip_message_lenient,
-};
+use capnp::serialize::{Padding, SegmentLengthsBuilder, try_skip_message_with_padding};
 use capnp::streams::{Format, StoppedAt};
 use std::alloc::Global;
 
@@ -118,10 +116,7 @@ fn skip_next<R: BufRead>(
     ensures { SkipsMessage (ReadsStream R.Read source.old source.new
         (skipping_rules_of padding (length spare)) default_limit) result }
 {
-    match padding {
-        Padding::Zero => try_skip_message(source, DEFAULT_READER_OPTIONS, spare),
-        Padding::Any => try_skip_message_lenient(source, DEFAULT_READER_OPTIONS, spare),
-    }
+    try_skip_message_with_padding(source, padding, DEFAULT_READER_OPTIONS, spare)
 }
 
 // Prints the line for a message of these lengths. The line is made in `text`.

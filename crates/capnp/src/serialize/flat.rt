@@ -5,8 +5,8 @@ ghost use Rattle.capnp_frame.specs.FlatReaders.{slice_rules, no_alloc_rules, Rea
 use capnp_frame::Result;
 use capnp_frame::message::ReaderOptions;
 use capnp_frame::serialize::{
-    BufferSegments, NoAllocBufferSegments, NoAllocSliceSegments, Padding, take_segments,
-    take_segments_lenient,
+    BufferSegments, NoAllocBufferSegments, NoAllocSliceSegments, Padding,
+    take_segments_with_padding,
 };
 use capnp_message::Reader;
 use std::alloc::Global;
@@ -52,7 +52,7 @@ fn take_message<'a>(
         slice.old.now (Some slice.new.now) (λ reader. reader.segments.segments) result }
     ensures options { IfOk result (λ reader. reader.options ≡ options) }
 {
-    let segments = take_front(alloc, slice, padding, options)?;
+    let segments = take_segments_with_padding(alloc, slice, padding, options)?;
     Ok(Reader::new(segments, options))
 }
 
@@ -102,37 +102,6 @@ fn take_message_no_alloc<'a>(
         slice.old.now (Some slice.new.now) (λ reader. reader.segments.segments) result }
     ensures options { IfOk result (λ reader. reader.options ≡ options) }
 {
-    let segments = take_front_no_alloc(slice, padding, options)?;
+    let segments = NoAllocBufferSegments::from_slice_with_padding(slice, padding, options)?;
     Ok(Reader::new(segments, options))
-}
-
-// The segments at the front of a slice.
-fn take_front<'a>(
-    alloc: Global,
-    slice: &mut &'a [u8],
-    padding: Padding,
-    options: ReaderOptions,
-) -> Result<BufferSegments<&'a [u8]>>
-    ensures { ReadsFlat (slice_rules padding options.traversal_limit_in_words) slice.old.now
-        (Some slice.new.now) (λ found. found.segments) result }
-{
-    match padding {
-        Padding::Zero => take_segments(alloc, slice, options),
-        Padding::Any => take_segments_lenient(alloc, slice, options),
-    }
-}
-
-// The segments at the front of a slice, found without memory.
-fn take_front_no_alloc<'a>(
-    slice: &mut &'a [u8],
-    padding: Padding,
-    options: ReaderOptions,
-) -> Result<NoAllocSliceSegments<'a>>
-    ensures { ReadsFlat (no_alloc_rules padding options.traversal_limit_in_words) slice.old.now
-        (Some slice.new.now) (λ found. found.segments) result }
-{
-    match padding {
-        Padding::Zero => NoAllocBufferSegments::from_slice(slice, options),
-        Padding::Any => NoAllocBufferSegments::from_slice_lenient(slice, options),
-    }
 }

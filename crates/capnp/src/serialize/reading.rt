@@ -8,8 +8,8 @@ ghost use Rattle.capnp.specs.Headline.{ReturnsEncodings, ReturnsEncodingsInto, O
 use capnp_frame::io::Read;
 use capnp_frame::message::ReaderOptions;
 use capnp_frame::serialize::{
-    NoAllocBufferSegments, OwnedSegments, Padding, try_read_segments, try_read_segments_into,
-    try_read_segments_into_lenient, try_read_segments_lenient,
+    NoAllocBufferSegments, OwnedSegments, Padding, try_read_segments_into_with_padding,
+    try_read_segments_with_padding,
 };
 use capnp_frame::{Error, ErrorKind, Result};
 use capnp_message::Reader;
@@ -31,7 +31,7 @@ pub(crate) fn try_read_message<R: Read>(
     ensures options { IfOk result (λ found. IfSome found (λ reader.
         reader.options ≡ options)) }
 {
-    match next_segments(alloc, source, padding, options)? {
+    match try_read_segments_with_padding(alloc, source, padding, options)? {
         Some(segments) => Ok(Some(Reader::new(segments, options))),
         None => Ok(None),
     }
@@ -76,7 +76,7 @@ pub(crate) fn try_read_message_no_alloc<'b, R: Read>(
     ensures options { IfOk result (λ found. IfSome found (λ reader.
         reader.options ≡ options)) }
 {
-    match next_segments_into(source, buffer, padding, options)? {
+    match try_read_segments_into_with_padding(source, buffer, padding, options)? {
         Some(segments) => Ok(Some(Reader::new(segments, options))),
         None => Ok(None),
     }
@@ -101,38 +101,5 @@ pub(crate) fn read_message_no_alloc<'b, R: Read>(
     match try_read_message_no_alloc(source, buffer, padding, options)? {
         Some(reader) => Ok(reader),
         None => Err(Error::from_kind(ErrorKind::PrematureEndOfFile)),
-    }
-}
-
-// The segments of the next message.
-fn next_segments<R: Read>(
-    alloc: Global,
-    source: &mut R,
-    padding: Padding,
-    options: ReaderOptions,
-) -> Result<Option<OwnedSegments>>
-    ensures { ReadsStream R.Read source.old source.new (framed_rules padding R.gives R.refuses)
-        options.traversal_limit_in_words result }
-{
-    match padding {
-        Padding::Zero => try_read_segments(alloc, source, options),
-        Padding::Any => try_read_segments_lenient(alloc, source, options),
-    }
-}
-
-// The segments of the next message, in a caller-provided buffer.
-fn next_segments_into<'b, R: Read>(
-    source: &mut R,
-    buffer: &'b mut [u8],
-    padding: Padding,
-    options: ReaderOptions,
-) -> Result<Option<NoAllocBufferSegments<&'b [u8]>>>
-    ensures { ReadsStreamInto R.Read source.old source.new (framed_rules padding R.gives R.refuses)
-        options.traversal_limit_in_words (length buffer.old)
-        (next_in (λ message. message.segments) result) }
-{
-    match padding {
-        Padding::Zero => try_read_segments_into(source, buffer, options),
-        Padding::Any => try_read_segments_into_lenient(source, buffer, options),
     }
 }

@@ -7,9 +7,7 @@ ghost use Rattle.capnp.specs.Streams.{skipping_rules_of};
 use capnp_frame::Result;
 use capnp_frame::io::BufRead;
 use capnp_frame::message::ReaderOptions;
-use capnp_frame::serialize::{
-    Padding, SegmentLengthsBuilder, try_skip_segments, try_skip_segments_lenient,
-};
+use capnp_frame::serialize::{Padding, SegmentLengthsBuilder, try_skip_segments_with_padding};
 
 /// Skips the next message of a stream, and returns the lengths of its segments in words, or `None`
 /// where nothing is unread.
@@ -26,7 +24,7 @@ pub fn try_skip_message<R: BufRead>(
     ensures { SkipsMessage (ReadsStream R.Read source.old source.new
         (skipping_rules_of Padding.Zero (length spare)) options.traversal_limit_in_words) result }
 {
-    try_skip_segments(source, options, spare)
+    try_skip_message_with_padding(source, Padding::Zero, options, spare)
 }
 
 /// Skips the next message as `try_skip_message` does, but accepts any padding in the segment table.
@@ -38,5 +36,21 @@ pub fn try_skip_message_lenient<R: BufRead>(
     ensures { SkipsMessage (ReadsStream R.Read source.old source.new
         (skipping_rules_of Padding.Any (length spare)) options.traversal_limit_in_words) result }
 {
-    try_skip_segments_lenient(source, options, spare)
+    try_skip_message_with_padding(source, Padding::Any, options, spare)
+}
+
+/// Skips the next message as `try_skip_message` does, by this rule of padding.
+///
+/// Fails as that does: with `NonZeroPadding`, the table consumed, where `padding` is
+/// `Padding::Zero` and the padding isn't zero, and never where it is `Padding::Any`.
+pub fn try_skip_message_with_padding<R: BufRead>(
+    source: &mut R,
+    padding: Padding,
+    options: ReaderOptions,
+    spare: SegmentLengthsBuilder,
+) -> Result<Option<SegmentLengthsBuilder>>
+    ensures { SkipsMessage (ReadsStream R.Read source.old source.new
+        (skipping_rules_of padding (length spare)) options.traversal_limit_in_words) result }
+{
+    try_skip_segments_with_padding(source, padding, options, spare)
 }

@@ -11,8 +11,7 @@ use capnp_frame::serialize::{NoAllocBufferSegments, OwnedSegments, Padding};
 use capnp_frame::{Error, ErrorKind, Result};
 use capnp_message::Reader;
 use capnp_pack::stream::{
-    try_read_packed_segments, try_read_packed_segments_into, try_read_packed_segments_into_lenient,
-    try_read_packed_segments_lenient,
+    try_read_packed_segments_into_with_padding, try_read_packed_segments_with_padding,
 };
 use std::alloc::Global;
 
@@ -33,7 +32,7 @@ pub(crate) fn try_read_message<R: BufRead>(
     ensures options { IfOk result (λ found. IfSome found (λ reader.
         reader.options ≡ options)) }
 {
-    match next_segments(alloc, source, padding, options)? {
+    match try_read_packed_segments_with_padding(alloc, source, padding, options)? {
         Some(segments) => Ok(Some(Reader::new(segments, options))),
         None => Ok(None),
     }
@@ -78,7 +77,7 @@ pub(crate) fn try_read_message_no_alloc<'b, R: BufRead>(
     ensures options { IfOk result (λ found. IfSome found (λ reader.
         reader.options ≡ options)) }
 {
-    match next_segments_into(source, buffer, padding, options)? {
+    match try_read_packed_segments_into_with_padding(source, buffer, padding, options)? {
         Some(segments) => Ok(Some(Reader::new(segments, options))),
         None => Ok(None),
     }
@@ -103,38 +102,5 @@ pub(crate) fn read_message_no_alloc<'b, R: BufRead>(
     match try_read_message_no_alloc(source, buffer, padding, options)? {
         Some(reader) => Ok(reader),
         None => Err(Error::from_kind(ErrorKind::PrematureEndOfFile)),
-    }
-}
-
-// The segments of the next message.
-fn next_segments<R: BufRead>(
-    alloc: Global,
-    source: &mut R,
-    padding: Padding,
-    options: ReaderOptions,
-) -> Result<Option<OwnedSegments>>
-    ensures { ReadsStream R.Read source.old source.new (packed_rules padding)
-        options.traversal_limit_in_words result }
-{
-    match padding {
-        Padding::Zero => try_read_packed_segments(alloc, source, options),
-        Padding::Any => try_read_packed_segments_lenient(alloc, source, options),
-    }
-}
-
-// The segments of the next message, in a caller-provided buffer.
-fn next_segments_into<'b, R: BufRead>(
-    source: &mut R,
-    buffer: &'b mut [u8],
-    padding: Padding,
-    options: ReaderOptions,
-) -> Result<Option<NoAllocBufferSegments<&'b [u8]>>>
-    ensures { ReadsStreamInto R.Read source.old source.new (packed_rules padding)
-        options.traversal_limit_in_words (length buffer.old)
-        (next_in (λ message. message.segments) result) }
-{
-    match padding {
-        Padding::Zero => try_read_packed_segments_into(source, buffer, options),
-        Padding::Any => try_read_packed_segments_into_lenient(source, buffer, options),
     }
 }
