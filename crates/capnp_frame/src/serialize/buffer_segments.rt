@@ -102,8 +102,7 @@ impl<T: AsBytes + Drop> BufferSegments<T> {
         BufferSegments::new_with_padding(alloc, buffer, Padding::Any, options)
     }
 
-    /// Finds the message at the front of a buffer as `new` does, but with `padding` as what is
-    /// accepted after the lengths in the segment table.
+    /// Finds the message at the front of a buffer as `new` does, by this rule of padding.
     ///
     /// Fails as `new` does: with `NonZeroPadding` where `padding` is `Padding::Zero` and the
     /// padding isn't zero, and never where it is `Padding::Any`.
@@ -177,8 +176,7 @@ pub fn take_segments_lenient<'a>(
     take_segments_with_padding(alloc, slice, Padding::Any, options)
 }
 
-/// Finds the message at the front of a slice as `take_segments` does, but with `padding` as what is
-/// accepted after the lengths in the segment table.
+/// Finds the message at the front of a slice as `take_segments` does, by this rule of padding.
 ///
 /// Fails as that does, and the slice is then as it was: with `NonZeroPadding` where `padding` is
 /// `Padding::Zero` and the padding isn't zero, and never where it is `Padding::Any`.

@@ -101,8 +101,7 @@ impl<T: AsBytes + Drop> NoAllocBufferSegments<T> {
         NoAllocBufferSegments::from_buffer_with_padding(buffer, Padding::Any, options)
     }
 
-    /// Finds the message at the front of a buffer as `from_buffer` does, but with `padding` as what
-    /// is accepted after the lengths in the segment table.
+    /// Finds the message at the front of a buffer as `from_buffer` does, by this rule of padding.
     ///
     /// Fails as `from_buffer` does: with `NonZeroPadding` where `padding` is `Padding::Zero` and
     /// the padding isn't zero, and never where it is `Padding::Any`.
@@ -147,8 +146,7 @@ impl<'b> NoAllocBufferSegments<&'b [u8]> {
         NoAllocBufferSegments::from_slice_with_padding(slice, Padding::Any, options)
     }
 
-    /// Finds the message at the front of a slice as `from_slice` does, but with `padding` as what
-    /// is accepted after the lengths in the segment table.
+    /// Finds the message at the front of a slice as `from_slice` does, by this rule of padding.
     ///
     /// Fails as `from_buffer_with_padding` does, and the slice is then as it was.
     pub fn from_slice_with_padding(

@@ -57,8 +57,7 @@ pub fn try_read_segments_into_lenient<'b, R: Read>(
     try_read_segments_into_with_padding(source, buffer, Padding::Any, options)
 }
 
-/// Reads the next message as `try_read_segments_into` does, but with `padding` as what is accepted
-/// after the lengths in the segment table.
+/// Reads the next message as `try_read_segments_into` does, by this rule of padding.
 ///
 /// Fails as that does: with `NonZeroPadding`, the table consumed, where `padding` is
 /// `Padding::Zero` and the padding isn't zero, and never where it is `Padding::Any`.

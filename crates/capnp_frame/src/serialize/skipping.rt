@@ -53,8 +53,7 @@ pub fn try_skip_segments_lenient<R: BufRead>(
     try_skip_segments_with_padding(source, Padding::Any, options, spare)
 }
 
-/// Skips the next message as `try_skip_segments` does, but with `padding` as what is accepted after
-/// the lengths in the segment table.
+/// Skips the next message as `try_skip_segments` does, by this rule of padding.
 ///
 /// Fails as that does: with `NonZeroPadding`, the table consumed, where `padding` is
 /// `Padding::Zero` and the padding isn't zero, and never where it is `Padding::Any`.

@@ -60,11 +60,11 @@ pub fn try_read_segments_lenient<R: Read>(
     try_read_segments_with_padding(alloc, source, Padding::Any, options)
 }
 
-/// Reads the next message as `try_read_segments` does, but with `padding` as what is accepted after
-/// the lengths in the segment table.
+/// Reads the next message as `try_read_segments` does, by this rule of padding.
 ///
-/// Fails as the module `serialize` lists: with `NonZeroPadding`, the table consumed, where
-/// `padding` is `Padding::Zero` and the padding isn't zero, and never where it is `Padding::Any`.
+/// Fails as the module `serialize` lists: with `MessageTooLarge` where the segments have more words
+/// than the limit of `options`; with `NonZeroPadding`, the table consumed, where `padding` is
+/// `Padding::Zero` and the padding isn't zero, and never where it is `Padding::Any`.
 pub fn try_read_segments_with_padding<R: Read>(
     alloc: Global,
     source: &mut R,

@@ -8,4 +8,5 @@ pub returns : goal.returns
 returns g c =
     let declared = c.skip_segments.ensures in
     let kept : length c.to_segment_indices.result.items ≡ length c.args.spare = ap length c.to_segment_indices.ensures ∙ length-ranges c.args.spare in
-    rw kept at skips_stream c.args.padding g.R.Read g.met.R.Read.lawful _ _ _ _ c.skip_segments.result declared.found declared.within declared.asks
+    let asks = rw kept at c.skip_segments.ensures.asks in
+    skips_stream c.args.padding g.R.Read g.met.R.Read.lawful _ _ _ _ c.skip_segments.result declared.found declared.within asks
