@@ -2,7 +2,7 @@
 ghost use Rattle.std.specs.Prelude.{◌≡◌, ◌≤◌, [], IfOk, IfErr, OnOk, OnErr, IsOk, ⊤};
 ghost use Rattle.std.specs.Io.Buffered.{writer_capacity};
 ghost use Rattle.std.specs.Io.KnownBytes.{Keeps};
-ghost use Rattle.capnp.specs.Passed.{ErrorKind, Fails, AppendsSame, LeavesFront, always};
+ghost use Rattle.capnp.specs.Passed.{ErrorKind, IfKnown, Fails, Adds, AppendsSame, LeavesFront, Grows, always};
 ghost use Rattle.capnp.specs.Devices.{pending, taken_so_far};
 
 use crate::devices::Failures;
@@ -82,7 +82,18 @@ impl<W: io::Write + Drop> Write for Output<W> {
     ghost same = { λ _ _. ⊤ };
 
     // The contract of std's `write_all` doesn't say what a call leaves that fails.
-    fn write_all(&mut self, chunk: &[u8]) -> Result<()> {
+    fn write_all(&mut self, chunk: &[u8]) -> Result<()>
+        ensures added { OnOk result (IfKnown (taken_so_far W.contents self.old)
+            (taken_so_far W.contents self.new) (Adds (AppendsSame chunk.now))) }
+        ensures left { OnErr result (IfKnown (taken_so_far W.contents self.old)
+            (taken_so_far W.contents self.new) (Adds (LeavesFront chunk.now))) }
+        // It fails where the device does, and a failure is counted just where it fails.
+        ensures device { IfErr result (λ error. error.kind ≡ ErrorKind.DeviceFailed) }
+        ensures failed { OnErr result (Fails self.old.failures.count self.new.failures.count) }
+        ensures unfailed { OnOk result (self.new.failures ≡ self.old.failures) }
+        ensures grows { Grows (taken_so_far W.contents) (λ output. output.failures.count)
+            (λ _ _. ⊤) self.old self.new }
+    {
         let mut done = 0;
         while done < chunk.len() {
             match io::Write::write(&mut self.buffered, &chunk[done..]) {

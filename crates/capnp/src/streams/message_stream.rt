@@ -1,7 +1,7 @@
 //! The messages of a stream as an iterator: of a file, of another device, or of bytes in memory.
 ghost use Rattle.std.specs.Prelude.{◌≡◌, IfOk};
 ghost use Rattle.std.specs.Iterator.{at_most};
-ghost use Rattle.capnp.specs.MessageStreams.{HasSettings, GivesMessage};
+ghost use Rattle.capnp.specs.MessageStreams.{source_of, IsNewStream, GivesMessage};
 
 use crate::Result;
 use crate::devices::Input;
@@ -48,8 +48,8 @@ impl<R: BufRead> MessageStream<R> {
         options: ReaderOptions,
         source: R,
     ) -> MessageStream<R>
-        ensures source { result.source ≡ source }
-        ensures settings { HasSettings result format padding options }
+        ensures source { source_of result ≡ source }
+        ensures begins { IsNewStream result format padding options }
     {
         MessageStream {
             source,
@@ -109,7 +109,7 @@ pub fn open_file<R: Files + AllocGlobal, P: AsPath>(
     padding: Padding,
     options: ReaderOptions,
 ) -> io::Result<MessageStream<Input<R::File>>>
-    ensures { IfOk result (λ stream. HasSettings stream format padding options) }
+    ensures { IfOk result (λ stream. IsNewStream stream format padding options) }
 {
     let alloc = rt.alloc();
     let file = fs::open(rt, path)?;
