@@ -32,6 +32,7 @@ CountStands-map given raw left count = record {
 
 TakesForLengths-map : (kept : ℕ) {gives others : Giving} (given : (raw : List ℕ) (n : ℕ) (bytes rest : List ℕ) → gives raw n bytes rest → others raw n bytes rest)
     (raw left : List ℕ) → TakesForLengths kept gives raw left → TakesForLengths kept others raw left
+unfolding CountStands-map
 TakesForLengths-map kept given raw left (count, more) = (CountStands-map given raw left count, more)
 
 TakesMemory-map : (rule : Padding) {gives others : Giving}
