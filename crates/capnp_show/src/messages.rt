@@ -1,14 +1,15 @@
 //! The messages of an input, shown one by one.
-ghost use Rattle.std.specs.Prelude.{◌≡◌, ◌-◌, ◌^◌, None, IfOk, IfSome, OnOk, length, min, take};
+ghost use Rattle.std.specs.Prelude.{◌≡◌, ◌-◌, ◌^◌, None, IfOk, IfErr, IfSome, OnOk, OnErr, length, min, take};
 ghost use Rattle.std.specs.List.{AllByRecursion};
 ghost use Rattle.capnp_frame.specs.Limits.{IsWithin};
 ghost use Rattle.capnp_frame.specs.Message.{IsWholeWords, size_in_words};
 ghost use Rattle.capnp_frame.specs.Sink.{Adds};
-ghost use Rattle.capnp_frame.specs.Source.{IfKnown};
+ghost use Rattle.capnp_frame.specs.Source.{IfKnown, Fails};
 ghost use Rattle.capnp_frame.specs.Streams.{ReadsStream, next_in};
-ghost use Rattle.capnp.specs.Passed.{Padding, Zero};
+ghost use Rattle.capnp.specs.Passed.{ErrorKind, Padding, Zero};
+ghost use Rattle.capnp.specs.Runs.{DecliningWriting, IsWritingFault};
 ghost use Rattle.capnp.specs.Streams.{rules_of};
-ghost use Rattle.capnp.specs.Transcoding.{Transcodes};
+ghost use Rattle.capnp.specs.Transcoding.{Transcodes, DeclinesTranscoded};
 ghost use Rattle.capnp_show.specs.Shown.{Lists};
 
 use crate::counted::Counted;
@@ -96,8 +97,16 @@ fn convert<W: Write>(
 ) -> Result<()>
     requires accepted { IsWithin message.now None }
     requires whole { AllByRecursion IsWholeWords message.now }
-    ensures { OnOk result (IfKnown (W.written sink.old) (W.written sink.new)
+    ensures written { OnOk result (IfKnown (W.written sink.old) (W.written sink.new)
         (Adds (Transcodes way W.appends index message.now))) }
+    // It fails only as the writer of that format does, and leaves of the message what that leaves.
+    ensures refused { IfErr result (λ error. IsWritingFault
+        (DeclinesTranscoded way W.appends W.leaves W.refuses) index message.now error.kind) }
+    ensures failed { IfErr result (λ error. error.kind ≡ ErrorKind.DeviceFailed →
+        Fails (W.failures sink.old) (W.failures sink.new)) }
+    ensures left { OnErr result (IfKnown (W.written sink.old) (W.written sink.new) (Adds
+        (DecliningWriting.leaves (DeclinesTranscoded way W.appends W.leaves W.refuses)
+        index message.now))) }
 {
     let mut memory = Vec::new(alloc);
     way.write_message(alloc, index, message, &mut memory, sink)
