@@ -11,8 +11,7 @@ use std::num::{
     f32_from_bits_with_nan, f32_to_bits_with_nan, f64_from_bits_with_nan, f64_to_bits_with_nan,
 };
 
-/// A number or a bool, with its size and the meaning of its bits. Other crates can't implement it
-/// for types of their own: an enum is read as `u16`.
+/// A number or a bool, with its size and the meaning of its bits. An enum is read as `u16`.
 pub trait PrimitiveElement: Sized {
     /// The element code of lists of them.
     ghost code: { ℕ };

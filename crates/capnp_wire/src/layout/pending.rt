@@ -131,7 +131,8 @@ pub(crate) fn begin_struct<T: BlockItem>(
     })
 }
 
-/// Copies a list of numbers, which has no pointers, in the same way.
+/// Copies a list of numbers to the words of a block from `next` on. It has no pointers, so the copy
+/// is complete.
 #[inline(always)]
 pub(crate) fn copy_list<T: BlockItem>(
     list: &NumberList<'_>,

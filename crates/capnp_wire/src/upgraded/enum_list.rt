@@ -10,7 +10,7 @@ use std::marker::PhantomData;
 
 /// An enum of a schema, whose values a message holds by their numbers.
 pub trait EnumElement: Sized {
-    /// The value of this number.
+    /// The value of this number; where the schema names none, the variant that keeps the number.
     fn from_number(number: u16) -> Self;
 }
 
