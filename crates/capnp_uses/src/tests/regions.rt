@@ -29,8 +29,8 @@ fn in_a_region_without_room(rt: HostRuntime) -> Result<()> {
     expect(&rt, "no room", refusal(full), 15);
     expect(&rt, "home", region.as_slice(), [0; 8].as_slice());
     let mut region = [7; 16];
-    let mut home = region_comes_home::<text::Owned, &str>(rt.alloc(), &mut region, "hello");
-    let segment = home.allocate_segment(2)?;
+    let mut available = region_comes_home::<text::Owned, &str>(rt.alloc(), &mut region, "hello");
+    let segment = available.allocate_segment(2)?;
     expect(&rt, "again", &segment[..], [0; 16].as_slice());
     Ok(())
 }
@@ -50,9 +50,9 @@ fn copy(message: &mut Builder<HeapAllocator>, reader: &Message<'_>) -> Result<()
 fn copies(rt: HostRuntime) -> Result<()> {
     let segments = [SHARED];
     let reader = message_of(&segments, ReaderOptions::new());
-    let mut near = Builder::new_default(rt.alloc());
-    copy(&mut near, &reader)?;
-    assert!(rt; has_segments(&near, &[COPIED]));
+    let mut local = Builder::new_default(rt.alloc());
+    copy(&mut local, &reader)?;
+    assert!(rt; has_segments(&local, &[COPIED]));
     let mut far = roomy_message(rt.alloc(), 1);
     copy(&mut far, &reader)?;
     assert!(rt; has_segments(&far, &[b"\x02\0\0\0\x01\0\0\0", COPIED]));
