@@ -1,135 +1,222 @@
--- A value of texts and structs fails only by its size.
-use Rattle.std.proofs.Common.{◌≡◌, ◌⊎◌, inl, inr, ◌+◌, ℕ, List, [], ◌∷◌, length, false, Option, Result, Ok, Err, IfErr}
+-- Why a value of texts and structs is too large, and what is said of its tree in place of the value.
+use Rattle.std.proofs.Common.{◌≡◌, ◌⊎◌, inl, inr, ◌+◌, ◌*◌, ◌^◌, ◌<◌, ◌≤◌, ℕ, List, [], ◌∷◌, length, map, Bool, false, true, zero, suc, Option, Result, Ok, Err, IfErr, refl, sym, ap, subst, arith}
+use Rattle.std.specs.Prelude.{Any}
+use Rattle.std.proofs.lemmas.List.{length-map}
 use Rattle.capnp_frame.specs.declared.error.Error.{Error}
 use Rattle.capnp_frame.specs.declared.error.ErrorKind.{ErrorKind}
-use Rattle.capnp_frame.specs.declared.error.ErrorKind.TheVariants.{OutOfMemory, SegmentTaken}
-use Rattle.capnp_frame.specs.Writing.{RefusesMany}
-use Rattle.capnp_wire.specs.Tree.{Trees, none}
+use Rattle.capnp_wire.specs.Tree.{Trees, struct, structs, none, tree, total_words}
 use Rattle.capnp_wire.specs.Values.{HasWords, LacksWords, IsTextTree, LongText}
 use Rattle.capnp_values.specs.Fields.{IsRow, RefusesRow}
 use Rattle.capnp_values.specs.Structs.{IsStruct, RefusesStruct}
 use Rattle.capnp_values.specs.StructLists.{RefusesRows, IsStructList, RefusesStructList}
 use Rattle.capnp_build.specs.Bytes.{Space}
-use Rattle.capnp_build.specs.Out.{MayRefuse}
 use Rattle.capnp_build.specs.declared.allocator.Allocator.{Ghosts}
-use Rattle.capnp_build.specs.BuilderState.{BuilderState}
 use Rattle.capnp_build.specs.Built.{Built}
-use Rattle.capnp_build.specs.Placed.{LacksSegment, FindsNoRoom}
+use Rattle.capnp_build.specs.Placed.{FindsNoRoom}
 use Rattle.capnp_build.specs.Outcomes.{StopsFirst, RefusesCanonical}
-use Rattle.capnp.specs.Roots.{RefusesSize, StaysUnset, StaysUnread}
-use Rattle.capnp.specs.Written.{output_of}
-use Rattle.capnp_uses.specs.People.{TellsLarge, RefusesBack, RefusesAlone}
+use Rattle.capnp.specs.Roots.{StaysUnset, StaysUnread}
+use Rattle.capnp_uses.specs.Roots.{RefusesForm}
+use Rattle.capnp_uses.specs.People.{text_tree, texts, person_tree, phones_tree, contact_tree, IsTooLarge}
+use Rattle.capnp_uses.proofs.ContactLemmas.{whole_address, whole_list}
 
--- each of these failures tells a size that is too large
-abbrev pub AllLarge : (ErrorKind → Type 0) → Type 0
-AllLarge refuses = (kind : ErrorKind) → refuses kind → TellsLarge kind
+any_here : {X : Type 0} (P : X → Type 0) (x : X) (xs : List X) → P x → Any P (x ∷ xs)
+any_here P x xs holds = (0, x, omega arith, refl, holds)
 
-none_large : AllLarge (λ kind. ⊥)
-none_large kind refused = absurd refused
+any_next : {X : Type 0} (P : X → Type 0) (x : X) (xs : List X) → Any P xs → Any P (x ∷ xs)
+any_next P x xs (k, y, below, is, holds) = (suc k, y, omega (arith, below), is, holds)
 
-text_large : (bytes : List ℕ) → AllLarge (LongText bytes)
-text_large bytes kind refused = (_, refused.1)
+-- each of these failures is one of those
+abbrev pub Blames : (ErrorKind → Type 0) → (ErrorKind → Type 0) → Type 0
+Blames refuses fact = (kind : ErrorKind) → refuses kind → fact kind
 
-lacks_large : (has : Trees → Type 0) (refuses : ErrorKind → Type 0) → AllLarge refuses → AllLarge (λ kind. LacksWords has refuses false kind)
-lacks_large has refuses large kind (inl refused) = large kind refused
-lacks_large has refuses large kind (inr lacks) = (_, lacks.3)
+-- Parts of a value whose tree is `whole`: what is too large there is too large in all.
 
-row_large : (has : Trees → Type 0) (refuses others : ErrorKind → Type 0) → AllLarge refuses → AllLarge others → AllLarge (λ kind. RefusesRow has refuses others kind)
-row_large has refuses others large rest kind (inl lacks) = lacks_large has refuses large kind lacks
-row_large has refuses others large rest kind (inr refused) = rest kind refused.2
+lacks_blames : (found : List (List ℕ)) (whole : Trees) (has : Trees → Type 0) (refuses : ErrorKind → Type 0) → Blames refuses (IsTooLarge found whole)
+    → ((t : Trees) → has t → total_words t ≤ total_words whole) → Blames (λ kind. LacksWords has refuses false kind) (IsTooLarge found whole)
+lacks_blames found whole has refuses blames within kind (inl refused) = blames kind refused
+lacks_blames found whole has refuses blames within kind (inr (t, is, many, kind_is)) = inr (omega (arith, within t is, many), (_, kind_is))
 
-struct_large : (words size : ℕ) (refuses : ErrorKind → Type 0) → AllLarge refuses → AllLarge (λ kind. RefusesStruct words size refuses kind)
-struct_large words size refuses large kind (inl many) = (_, many.1)
-struct_large words size refuses large kind (inr refused) = large kind refused.2
+row_blames : (found : List (List ℕ)) (whole : Trees) (has : Trees → Type 0) (refuses others : ErrorKind → Type 0) → Blames refuses (IsTooLarge found whole)
+    → ((t : Trees) → has t → total_words t ≤ total_words whole) → Blames others (IsTooLarge found whole) → Blames (λ kind. RefusesRow has refuses others kind) (IsTooLarge found whole)
+row_blames found whole has refuses others blames within rest kind (inl lacks) = lacks_blames found whole has refuses blames within kind lacks
+row_blames found whole has refuses others blames within rest kind (inr refused) = rest kind refused.2
 
-rows_large : {V : Type 0} (has : V → Trees → Type 0) (refuses : V → ErrorKind → Type 0) (values : List V) → ((value : V) → AllLarge (refuses value))
-    → AllLarge (λ kind. RefusesRows has refuses values kind)
-rows_large has refuses [] large kind refused = absurd refused
-rows_large has refuses (value ∷ values) large kind (inl refused) = large value kind refused
-rows_large has refuses (value ∷ values) large kind (inr refused) = rows_large has refuses values large kind refused.2
+struct_blames : (words size : ℕ) (refuses fact : ErrorKind → Type 0) → words < 2 ^ 16 → size < 2 ^ 16 → Blames refuses fact → Blames (λ kind. RefusesStruct words size refuses kind) fact
+struct_blames words size refuses fact few few_pointers blames kind (inl (inl many, kind_is)) = absurd (omega (arith, many, few))
+struct_blames words size refuses fact few few_pointers blames kind (inl (inr many, kind_is)) = absurd (omega (arith, many, few_pointers))
+struct_blames words size refuses fact few few_pointers blames kind (inr refused) = blames kind refused.2
 
-list_large : {V : Type 0} (has : V → Trees → Type 0) (refuses : V → ErrorKind → Type 0) (d p : ℕ) (values : List V) → ((value : V) → AllLarge (refuses value))
-    → AllLarge (λ kind. RefusesStructList has refuses d p values kind)
-list_large has refuses d p values large kind (inl (inl many)) = (_, many.1)
-list_large has refuses d p values large kind (inl (inr (inl many))) = (_, many.3)
-list_large has refuses d p values large kind (inl (inr (inr many))) = (_, many.4)
-list_large has refuses d p values large kind (inr refused) = rows_large has refuses values large kind refused.4
+none_blames : (fact : ErrorKind → Type 0) → Blames (λ kind. ⊥) fact
+none_blames fact kind refused = absurd refused
 
 -- one text in a struct, in front of other trees or none
-text_row : (bytes : List ℕ) (others : ErrorKind → Type 0) → AllLarge others → AllLarge (λ kind. RefusesRow (λ t. IsTextTree bytes t) (λ k. LongText bytes k) others kind)
-text_row bytes others rest = row_large (λ t. IsTextTree bytes t) (λ k. LongText bytes k) others (text_large bytes) rest
+text_blames : (bytes : List ℕ) (found : List (List ℕ)) (whole : Trees) (others : ErrorKind → Type 0) → Blames (LongText bytes) (λ kind. Any (λ b. LongText b kind) found)
+    → total_words (text_tree bytes none) ≤ total_words whole → Blames others (IsTooLarge found whole)
+    → Blames (λ kind. RefusesRow (λ t. IsTextTree bytes t) (λ k. LongText bytes k) others kind) (IsTooLarge found whole)
+text_blames bytes found whole others listed within rest = row_blames found whole (λ t. IsTextTree bytes t) (λ k. LongText bytes k) others (λ kind long. inl (listed kind long))
+    (λ t is. subst (λ (x : Trees). total_words x ≤ total_words whole) (sym is.1) within) rest
 
-may_refuse : (asked : ℕ) (kind : ErrorKind) → MayRefuse asked kind → (kind ≡ OutOfMemory) ⊎ (kind ≡ SegmentTaken) ⊎ TellsLarge kind
-may_refuse asked kind (inl memory) = inl memory
-may_refuse asked kind (inr (inl large)) = inr (inr (asked, large))
-may_refuse asked kind (inr (inr taken)) = inr (inl taken)
+-- the texts of some structs
+rows_blame : {V : Type 0} (f : V → List ℕ) (found : List (List ℕ)) (whole : Trees) (values : List V)
+    → Blames (λ kind. Any (λ b. LongText b kind) (map f values)) (λ kind. Any (λ b. LongText b kind) found) → total_words (texts (map f values)) ≤ total_words whole
+    → Blames (λ kind. RefusesRows (λ v u. IsRow (λ x. IsTextTree (f v) x) (λ x. x ≡ none) u) (λ v m. RefusesRow (λ x. IsTextTree (f v) x) (λ n. LongText (f v) n) (λ n. ⊥) m) values kind)
+    (IsTooLarge found whole)
+rows_blame f found whole [] listed within kind refused = absurd refused
+rows_blame f found whole (value ∷ values) listed within kind (inl refused) =
+    text_blames (f value) found whole (λ n. ⊥) (λ k long. listed k (any_here (λ b. LongText b k) (f value) (map f values) long)) (omega (arith, within)) (none_blames (IsTooLarge found whole)) kind refused
+rows_blame f found whole (value ∷ values) listed within kind (inr refused) =
+    rows_blame f found whole values (λ k long. listed k (any_next (λ b. LongText b k) (f value) (map f values) long)) (omega (arith, within)) kind refused.2
 
-lacks_segment : {A S : Type 0} (alloc : Ghosts A S) (state : BuilderState A) (asked : ℕ) (kind : ErrorKind) → LacksSegment alloc state asked kind
-    → (kind ≡ OutOfMemory) ⊎ (kind ≡ SegmentTaken) ⊎ TellsLarge kind
-lacks_segment alloc state asked kind (inl many) = inr (inr (asked, many.1))
-lacks_segment alloc state asked kind (inr (few, inl memory)) = inl memory.1
-lacks_segment alloc state asked kind (inr (few, inr refused)) = may_refuse asked kind refused.1
+-- the words of a list of structs of a word and a pointer
+list_words : (words : List (List ℕ)) (bytes : List (List ℕ)) → total_words (phones_tree words bytes) ≡ 1 + length words * 2 + total_words (texts bytes)
+list_words words bytes = omega arith
 
--- why no value is read back that fails only by a size
-unset_refused : {A S : Type 0} (alloc : Ghosts A S) (has : Trees → Type 0) (refuses : ErrorKind → Type 0) (measured : ℕ → Type 0) (message : List (List ℕ)) (limit : Option ℕ) (old : Built A)
-    (new : List Space) (kind : ErrorKind) → AllLarge refuses
-    → LacksWords has refuses false kind ⊎ StopsFirst alloc old new kind ⊎ FindsNoRoom alloc measured old new kind → RefusesBack message limit kind
-unset_refused alloc has refuses measured message limit old new kind large (inl lacks) = inr (inr (inr (inr (lacks_large has refuses large kind lacks))))
-unset_refused alloc has refuses measured message limit old new kind large (inr (inl first)) = inr (inr (may_refuse 1 kind first.1.1.1))
-unset_refused alloc has refuses measured message limit old new kind large (inr (inr no_room)) = inr (inr (lacks_segment alloc _ (no_room.words + 1) kind no_room.lacks))
+-- a list of such structs
+list_blames : {V : Type 0} (w f : V → List ℕ) (found : List (List ℕ)) (whole : Trees) (values : List V)
+    → Blames (λ kind. Any (λ b. LongText b kind) (map f values)) (λ kind. Any (λ b. LongText b kind) found) → total_words (phones_tree (map w values) (map f values)) ≤ total_words whole
+    → Blames (λ kind. RefusesStructList (λ v u. IsRow (λ x. IsTextTree (f v) x) (λ x. x ≡ none) u)
+    (λ v m. RefusesRow (λ x. IsTextTree (f v) x) (λ n. LongText (f v) n) (λ n. ⊥) m) 1 1 values kind) (IsTooLarge found whole)
+list_blames w f found whole values listed within kind (inl (inl (inl many, kind_is))) = absurd (omega (arith, many))
+list_blames w f found whole values listed within kind (inl (inl (inr many, kind_is))) = absurd (omega (arith, many))
+list_blames w f found whole values listed within kind (inl (inr (inl (d, p, many, kind_is)))) =
+    inr (omega (arith, many, within, list_words (map w values) (map f values), length-map values w), (_, kind_is))
+list_blames w f found whole values listed within kind (inl (inr (inr (d, p, few, many, kind_is)))) =
+    inr (omega (arith, many, within, list_words (map w values) (map f values), length-map values w), (_, kind_is))
+list_blames w f found whole values listed within kind (inr refused) =
+    rows_blame f found whole values listed (omega (arith, within, list_words (map w values) (map f values))) kind refused.4
 
-unread_refused : (message : List (List ℕ)) (limit : Option ℕ) (kind : ErrorKind) → RefusesMany message kind ⊎ RefusesSize message limit kind ⊎ (kind ≡ OutOfMemory) → RefusesBack message limit kind
-unread_refused message limit kind (inl many) = inl many
-unread_refused message limit kind (inr (inl size)) = inr (inl size)
-unread_refused message limit kind (inr (inr memory)) = inr (inr (inl memory))
-
-back_refused : {A S : Type 0} (alloc : Ghosts A S) (has : Trees → Type 0) (refuses : ErrorKind → Type 0) (limit : Option ℕ) (old new : Built A) (kind : ErrorKind) → AllLarge refuses
-    → StaysUnset alloc has refuses old new kind ⊎ StaysUnread alloc has limit old new kind → RefusesBack (output_of new) limit kind
-back_refused alloc has refuses limit old new kind large (inl unset) = unset_refused alloc has refuses (HasWords has false) (output_of new) limit old new.spaces kind large unset.refused
-back_refused alloc has refuses limit old new kind large (inr unread) = unread_refused (output_of new) limit kind unread.refused
-
--- persons and contacts are such values
-pub person_back : {A S X : Type 0} (alloc : Ghosts A S) (words name address city : List ℕ) (has : Trees → Type 0) (limit : Option ℕ) (old new : Built A) (r : Result X Error)
-    → IfErr r (λ e. StaysUnset alloc has (λ kind. RefusesStruct (length words) 2 (λ k. RefusesRow (λ t. IsTextTree name t) (λ j. LongText name j)
+-- a person
+person_blames : (words name address city : List ℕ) → length words < 2 ^ 16 → length address < 2 ^ 16
+    → Blames (λ kind. RefusesStruct (length words) 2 (λ k. RefusesRow (λ t. IsTextTree name t) (λ j. LongText name j)
     (λ j. RefusesRow (λ t. IsStruct address 1 (λ u. IsRow (λ v. IsTextTree city v) (λ v. v ≡ none) u) t)
-    (λ i. RefusesStruct (length address) 1 (λ h. RefusesRow (λ t. IsTextTree city t) (λ g. LongText city g) (λ g. ⊥) h) i) (λ i. ⊥) j) k) kind) old new e.kind
-    ⊎ StaysUnread alloc has limit old new e.kind)
-    → IfErr r (λ e. RefusesBack (output_of new) limit e.kind)
-person_back alloc words name address city has limit old new (Ok x) refused = tt
-person_back alloc words name address city has limit old new (Err e) refused =
-    back_refused alloc has _ limit old new e.kind
-    (struct_large (length words) 2 _ (text_row name _ (row_large _ _ _ (struct_large (length address) 1 _ (text_row city _ none_large)) none_large))) refused
+    (λ i. RefusesStruct (length address) 1 (λ h. RefusesRow (λ t. IsTextTree city t) (λ g. LongText city g) (λ g. ⊥) h) i) (λ i. ⊥) j) k) kind)
+    (IsTooLarge (name ∷ city ∷ []) (tree (struct words) (text_tree name (tree (struct address) (text_tree city none) none)) none))
+person_blames words name address city few none_few =
+    let home = tree (struct address) (text_tree city none) none in
+    let whole = tree (struct words) (text_tree name home) none in
+    let found = name ∷ city ∷ [] in
+    let lived : total_words home ≤ total_words whole = omega arith in
+    let city_blames = text_blames city found whole (λ g. ⊥)
+    (λ k long. any_next (λ b. LongText b k) name (city ∷ []) (any_here (λ b. LongText b k) city [] long)) (omega arith) (none_blames (IsTooLarge found whole)) in
+    let home_blames = row_blames found whole (λ t. IsStruct address 1 (λ u. IsRow (λ v. IsTextTree city v) (λ v. v ≡ none) u) t) _ (λ i. ⊥)
+    (struct_blames (length address) 1 _ (IsTooLarge found whole) none_few (omega arith) city_blames)
+    (λ t is. subst (λ (x : Trees). total_words x ≤ total_words whole) (sym (whole_address address city t is)) lived) (none_blames (IsTooLarge found whole)) in
+    struct_blames (length words) 2 _ (IsTooLarge found whole) few (omega arith)
+    (text_blames name found whole _ (λ k long. any_here (λ b. LongText b k) name (city ∷ []) long) (omega arith) home_blames)
 
-pub contact_back : {A S X V : Type 0} (alloc : Ghosts A S) (w f : V → List ℕ) (phones : List V) (words name mail : List ℕ) (has : Trees → Type 0) (limit : Option ℕ) (old new : Built A) (r : Result X Error)
-    → IfErr r (λ e. StaysUnset alloc has (λ kind. RefusesStruct (length words) 3 (λ k. RefusesRow (λ t. IsTextTree name t) (λ j. LongText name j)
+pub person_fails : (words : List ℕ) (id : ℕ) (n address c name city : List ℕ) → words ≡ id ∷ [] → n ≡ name → address ≡ [] → c ≡ city
+    → Blames (λ kind. RefusesStruct (length words) 2 (λ k. RefusesRow (λ t. IsTextTree n t) (λ j. LongText n j)
+    (λ j. RefusesRow (λ t. IsStruct address 1 (λ u. IsRow (λ v. IsTextTree c v) (λ v. v ≡ none) u) t)
+    (λ i. RefusesStruct (length address) 1 (λ h. RefusesRow (λ t. IsTextTree c t) (λ g. LongText c g) (λ g. ⊥) h) i) (λ i. ⊥) j) k) kind)
+    (IsTooLarge (name ∷ city ∷ []) (person_tree id name city))
+person_fails words id n address c name city words_are n_is address_is c_is kind refused =
+    let here = person_blames words n address c (omega (arith, ap length words_are)) (omega (arith, ap length address_is)) kind refused in
+    let numbered = subst (λ (l : List ℕ). IsTooLarge (n ∷ c ∷ []) (tree (struct l) (text_tree n (tree (struct address) (text_tree c none) none)) none) kind) words_are here in
+    let housed = subst (λ (l : List ℕ). IsTooLarge (n ∷ c ∷ []) (tree (struct (id ∷ [])) (text_tree n (tree (struct l) (text_tree c none) none)) none) kind) address_is numbered in
+    let named = subst (λ (l : List ℕ). IsTooLarge (l ∷ c ∷ []) (person_tree id l c) kind) n_is housed in
+    subst (λ (l : List ℕ). IsTooLarge (name ∷ l ∷ []) (person_tree id name l) kind) c_is named
+
+-- a contact
+contact_blames : {V : Type 0} (w f : V → List ℕ) (phones : List V) (words name mail : List ℕ) → length words < 2 ^ 16
+    → Blames (λ kind. RefusesStruct (length words) 3 (λ k. RefusesRow (λ t. IsTextTree name t) (λ j. LongText name j)
     (λ j. RefusesRow (λ t. IsTextTree mail t) (λ h. LongText mail h)
     (λ h. RefusesRow (λ t. IsStructList w (λ v u. IsRow (λ x. IsTextTree (f v) x) (λ x. x ≡ none) u) 1 1 phones t)
     (λ g. RefusesStructList (λ v u. IsRow (λ x. IsTextTree (f v) x) (λ x. x ≡ none) u)
-    (λ v m. RefusesRow (λ x. IsTextTree (f v) x) (λ n. LongText (f v) n) (λ n. ⊥) m) 1 1 phones g) (λ g. ⊥) h) j) k) kind) old new e.kind
-    ⊎ StaysUnread alloc has limit old new e.kind)
-    → IfErr r (λ e. RefusesBack (output_of new) limit e.kind)
-contact_back alloc w f phones words name mail has limit old new (Ok x) refused = tt
-contact_back alloc w f phones words name mail has limit old new (Err e) refused =
-    back_refused alloc has _ limit old new e.kind
-    (struct_large (length words) 3 _ (text_row name _ (text_row mail _ (row_large _ _ _
-    (list_large _ (λ v m. RefusesRow (λ x. IsTextTree (f v) x) (λ n. LongText (f v) n) (λ n. ⊥) m) 1 1 phones (λ v. text_row (f v) _ none_large)) none_large)))) refused
+    (λ v m. RefusesRow (λ x. IsTextTree (f v) x) (λ n. LongText (f v) n) (λ n. ⊥) m) 1 1 phones g) (λ g. ⊥) h) j) k) kind)
+    (IsTooLarge (name ∷ mail ∷ map f phones) (tree (struct words) (text_tree name (text_tree mail (phones_tree (map w phones) (map f phones)))) none))
+contact_blames w f phones words name mail few =
+    let list = phones_tree (map w phones) (map f phones) in
+    let whole = tree (struct words) (text_tree name (text_tree mail list)) none in
+    let others = map f phones in
+    let found = name ∷ mail ∷ others in
+    let listed : total_words list ≤ total_words whole = omega arith in
+    let list_blamed = list_blames w f found whole phones (λ k long. any_next (λ b. LongText b k) name (mail ∷ others) (any_next (λ b. LongText b k) mail others long)) listed in
+    let phones_blame = row_blames found whole (λ t. IsStructList w (λ v u. IsRow (λ x. IsTextTree (f v) x) (λ x. x ≡ none) u) 1 1 phones t) _ (λ g. ⊥) list_blamed
+    (λ t is. subst (λ (x : Trees). total_words x ≤ total_words whole) (sym (whole_list w f phones t is)) listed) (none_blames (IsTooLarge found whole)) in
+    struct_blames (length words) 3 _ (IsTooLarge found whole) few (omega arith)
+    (text_blames name found whole _ (λ k long. any_here (λ b. LongText b k) name (mail ∷ others) long) (omega arith)
+    (text_blames mail found whole _ (λ k long. any_next (λ b. LongText b k) name (mail ∷ others) (any_here (λ b. LongText b k) mail others long)) (omega arith) phones_blame))
 
--- why the canonical form of such a value does not become the one segment
-alone_refused : {A S : Type 0} (alloc : Ghosts A S) (has : Trees → Type 0) (refuses : ErrorKind → Type 0) (old : Built A) (new : List Space) (kind : ErrorKind) → AllLarge refuses
-    → StopsFirst alloc old new kind ⊎ RefusesCanonical has refuses new kind → RefusesAlone kind
-alone_refused alloc has refuses old new kind large (inl first) = elim (may_refuse 1 kind first.1.1.1) [ inl memory ↦ inl memory | inr (inl taken) ↦ inr (inl taken) | inr (inr declared) ↦ inr (inr (inl declared)) ]
-alone_refused alloc has refuses old new kind large (inr (inl more)) = inr (inr (inr (inr more.1)))
-alone_refused alloc has refuses old new kind large (inr (inr (inl (one, inl refused)))) = inr (inr (inl (large kind refused)))
-alone_refused alloc has refuses old new kind large (inr (inr (inl (one, inr lacks)))) = inr (inr (inr (inl lacks.3)))
-alone_refused alloc has refuses old new kind large (inr (inr (inr room))) = inr (inr (inr (inr room.1)))
+pub contact_fails : {V : Type 0} (w f : V → List ℕ) (vs phones : List V) (words : List ℕ) (id : ℕ) (n m name mail : List ℕ) → words ≡ id ∷ [] → n ≡ name → m ≡ mail → vs ≡ phones
+    → Blames (λ kind. RefusesStruct (length words) 3 (λ k. RefusesRow (λ t. IsTextTree n t) (λ j. LongText n j)
+    (λ j. RefusesRow (λ t. IsTextTree m t) (λ h. LongText m h)
+    (λ h. RefusesRow (λ t. IsStructList w (λ v u. IsRow (λ x. IsTextTree (f v) x) (λ x. x ≡ none) u) 1 1 vs t)
+    (λ g. RefusesStructList (λ v u. IsRow (λ x. IsTextTree (f v) x) (λ x. x ≡ none) u)
+    (λ v m. RefusesRow (λ x. IsTextTree (f v) x) (λ n. LongText (f v) n) (λ n. ⊥) m) 1 1 vs g) (λ g. ⊥) h) j) k) kind)
+    (IsTooLarge (name ∷ mail ∷ map f phones) (contact_tree id name mail (map w phones) (map f phones)))
+contact_fails {V = V} w f vs phones words id n m name mail words_are n_is m_is vs_are kind refused =
+    let here = contact_blames w f vs words n m (omega (arith, ap length words_are)) kind refused in
+    let numbered = subst (λ (l : List ℕ). IsTooLarge (n ∷ m ∷ map f vs) (tree (struct l) (text_tree n (text_tree m (phones_tree (map w vs) (map f vs)))) none) kind) words_are here in
+    let named = subst (λ (l : List ℕ). IsTooLarge (l ∷ m ∷ map f vs) (contact_tree id l m (map w vs) (map f vs)) kind) n_is numbered in
+    let mailed = subst (λ (l : List ℕ). IsTooLarge (name ∷ l ∷ map f vs) (contact_tree id name l (map w vs) (map f vs)) kind) m_is named in
+    subst (λ (l : List V). IsTooLarge (name ∷ mail ∷ map f l) (contact_tree id name mail (map w l) (map f l)) kind) vs_are mailed
 
-pub person_alone : {A S X : Type 0} (alloc : Ghosts A S) (words name address city : List ℕ) (has : Trees → Type 0) (old : Built A) (new : List Space) (r : Result X Error)
-    → IfErr r (λ e. StopsFirst alloc old new e.kind
-    ⊎ RefusesCanonical has (λ kind. RefusesStruct (length words) 2 (λ k. RefusesRow (λ t. IsTextTree name t) (λ j. LongText name j)
-    (λ j. RefusesRow (λ t. IsStruct address 1 (λ u. IsRow (λ v. IsTextTree city v) (λ v. v ≡ none) u) t)
-    (λ i. RefusesStruct (length address) 1 (λ h. RefusesRow (λ t. IsTextTree city t) (λ g. LongText city g) (λ g. ⊥) h) i) (λ i. ⊥) j) k) kind) new e.kind)
-    → IfErr r (λ e. RefusesAlone e.kind)
-person_alone alloc words name address city has old new (Ok x) refused = tt
-person_alone alloc words name address city has old new (Err e) refused =
-    alone_refused alloc has _ old new e.kind
-    (struct_large (length words) 2 _ (text_row name _ (row_large _ _ _ (struct_large (length address) 1 _ (text_row city _ none_large)) none_large))) refused
+-- A value that is one tree, and fails as is said of this tree.
+
+words_as : (has : Trees → Type 0) (whole : Trees) → ((t : Trees) → has t → t ≡ whole) → (canonical : Bool) (words : ℕ) → HasWords has canonical words
+    → HasWords (λ t. t ≡ whole) canonical words
+words_as has whole one canonical words w = record { trees = w.trees; tree_is = one w.trees w.tree_is; rooms = w.rooms; words_are = w.words_are; few = w.few }
+
+lacks_as : (has : Trees → Type 0) (refuses fact : ErrorKind → Type 0) (whole : Trees) → ((t : Trees) → has t → t ≡ whole) → Blames refuses fact → (canonical : Bool) (kind : ErrorKind)
+    → LacksWords has refuses canonical kind → LacksWords (λ t. t ≡ whole) fact canonical kind
+lacks_as has refuses fact whole one blames canonical kind (inl refused) = inl (blames kind refused)
+lacks_as has refuses fact whole one blames canonical kind (inr (t, is, many, kind_is)) = inr (t, one t is, many, kind_is)
+
+unset_as : {A S : Type 0} (alloc : Ghosts A S) (has : Trees → Type 0) (refuses fact : ErrorKind → Type 0) (whole : Trees) → ((t : Trees) → has t → t ≡ whole) → Blames refuses fact
+    → (old : Built A) (new : List Space) (kind : ErrorKind) → LacksWords has refuses false kind ⊎ StopsFirst alloc old new kind ⊎ FindsNoRoom alloc (HasWords has false) old new kind
+    → LacksWords (λ t. t ≡ whole) fact false kind ⊎ StopsFirst alloc old new kind ⊎ FindsNoRoom alloc (HasWords (λ t. t ≡ whole) false) old new kind
+unset_as alloc has refuses fact whole one blames old new kind (inl lacks) = inl (lacks_as has refuses fact whole one blames false kind lacks)
+unset_as alloc has refuses fact whole one blames old new kind (inr (inl first)) = inr (inl first)
+unset_as alloc has refuses fact whole one blames old new kind (inr (inr no_room)) = inr (inr (record {
+  words = no_room.words;
+  words_are = words_as has whole one false no_room.words no_room.words_are;
+  full = no_room.full;
+  asked = no_room.asked;
+  lacks = no_room.lacks;
+  stays = no_room.stays;
+  same = no_room.same;
+}))
+
+unread_as : {A S : Type 0} (alloc : Ghosts A S) (has : Trees → Type 0) (whole : Trees) → ((t : Trees) → has t → t ≡ whole) → (limit : Option ℕ) (old new : Built A) (kind : ErrorKind)
+    → StaysUnread alloc has limit old new kind → StaysUnread alloc (λ t. t ≡ whole) limit old new kind
+unread_as alloc has whole one limit old new kind unread =
+    let set = unread.set in
+    let put = unread.placed in
+    record {
+      set = record { trees = set.trees; tree_is = one set.trees set.tree_is; traversed = set.traversed; stands = set.stands };
+      placed = record {
+        cleared = put.cleared;
+        words = put.words;
+        is_cleared = put.is_cleared;
+        words_are = words_as has whole one false put.words put.words_are;
+        placed = put.placed;
+        first = put.first;
+        granted = put.granted;
+        zero = put.zero;
+        outside = put.outside;
+      };
+      refused = unread.refused;
+    }
+
+-- why it is not read back
+pub back_as : {A S X : Type 0} (alloc : Ghosts A S) (has : Trees → Type 0) (refuses fact : ErrorKind → Type 0) (whole : Trees) → ((t : Trees) → has t → t ≡ whole) → Blames refuses fact
+    → (limit : Option ℕ) (old new : Built A) (r : Result X Error) → IfErr r (λ e. StaysUnset alloc has refuses old new e.kind ⊎ StaysUnread alloc has limit old new e.kind)
+    → IfErr r (λ e. StaysUnset alloc (λ t. t ≡ whole) fact old new e.kind ⊎ StaysUnread alloc (λ t. t ≡ whole) limit old new e.kind)
+back_as alloc has refuses fact whole one blames limit old new (Ok x) refused = tt
+back_as alloc has refuses fact whole one blames limit old new (Err e) (inl unset) =
+    inl (record { cleared = unset.cleared; refused = unset_as alloc has refuses fact whole one blames old new.spaces e.kind unset.refused })
+back_as alloc has refuses fact whole one blames limit old new (Err e) (inr unread) = inr (unread_as alloc has whole one limit old new e.kind unread)
+
+-- and why its canonical form does not become the one segment
+canonical_as : (has : Trees → Type 0) (refuses fact : ErrorKind → Type 0) (whole : Trees) → ((t : Trees) → has t → t ≡ whole) → Blames refuses fact → (spaces : List Space) (kind : ErrorKind)
+    → RefusesCanonical has refuses spaces kind → RefusesCanonical (λ t. t ≡ whole) fact spaces kind
+canonical_as has refuses fact whole one blames spaces kind (inl more) = inl more
+canonical_as has refuses fact whole one blames spaces kind (inr (inl (alone, lacks))) = inr (inl (alone, lacks_as has refuses fact whole one blames true kind lacks))
+canonical_as has refuses fact whole one blames spaces kind (inr (inr (alone, kind_is, (words, measured, full)))) =
+    inr (inr (alone, kind_is, (words, words_as has whole one true words measured, full)))
+
+pub alone_as : {A S X : Type 0} (alloc : Ghosts A S) (has : Trees → Type 0) (refuses fact : ErrorKind → Type 0) (whole : Trees) → ((t : Trees) → has t → t ≡ whole) → Blames refuses fact
+    → (old new : Built A) (r : Result X Error) → IfErr r (λ e. RefusesForm alloc has refuses old new e.kind) → IfErr r (λ e. RefusesForm alloc (λ t. t ≡ whole) fact old new e.kind)
+alone_as alloc has refuses fact whole one blames old new (Ok x) refused = tt
+alone_as alloc has refuses fact whole one blames old new (Err e) (inl first) = inl first
+alone_as alloc has refuses fact whole one blames old new (Err e) (inr refused) = inr (canonical_as has refuses fact whole one blames new.spaces e.kind refused)

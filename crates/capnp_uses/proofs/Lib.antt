@@ -11,3 +11,4 @@ pub mod RegionLemmas
 pub mod RootLemmas
 pub mod SetLemmas
 pub mod SkipLemmas
+pub mod TwoLemmas

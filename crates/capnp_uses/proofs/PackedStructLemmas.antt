@@ -1,5 +1,6 @@
 -- A message that is written packed is read back.
 use Rattle.std.proofs.Common.{◌≡◌, ◌⊎◌, inl, inr, ℕ, Result, Ok, Err, IfErr, Option, List, [], ◌++◌, sym, ap, ◌∙◌, subst}
+use Rattle.std.specs.Prelude.{slice_index}
 use Rattle.std.proofs.lemmas.List.{append-nil}
 use Rattle.capnp_frame.specs.declared.error.Error.{Error}
 use Rattle.capnp_frame.specs.declared.error.ErrorKind.{ErrorKind}
@@ -14,9 +15,12 @@ use Rattle.capnp_frame.proofs.SizeLemmas.{HasTable-writable}
 use Rattle.capnp_frame.proofs.TextLemmas.{texts_part}
 use Rattle.capnp_pack.specs.RefusingLaws.{unpacking}
 use Rattle.capnp_pack.proofs.PackedFrameLemmas.{packed_requests, packed_text_is}
+use Rattle.capnp_wire.specs.Readers.{default_root}
+use Rattle.capnp_wire.specs.Views.{Pointer, Struct, HasData, IsStruct, Reads}
 use Rattle.capnp.specs.declared.streams.Format.TheVariants.{Packed}
 use Rattle.capnp.specs.Streams.{BeginsPacked, RefusesNext}
 use Rattle.capnp.specs.Written.{IsPackedEncodingOf}
+use Rattle.capnp_uses.specs.Reading.{ShowsPackedStruct}
 use Rattle.capnp_uses.specs.Roots.{RefusesPackedStruct}
 use Rattle.capnp.proofs.StreamLemmas.{slice_refused}
 use Rattle.capnp.proofs.WriterLemmas.{IsWithin-written}
@@ -54,3 +58,13 @@ begins_packed limit message text writable few size packed = record {
   within = IsWithin-written message limit writable few size;
   spelled = sym (append-nil text);
 }
+
+-- the words of the struct at its root
+pub shows_packed : (message : List (List ℕ)) (text left : List ℕ) (pointer : Pointer) (fields : Struct) (first second : ℕ) → pointer ≡ default_root message
+    → BeginsPacked Zero default_limit message text left → IsStruct pointer fields → first ≡ slice_index fields.words 0 → second ≡ slice_index fields.words 1
+    → ShowsPackedStruct text (first, second)
+shows_packed message text left pointer fields first second same begins is first_is second_is =
+    let shown = is.shown in
+    let read : Reads pointer (λ form. HasData form fields.words) = (shown.0, shown.1, (shown.2.0, shown.2.2)) in
+    let pair : (first, second) ≡ (slice_index fields.words 0, slice_index fields.words 1) = cc in
+    (message, left, begins, (fields.words, subst (λ (p : Pointer). Reads p (λ form. HasData form fields.words)) same read, pair))

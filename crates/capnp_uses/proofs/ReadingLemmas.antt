@@ -15,12 +15,14 @@ use Rattle.capnp_message.specs.Seen.{root_of}
 use Rattle.capnp_message.specs.Canonical.{LacksForm}
 use Rattle.capnp_frame.specs.Source.{Fails, Splits, RunsShort}
 use Rattle.capnp.specs.declared.streams.Format.{Format}
+use Rattle.capnp_frame.specs.FlatReaders.{RefusesBy, no_alloc_rules}
 use Rattle.capnp_frame.specs.Streams.{next_in}
 use Rattle.capnp.specs.Streams.{grammar_of, BeginsFramed, StandsNext, IsPlainSource}
 use Rattle.capnp.specs.Headline.{ReturnsEncodings}
 use Rattle.capnp.proofs.RunLemmas.{format_lawful, format_requested, format_parts}
 use Rattle.capnp.proofs.ReaderLemmas.{nothing_begins}
 use Rattle.capnp.proofs.AppendedLemmas.{memory_only}
+use Rattle.capnp_uses.specs.Reading.{ReturnsCanonical}
 
 -- a slice is a plain source
 pub slices_are_plain : IsPlainSource Splits RunsShort
@@ -61,6 +63,22 @@ pub form_of_root : {X : Type 0} (numbers_of : X → List ℕ) (Q : Error → Typ
     → MatchResult r (λ x. IsCanonicalForm pointer (numbers_of x)) Q → IfOk r (λ x. IsCanonicalForm other (numbers_of x))
 form_of_root numbers_of Q (Ok x) pointer other same returned = subst (λ p. IsCanonicalForm p (numbers_of x)) same returned
 form_of_root numbers_of Q (Err e) pointer other same returned = tt
+
+pub form_stands : {X : Type 0} (numbers_of : X → List ℕ) (m : List (List ℕ)) (bytes : List ℕ) (r : Result X Error) → (rest : List ℕ) × BeginsFramed Zero default_limit m bytes rest
+    → IfOk r (λ x. IsCanonicalForm (default_root m) (numbers_of x))
+    → IfOk r (λ x. (message : List (List ℕ)) × (rest : List ℕ) × BeginsFramed Zero default_limit message bytes rest × IsCanonicalForm (default_root message) (numbers_of x))
+form_stands numbers_of m bytes (Ok x) begins form = (m, begins.0, begins.1, form)
+form_stands numbers_of m bytes (Err e) begins form = tt
+
+-- where no message is there
+pub no_form : {X : Type 0} (numbers_of : X → List ℕ) (bytes : List ℕ) (error : Error) → ((message : List (List ℕ)) (rest : List ℕ) → BeginsFramed Zero default_limit message bytes rest → ⊥)
+    → RefusesBy (no_alloc_rules Zero default_limit) error.kind bytes → ReturnsCanonical bytes numbers_of (Err error)
+no_form numbers_of bytes error none refused = record {
+  stands = tt;
+  form = λ message rest begins. tt;
+  found = λ message rest begins form. absurd (none message rest begins);
+  refused = inr (inl refused);
+}
 
 -- why it has none
 pub form_refused : {X : Type 0} (is_form : X → Type 0) (pointer : Pointer) (m : List (List ℕ)) (bytes : List ℕ) (Q : ErrorKind → Type 0) (r : Result X Error)

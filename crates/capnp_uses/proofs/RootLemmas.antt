@@ -98,8 +98,3 @@ text_meets_limit shows pointer bytes (Err e) is stands deep returned =
 
 pub struct_is_taken : (words : List ℕ) (kind : ErrorKind) → DeclinesStruct (struct words) kind → ⊥
 struct_is_taken words kind (other, is) = other tt
-
--- What is said of a failure is said of it alone.
-pub refused_root : {X : Type 0} (shows : X → Type 0) (refuses : Error → Type 0) (r : Result X Error) → MatchResult r shows refuses → IfErr r refuses
-refused_root shows refuses (Ok x) returned = tt
-refused_root shows refuses (Err e) returned = returned

@@ -1,14 +1,14 @@
--- A pointer leads to one tree.
-use Rattle.std.proofs.Common.{◌≡◌, ◌⊎◌, inl, inr, ℕ, List, [], ◌∷◌, ◌++◌, false, true, refl, ◌∙◌, ap, subst, ◌<◌, length, arith}
+-- A pointer leads to one tree, which is what is set, but for a word.
+use Rattle.std.proofs.Common.{◌≡◌, ◌⊎◌, inl, inr, ℕ, List, [], ◌∷◌, ◌++◌, false, true, refl, ◌∙◌, ap, subst, ◌<◌, ◌≤◌, length, arith}
 use Rattle.capnp_frame.specs.declared.error.Error.{Error}
 use Rattle.capnp_frame.specs.declared.error.ErrorKind.{ErrorKind}
 use Rattle.capnp_frame.specs.declared.error.ErrorKind.TheVariants.{DeviceFailed, OutOfMemory}
 use Rattle.capnp_frame.specs.Source.{Fails}
 use Rattle.capnp_frame.specs.Writing.{RefusesMany}
-use Rattle.capnp_wire.specs.Tree.{Form, Trees, none, tree}
+use Rattle.capnp_wire.specs.Tree.{Form, null, struct, numbers, pointers, structs, Trees, none, tree}
 use Rattle.capnp_wire.specs.Reached.{At, at, nowhere, root, Root}
 use Rattle.capnp_wire.specs.Layout.{canon}
-use Rattle.capnp_wire.specs.Views.{Pointer, DeclinesStruct}
+use Rattle.capnp_wire.specs.Views.{Pointer, HasData, TakesStruct, DeclinesStruct}
 use Rattle.capnp_wire.specs.Values.{LeadsToTree}
 use Rattle.capnp_layout.proofs.pointers.FaultLemmas.{word_of_object}
 use Rattle.capnp_wire.proofs.views.OneValueLemmas.{one_there}
@@ -17,9 +17,11 @@ use Rattle.capnp_build.specs.Bytes.{Space}
 use Rattle.capnp_build.specs.declared.allocator.Allocator.{Ghosts}
 use Rattle.capnp_build.specs.Built.{Built, message, IsSet, IsWhole}
 use Rattle.capnp_build.specs.Placed.{DeclinesRoot}
+use Rattle.capnp_build.specs.Written.{IsFieldSet}
 use Rattle.capnp_build.specs.Outcomes.{LacksFirst}
 use Rattle.capnp.proofs.ChunkLemmas.{framed_memory}
 use Rattle.capnp.specs.Written.{IsFrameEncoding, RefusesWriter}
+use Rattle.capnp_uses.specs.Roots.{IsSetWithWord}
 
 leads_one : (p : Pointer) (a b : Trees) → LeadsToTree p a → LeadsToTree p b → a ≡ b
 leads_one p a b x y = one_there p.place p.message p.nesting p.limit a b x y
@@ -37,6 +39,40 @@ canonical_as p spaces trees is s = s.words_are ∙ ap (λ (t : Trees). canon t �
 pub root_has_segment : (spaces : List Space) (form : Form) (children : Trees) (traversed : ℕ) → Root (message spaces) form children traversed → 0 < length spaces
 root_has_segment [] form children traversed (at {shape = shape} points inside others) = absurd (word_of_object [] root shape refl points)
 root_has_segment (space ∷ spaces) form children traversed stands = omega arith
+
+-- what was set has a form
+form_there : (p : Pointer) (spaces : List Space) (trees : Trees) (traversed : ℕ) → LeadsToTree p trees → At (message spaces) (root ∷ []) trees traversed
+    → (form : Form) × (children : Trees) × (counted : ℕ) × LeadsToTree p (tree form children none) × Root (message spaces) form children counted
+form_there p spaces trees traversed leads (at points inside nowhere) = (_, _, _, leads, at points inside nowhere)
+
+pub set_form : (p : Pointer) (spaces : List Space) → IsSet (LeadsToTree p) false spaces
+    → (form : Form) × (children : Trees) × (counted : ℕ) × LeadsToTree p (tree form children none) × Root (message spaces) form children counted
+set_form p spaces set = form_there p spaces set.trees set.traversed set.tree_is set.stands
+
+-- its first data word is set, where it has n of them
+pub word_set : (p : Pointer) (word n : ℕ) (spaces last : List Space) (form : Form) (children : Trees) (traversed : ℕ) → LeadsToTree p (tree form children none)
+    → Root (message spaces) form children traversed → TakesStruct form → ((words : List ℕ) → HasData form words → n ≡ length words) → 0 < n → IsFieldSet spaces last 0 word
+    → IsSetWithWord (LeadsToTree p) word last
+word_set p word n spaces last null children traversed leads there taken counted some set = absurd (omega (arith, counted [] refl, some))
+word_set p word n spaces last (struct words) children traversed leads there taken counted some set =
+    let after = set words children traversed there in
+    record { form = struct words; children = children; tree_is = leads; taken = taken; traversed = after.0; stands = after.1 }
+word_set p word n spaces last (numbers code values) children traversed leads there taken counted some set = absurd taken
+word_set p word n spaces last pointers children traversed leads there taken counted some set = absurd taken
+word_set p word n spaces last (structs d m rows) children traversed leads there taken counted some set = absurd taken
+
+-- and where it has none there is none to set
+pub word_kept : (p : Pointer) (word n : ℕ) (spaces : List Space) (form : Form) (children : Trees) (traversed : ℕ) → LeadsToTree p (tree form children none)
+    → Root (message spaces) form children traversed → TakesStruct form → ((words : List ℕ) → HasData form words → n ≡ length words) → n ≤ 0
+    → IsSetWithWord (LeadsToTree p) word spaces
+word_kept p word n spaces null children traversed leads there taken counted gone =
+    record { form = null; children = children; tree_is = leads; taken = taken; traversed = traversed; stands = there }
+word_kept p word n spaces (struct []) children traversed leads there taken counted gone =
+    record { form = struct []; children = children; tree_is = leads; taken = taken; traversed = traversed; stands = there }
+word_kept p word n spaces (struct (first ∷ words)) children traversed leads there taken counted gone = absurd (omega (arith, counted (first ∷ words) refl, gone))
+word_kept p word n spaces (numbers code values) children traversed leads there taken counted gone = absurd taken
+word_kept p word n spaces pointers children traversed leads there taken counted gone = absurd taken
+word_kept p word n spaces (structs d m rows) children traversed leads there taken counted gone = absurd taken
 
 -- a type that declines the root declines the tree that was set
 declined_at : {A S : Type 0} (alloc : Ghosts A S) (p : Pointer) (old : Built A) (spaces : List Space) (kind : ErrorKind) (trees : Trees) (traversed : ℕ) → LeadsToTree p trees → At (message spaces) (root ∷ []) trees traversed

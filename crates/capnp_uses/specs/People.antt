@@ -1,11 +1,14 @@
 -- A person, as a tree (src/values.rt): a struct of a number, whose pointers lead to a name and to an address, which is a struct
 -- that leads to a city.
-use Rattle.std.specs.Prelude.{◌≡◌, ◌⊎◌, ℕ, List, [], ◌∷◌, ◌++◌, Option}
+use Rattle.std.specs.Prelude.{◌≡◌, ◌⊎◌, ℕ, ◌^◌, ◌≤◌, List, [], ◌∷◌, ◌++◌, Any, Option}
 use Rattle.capnp_frame.specs.declared.error.ErrorKind.{ErrorKind}
-use Rattle.capnp_frame.specs.declared.error.ErrorKind.TheVariants.{AllocationTooLarge, CanonicalTooLarge, NotOneSegment, OutOfMemory, SegmentTaken}
-use Rattle.capnp_frame.specs.Writing.{RefusesMany}
-use Rattle.capnp.specs.Roots.{RefusesSize}
-use Rattle.capnp_wire.specs.Tree.{Trees, struct, structs, numbers, none, tree}
+use Rattle.capnp_frame.specs.declared.error.ErrorKind.TheVariants.{AllocationTooLarge}
+use Rattle.capnp_wire.specs.Tree.{Trees, struct, structs, numbers, none, tree, total_words}
+use Rattle.capnp_wire.specs.Values.{LongText}
+use Rattle.capnp_build.specs.declared.allocator.Allocator.{Ghosts}
+use Rattle.capnp_build.specs.Built.{Built}
+use Rattle.capnp.specs.Roots.{StaysUnset, StaysUnread}
+use Rattle.capnp_uses.specs.Roots.{RefusesForm}
 
 -- a text, with its zero byte, in front of other trees
 abbrev pub text_tree : List ℕ → Trees → Trees
@@ -29,16 +32,19 @@ phones_tree words numbers_of_phones = tree (structs 1 1 words) (texts numbers_of
 abbrev pub contact_tree : ℕ → List ℕ → List ℕ → List (List ℕ) → List (List ℕ) → Trees
 contact_tree id name mail words numbers_of_phones = tree (struct (id ∷ [])) (text_tree name (text_tree mail (phones_tree words numbers_of_phones))) none
 
--- an object is too large, and the error carries its size
-abbrev pub TellsLarge : ErrorKind → Type 0
-TellsLarge kind = (size : ℕ) × (kind ≡ AllocationTooLarge size)
+-- a value of these texts is too large: one of them is too long for a text, or the tree has 2 ^ 29 words; the error carries a size
+abbrev pub IsTooLarge : List (List ℕ) → Trees → ErrorKind → Type 0
+IsTooLarge texts trees kind = Any (λ bytes. LongText bytes kind) texts
+    ⊎ ((2 ^ 29 ≤ total_words trees) × ((size : ℕ) × (kind ≡ AllocationTooLarge size)))
 
--- why a message in which a value was to be the root is not read back: too many segments, more words
--- than the limit, no memory, no further segment, or an object that is too large
-abbrev pub RefusesBack : List (List ℕ) → Option ℕ → ErrorKind → Type 0
-RefusesBack message limit kind = RefusesMany message kind ⊎ RefusesSize message limit kind
-    ⊎ (kind ≡ OutOfMemory) ⊎ (kind ≡ SegmentTaken) ⊎ TellsLarge kind
+-- Why a message in which a value of these texts and this tree was to be the root is not read back, and what that leaves.
+-- The root is null: the value is too large, the first segment is not handed out, or no segment has room. Or the value is
+-- the root: the message has too many segments or words, or memory is lacking.
+abbrev pub RefusesBack : {A S : Type 0} → Ghosts A S → List (List ℕ) → Trees → Option ℕ → Built A → Built A → ErrorKind → Type 0
+RefusesBack alloc texts trees limit old new kind = StaysUnset alloc (λ found. found ≡ trees) (IsTooLarge texts trees) old new kind
+    ⊎ StaysUnread alloc (λ found. found ≡ trees) limit old new kind
 
--- why the canonical form of a value does not become the one segment of a new message
-abbrev pub RefusesAlone : ErrorKind → Type 0
-RefusesAlone kind = (kind ≡ OutOfMemory) ⊎ (kind ≡ SegmentTaken) ⊎ TellsLarge kind ⊎ (kind ≡ CanonicalTooLarge) ⊎ (kind ≡ NotOneSegment)
+-- why the canonical form of such a value does not become the one segment of a new message: the first segment is not handed
+-- out, or it is, and the value is too large, its form is, or the form has no room there
+abbrev pub RefusesAlone : {A S : Type 0} → Ghosts A S → List (List ℕ) → Trees → Built A → Built A → ErrorKind → Type 0
+RefusesAlone alloc texts trees = RefusesForm alloc (λ found. found ≡ trees) (IsTooLarge texts trees)

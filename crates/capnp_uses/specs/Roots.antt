@@ -1,19 +1,19 @@
 -- What is at the root of a message, and why a root is not set.
-use Rattle.std.specs.Prelude.{◌≡◌, ◌⊎◌, ℕ, List, [], map, false, Some}
+use Rattle.std.specs.Prelude.{◌≡◌, ◌⊎◌, ℕ, List, [], map, slice_set, false, Some}
 use Rattle.capnp_frame.specs.declared.error.ErrorKind.{ErrorKind}
 use Rattle.capnp_frame.specs.declared.error.ErrorKind.TheVariants.{OutOfMemory, PrematureEndOfFile}
 use Rattle.capnp_frame.specs.declared.serialize.segment_table.Padding.TheVariants.{Zero}
 use Rattle.capnp_frame.specs.Limits.{default_limit}
-use Rattle.capnp_wire.specs.Tree.{Form, Trees, none}
+use Rattle.capnp_wire.specs.Tree.{Form, struct, Trees, none, tree}
 use Rattle.capnp_wire.specs.Object.{message_of}
 use Rattle.capnp_wire.specs.Reached.{root, Root}
 use Rattle.capnp_wire.specs.Faults.{NoWord}
 use Rattle.capnp_wire.specs.Readers.{default_root}
-use Rattle.capnp_wire.specs.Views.{Refuses, DeclinesStruct}
+use Rattle.capnp_wire.specs.Views.{Refuses, TakesStruct, DeclinesStruct}
 use Rattle.capnp_wire.specs.Values.{HasWords, LacksWords}
 use Rattle.capnp_build.specs.declared.allocator.Allocator.{Ghosts}
 use Rattle.capnp_build.specs.Bytes.{Space}
-use Rattle.capnp_build.specs.Built.{Built}
+use Rattle.capnp_build.specs.Built.{Built, message}
 use Rattle.capnp_build.specs.Placed.{FindsNoRoom, FoundNoRoom, InitWords}
 use Rattle.capnp_build.specs.Outcomes.{LacksFirst, StopsFirst, RefusesCanonical}
 use Rattle.capnp.specs.declared.streams.Format.TheVariants.{Packed}
@@ -50,3 +50,17 @@ RefusesPackedStruct text kind = (kind ≡ OutOfMemory) ⊎ EndsBy Zero Packed de
     ⊎ ((text ≡ []) × (kind ≡ PrematureEndOfFile))
     ⊎ ((segments : List (List ℕ)) × (rest : List ℕ) × StandsNext Zero Packed default_limit segments text rest
     × (NoWord (message_of segments) root kind ⊎ Refuses (default_root segments) DeclinesStruct kind))
+
+-- this word in the place of the first data word of a struct, where it has one
+abbrev pub with_first_word : ℕ → Form → Form
+with_first_word word (struct words) = struct (slice_set words 0 word)
+with_first_word word form = form
+
+-- The root is a value's tree, a struct or null, with this word in the place of the struct's first one.
+pub record IsSetWithWord (has_tree : Trees → Type 0) (word : ℕ) (spaces : List Space) : Type 0 where
+  pub form : Form
+  pub children : Trees
+  pub tree_is : has_tree (tree form children none)
+  pub taken : TakesStruct form
+  pub traversed : ℕ
+  pub stands : Root (message spaces) (with_first_word word form) children traversed

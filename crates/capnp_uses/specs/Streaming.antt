@@ -1,19 +1,20 @@
 -- What callers return of streams and of logs.
-use Rattle.std.specs.Prelude.{◌≡◌, ◌⊎◌, ◌∷◌, ℕ, List, [], length, Option, Some, None, Bool, IsTrue, IsFalse, IfSome, Result, IfOk, IfErr, MatchResult}
+use Rattle.std.specs.Prelude.{◌≡◌, ◌⊎◌, ◌∷◌, ℕ, List, [], length, Option, Some, None, Bool, IsTrue, IsFalse, IfSome, IfNone, IsSomeAnd, Result, IfOk, IfErr, MatchResult}
 use Rattle.std.specs.Result.{IsErrAnd}
 use Rattle.capnp_frame.specs.declared.error.Error.{Error}
 use Rattle.capnp_frame.specs.declared.error.ErrorKind.{ErrorKind}
 use Rattle.capnp_frame.specs.declared.error.ErrorKind.TheVariants.{DeviceFailed, OutOfMemory}
 use Rattle.capnp_frame.specs.declared.io.Read.{Ghosts}
 use Rattle.capnp_frame.specs.declared.serialize.segment_table.Padding.TheVariants.{Zero}
-use Rattle.capnp_frame.specs.Limits.{IsWithin}
+use Rattle.capnp_frame.specs.Limits.{IsWithin, default_limit}
 use Rattle.capnp_frame.specs.Refusals.{TakesMemory, IsReaderKind}
 use Rattle.capnp_frame.specs.Source.{IfKnown, Advances, Fails}
+use Rattle.capnp_frame.specs.Texts.{AreEncodings}
 use Rattle.capnp.specs.declared.streams.Format.{Format}
 use Rattle.capnp.specs.Headline.{IsFault}
 use Rattle.capnp.specs.Reading.{LacksMemory}
 use Rattle.capnp.specs.RecordLog.{IsLog}
-use Rattle.capnp.specs.Streams.{gives_of, refuses_of, StandsNext, RefusesNext}
+use Rattle.capnp.specs.Streams.{grammar_of, gives_of, refuses_of, StandsNext, RefusesNext, EndsBy}
 
 -- What a call returns that reads past the next message of a stream, of zero padding, and returns
 -- whether there was one. `source` is what is seen of the source (the members of the trait Read),
@@ -44,6 +45,26 @@ pub record SkipsMessage {S : Type 0} (source : Ghosts S) (old new : S) (format :
   pub failed : IfErr result (λ error. error.kind ≡ DeviceFailed → Fails (source.failures old) (source.failures new))
   -- the source moves on, or stays
   pub advances : Advances source.unread source.failures source.same old new
+
+-- these two messages begin the stream, one right after the other
+abbrev pub BeginWith : Format → List (List ℕ) → List (List ℕ) → List ℕ → List ℕ → Type 0
+BeginWith format first second stream rest = AreEncodings (grammar_of Zero format) default_limit (first ∷ second ∷ []) stream rest
+
+-- What is returned that reads the first two messages of a stream in memory, of zero padding and within the default limit of
+-- words. `segments` is what is seen of a message's reader.
+pub record ReadsTwo {X : Type 0} (format : Format) (stream : List ℕ) (segments : X → List (List ℕ)) (result : Result (Option (X × X)) Error)
+    : Type 0 where
+  -- the two that are returned begin the stream, the second one right after the first
+  pub found : IfOk result (λ found. IfSome found (λ two. (rest : List ℕ) × BeginWith format (segments two.0) (segments two.1) stream rest))
+  -- None is returned only where the stream is empty, or ends after the first
+  pub none : IfOk result (λ found. IfNone found ((stream ≡ []) ⊎ ((message : List (List ℕ)) × StandsNext Zero format default_limit message stream [])))
+  -- where two messages begin the stream, they are returned, unless memory is lacking
+  pub accepted : (first second : List (List ℕ)) (rest : List ℕ) → BeginWith format first second stream rest → MatchResult result
+      (λ found. IsSomeAnd found (λ two. (segments two.0 ≡ first) × (segments two.1 ≡ second))) (λ error. error.kind ≡ OutOfMemory)
+  -- it fails for want of memory, or as the reader of the first message does, or of the second one
+  pub refused : IfErr result (λ error. (error.kind ≡ OutOfMemory) ⊎ EndsBy Zero format default_limit (Some error.kind) stream
+      ⊎ ((message : List (List ℕ)) × (rest : List ℕ) × StandsNext Zero format default_limit message stream rest
+      × EndsBy Zero format default_limit (Some error.kind) rest))
 
 -- What is read of a log of two records, unless memory is lacking: both, and the last one ends where
 -- the log does to which they were appended.

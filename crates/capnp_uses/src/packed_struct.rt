@@ -6,6 +6,7 @@ ghost use Rattle.capnp_frame.specs.Message.{lengths};
 ghost use Rattle.capnp_frame.specs.Writing.{IsWritable, IsWithinSegmentLimit, RefusesMany};
 ghost use Rattle.capnp_wire.specs.Tree.{struct};
 ghost use Rattle.capnp.specs.Written.{IsPackedEncodingOf, output_of};
+ghost use Rattle.capnp_uses.specs.Reading.{ShowsPackedStruct};
 ghost use Rattle.capnp_uses.specs.Roots.{HasPlainRoot, HasRootForm, LacksRoom, RefusesPackedStruct};
 
 use crate::building::write_struct;
@@ -54,11 +55,14 @@ pub fn packed_text<A: Allocator>(alloc: Global, message: &Builder<A>) -> Result<
     Ok(text)
 }
 
-/// The first two data words of the struct at the root of a packed message.
+/// The first two data words of the struct at the root of a packed message; 0 past its last one, and
+/// for null.
 pub fn read_packed_words(alloc: Global, text: &[u8]) -> Result<(u64, u64)>
     ensures words { (message : List (List ℕ)) (first second : ℕ) → IsWritable message →
         IsPackedEncodingOf message text.now → HasPlainRoot message (struct (first ∷ second ∷ [])) →
         IfOk result (λ read. read ≡ (first, second)) }
+    // Else it returns words only of what is there.
+    ensures stands { IfOk result (λ read. ShowsPackedStruct text.now read) }
     // It succeeds, unless memory is lacking or the traversal limit is met.
     ensures found { (message : List (List ℕ)) (first second : ℕ) → IsWritable message →
         IsWithinSegmentLimit message → KeepsLimit (lengths message) default_limit →

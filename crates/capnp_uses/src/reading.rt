@@ -4,9 +4,8 @@ ghost use Rattle.capnp_frame.specs.declared.serialize.segment_table.Padding.TheV
 ghost use Rattle.capnp_frame.specs.declared.error.ErrorKind.{ErrorKind};
 ghost use Rattle.capnp_frame.specs.declared.message.options.TheConstants.{DEFAULT_READER_OPTIONS};
 ghost use Rattle.capnp_wire.specs.Tree.{numbers};
-ghost use Rattle.capnp_wire.specs.Reached.{root};
-ghost use Rattle.capnp_wire.specs.Faults.{NoWord};
-ghost use Rattle.capnp_wire.specs.Views.{MeetsLimit, Refuses, DeclinesText};
+ghost use Rattle.capnp_wire.specs.Views.{MeetsLimit, Accepts, Declines, Reads, Refuses, IsText, TakesText, DeclinesText};
+ghost use Rattle.capnp_message.specs.Roots.{ReadsRoot};
 ghost use Rattle.capnp_message.specs.Seen.{root_of};
 ghost use Rattle.capnp_frame.specs.FlatReaders.{RefusesBy, no_alloc_rules};
 ghost use Rattle.capnp.specs.declared.streams.Format.{Format};
@@ -62,8 +61,11 @@ pub fn root_text<'a, S: ReaderSegments>(message: &'a Reader<S>) -> Result<text::
     ensures found { let pointer = root_of S.segments message.now in (bytes : List ℕ) →
         HasPlainRoot (S.segments message.now.segments) (numbers 2 (bytes ++ 0 ∷ [])) →
         0 < pointer.nesting → IfErr result (λ error. MeetsLimit pointer error.kind) }
-    ensures refused { let pointer = root_of S.segments message.now in IfErr result (λ error.
-        NoWord pointer.message root error.kind ⊎ Refuses pointer DeclinesText error.kind) }
+    // Else it returns a text only where one is there, or the empty one for null, and fails with the
+    // reason why there is none.
+    ensures reads { let pointer = root_of S.segments message.now in ReadsRoot pointer
+        (λ text. Reads pointer (λ form. IsText form text.bytes.now)) (Accepts pointer TakesText)
+        (Refuses pointer DeclinesText) (Declines pointer DeclinesText) result }
 {
     message.get_root()
 }

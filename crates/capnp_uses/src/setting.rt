@@ -11,7 +11,7 @@ ghost use Rattle.capnp_wire.specs.Views.{DeclinesStruct};
 ghost use Rattle.capnp_wire.specs.Values.{LeadsToTree, StopsWalkFrom};
 ghost use Rattle.capnp_build.specs.Built.{Built, message, IsSet};
 ghost use Rattle.capnp.specs.Written.{IsFrameEncoding, output_of};
-ghost use Rattle.capnp_uses.specs.Roots.{RefusesRoot, RefusesForm};
+ghost use Rattle.capnp_uses.specs.Roots.{RefusesRoot, RefusesForm, IsSetWithWord};
 
 use capnp::serialize;
 use capnp_build::allocator::Allocator;
@@ -50,6 +50,9 @@ pub fn set_tree_and_word<A: Allocator, S: ReaderSegments>(
         LeadsToTree (pointer_of S.segments source.entry) (tree (struct words) children none) →
         OnOk result ((traversed : ℕ)
         × Root (message built.new.spaces) (struct (slice_set words 0 word)) children traversed) }
+    // Where it succeeds, the pointer leads to a struct, or to null, and then the root is null.
+    ensures stands { OnOk result (IsSetWithWord (LeadsToTree (pointer_of S.segments source.entry))
+        word built.new.spaces) }
     // It fails as setting the root does, or where what is set is no struct.
     ensures refused { let pointer = pointer_of S.segments source.entry in IfErr result (λ error.
         ((last : Built A) × RefusesRoot A.Allocator (LeadsToTree pointer) (StopsWalkFrom pointer)

@@ -1,15 +1,16 @@
 //! Streams that are read message by message.
 ghost use Rattle.std.specs.Prelude.{◌≡◌, IfSome, IfOk};
+ghost use Rattle.capnp_frame.specs.declared.message.options.TheConstants.{DEFAULT_READER_OPTIONS};
 ghost use Rattle.capnp_frame.specs.declared.serialize.segment_table.Padding.TheVariants.{Zero};
 ghost use Rattle.capnp_frame.specs.Streams.{next_in, ReadsStream};
 ghost use Rattle.capnp.specs.Headline.{ReturnsEncodings};
 ghost use Rattle.capnp.specs.Streams.{grammar_of, rules_of};
-ghost use Rattle.capnp_uses.specs.Streaming.{SkipsMessage};
+ghost use Rattle.capnp_uses.specs.Streaming.{SkipsMessage, ReadsTwo};
 
 use capnp::io::BufRead;
-use capnp::message::{Reader, ReaderOptions};
-use capnp::serialize::{self, OwnedSegments};
-use capnp::streams::Format;
+use capnp::message::{DEFAULT_READER_OPTIONS, Reader, ReaderOptions};
+use capnp::serialize::{self, OwnedSegments, Padding};
+use capnp::streams::{Format, MessageStream};
 use capnp::{Result, serialize_packed};
 use std::alloc::Global;
 
@@ -50,4 +51,31 @@ pub fn skip_message<R: BufRead>(
 {
     let message = next_message(alloc, format, source, options)?;
     Ok(message.is_some())
+}
+
+/// The first two messages of a stream in memory, by an iterator over its messages, or `None` where
+/// it has fewer.
+///
+/// Fails as the reader of the first message does, or of the second one.
+pub fn first_two(
+    alloc: Global,
+    format: Format,
+    stream: &[u8],
+) -> Result<Option<(Reader<OwnedSegments>, Reader<OwnedSegments>)>>
+    ensures two { ReadsTwo format stream.now (λ reader. reader.segments) result }
+    ensures options { IfOk result (λ found. IfSome found (λ two.
+        (two.0.options ≡ DEFAULT_READER_OPTIONS) × (two.1.options ≡ DEFAULT_READER_OPTIONS))) }
+{
+    let options = DEFAULT_READER_OPTIONS;
+    let mut messages = MessageStream::new(alloc, format, Padding::Zero, options, stream);
+    let first = match messages.next() {
+        Some(Ok(first)) => first,
+        Some(Err(error)) => return Err(error),
+        None => return Ok(None),
+    };
+    match messages.next() {
+        Some(Ok(second)) => Ok(Some((first, second))),
+        Some(Err(error)) => Err(error),
+        None => Ok(None),
+    }
 }

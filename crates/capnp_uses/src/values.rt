@@ -3,7 +3,6 @@ ghost use Rattle.std.specs.Prelude.{◌≡◌, ◌∷◌, [], map, IfOk, IfErr, 
 ghost use Rattle.capnp_wire.specs.Layout.{canon};
 ghost use Rattle.capnp_build.specs.Built.{message};
 ghost use Rattle.capnp.specs.Roots.{HasRootTree};
-ghost use Rattle.capnp.specs.Written.{output_of};
 ghost use Rattle.capnp_uses.specs.People.{contact_tree, person_tree, RefusesAlone, RefusesBack};
 
 use capnp::roots::set_and_read_back;
@@ -51,8 +50,9 @@ pub fn person_is_read_back<A: Allocator>(
     ensures back { IfOk result (λ reader. HasRootTree reader.segments
         (person_tree id name.now city.now)) }
     ensures options { IfOk result (λ reader. reader.options ≡ options) }
-    ensures refused { IfErr result (λ error.
-        RefusesBack (output_of message.new) options.traversal_limit_in_words error.kind) }
+    ensures refused { IfErr result (λ error. RefusesBack A.Allocator (name.now ∷ city.now ∷ [])
+        (person_tree id name.now city.now) options.traversal_limit_in_words
+        message.old message.new error.kind) }
 {
     let value = person(id, name, city);
     set_and_read_back::<any_struct::Owned, Person<'_>, A>(alloc, format, message, value, options)
@@ -68,7 +68,8 @@ pub fn person_is_canonical<A: Allocator>(
     requires { built.old.spaces ≡ [] }
     ensures form { OnOk result (message built.new.spaces
         ≡ canon (person_tree id name.now city.now) ∷ []) }
-    ensures refused { IfErr result (λ error. RefusesAlone error.kind) }
+    ensures refused { IfErr result (λ error. RefusesAlone A.Allocator (name.now ∷ city.now ∷ [])
+        (person_tree id name.now city.now) built.old built.new error.kind) }
 {
     let value = person(id, name, city);
     built.set_root_canonical::<any_struct::Owned, Person<'_>>(value)
@@ -121,8 +122,10 @@ pub fn contact_is_read_back<'a, A: Allocator>(
         (contact_tree id name.now mail.now (map (λ phone. phone.words) phones.now)
         (map (λ phone. phone.fields.value.now) phones.now))) }
     ensures options { IfOk result (λ reader. reader.options ≡ options) }
-    ensures refused { IfErr result (λ error.
-        RefusesBack (output_of message.new) options.traversal_limit_in_words error.kind) }
+    ensures refused { let texts = map (λ phone. phone.fields.value.now) phones.now in
+        IfErr result (λ error. RefusesBack A.Allocator (name.now ∷ mail.now ∷ texts)
+        (contact_tree id name.now mail.now (map (λ phone. phone.words) phones.now) texts)
+        options.traversal_limit_in_words message.old message.new error.kind) }
 {
     let value = contact(id, name, mail, phones);
     set_and_read_back::<any_struct::Owned, Contact<'a>, A>(alloc, format, message, value, options)

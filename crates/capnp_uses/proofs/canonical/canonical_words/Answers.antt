@@ -1,24 +1,24 @@
 -- The message that is canonicalized is the one that is there.
-use Rattle.std.proofs.Common.{inl, inr, refl, subst, IfErr, ◌≡◌}
+use Rattle.std.proofs.Common.{refl, subst, IfErr, ◌≡◌}
 use Rattle.std.proofs.lemmas.Result.{err_from_is_err_and}
 use Rattle.capnp_frame.specs.declared.error.ErrorKind.TheVariants.{OutOfMemory}
 use Rattle.capnp_wire.specs.Block.{numbers_of}
 use Rattle.capnp_message.specs.Canonical.{HasForm}
-use Rattle.capnp_uses.proofs.ReadingLemmas.{root_is_default, form_of_root, form_refused}
+use Rattle.capnp_uses.proofs.ReadingLemmas.{root_is_default, form_of_root, form_stands, form_refused, no_form}
 use Rattle.capnp_uses.proofs.canonical.canonical_words.Goals as goal
 
-pub returns-in_err-message-clause-found : goal.returns-in_err-message-clause-found
-returns-in_err-message-clause-found c = λ message rest begins. absurd (c.in_err-message.ensures.exact message rest begins)
-
-pub returns-in_err-message-clause-refused : goal.returns-in_err-message-clause-refused
-returns-in_err-message-clause-refused c =
+pub returns-in_err-message : goal.returns-in_err-message
+returns-in_err-message c =
     let p = err_from_is_err_and c.from_residual.result c.from_residual.ensures.1 in
-    rw (p.1, p.2) (inr (inl c.in_err-message.ensures.refused))
+    rw (p.1, p.2) (no_form _ c.args.bytes.now _ c.in_err-message.ensures.exact c.in_err-message.ensures.refused)
 
 pub returns : goal.returns
 returns c =
     let reader = c.in_ok-message.message in
+    let own = root_is_default reader.segments.segments reader.segments.segments reader.options refl c.in_ok-message.ensures.options in
     record {
+      stands = form_stands (λ words. numbers_of words.items) reader.segments.segments c.args.bytes.now c.canonicalize.result c.in_ok-message.ensures.found
+          (form_of_root (λ words. numbers_of words.items) _ c.canonicalize.result _ _ own c.canonicalize.ensures.returned);
       form = λ message rest begins. form_of_root (λ words. numbers_of words.items) _ c.canonicalize.result _ _
           (root_is_default reader.segments.segments message reader.options (c.in_ok-message.ensures.exact message rest begins) c.in_ok-message.ensures.options)
           c.canonicalize.ensures.returned;
@@ -26,7 +26,6 @@ returns c =
           subst (λ pointer. HasForm pointer → IfErr c.canonicalize.result (λ error. error.kind ≡ OutOfMemory))
           (root_is_default reader.segments.segments message reader.options (c.in_ok-message.ensures.exact message rest begins) c.in_ok-message.ensures.options)
           c.canonicalize.ensures.found;
-      refused = form_refused _ _ reader.segments.segments c.args.bytes.now _ c.canonicalize.result
-          (root_is_default reader.segments.segments reader.segments.segments reader.options refl c.in_ok-message.ensures.options)
+      refused = form_refused _ _ reader.segments.segments c.args.bytes.now _ c.canonicalize.result own
           c.in_ok-message.ensures.found c.canonicalize.ensures.returned;
     }

@@ -13,7 +13,7 @@ use Rattle.capnp_frame.specs.Limits.{default_limit}
 use Rattle.capnp_uses.specs.Roots.{HasPlainRoot}
 use Rattle.capnp_uses.proofs.ReadingLemmas.{default_depth, root_is_default}
 use Rattle.capnp_uses.proofs.RootLemmas.{read_at_root, root_meets_limit, struct_is_taken}
-use Rattle.capnp_uses.proofs.PackedStructLemmas.{packed_read, begins_packed, packed_stops}
+use Rattle.capnp_uses.proofs.PackedStructLemmas.{packed_read, begins_packed, packed_stops, shows_packed}
 use Rattle.capnp_uses.proofs.packed_struct.read_packed_words.Goals as goal
 
 pub returns-in_err-message-clause-found : goal.returns-in_err-message-clause-found
@@ -55,3 +55,10 @@ returns-clause-words c message first second writable packed stands =
     let here = subst (λ m. HasPlainRoot m (struct (first ∷ second ∷ []))) (sym same) stands in
     let there = read_at_root (root_of (λ segments. segments) reader) (struct (first ∷ second ∷ [])) _ refl here c.in_ok-fields.ensures.returned.shown in
     search rules
+
+pub returns-clause-stands : goal.returns-clause-stands
+returns-clause-stands c =
+    let reader = c.in_ok-message.message in
+    shows_packed reader.segments c.args.text.now _ (root_of (λ segments. segments) reader) _ _ _
+    (root_is_default reader.segments reader.segments reader.options refl c.in_ok-message.ensures.options)
+    c.in_ok-message.ensures.texts.found c.in_ok-fields.ensures.returned c.get_word.ensures c.get_word-2.ensures

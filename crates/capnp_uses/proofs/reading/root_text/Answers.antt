@@ -1,12 +1,12 @@
 -- The text that is read is the one that is at the root.
 use Rattle.std.proofs.Common.{refl}
 use Rattle.capnp_message.specs.Seen.{root_of}
-use Rattle.capnp_uses.proofs.RootLemmas.{root_text_is, text_meets_limit, refused_root}
+use Rattle.capnp_uses.proofs.RootLemmas.{root_text_is, text_meets_limit}
 use Rattle.capnp_uses.proofs.reading.root_text.Goals as goal
 
 pub returns : goal.returns
 returns g c = record {
   shown = λ bytes stands. root_text_is _ (λ view. view.bytes.now) (root_of g.S.ReaderSegments.segments c.args.message.now) bytes c.get_root.result refl stands c.get_root.ensures.returned;
   found = λ bytes stands deep. text_meets_limit _ (root_of g.S.ReaderSegments.segments c.args.message.now) bytes c.get_root.result refl stands deep c.get_root.ensures.returned;
-  refused = refused_root _ _ c.get_root.result c.get_root.ensures.returned;
+  reads = c.get_root.ensures;
 }

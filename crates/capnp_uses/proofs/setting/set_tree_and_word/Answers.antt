@@ -3,13 +3,22 @@ use Rattle.std.proofs.Common.{rules, inl, inr, refl, sym, subst, arith}
 use Rattle.std.proofs.lemmas.Result.{err_from_is_err_and}
 use Rattle.capnp_wire.specs.Tree.{struct}
 use Rattle.capnp_wire.specs.Reached.{Root}
+use Rattle.capnp_wire.specs.Readers.{pointer_of}
 use Rattle.capnp_build.specs.Built.{Built, message}
-use Rattle.capnp_uses.proofs.SetLemmas.{root_has_segment, declined_tree}
+use Rattle.capnp_uses.proofs.SetLemmas.{root_has_segment, set_form, word_set, word_kept, declined_tree}
 use Rattle.capnp_uses.proofs.setting.set_tree_and_word.Goals as goal
 
 pub returns-then-data_words-gt0 : goal.returns-then-data_words-gt0
 returns-then-data_words-gt0 g c = record {
   refused = tt;
+  stands =
+      let pointer = pointer_of g.S.ReaderSegments.segments c.args.source in
+      let set = set_form pointer _ c.in_ok-set_tree.ensures.stands in
+      let same = c.in_ok-fields.ensures.gets.looked.stays (root_has_segment _ set.0 set.1 set.2 set.4) in
+      let there = subst (λ (b : Built _). Root (message b.spaces) set.0 set.1 set.2) (sym same) set.4 in
+      let taken = c.in_ok-fields.ensures.gets.taken set.0 set.1 set.2 there in
+      let after = word_set pointer c.args.word _ _ _ set.0 set.1 set.2 set.3 there taken (c.data_words.ensures.count set.0 set.1 set.2 there) (omega arith) c.set_word.ensures.set in
+      search rules;
   set = λ words children some leads.
       let stood = c.in_ok-set_tree.ensures.set (struct words) children leads in
       let same = c.in_ok-fields.ensures.gets.looked.stays (root_has_segment _ _ _ _ stood.1) in
@@ -21,6 +30,14 @@ returns-then-data_words-gt0 g c = record {
 pub returns-else-data_words-gt0 : goal.returns-else-data_words-gt0
 returns-else-data_words-gt0 g c = record {
   refused = tt;
+  stands =
+      let pointer = pointer_of g.S.ReaderSegments.segments c.args.source in
+      let set = set_form pointer _ c.in_ok-set_tree.ensures.stands in
+      let same = c.in_ok-fields.ensures.gets.looked.stays (root_has_segment _ set.0 set.1 set.2 set.4) in
+      let there = subst (λ (b : Built _). Root (message b.spaces) set.0 set.1 set.2) (sym same) set.4 in
+      let taken = c.in_ok-fields.ensures.gets.taken set.0 set.1 set.2 there in
+      let kept = word_kept pointer c.args.word _ _ set.0 set.1 set.2 set.3 there taken (c.data_words.ensures.count set.0 set.1 set.2 there) (omega arith) in
+      search rules;
   set = λ words children some leads.
       let stood = c.in_ok-set_tree.ensures.set (struct words) children leads in
       let same = c.in_ok-fields.ensures.gets.looked.stays (root_has_segment _ _ _ _ stood.1) in

@@ -1,8 +1,14 @@
--- A person fails only by its size.
-use Rattle.capnp_uses.proofs.LargeLemmas.{person_back}
+-- A person fails as is said of its tree.
+use Rattle.capnp_uses.proofs.ContactLemmas.{person_is}
+use Rattle.capnp_uses.proofs.LargeLemmas.{back_as, person_fails}
 use Rattle.capnp_uses.proofs.values.person_is_read_back.Goals as goal
 
 pub returns-clause-refused : goal.returns-clause-refused
 returns-clause-refused g c =
     let v = c.person-value.result in
-    person_back g.A.Allocator v.words v.fields.value.now v.fields.rest.value.words v.fields.rest.value.fields.value.now _ _ _ _ c.set_and_read_back.result c.set_and_read_back.ensures.refused
+    let e = c.person-value.ensures in
+    let a = c.args in
+    back_as g.A.Allocator _ _ _ _
+    (λ trees is. person_is v.words a.id v.fields.value.now v.fields.rest.value.words v.fields.rest.value.fields.value.now a.name.now a.city.now trees e.id e.name e.address e.city is)
+    (person_fails v.words a.id v.fields.value.now v.fields.rest.value.words v.fields.rest.value.fields.value.now a.name.now a.city.now e.id e.name e.address e.city)
+    a.options.traversal_limit_in_words _ _ c.set_and_read_back.result c.set_and_read_back.ensures.refused

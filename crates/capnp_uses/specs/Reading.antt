@@ -1,0 +1,37 @@
+-- What callers return of bytes and texts in memory.
+use Rattle.std.specs.Prelude.{◌≡◌, ◌⊎◌, ℕ, List, Result, IfOk, IfErr, slice_index}
+use Rattle.capnp_frame.specs.declared.error.Error.{Error}
+use Rattle.capnp_frame.specs.declared.error.ErrorKind.TheVariants.{OutOfMemory}
+use Rattle.capnp_frame.specs.declared.serialize.segment_table.Padding.TheVariants.{Zero}
+use Rattle.capnp_frame.specs.FlatReaders.{RefusesBy, no_alloc_rules}
+use Rattle.capnp_frame.specs.Limits.{default_limit}
+use Rattle.capnp_wire.specs.Readers.{default_root}
+use Rattle.capnp_wire.specs.Values.{IsCanonicalForm}
+use Rattle.capnp_wire.specs.Views.{Pointer, HasData, Reads}
+use Rattle.capnp_message.specs.Canonical.{HasForm, LacksForm}
+use Rattle.capnp.specs.declared.streams.Format.TheVariants.{Packed}
+use Rattle.capnp.specs.Streams.{BeginsFramed, StandsNext}
+
+-- What is returned of the canonical words of the message that these bytes begin with; `words` is how they are seen.
+pub record ReturnsCanonical {T : Type 0} (bytes : List ℕ) (words : T → List ℕ) (result : Result T Error) : Type 0 where
+  -- where they are returned, a message is there, and they are its canonical form
+  pub stands : IfOk result (λ form. (message : List (List ℕ)) × (rest : List ℕ) × BeginsFramed Zero default_limit message bytes rest
+      × IsCanonicalForm (default_root message) (words form))
+  -- there is one such message
+  pub form : (message : List (List ℕ)) (rest : List ℕ) → BeginsFramed Zero default_limit message bytes rest
+      → IfOk result (λ form. IsCanonicalForm (default_root message) (words form))
+  -- they are returned wherever there are such words, unless memory is lacking
+  pub found : (message : List (List ℕ)) (rest : List ℕ) → BeginsFramed Zero default_limit message bytes rest → HasForm (default_root message)
+      → IfErr result (λ error. error.kind ≡ OutOfMemory)
+  -- else it fails as the reader does, or with the reason why the message has no form
+  pub refused : IfErr result (λ error. (error.kind ≡ OutOfMemory) ⊎ RefusesBy (no_alloc_rules Zero default_limit) error.kind bytes
+      ⊎ ((message : List (List ℕ)) × (rest : List ℕ) × BeginsFramed Zero default_limit message bytes rest × LacksForm (default_root message) error.kind))
+
+-- these are the first two data words of the struct that a pointer leads to, 0 past its last one
+abbrev pub AreFirstWords : Pointer → ℕ × ℕ → Type 0
+AreFirstWords pointer pair = (words : List ℕ) × Reads pointer (λ form. HasData form words) × (pair ≡ (slice_index words 0, slice_index words 1))
+
+-- and the pointer is the root of the packed message at the front of this text
+abbrev pub ShowsPackedStruct : List ℕ → ℕ × ℕ → Type 0
+ShowsPackedStruct text pair = (message : List (List ℕ)) × (rest : List ℕ) × StandsNext Zero Packed default_limit message text rest
+    × AreFirstWords (default_root message) pair
