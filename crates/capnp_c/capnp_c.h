@@ -1,8 +1,9 @@
 /* Framed and packed messages of Cap'n Proto over caller-provided buffers. No call takes memory.
  *
- * Each call returns 0, or the number of a refusal, an `enum linsjoar_error`. A pointer and the length
- * after it are one block; what is written overlaps nothing else that is passed. Messages have 1 to 511
- * segments and at most 8,388,608 words, and zeros as the padding of their table. */
+ * Each call returns 0, or the number of a refusal, an `enum linsjoar_error`; then each number that it has
+ * to write is 0. A pointer and the length after it are one block; what is written overlaps nothing else
+ * that is passed. Messages have 1 to 511 segments, zeros as the padding of their table, and no more words
+ * than a limit, which is 8,388,608 (64 MiB) but in the calls that take a `struct linsjoar_options`. */
 #ifndef CAPNP_C_H
 #define CAPNP_C_H
 
@@ -29,7 +30,10 @@ enum linsjoar_error {
     LINSJOAR_MESSAGE_ENDS_PREMATURELY = 6,
     /* A number of words or bytes does not fit size_t. */
     LINSJOAR_MESSAGE_SIZE_OVERFLOW = 7,
-    /* A message has more words than a reader takes. */
+    /* A message has more words than the limit, 8,388,608 or that of the options. Of the calls below all
+     * return it but linsjoar_pack and linsjoar_unpack, which read no message: linsjoar_next_message,
+     * linsjoar_pack_message, linsjoar_unpack_message, linsjoar_message, linsjoar_segment,
+     * linsjoar_canonical_size, linsjoar_canonical. Their twins .._with_options read larger messages. */
     LINSJOAR_MESSAGE_TOO_LARGE = 8,
     /* The bytes end where a message was to begin. */
     LINSJOAR_PREMATURE_END_OF_FILE = 9,
@@ -129,18 +133,42 @@ static inline const char *linsjoar_error_name(int number) {
     }
 }
 
+/* Limits against messages that would cost a reader too much. Each call that reads a message has a twin,
+ * .._with_options, which reads it within these limits and is else the same. The pointer to them may not be
+ * NULL. */
+struct linsjoar_options {
+    /* How many words a message may have, else 8, and how many may be visited for its canonical form, else
+     * 20: pointers may lead to the same words again and again. LINSJOAR_NO_LIMIT sets no limit. */
+    size_t traversal_limit_in_words;
+    /* How deep objects may be nested whose canonical form is measured or written, else 19; a number below 0
+     * is as 0. The walk over them calls itself at each, so a larger limit may take more of the stack. The
+     * other calls look at no object, and don't read this. */
+    int32_t nesting_limit;
+};
+
+/* The limit of words that sets none. */
+#define LINSJOAR_NO_LIMIT SIZE_MAX
+
+/* The limits of the calls without options: struct linsjoar_options options = LINSJOAR_DEFAULT_OPTIONS; */
+#define LINSJOAR_DEFAULT_OPTIONS {8388608, 64}
+
 /* Whole messages. */
 
 /* Tells how many bytes the framed message at the front of a buffer takes, so that a caller steps from one
  * message to the next. It returns 0 wherever one stands there. Where there are no bytes it returns 0
  * and tells 0; else 0 bytes are declared only beside a refusal. */
 uint8_t linsjoar_next_message(const uint8_t *bytes, size_t len, size_t *message_len);
+uint8_t linsjoar_next_message_with_options(const uint8_t *bytes, size_t len,
+                                           const struct linsjoar_options *options, size_t *message_len);
 
 /* Packs a framed message, and tells how many bytes that took. The buffer is one message and no more. It
  * returns 0 exactly where it is and the packed text has room, 2 where it has not, and 6 where the message
  * is cut or bytes follow it. Of n words, table and all, a packed text has at most 10 n bytes. */
 uint8_t linsjoar_pack_message(const uint8_t *framed, size_t framed_len, uint8_t *packed,
                               size_t packed_room, size_t *packed_len);
+uint8_t linsjoar_pack_message_with_options(const uint8_t *framed, size_t framed_len,
+                                           const struct linsjoar_options *options, uint8_t *packed,
+                                           size_t packed_room, size_t *packed_len);
 
 /* Unpacks the packed message at the front of a buffer into its framed text, and tells how many bytes that
  * has, and how many packed ones it took: what follows them may be the next message. It returns 0 wherever
@@ -148,6 +176,10 @@ uint8_t linsjoar_pack_message(const uint8_t *framed, size_t framed_len, uint8_t 
  * no room for 8 bytes, and 9 where there are no packed bytes. */
 uint8_t linsjoar_unpack_message(const uint8_t *packed, size_t packed_len, uint8_t *framed,
                                 size_t framed_room, size_t *framed_len, size_t *packed_read);
+uint8_t linsjoar_unpack_message_with_options(const uint8_t *packed, size_t packed_len,
+                                             const struct linsjoar_options *options, uint8_t *framed,
+                                             size_t framed_room, size_t *framed_len,
+                                             size_t *packed_read);
 
 /* Where a framed message lies in a buffer, in bytes. */
 struct linsjoar_message {
@@ -158,17 +190,28 @@ struct linsjoar_message {
 
 /* Finds the framed message at the front of a buffer. It returns 0 wherever one stands there. */
 uint8_t linsjoar_message(const uint8_t *bytes, size_t len, struct linsjoar_message *message);
+uint8_t linsjoar_message_with_options(const uint8_t *bytes, size_t len,
+                                      const struct linsjoar_options *options,
+                                      struct linsjoar_message *message);
 
 /* How many words a segment of that message has; 18 without it. The segments stand one after another. */
 uint8_t linsjoar_segment(const uint8_t *bytes, size_t len, uint32_t id, size_t *words);
+uint8_t linsjoar_segment_with_options(const uint8_t *bytes, size_t len,
+                                      const struct linsjoar_options *options, uint32_t id,
+                                      size_t *words);
 
 /* How many words the canonical form of that message has, with its root pointer. It returns 0 wherever
  * there is such a form. */
 uint8_t linsjoar_canonical_size(const uint8_t *bytes, size_t len, size_t *words);
+uint8_t linsjoar_canonical_size_with_options(const uint8_t *bytes, size_t len,
+                                             const struct linsjoar_options *options, size_t *words);
 
 /* Writes that form to the front of a block, and tells how many words it has; 2 without room. */
 uint8_t linsjoar_canonical(const uint8_t *bytes, size_t len, uint8_t *block, size_t block_len,
                            size_t *words);
+uint8_t linsjoar_canonical_with_options(const uint8_t *bytes, size_t len,
+                                        const struct linsjoar_options *options, uint8_t *block,
+                                        size_t block_len, size_t *words);
 
 /* Words, of which a message is made. These two know no messages. */
 

@@ -1,5 +1,5 @@
 -- At most one message is at the front of a buffer, and its root has at most one form.
-use Rattle.std.proofs.Common.{◌≡◌, ◌⊎◌, ℕ, ◌+◌, ◌*◌, ◌<◌, ◌≤◌, true, Some, None, List, ◌++◌, length, take, Ok, Err, inl, inr, refl, sym, ap, ◌∙◌, subst, arith, length-append}
+use Rattle.std.proofs.Common.{◌≡◌, ◌⊎◌, ℕ, ℤ, ◌+◌, ◌*◌, ◌<◌, ◌≤◌, true, Option, Some, None, List, ◌++◌, length, take, Ok, Err, inl, inr, refl, sym, ap, ◌∙◌, subst, arith, length-append}
 use Rattle.std.specs.Prelude.{slice_get}
 use Rattle.std.specs.Option.{option_map}
 use Rattle.std.proofs.Math.Seq.{take-append_seam}
@@ -7,6 +7,7 @@ use Rattle.std.proofs.lemmas.Option.{slice_get-map, slice_get_within}
 use Rattle.capnp_frame.specs.Message.{word_count, lengths}
 use Rattle.capnp_frame.specs.declared.error.ErrorKind.{ErrorKind}
 use Rattle.capnp_frame.specs.declared.error.ErrorKind.TheVariants.{BufferNotLargeEnough}
+use Rattle.capnp_frame.specs.declared.message.options.ReaderOptions.{ReaderOptions}
 use Rattle.capnp_frame.proofs.AgreementLemmas.{index_below}
 use Rattle.capnp_frame.proofs.TextLemmas.{frames_part}
 use Rattle.capnp_wire.specs.Pointer.{words_of}
@@ -16,11 +17,10 @@ use Rattle.capnp_wire.specs.Views.{Pointer}
 use Rattle.capnp_wire.specs.Faults.{NoWord, no_word, at_pointer}
 use Rattle.capnp_wire.specs.Values.{IsCanonicalForm, LeadsToTree, StopsWalkFrom}
 use Rattle.capnp_wire.proofs.views.OneValueLemmas.{one_of_pointer, measured_exactly, measured_found}
-use Rattle.capnp_wire.specs.Readers.{default_root}
-use Rattle.capnp_c.specs.Fronts.{IsAtFront, FrontHasForm, FrontLacksForm, IsShort}
+use Rattle.capnp_c.specs.Fronts.{IsAtFront, root_within, root_by, RootHasForm, RootLacksForm, IsShort}
 
-pub one_front : (bytes rest left : List ℕ) (segments others : List (List ℕ)) → IsAtFront bytes segments rest → IsAtFront bytes others left → segments ≡ others
-one_front bytes rest left segments others p q = (frames_part p.text q.text rest left segments others p.is_text q.is_text (sym p.spelled ∙ q.spelled)).1
+pub one_front : (options : ReaderOptions) (bytes rest left : List ℕ) (segments others : List (List ℕ)) → IsAtFront options bytes segments rest → IsAtFront options bytes others left → segments ≡ others
+one_front options bytes rest left segments others p q = (frames_part p.text q.text rest left segments others p.is_text q.is_text (sym p.spelled ∙ q.spelled)).1
 
 pub segment_words : (segments others : List (List ℕ)) (id : ℕ) (segment : List ℕ) → others ≡ segments → slice_get others id ≡ Some segment → slice_get (lengths segments) id ≡ Some (word_count segment)
 segment_words segments others id segment same is =
@@ -35,6 +35,11 @@ no_segment_there segments others id same is inside =
     let there = (index_below others id).1 (omega (arith, inside, ap length same)) in
     absurd (cc)
 
+-- the root of an arena of these options over the message's segments
+pub same_root : (options : ReaderOptions) (nesting : ℤ) (limit : Option ℕ) (own segments : List (List ℕ)) → nesting ≡ options.nesting_limit
+    → limit ≡ options.traversal_limit_in_words → own ≡ segments → root_within nesting limit own ≡ root_by options segments
+same_root options nesting limit own segments a b c = rw (a, b, c) refl
+
 -- a form that fills the front of a block
 pub front_form : (p : Pointer) (n : ℕ) (new following : List ℕ) → length new ≡ n → IsCanonicalForm p (words_of new) → (n ≤ length (new ++ following)) × IsCanonicalForm p (words_of (take n (new ++ following)))
 front_form p n new following long form =
@@ -44,35 +49,33 @@ front_form p n new following long form =
 -- Which messages have a form
 
 -- one whose root has no word has none
-pub root_lacks : (segments : List (List ℕ)) (kind : ErrorKind) → NoWord (message_of segments) root kind → FrontLacksForm segments kind
-root_lacks segments kind none = inl (root, refl, at_pointer (no_word none))
+pub root_lacks : (nesting : ℤ) (limit : Option ℕ) (segments : List (List ℕ)) (kind : ErrorKind) → NoWord (message_of segments) root kind → RootLacksForm (root_within nesting limit segments) kind
+root_lacks nesting limit segments kind none = inl (root, refl, at_pointer (no_word none))
 
 -- and one that has a form does not lack it
-pub has_or_lacks : (segments : List (List ℕ)) (words : ℕ) (kind : ErrorKind) → FrontHasForm segments words → FrontLacksForm segments kind → ⊥
-has_or_lacks segments words kind has lacks =
-    measured_exactly (LeadsToTree (default_root segments)) (StopsWalkFrom (default_root segments)) (one_of_pointer (default_root segments)) true (Ok has.0) has.1 kind lacks
+pub has_or_lacks : (p : Pointer) (words : ℕ) (kind : ErrorKind) → RootHasForm p words → RootLacksForm p kind → ⊥
+has_or_lacks p words kind has lacks = measured_exactly (LeadsToTree p) (StopsWalkFrom p) (one_of_pointer p) true (Ok has.0) has.1 kind lacks
 
 -- the reason is one, and so is the size
-pub one_reason : (segments : List (List ℕ)) (a b : ErrorKind) → FrontLacksForm segments a → FrontLacksForm segments b → a ≡ b
-one_reason segments a b x y =
-    measured_exactly (LeadsToTree (default_root segments)) (StopsWalkFrom (default_root segments)) (one_of_pointer (default_root segments)) true (Err (record { kind = a })) x b y
+pub one_reason : (p : Pointer) (a b : ErrorKind) → RootLacksForm p a → RootLacksForm p b → a ≡ b
+one_reason p a b x y = measured_exactly (LeadsToTree p) (StopsWalkFrom p) (one_of_pointer p) true (Err (record { kind = a })) x b y
 
-pub one_size : (segments : List (List ℕ)) (a b : ℕ) → FrontHasForm segments a → FrontHasForm segments b → a ≡ b
-one_size segments a b x y =
-    let same = measured_found (LeadsToTree (default_root segments)) (StopsWalkFrom (default_root segments)) (one_of_pointer (default_root segments)) true (Ok x.0) x.1 y.0 y.1 in
+pub one_size : (p : Pointer) (a b : ℕ) → RootHasForm p a → RootHasForm p b → a ≡ b
+one_size p a b x y =
+    let same = measured_found (LeadsToTree p) (StopsWalkFrom p) (one_of_pointer p) true (Ok x.0) x.1 y.0 y.1 in
     let following : x.0 ≡ y.0 = cc in
     x.2 ∙ ap (λ n. n + 1) following ∙ sym y.2
 
 -- The error of a form that is to be written into this many bytes
 
-pub form_fits : (segments : List (List ℕ)) (room size : ℕ) (kind : ErrorKind) → FrontLacksForm segments kind ⊎ IsShort segments room kind → FrontHasForm segments size → 8 * size ≤ room → ⊥
-form_fits segments room size kind (inl lacks) has fits = has_or_lacks segments size kind has lacks
-form_fits segments room size kind (inr (other, form, short, is)) has fits = absurd (omega (arith, fits, short, one_size segments other size form has))
+pub form_fits : (p : Pointer) (room size : ℕ) (kind : ErrorKind) → RootLacksForm p kind ⊎ IsShort p room kind → RootHasForm p size → 8 * size ≤ room → ⊥
+form_fits p room size kind (inl lacks) has fits = has_or_lacks p size kind has lacks
+form_fits p room size kind (inr (other, form, short, is)) has fits = absurd (omega (arith, fits, short, one_size p other size form has))
 
-pub form_is_short : (segments : List (List ℕ)) (room size : ℕ) (kind : ErrorKind) → FrontLacksForm segments kind ⊎ IsShort segments room kind → FrontHasForm segments size → kind ≡ BufferNotLargeEnough
-form_is_short segments room size kind (inl lacks) has = absurd (has_or_lacks segments size kind has lacks)
-form_is_short segments room size kind (inr (other, form, short, is)) has = is
+pub form_is_short : (p : Pointer) (room size : ℕ) (kind : ErrorKind) → RootLacksForm p kind ⊎ IsShort p room kind → RootHasForm p size → kind ≡ BufferNotLargeEnough
+form_is_short p room size kind (inl lacks) has = absurd (has_or_lacks p size kind has lacks)
+form_is_short p room size kind (inr (other, form, short, is)) has = is
 
-pub form_is_lacked : (segments : List (List ℕ)) (room : ℕ) (own kind : ErrorKind) → FrontLacksForm segments own ⊎ IsShort segments room own → FrontLacksForm segments kind → own ≡ kind
-form_is_lacked segments room own kind (inl lacks) other = one_reason segments own kind lacks other
-form_is_lacked segments room own kind (inr (size, form, short, is)) other = absurd (has_or_lacks segments size kind form other)
+pub form_is_lacked : (p : Pointer) (room : ℕ) (own kind : ErrorKind) → RootLacksForm p own ⊎ IsShort p room own → RootLacksForm p kind → own ≡ kind
+form_is_lacked p room own kind (inl lacks) other = one_reason p own kind lacks other
+form_is_lacked p room own kind (inr (size, form, short, is)) other = absurd (has_or_lacks p size kind form other)

@@ -4,6 +4,7 @@ use Rattle.std.proofs.lemmas.List.{take_at}
 use Rattle.std.specs.List.{concat}
 use Rattle.capnp_frame.specs.declared.error.ErrorKind.{ErrorKind}
 use Rattle.capnp_frame.specs.declared.error.ErrorKind.TheVariants.{DeviceFailed, BufferNotLargeEnough}
+use Rattle.capnp_frame.specs.declared.message.options.ReaderOptions.{ReaderOptions}
 use Rattle.capnp_frame.specs.Message.{lengths}
 use Rattle.capnp_frame.specs.SegmentTable.{zero_padded_table, table_size}
 use Rattle.capnp_frame.specs.Sink.{ByKind, Adds, AppendsAll, AppendsSame, DeclinesSome}
@@ -22,10 +23,10 @@ use Rattle.capnp_c.specs.Fronts.{IsAtFront}
 use Rattle.capnp_c.specs.Packing.{packed_chunks}
 
 -- its table is at the front
-pub front_table : (bytes : List ℕ) (segments : List (List ℕ)) (rest : List ℕ) → IsAtFront bytes segments rest
+pub front_table : (options : ReaderOptions) (bytes : List ℕ) (segments : List (List ℕ)) (rest : List ℕ) → IsAtFront options bytes segments rest
     → (take (table_size (length segments)) bytes ≡ zero_padded_table (lengths segments))
     × (table_size (length segments) + length rest ≤ length bytes)
-front_table bytes segments rest front =
+front_table options bytes segments rest front =
     let frame = front.is_text in
     let table = frame.table in
     let long = length-table table (lengths segments) frame.lengths_declared in
@@ -38,8 +39,8 @@ front_table bytes segments rest front =
     )
 
 -- and the bytes after it are determined
-pub one_rest : (bytes rest left : List ℕ) (segments others : List (List ℕ)) → IsAtFront bytes segments rest → IsAtFront bytes others left → rest ≡ left
-one_rest bytes rest left segments others p q = (frames_part p.text q.text rest left segments others p.is_text q.is_text (sym p.spelled ∙ q.spelled)).2
+pub one_rest : (options : ReaderOptions) (bytes rest left : List ℕ) (segments others : List (List ℕ)) → IsAtFront options bytes segments rest → IsAtFront options bytes others left → rest ≡ left
+one_rest options bytes rest left segments others p q = (frames_part p.text q.text rest left segments others p.is_text q.is_text (sym p.spelled ∙ q.spelled)).2
 
 -- The packed encoding
 

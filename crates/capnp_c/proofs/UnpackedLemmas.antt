@@ -3,9 +3,10 @@ use Rattle.std.proofs.Common.{◌≡◌, ℕ, ◌≤◌, ◌⊎◌, inl, inr, So
 use Rattle.std.proofs.lemmas.List.{append-nil, take_at}
 use Rattle.capnp_frame.specs.declared.error.ErrorKind.{ErrorKind}
 use Rattle.capnp_frame.specs.declared.error.ErrorKind.TheVariants.{DeviceFailed}
+use Rattle.capnp_frame.specs.declared.message.options.ReaderOptions.{ReaderOptions}
 use Rattle.capnp_frame.specs.declared.serialize.segment_table.Padding.TheVariants.{Zero}
 use Rattle.capnp_frame.specs.Front.{HasFrame}
-use Rattle.capnp_frame.specs.Limits.{IsWithin, default_limit}
+use Rattle.capnp_frame.specs.Limits.{IsWithin}
 use Rattle.capnp_frame.specs.Refusals.{RefusesStream}
 use Rattle.capnp_frame.specs.Source.{Fails}
 use Rattle.capnp_frame.proofs.AskLemmas.{never_fails}
@@ -16,9 +17,9 @@ use Rattle.capnp_pack.proofs.PackedFrameLemmas.{packed_requests}
 use Rattle.capnp_c.specs.Packing.{IsMessage}
 
 -- the first bytes of a buffer are a framed encoding, and no more
-pub front_message : (bytes : List ℕ) (segments : List (List ℕ)) (n : ℕ) → HasFrame Zero bytes segments (drop n bytes) → n ≤ length bytes
-    → IsWithin segments default_limit → IsMessage (take n bytes) segments
-front_message bytes segments n (text, frame, e) room within =
+pub front_message : (options : ReaderOptions) (bytes : List ℕ) (segments : List (List ℕ)) (n : ℕ) → HasFrame Zero bytes segments (drop n bytes) → n ≤ length bytes
+    → IsWithin segments options.traversal_limit_in_words → IsMessage options (take n bytes) segments
+front_message options bytes segments n (text, frame, e) room within =
     let long : length text ≡ n = omega (arith, ap length e, length-append text (drop n bytes), length-drop n bytes) in
     let front : take n bytes ≡ text = ap (take n) e ∙ take_at text (drop n bytes) n long in
     record { text = text; is_text = frame; within = within; spelled = front ∙ sym (append-nil text) }
@@ -41,6 +42,6 @@ own_kind own kind (inl device) failed = absurd (never_fails own failed device)
 own_kind own kind (inr same) failed = same
 
 -- a buffer keeps its length
-pub in_room : (packed left : List ℕ) (kind : ErrorKind) (after before : ℕ) → after ≡ before
-    → RefusesStream Zero Unpacks RefusesChunk default_limit (Some after) kind packed left → RefusesStream Zero Unpacks RefusesChunk default_limit (Some before) kind packed left
-in_room packed left kind after before same refused = subst (λ room. RefusesStream Zero Unpacks RefusesChunk default_limit (Some room) kind packed left) same refused
+pub in_room : (options : ReaderOptions) (packed left : List ℕ) (kind : ErrorKind) (after before : ℕ) → after ≡ before
+    → RefusesStream Zero Unpacks RefusesChunk options.traversal_limit_in_words (Some after) kind packed left → RefusesStream Zero Unpacks RefusesChunk options.traversal_limit_in_words (Some before) kind packed left
+in_room options packed left kind after before same refused = subst (λ room. RefusesStream Zero Unpacks RefusesChunk options.traversal_limit_in_words (Some room) kind packed left) same refused

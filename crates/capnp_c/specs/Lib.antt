@@ -1,3 +1,5 @@
 -- What the exports do.
+pub mod Options
 pub mod Fronts
 pub mod Packing
+pub mod Exports

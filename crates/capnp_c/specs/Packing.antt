@@ -3,6 +3,7 @@ use Rattle.std.specs.Prelude.{◌≡◌, ℕ, ◌+◌, ◌⊎◌, List, [], ◌�
 use Rattle.capnp_frame.specs.declared.error.Error.{Error}
 use Rattle.capnp_frame.specs.declared.error.ErrorKind.TheVariants.{DeviceFailed}
 use Rattle.capnp_frame.specs.declared.io.Write.{Ghosts}
+use Rattle.capnp_frame.specs.declared.message.options.ReaderOptions.{ReaderOptions}
 use Rattle.capnp_frame.specs.Sink.{Adds, AppendsAll, DeclinesSome, Grows}
 use Rattle.capnp_frame.specs.Source.{IfKnown, Fails}
 use Rattle.capnp_pack.specs.Packed.{Packs}
@@ -11,8 +12,8 @@ use Rattle.capnp_pack.specs.PackedSink.{AppendsPacked, DeclinesPacked}
 use Rattle.capnp_c.specs.Fronts.{IsAtFront}
 
 -- the bytes are a framed encoding of the message, and no more
-abbrev pub IsMessage : List ℕ → List (List ℕ) → Type 0
-IsMessage bytes segments = IsAtFront bytes segments []
+abbrev pub IsMessage : ReaderOptions → List ℕ → List (List ℕ) → Type 0
+IsMessage options bytes segments = IsAtFront options bytes segments []
 
 -- what is packed of a message, chunk by chunk: the first word of its table, the table's other words, and each segment
 abbrev pub packed_chunks : List (List ℕ) → List (List ℕ)

@@ -1,16 +1,17 @@
 //! Canonical words that are written into a caller-provided block.
-ghost use Rattle.std.specs.Prelude.{⊤, ◌≡◌, ◌⊎◌, ◌*◌, ◌<◌, ◌≤◌, ℕ, List, length, take, IfOk, IfErr, IsOk, pos};
+ghost use Rattle.std.specs.Prelude.{◌≡◌, ◌⊎◌, ◌*◌, ◌≤◌, ℕ, List, length, take, IfOk, IfErr, IsOk};
 ghost use Rattle.std.specs.Result.{IsErrAnd};
-ghost use Rattle.capnp_frame.specs.FlatRefusals.{by_fields, RefusesFlat};
-ghost use Rattle.capnp_frame.specs.declared.serialize.segment_table.Padding.TheVariants.{Zero};
 ghost use Rattle.capnp_frame.specs.declared.error.ErrorKind.{ErrorKind};
+ghost use Rattle.capnp_frame.specs.declared.message.options.TheConstants.{DEFAULT_READER_OPTIONS};
 ghost use Rattle.capnp_wire.specs.Pointer.{words_of};
-ghost use Rattle.capnp_wire.specs.Readers.{pointer_of, default_root};
+ghost use Rattle.capnp_wire.specs.Readers.{pointer_of};
 ghost use Rattle.capnp_wire.specs.Values.{IsCanonicalForm};
-ghost use Rattle.capnp_frame.specs.Limits.{default_limit};
-ghost use Rattle.capnp_c.specs.Fronts.{IsAtFront, FrontHasForm, FrontLacksForm, IsShort, ReturnsFrontForm};
+ghost use Rattle.capnp_c.specs.Exports.{MeasuresForm, WritesForm};
+ghost use Rattle.capnp_c.specs.Fronts.{IsAtFront, LacksMessage, root_within, root_by, RootHasForm, RootLacksForm, IsShort};
+ghost use Rattle.capnp_c.specs.Options.{options_of};
 
-use capnp_frame::message::{DEFAULT_READER_OPTIONS, ReaderSegments};
+use crate::options::LinsjoarOptions;
+use capnp_frame::message::{DEFAULT_READER_OPTIONS, ReaderOptions, ReaderSegments};
 use capnp_frame::serialize::{NoAllocBufferSegments, NoAllocSliceSegments};
 use capnp_frame::{Error, ErrorKind, Result};
 use capnp_wire::any_pointer;
@@ -21,13 +22,28 @@ use capnp_wire::canonical::{canonical_size, write_form};
 /// pointer. Returns 0, or the number of the error of the reader or of the walk over the tree.
 #[unsafe(no_mangle)]
 pub extern "C" fn linsjoar_canonical_size(bytes: &[u8], words: &mut usize) -> u8
-    ensures size { (segments : List (List ℕ)) (rest : List ℕ) →
-        IsAtFront bytes.now segments rest → result ≡ 0 → FrontHasForm segments words.new }
-    ensures returns { ReturnsFrontForm bytes.now (λ size. ⊤) result }
-    ensures stays { 0 < result → words.new ≡ 0 }
+    ensures { MeasuresForm DEFAULT_READER_OPTIONS bytes.now words.new result }
+{
+    measure_form(bytes, DEFAULT_READER_OPTIONS, words)
+}
+
+/// Counts them as `linsjoar_canonical_size` does, within the limits of these options.
+#[unsafe(no_mangle)]
+pub extern "C" fn linsjoar_canonical_size_with_options(
+    bytes: &[u8],
+    options: &LinsjoarOptions,
+    words: &mut usize,
+) -> u8
+    ensures { MeasuresForm (options_of options.now) bytes.now words.new result }
+{
+    measure_form(bytes, options.reader_options(), words)
+}
+
+fn measure_form(bytes: &[u8], options: ReaderOptions, words: &mut usize) -> u8
+    ensures { MeasuresForm options bytes.now words.new result }
 {
     *words = 0;
-    match measured(bytes) {
+    match measured(bytes, options) {
         Ok(size) => {
             *words = size;
             0
@@ -41,17 +57,29 @@ pub extern "C" fn linsjoar_canonical_size(bytes: &[u8], words: &mut usize) -> u8
 /// `linsjoar_canonical_size` returns.
 #[unsafe(no_mangle)]
 pub extern "C" fn linsjoar_canonical(bytes: &[u8], block: &mut [u8], words: &mut usize) -> u8
-    ensures form { (segments : List (List ℕ)) (rest : List ℕ) →
-        IsAtFront bytes.now segments rest → result ≡ 0 → (8 * words.new ≤ length block.new)
-        × IsCanonicalForm (default_root segments) (words_of (take (8 * words.new) block.new)) }
-    ensures short { (segments : List (List ℕ)) (rest : List ℕ) (size : ℕ) →
-        IsAtFront bytes.now segments rest → FrontHasForm segments size →
-        length block.new < 8 * size → result ≡ 2 }
-    ensures returns { ReturnsFrontForm bytes.now (λ size. 8 * size ≤ length block.new) result }
-    ensures stays { 0 < result → words.new ≡ 0 }
+    ensures { WritesForm DEFAULT_READER_OPTIONS bytes.now block.new words.new result }
+{
+    put_form(bytes, DEFAULT_READER_OPTIONS, block, words)
+}
+
+/// Writes it as `linsjoar_canonical` does, within the limits of these options.
+#[unsafe(no_mangle)]
+pub extern "C" fn linsjoar_canonical_with_options(
+    bytes: &[u8],
+    options: &LinsjoarOptions,
+    block: &mut [u8],
+    words: &mut usize,
+) -> u8
+    ensures { WritesForm (options_of options.now) bytes.now block.new words.new result }
+{
+    put_form(bytes, options.reader_options(), block, words)
+}
+
+fn put_form(bytes: &[u8], options: ReaderOptions, block: &mut [u8], words: &mut usize) -> u8
+    ensures { WritesForm options bytes.now block.new words.new result }
 {
     *words = 0;
-    match written(bytes, block) {
+    match written(bytes, options, block) {
         Ok(size) => {
             *words = size;
             0
@@ -60,64 +88,69 @@ pub extern "C" fn linsjoar_canonical(bytes: &[u8], block: &mut [u8], words: &mut
     }
 }
 
-// The message at the front of these bytes.
-fn opened<'a>(bytes: &'a [u8]) -> Result<ReaderArena<NoAllocSliceSegments<'a>>>
+// The message at the front of these bytes, and the limits of its reader.
+fn opened<'a>(
+    bytes: &'a [u8],
+    options: ReaderOptions,
+) -> Result<ReaderArena<NoAllocSliceSegments<'a>>>
     ensures front { (segments : List (List ℕ)) (rest : List ℕ) →
-        IsAtFront bytes.now segments rest →
-        IfOk result (λ arena. arena.segments.segments ≡ segments) }
+        IsAtFront options bytes.now segments rest → IfOk result (λ arena. root_within
+        arena.nesting_limit arena.limiter.limit arena.segments.segments ≡ root_by options segments) }
     ensures accepted { (segments : List (List ℕ)) (rest : List ℕ) →
-        IsAtFront bytes.now segments rest → IsOk result }
-    ensures exact { (kind : ErrorKind) → RefusesFlat by_fields Zero default_limit kind bytes.now →
+        IsAtFront options bytes.now segments rest → IsOk result }
+    ensures exact { (kind : ErrorKind) → LacksMessage options bytes.now kind →
         IsErrAnd result (λ error. error.kind ≡ kind) }
-    ensures nesting { IfOk result (λ arena. arena.nesting_limit ≡ pos 64) }
-    ensures limit { IfOk result (λ arena. arena.limiter.limit ≡ default_limit) }
 {
-    let segments = NoAllocBufferSegments::from_buffer(bytes, DEFAULT_READER_OPTIONS)?;
-    Ok(ReaderArena::new(segments, DEFAULT_READER_OPTIONS))
+    let segments = NoAllocBufferSegments::from_buffer(bytes, options)?;
+    Ok(ReaderArena::new(segments, options))
 }
 
 // The root, and the number of words of its canonical form.
 fn measured_root<'a, S: ReaderSegments>(
     arena: &'a ReaderArena<S>,
 ) -> Result<(any_pointer::Reader<'a, S>, usize)>
-    requires nesting { arena.now.nesting_limit ≡ pos 64 }
-    requires limit { arena.now.limiter.limit ≡ default_limit }
-    ensures root { IfOk result (λ (root, size).
-        pointer_of S.segments root ≡ default_root (S.segments arena.now.segments)) }
-    ensures size { IfOk result (λ (root, size). FrontHasForm (S.segments arena.now.segments) size) }
-    ensures lacks { IfErr result (λ error. FrontLacksForm (S.segments arena.now.segments) error.kind) }
+    ensures root { IfOk result (λ (root, size). pointer_of S.segments root ≡ root_within
+        arena.now.nesting_limit arena.now.limiter.limit (S.segments arena.now.segments)) }
+    ensures size { IfOk result (λ (root, size). RootHasForm (root_within
+        arena.now.nesting_limit arena.now.limiter.limit (S.segments arena.now.segments)) size) }
+    ensures lacks { IfErr result (λ error. RootLacksForm (root_within
+        arena.now.nesting_limit arena.now.limiter.limit (S.segments arena.now.segments)) error.kind) }
 {
     let root = arena.get_root()?;
     let size = canonical_size(&root)? as usize;
     Ok((root, size))
 }
 
-fn measured(bytes: &[u8]) -> Result<usize>
+fn measured(bytes: &[u8], options: ReaderOptions) -> Result<usize>
     ensures size { (segments : List (List ℕ)) (rest : List ℕ) →
-        IsAtFront bytes.now segments rest → IfOk result (λ words. FrontHasForm segments words) }
+        IsAtFront options bytes.now segments rest →
+        IfOk result (λ words. RootHasForm (root_by options segments) words) }
     ensures lacks { (segments : List (List ℕ)) (rest : List ℕ) →
-        IsAtFront bytes.now segments rest → IfErr result (λ error. FrontLacksForm segments error.kind) }
-    ensures exact { (kind : ErrorKind) → RefusesFlat by_fields Zero default_limit kind bytes.now →
+        IsAtFront options bytes.now segments rest →
+        IfErr result (λ error. RootLacksForm (root_by options segments) error.kind) }
+    ensures exact { (kind : ErrorKind) → LacksMessage options bytes.now kind →
         IsErrAnd result (λ error. error.kind ≡ kind) }
 {
-    let arena = opened(bytes)?;
+    let arena = opened(bytes, options)?;
     let (_, size) = measured_root(&arena)?;
     Ok(size)
 }
 
-fn written(bytes: &[u8], block: &mut [u8]) -> Result<usize>
+fn written(bytes: &[u8], options: ReaderOptions, block: &mut [u8]) -> Result<usize>
     ensures form { (segments : List (List ℕ)) (rest : List ℕ) →
-        IsAtFront bytes.now segments rest → IfOk result (λ words. (8 * words ≤ length block.new)
-        × IsCanonicalForm (default_root segments) (words_of (take (8 * words) block.new))) }
+        IsAtFront options bytes.now segments rest → IfOk result (λ words. (8 * words ≤ length block.new)
+        × IsCanonicalForm (root_by options segments) (words_of (take (8 * words) block.new))) }
     ensures size { (segments : List (List ℕ)) (rest : List ℕ) →
-        IsAtFront bytes.now segments rest → IfOk result (λ words. FrontHasForm segments words) }
+        IsAtFront options bytes.now segments rest →
+        IfOk result (λ words. RootHasForm (root_by options segments) words) }
     ensures lacks { (segments : List (List ℕ)) (rest : List ℕ) →
-        IsAtFront bytes.now segments rest → IfErr result (λ error. FrontLacksForm segments error.kind
-        ⊎ IsShort segments (length block.new) error.kind) }
-    ensures exact { (kind : ErrorKind) → RefusesFlat by_fields Zero default_limit kind bytes.now →
+        IsAtFront options bytes.now segments rest →
+        IfErr result (λ error. RootLacksForm (root_by options segments) error.kind
+        ⊎ IsShort (root_by options segments) (length block.new) error.kind) }
+    ensures exact { (kind : ErrorKind) → LacksMessage options bytes.now kind →
         IsErrAnd result (λ error. error.kind ≡ kind) }
 {
-    let arena = opened(bytes)?;
+    let arena = opened(bytes, options)?;
     let (root, words) = measured_root(&arena)?;
     if block.len() < 8 * words {
         return Err(Error::from_kind(ErrorKind::BufferNotLargeEnough));

@@ -1,16 +1,11 @@
 //! Framed messages: checked and listed.
-ghost use Rattle.std.specs.Prelude.{◌≡◌, ◌⊎◌, ◌+◌, ◌*◌, ◌<◌, ◌≤◌, ℕ, List, [], length, slice_get, Some};
-ghost use Rattle.capnp_frame.specs.declared.serialize.segment_table.Padding.TheVariants.{Zero};
-ghost use Rattle.capnp_frame.specs.FlatRefusals.{by_fields, RefusesFlat};
-ghost use Rattle.capnp_frame.specs.Message.{lengths};
-ghost use Rattle.capnp_frame.specs.Numbers.{kind_number};
-ghost use Rattle.capnp_frame.specs.SegmentTable.{table_size};
-ghost use Rattle.capnp_frame.specs.declared.error.ErrorKind.{ErrorKind};
-ghost use Rattle.capnp_frame.specs.Limits.{default_limit};
-ghost use Rattle.capnp_c.specs.Fronts.{IsAtFront};
+ghost use Rattle.capnp_frame.specs.declared.message.options.TheConstants.{DEFAULT_READER_OPTIONS};
+ghost use Rattle.capnp_c.specs.Exports.{FindsMessage, CountsSegment, StepsOver};
+ghost use Rattle.capnp_c.specs.Options.{options_of};
 
+use crate::options::LinsjoarOptions;
 use capnp_frame::ErrorKind;
-use capnp_frame::message::{DEFAULT_READER_OPTIONS, ReaderSegments};
+use capnp_frame::message::{DEFAULT_READER_OPTIONS, ReaderOptions, ReaderSegments};
 use capnp_frame::serialize::NoAllocBufferSegments;
 
 /// Where the framed message at the front of a buffer is, in bytes.
@@ -29,15 +24,25 @@ pub struct LinsjoarMessage {
 /// error.
 #[unsafe(no_mangle)]
 pub extern "C" fn linsjoar_message(bytes: &[u8], message: &mut LinsjoarMessage) -> u8
-    ensures found { result ≡ 0 → (segments : List (List ℕ)) × (rest : List ℕ)
-        × IsAtFront bytes.now segments rest × (message.new.segments ≡ length segments)
-        × (message.new.start ≡ table_size (length segments))
-        × (message.new.end + length rest ≡ length bytes.now) }
-    ensures accepted { (segments : List (List ℕ)) (rest : List ℕ) →
-        IsAtFront bytes.now segments rest → result ≡ 0 }
-    ensures refused { (kind : ErrorKind) → RefusesFlat by_fields Zero default_limit kind bytes.now →
-        result ≡ kind_number kind }
-    ensures stays { 0 < result → (message.new.segments ≡ 0) × (message.new.start ≡ 0) × (message.new.end ≡ 0) }
+    ensures { FindsMessage DEFAULT_READER_OPTIONS bytes.now message.new result }
+{
+    find_message(bytes, DEFAULT_READER_OPTIONS, message)
+}
+
+/// Finds that message as `linsjoar_message` does, within the limits of these options.
+#[unsafe(no_mangle)]
+pub extern "C" fn linsjoar_message_with_options(
+    bytes: &[u8],
+    options: &LinsjoarOptions,
+    message: &mut LinsjoarMessage,
+) -> u8
+    ensures { FindsMessage (options_of options.now) bytes.now message.new result }
+{
+    find_message(bytes, options.reader_options(), message)
+}
+
+fn find_message(bytes: &[u8], options: ReaderOptions, message: &mut LinsjoarMessage) -> u8
+    ensures { FindsMessage options bytes.now message.new result }
 {
     *message = LinsjoarMessage {
         segments: 0,
@@ -45,7 +50,7 @@ pub extern "C" fn linsjoar_message(bytes: &[u8], message: &mut LinsjoarMessage) 
         end: 0,
     };
     let mut rest = bytes;
-    match NoAllocBufferSegments::from_slice(&mut rest, DEFAULT_READER_OPTIONS) {
+    match NoAllocBufferSegments::from_slice(&mut rest, options) {
         Ok(segments) => {
             let count = segments.len();
             *message = LinsjoarMessage {
@@ -65,19 +70,29 @@ pub extern "C" fn linsjoar_message(bytes: &[u8], message: &mut LinsjoarMessage) 
 /// returns.
 #[unsafe(no_mangle)]
 pub extern "C" fn linsjoar_segment(bytes: &[u8], id: u32, words: &mut usize) -> u8
-    ensures words { (segments : List (List ℕ)) (rest : List ℕ) →
-        IsAtFront bytes.now segments rest → result ≡ 0 →
-        slice_get (lengths segments) id ≡ Some words.new }
-    ensures accepted { (segments : List (List ℕ)) (rest : List ℕ) →
-        IsAtFront bytes.now segments rest → id < length segments → result ≡ 0 }
-    ensures none { (segments : List (List ℕ)) (rest : List ℕ) →
-        IsAtFront bytes.now segments rest → length segments ≤ id → result ≡ 18 }
-    ensures refused { (kind : ErrorKind) → RefusesFlat by_fields Zero default_limit kind bytes.now →
-        result ≡ kind_number kind }
-    ensures stays { 0 < result → words.new ≡ 0 }
+    ensures { CountsSegment DEFAULT_READER_OPTIONS bytes.now id words.new result }
+{
+    count_segment(bytes, DEFAULT_READER_OPTIONS, id, words)
+}
+
+/// Counts them as `linsjoar_segment` does, within the limits of these options.
+#[unsafe(no_mangle)]
+pub extern "C" fn linsjoar_segment_with_options(
+    bytes: &[u8],
+    options: &LinsjoarOptions,
+    id: u32,
+    words: &mut usize,
+) -> u8
+    ensures { CountsSegment (options_of options.now) bytes.now id words.new result }
+{
+    count_segment(bytes, options.reader_options(), id, words)
+}
+
+fn count_segment(bytes: &[u8], options: ReaderOptions, id: u32, words: &mut usize) -> u8
+    ensures { CountsSegment options bytes.now id words.new result }
 {
     *words = 0;
-    match NoAllocBufferSegments::from_buffer(bytes, DEFAULT_READER_OPTIONS) {
+    match NoAllocBufferSegments::from_buffer(bytes, options) {
         Ok(segments) => match segments.get_segment(id) {
             Some(segment) => {
                 *words = segment.len() / 8;
@@ -94,21 +109,32 @@ pub extern "C" fn linsjoar_segment(bytes: &[u8], id: u32, words: &mut usize) -> 
 /// are no message.
 #[unsafe(no_mangle)]
 pub extern "C" fn linsjoar_next_message(bytes: &[u8], message_len: &mut usize) -> u8
-    ensures found { result ≡ 0 → (bytes.now ≡ []) ⊎ ((segments : List (List ℕ)) × (rest : List ℕ)
-        × IsAtFront bytes.now segments rest × (message_len.new + length rest ≡ length bytes.now)) }
-    ensures end { bytes.now ≡ [] → (result ≡ 0) × (message_len.new ≡ 0) }
-    ensures accepted { (segments : List (List ℕ)) (rest : List ℕ) →
-        IsAtFront bytes.now segments rest → (result ≡ 0) × (0 < message_len.new) }
-    ensures refused { (kind : ErrorKind) → 0 < length bytes.now →
-        RefusesFlat by_fields Zero default_limit kind bytes.now → result ≡ kind_number kind }
-    ensures stays { 0 < result → message_len.new ≡ 0 }
+    ensures { StepsOver DEFAULT_READER_OPTIONS bytes.now message_len.new result }
+{
+    step_over(bytes, DEFAULT_READER_OPTIONS, message_len)
+}
+
+/// Counts them as `linsjoar_next_message` does, within the limits of these options.
+#[unsafe(no_mangle)]
+pub extern "C" fn linsjoar_next_message_with_options(
+    bytes: &[u8],
+    options: &LinsjoarOptions,
+    message_len: &mut usize,
+) -> u8
+    ensures { StepsOver (options_of options.now) bytes.now message_len.new result }
+{
+    step_over(bytes, options.reader_options(), message_len)
+}
+
+fn step_over(bytes: &[u8], options: ReaderOptions, message_len: &mut usize) -> u8
+    ensures { StepsOver options bytes.now message_len.new result }
 {
     *message_len = 0;
     if bytes.is_empty() {
         return 0;
     }
     let mut rest = bytes;
-    match NoAllocBufferSegments::from_slice(&mut rest, DEFAULT_READER_OPTIONS) {
+    match NoAllocBufferSegments::from_slice(&mut rest, options) {
         Ok(_) => {
             *message_len = bytes.len() - rest.len();
             0

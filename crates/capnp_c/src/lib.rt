@@ -2,11 +2,13 @@
 //! canonical forms.
 //!
 //! Each export works over caller-provided buffers, and takes no memory. It returns 0, or the number
-//! of an error (docs/FORMAT.md). `capnp_c.h` declares them.
+//! of an error (docs/FORMAT.md). An export that reads a message within limits has a twin
+//! `.._with_options`, to which they are passed. `capnp_c.h` declares them.
 #![tactic(auto)]
 
 mod canonical;
 mod framed;
+mod options;
 mod packed;
 mod packed_messages;
 mod provided_text;

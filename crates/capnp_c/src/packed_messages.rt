@@ -1,23 +1,22 @@
 //! Messages: packed and unpacked.
-ghost use Rattle.std.specs.Prelude.{◌≡◌, ◌⊎◌, ◌*◌, ◌/◌, ◌<◌, ◌≤◌, ◌+◌, ◌^◌, ℕ, List, [], ◌∷◌, length, take, drop, slice_get, Some, IfSome, IfNone, IfOk, IsOk};
+ghost use Rattle.std.specs.Prelude.{◌≡◌, ◌<◌, ◌≤◌, ◌^◌, ℕ, List, ◌∷◌, length, take, drop, slice_get, Some, IfSome, IfNone, IfOk, IsOk};
 ghost use Rattle.std.specs.Result.{IsErrAnd};
-ghost use Rattle.capnp_frame.specs.declared.serialize.segment_table.Padding.TheVariants.{Zero};
-ghost use Rattle.capnp_frame.specs.FlatRefusals.{by_fields, RefusesFlat};
-ghost use Rattle.capnp_frame.specs.Limits.{IsWithin, default_limit};
-ghost use Rattle.capnp_frame.specs.Message.{lengths, size_in_words};
+ghost use Rattle.capnp_frame.specs.Message.{lengths};
 ghost use Rattle.capnp_frame.specs.Numbers.{kind_number};
-ghost use Rattle.capnp_frame.specs.Refusals.{RefusesStream};
-ghost use Rattle.capnp_frame.specs.SegmentTable.{table_size, zero_padded_table};
+ghost use Rattle.capnp_frame.specs.SegmentTable.{zero_padded_table};
 ghost use Rattle.capnp_frame.specs.declared.error.ErrorKind.{ErrorKind};
-ghost use Rattle.capnp_pack.specs.PackedFrame.{IsPackedEncoding, PackedStands};
-ghost use Rattle.capnp_pack.specs.PackedSource.{Unpacks, RefusesChunk};
-ghost use Rattle.capnp_c.specs.Fronts.{IsAtFront};
+ghost use Rattle.capnp_frame.specs.declared.message.options.ReaderOptions.{ReaderOptions};
+ghost use Rattle.capnp_frame.specs.declared.message.options.TheConstants.{DEFAULT_READER_OPTIONS};
+ghost use Rattle.capnp_c.specs.Exports.{PacksMessage, UnpacksMessage};
+ghost use Rattle.capnp_c.specs.Fronts.{IsAtFront, LacksMessage};
+ghost use Rattle.capnp_c.specs.Options.{options_of};
 ghost use Rattle.capnp_c.specs.Packing.{IsMessage, PacksChunks, packed_chunks};
 
+use crate::options::LinsjoarOptions;
 use crate::packed::pack_into;
 use crate::provided_text::ProvidedText;
 use capnp_frame::io::Write;
-use capnp_frame::message::{DEFAULT_READER_OPTIONS, ReaderSegments};
+use capnp_frame::message::{DEFAULT_READER_OPTIONS, ReaderOptions, ReaderSegments};
 use capnp_frame::serialize::{NoAllocBufferSegments, NoAllocSliceSegments};
 use capnp_frame::{Error, ErrorKind, Result};
 use capnp_pack::stream::try_read_packed_framed_into;
@@ -33,21 +32,34 @@ pub extern "C" fn linsjoar_pack_message(
     packed: &mut [u8],
     packed_len: &mut usize,
 ) -> u8
-    ensures packed { result ≡ 0 → (segments : List (List ℕ)) × IsMessage framed.now segments
-        × IsPackedEncoding (take packed_len.new packed.new) segments }
-    ensures within { packed_len.new ≤ length packed.new }
-    ensures accepted { (segments : List (List ℕ)) (text : List ℕ) → IsMessage framed.now segments →
-        IsPackedEncoding text segments → length text ≤ length packed.new → result ≡ 0 }
-    ensures short { (segments : List (List ℕ)) (text : List ℕ) → IsMessage framed.now segments →
-        IsPackedEncoding text segments → length packed.new < length text → result ≡ 2 }
-    ensures trailing { (segments : List (List ℕ)) (rest : List ℕ) →
-        IsAtFront framed.now segments rest → 0 < length rest → result ≡ 6 }
-    ensures refused { (kind : ErrorKind) → RefusesFlat by_fields Zero default_limit kind framed.now →
-        result ≡ kind_number kind }
-    ensures stays { 0 < result → packed_len.new ≡ 0 }
+    ensures { PacksMessage DEFAULT_READER_OPTIONS framed.now packed.new packed_len.new result }
+{
+    pack_message(framed, DEFAULT_READER_OPTIONS, packed, packed_len)
+}
+
+/// Packs it as `linsjoar_pack_message` does, within the limits of these options.
+#[unsafe(no_mangle)]
+pub extern "C" fn linsjoar_pack_message_with_options(
+    framed: &[u8],
+    options: &LinsjoarOptions,
+    packed: &mut [u8],
+    packed_len: &mut usize,
+) -> u8
+    ensures { PacksMessage (options_of options.now) framed.now packed.new packed_len.new result }
+{
+    pack_message(framed, options.reader_options(), packed, packed_len)
+}
+
+fn pack_message(
+    framed: &[u8],
+    options: ReaderOptions,
+    packed: &mut [u8],
+    packed_len: &mut usize,
+) -> u8
+    ensures { PacksMessage options framed.now packed.new packed_len.new result }
 {
     *packed_len = 0;
-    let segments = match whole_message(framed) {
+    let segments = match whole_message(framed, options) {
         Ok(segments) => segments,
         Err(error) => return error.kind.number(),
     };
@@ -75,24 +87,52 @@ pub extern "C" fn linsjoar_unpack_message(
     framed_len: &mut usize,
     packed_read: &mut usize,
 ) -> u8
-    ensures unpacked { result ≡ 0 → (segments : List (List ℕ)) × (rest : List ℕ)
-        × PackedStands Zero segments packed.now rest
-        × IsMessage (take framed_len.new framed.new) segments
-        × (packed_read.new + length rest ≡ length packed.now) }
-    ensures within { framed_len.new ≤ length framed.new }
-    ensures accepted { (segments : List (List ℕ)) (rest : List ℕ) →
-        PackedStands Zero segments packed.now rest → IsWithin segments default_limit →
-        table_size (length segments) + 8 * size_in_words segments ≤ length framed.new → result ≡ 0 }
-    ensures none { packed.now ≡ [] → 8 ≤ length framed.new → result ≡ 9 }
-    ensures refused { (kind : ErrorKind) (left : List ℕ) →
-        RefusesStream Zero Unpacks RefusesChunk default_limit (Some (length framed.new)) kind packed.now left →
-        result ≡ kind_number kind }
-    ensures stays { 0 < result → (framed_len.new ≡ 0) × (packed_read.new ≡ 0) }
+    ensures { UnpacksMessage DEFAULT_READER_OPTIONS packed.now framed.new framed_len.new
+        packed_read.new result }
+{
+    unpack_message(
+        packed,
+        DEFAULT_READER_OPTIONS,
+        framed,
+        framed_len,
+        packed_read,
+    )
+}
+
+/// Unpacks it as `linsjoar_unpack_message` does, within the limits of these options.
+#[unsafe(no_mangle)]
+pub extern "C" fn linsjoar_unpack_message_with_options(
+    packed: &[u8],
+    options: &LinsjoarOptions,
+    framed: &mut [u8],
+    framed_len: &mut usize,
+    packed_read: &mut usize,
+) -> u8
+    ensures { UnpacksMessage (options_of options.now) packed.now framed.new framed_len.new
+        packed_read.new result }
+{
+    unpack_message(
+        packed,
+        options.reader_options(),
+        framed,
+        framed_len,
+        packed_read,
+    )
+}
+
+fn unpack_message(
+    packed: &[u8],
+    options: ReaderOptions,
+    framed: &mut [u8],
+    framed_len: &mut usize,
+    packed_read: &mut usize,
+) -> u8
+    ensures { UnpacksMessage options packed.now framed.new framed_len.new packed_read.new result }
 {
     *framed_len = 0;
     *packed_read = 0;
     let mut source = packed;
-    match try_read_packed_framed_into(&mut source, framed, DEFAULT_READER_OPTIONS) {
+    match try_read_packed_framed_into(&mut source, framed, options) {
         Ok(Some(info)) => {
             *framed_len = info.segment_table_length_bytes + info.total_segments_length_bytes;
             *packed_read = packed.len() - source.len();
@@ -104,18 +144,18 @@ pub extern "C" fn linsjoar_unpack_message(
 }
 
 // The message that these bytes are. Where bytes follow it, fails as for a message that is cut.
-fn whole_message<'a>(framed: &'a [u8]) -> Result<NoAllocSliceSegments<'a>>
-    ensures whole { IfOk result (λ held. IsMessage framed.now held.segments) }
+fn whole_message<'a>(framed: &'a [u8], options: ReaderOptions) -> Result<NoAllocSliceSegments<'a>>
+    ensures whole { IfOk result (λ held. IsMessage options framed.now held.segments) }
     ensures few { IfOk result (λ held. length held.segments < 512) }
-    ensures accepted { (segments : List (List ℕ)) → IsMessage framed.now segments → IsOk result }
+    ensures accepted { (segments : List (List ℕ)) → IsMessage options framed.now segments → IsOk result }
     ensures trailing { (segments : List (List ℕ)) (rest : List ℕ) →
-        IsAtFront framed.now segments rest → 0 < length rest →
+        IsAtFront options framed.now segments rest → 0 < length rest →
         IsErrAnd result (λ error. kind_number error.kind ≡ 6) }
-    ensures exact { (kind : ErrorKind) → RefusesFlat by_fields Zero default_limit kind framed.now →
+    ensures exact { (kind : ErrorKind) → LacksMessage options framed.now kind →
         IsErrAnd result (λ error. error.kind ≡ kind) }
 {
     let mut rest = framed;
-    let segments = NoAllocBufferSegments::from_slice(&mut rest, DEFAULT_READER_OPTIONS)?;
+    let segments = NoAllocBufferSegments::from_slice(&mut rest, options)?;
     if !rest.is_empty() {
         let end = framed.len() - rest.len();
         return Err(Error::from_kind(ErrorKind::MessageEndsPrematurely(framed.len(), end)));
@@ -125,7 +165,7 @@ fn whole_message<'a>(framed: &'a [u8]) -> Result<NoAllocSliceSegments<'a>>
 
 // The table of the message that these bytes are.
 fn table_of<'a>(framed: &'a [u8], segments: &NoAllocSliceSegments<'a>) -> &'a [u8]
-    requires whole { IsMessage framed.now segments.now.segments }
+    requires whole { (options : ReaderOptions) × IsMessage options framed.now segments.now.segments }
     requires few { length segments.now.segments < 512 }
     ensures table { result.now ≡ zero_padded_table (lengths segments.now.segments) }
     ensures word { 8 ≤ length result.now }

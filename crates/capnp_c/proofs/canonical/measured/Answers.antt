@@ -1,7 +1,7 @@
 -- What is measured is the form of the message's root.
 use Rattle.std.proofs.Common.{subst}
 use Rattle.std.proofs.lemmas.Result.{err_from_is_err_and}
-use Rattle.capnp_c.specs.Fronts.{FrontHasForm, FrontLacksForm}
+use Rattle.capnp_c.specs.Fronts.{RootHasForm, RootLacksForm}
 use Rattle.capnp_c.proofs.canonical.measured.Goals as goal
 
 pub returns-in_err-arena-clause-lacks : goal.returns-in_err-arena-clause-lacks
@@ -10,10 +10,10 @@ returns-in_err-arena-clause-lacks c segments rest front = let never = c.in_err-a
 pub returns-in_err-size-clause-lacks : goal.returns-in_err-size-clause-lacks
 returns-in_err-size-clause-lacks c segments rest front =
     let p = err_from_is_err_and c.from_residual-in_err-size.result c.from_residual-in_err-size.ensures.1 in
-    rw (p.1, p.2) (subst (λ s. FrontLacksForm s c.in_err-size.field-0.0.kind) (c.in_ok-arena.ensures.front segments rest front) c.in_err-size.ensures.lacks)
+    rw (p.1, p.2) (subst (λ pointer. RootLacksForm pointer c.in_err-size.field-0.0.kind) (c.in_ok-arena.ensures.front segments rest front) c.in_err-size.ensures.lacks)
 
 pub returns-clause-size : goal.returns-clause-size
-returns-clause-size c segments rest front = subst (λ s. FrontHasForm s c.in_ok-size.size) (c.in_ok-arena.ensures.front segments rest front) c.in_ok-size.ensures.size
+returns-clause-size c segments rest front = subst (λ pointer. RootHasForm pointer c.in_ok-size.size) (c.in_ok-arena.ensures.front segments rest front) c.in_ok-size.ensures.size
 
 pub returns-in_err-arena-clause-exact : goal.returns-in_err-arena-clause-exact
 returns-in_err-arena-clause-exact c kind refused =

@@ -6,4 +6,4 @@ use Rattle.capnp_c.proofs.canonical.measured_root.Goals as goal
 pub returns-in_err-root-clause-lacks : goal.returns-in_err-root-clause-lacks
 returns-in_err-root-clause-lacks g c =
     let p = err_from_is_err_and c.from_residual.result c.from_residual.ensures.1 in
-    rw (p.1, p.2) (root_lacks _ _ c.in_err-root.ensures.returned)
+    rw (p.1, p.2) (root_lacks c.args.arena.now.nesting_limit c.args.arena.now.limiter.limit _ _ c.in_err-root.ensures.returned)

@@ -1,13 +1,14 @@
 -- The arena is over the message that is there.
 use Rattle.std.proofs.Common.{ap, ◌∙◌}
 use Rattle.std.proofs.lemmas.Result.{err_from_is_err_and}
-use Rattle.capnp_c.proofs.FrontLemmas.{one_front}
+use Rattle.capnp_c.proofs.FrontLemmas.{one_front, same_root}
 use Rattle.capnp_c.proofs.canonical.opened.Goals as goal
 
 pub returns-clause-front : goal.returns-clause-front
 returns-clause-front c segments rest front =
     let found = c.in_ok-segments.ensures.reads.found in
-    ap (λ message. message.segments) c.new.ensures.segments ∙ one_front c.args.bytes.now found.0 rest c.in_ok-segments.segments.segments segments found.1 front
+    let own = ap (λ message. message.segments) c.new.ensures.segments ∙ one_front c.args.options c.args.bytes.now found.0 rest c.in_ok-segments.segments.segments segments found.1 front in
+    same_root c.args.options _ _ _ segments c.new.ensures.nesting c.new.ensures.limit own
 
 pub returns-in_err-segments-clause-accepted : goal.returns-in_err-segments-clause-accepted
 returns-in_err-segments-clause-accepted c segments rest front =

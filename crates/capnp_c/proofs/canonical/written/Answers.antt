@@ -3,8 +3,7 @@ use Rattle.std.proofs.Common.{◌≡◌, ◌*◌, inl, inr, length, subst, arith
 use Rattle.std.proofs.lemmas.Result.{err_from_is_err_and}
 use Rattle.capnp_wire.specs.Pointer.{words_of}
 use Rattle.capnp_wire.specs.Values.{IsCanonicalForm}
-use Rattle.capnp_wire.specs.Readers.{default_root}
-use Rattle.capnp_c.specs.Fronts.{FrontHasForm, FrontLacksForm}
+use Rattle.capnp_c.specs.Fronts.{root_by, RootHasForm, RootLacksForm}
 use Rattle.capnp_c.proofs.FrontLemmas.{front_form}
 use Rattle.capnp_c.proofs.canonical.written.Goals as goal
 
@@ -14,12 +13,12 @@ returns-in_err-arena-clause-lacks c segments rest front = let never = c.in_err-a
 pub returns-in_err-root-clause-lacks : goal.returns-in_err-root-clause-lacks
 returns-in_err-root-clause-lacks c segments rest front =
     let p = err_from_is_err_and c.from_residual-in_err-root.result c.from_residual-in_err-root.ensures.1 in
-    rw (p.1, p.2) (inl (subst (λ s. FrontLacksForm s c.in_err-root.field-0.0.kind) (c.in_ok-arena.ensures.front segments rest front) c.in_err-root.ensures.lacks))
+    rw (p.1, p.2) (inl (subst (λ pointer. RootLacksForm pointer c.in_err-root.field-0.0.kind) (c.in_ok-arena.ensures.front segments rest front) c.in_err-root.ensures.lacks))
 
 pub returns-then-block-words-clause-lacks : goal.returns-then-block-words-clause-lacks
 returns-then-block-words-clause-lacks c segments rest front = inr (
   c.in_ok-root.words,
-  subst (λ s. FrontHasForm s c.in_ok-root.words) (c.in_ok-arena.ensures.front segments rest front) c.in_ok-root.ensures.size,
+  subst (λ pointer. RootHasForm pointer c.in_ok-root.words) (c.in_ok-arena.ensures.front segments rest front) c.in_ok-root.ensures.size,
   omega (arith, c.if-block-words.true),
   c.from_kind.ensures,
 )
@@ -28,12 +27,12 @@ pub returns-clause-form : goal.returns-clause-form
 returns-clause-form c segments rest front =
     let long : length c.write_form.new.bytes ≡ 8 * c.in_ok-root.words =
     omega (arith, c.write_form.ensures.len, length-take (8 * c.in_ok-root.words) c.args.block.now) in
-    front_form (default_root segments) (8 * c.in_ok-root.words) c.write_form.new.bytes _ long
-    (subst (λ s. IsCanonicalForm (default_root s) (words_of c.write_form.new.bytes)) (c.in_ok-arena.ensures.front segments rest front)
-    (subst (λ p. IsCanonicalForm p (words_of c.write_form.new.bytes)) c.in_ok-root.ensures.root c.write_form.ensures.form))
+    front_form (root_by c.args.options segments) (8 * c.in_ok-root.words) c.write_form.new.bytes _ long
+    (subst (λ pointer. IsCanonicalForm pointer (words_of c.write_form.new.bytes)) (c.in_ok-arena.ensures.front segments rest front)
+    (subst (λ pointer. IsCanonicalForm pointer (words_of c.write_form.new.bytes)) c.in_ok-root.ensures.root c.write_form.ensures.form))
 
 pub returns-clause-size : goal.returns-clause-size
-returns-clause-size c segments rest front = subst (λ s. FrontHasForm s c.in_ok-root.words) (c.in_ok-arena.ensures.front segments rest front) c.in_ok-root.ensures.size
+returns-clause-size c segments rest front = subst (λ pointer. RootHasForm pointer c.in_ok-root.words) (c.in_ok-arena.ensures.front segments rest front) c.in_ok-root.ensures.size
 
 pub returns-in_err-arena-clause-exact : goal.returns-in_err-arena-clause-exact
 returns-in_err-arena-clause-exact c kind refused =

@@ -15,7 +15,7 @@ pub returns-then-not-is_empty-clause-accepted : goal.returns-then-not-is_empty-c
 returns-then-not-is_empty-clause-accepted c segments message =
     let left = c.from_slice.new.slice.now in
     let some : 0 < length left = search rules in
-    let none = one_rest c.args.framed.now [] left segments c.in_ok-segments.segments.segments message c.in_ok-segments.ensures.found in
+    let none = one_rest c.args.options c.args.framed.now [] left segments c.in_ok-segments.segments.segments message c.in_ok-segments.ensures.found in
     absurd (omega (arith, ap length none, some))
 
 pub returns-then-not-is_empty-clause-exact : goal.returns-then-not-is_empty-clause-exact
@@ -25,7 +25,7 @@ pub returns-clause-trailing : goal.returns-clause-trailing
 returns-clause-trailing c segments rest front some =
     let left = c.from_slice.new.slice.now in
     let none : length left ≡ 0 = search rules in
-    let same = one_rest c.args.framed.now rest left segments c.in_ok-segments.segments.segments front c.in_ok-segments.ensures.found in
+    let same = one_rest c.args.options c.args.framed.now rest left segments c.in_ok-segments.segments.segments front c.in_ok-segments.ensures.found in
     absurd (omega (arith, ap length same, some, none))
 
 pub returns-clause-exact : goal.returns-clause-exact

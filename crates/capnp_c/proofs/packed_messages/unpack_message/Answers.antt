@@ -1,0 +1,50 @@
+-- What is unpacked is the framed encoding of the message that is there.
+use Rattle.std.proofs.Common.{◌≡◌, length, rules, arith, ap, ◌∙◌, Some}
+use Rattle.capnp_frame.specs.Numbers.{kind_number}
+use Rattle.capnp_frame.proofs.AskLemmas.{never_fails}
+use Rattle.capnp_c.proofs.UnpackedLemmas.{front_message, taken, none_stands, own_kind, in_room}
+use Rattle.capnp_c.proofs.packed_messages.unpack_message.Goals as goal
+
+pub returns-in-Ok-Some : goal.returns-in-Ok-Some
+returns-in-Ok-Some c =
+    let reads = rw c.in-Ok-Some.field-0-is at c.in-Ok-Some.ensures.reads in
+    let text = rw c.in-Ok-Some.field-0-is at c.in-Ok-Some.ensures.text in
+    let room = rw c.in-Ok-Some.field-0-is at c.in-Ok-Some.ensures.room in
+    let long : length c.try_read_packed_framed_into.new.buffer ≡ length c.args.framed.now = search rules in
+    record {
+      unpacked = λ zero. let left = taken _ _ _ reads.found in
+          (_, _, reads.found, front_message c.args.options _ _ _ text room reads.within, omega (arith, left));
+      within = search rules;
+      accepted = search rules;
+      none = λ none room. absurd (none_stands _ _ _ reads.found none);
+      refused = λ kind left refused. absurd (reads.exact kind left (in_room c.args.options _ left kind _ _ long refused));
+      stays = search rules;
+    }
+
+pub returns-in-Ok-None : goal.returns-in-Ok-None
+returns-in-Ok-None c =
+    let reads = rw c.in-Ok-None.field-0-is at c.in-Ok-None.ensures.reads in
+    let long : length c.try_read_packed_framed_into.new.buffer ≡ length c.args.framed.now = search rules in
+    record {
+      unpacked = search rules;
+      within = search rules;
+      accepted = λ segments rest stands within room. absurd (none_stands _ _ _ stands reads.none);
+      none = search rules;
+      refused = λ kind left refused. absurd (reads.exact kind left (in_room c.args.options _ left kind _ _ long refused));
+      stays = search rules;
+    }
+
+pub returns-in-Err : goal.returns-in-Err
+returns-in-Err c =
+    let reads = c.in-Err.ensures.reads in
+    let long : length c.try_read_packed_framed_into.new.buffer ≡ length c.args.framed.now = search rules in
+    record {
+      unpacked = search rules;
+      within = search rules;
+      accepted = λ segments rest stands within room.
+          absurd (never_fails c.in-Err.error.kind reads.failed (reads.accepted segments rest stands within (search (rules, room))));
+      none = λ none room. absurd (never_fails c.in-Err.error.kind reads.failed (reads.end (ap Some none) (search (rules, room))));
+      refused = λ kind left refused.
+          c.number-in-Err.ensures ∙ ap kind_number (own_kind c.in-Err.error.kind kind (reads.exact kind left (in_room c.args.options _ left kind _ _ long refused)) reads.failed);
+      stays = search rules;
+    }
