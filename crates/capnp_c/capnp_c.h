@@ -134,7 +134,8 @@ static inline const char *linsjoar_error_name(int number) {
 }
 
 /* Limits against messages that would cost a reader too much. Each call that reads a message has a twin,
- * .._with_options, which reads it within these and is else the same call. They may not be NULL. */
+ * .._with_options, which reads it within these limits and is else the same. The pointer to them may not be
+ * NULL. */
 struct linsjoar_options {
     /* How many words a message may have, else 8, and how many may be visited for its canonical form, else
      * 20: pointers may lead to the same words again and again. LINSJOAR_NO_LIMIT sets no limit. */
@@ -148,7 +149,7 @@ struct linsjoar_options {
 /* The limit of words that sets none. */
 #define LINSJOAR_NO_LIMIT SIZE_MAX
 
-/* What the calls without options take, to begin with: struct linsjoar_options o = LINSJOAR_DEFAULT_OPTIONS; */
+/* The limits of the calls without options: struct linsjoar_options options = LINSJOAR_DEFAULT_OPTIONS; */
 #define LINSJOAR_DEFAULT_OPTIONS {8388608, 64}
 
 /* Whole messages. */
