@@ -10,7 +10,7 @@ ghost use Rattle.capnp_frame.specs.declared.message.options.TheConstants.{DEFAUL
 ghost use Rattle.capnp_c.specs.Exports.{PacksMessage, UnpacksMessage};
 ghost use Rattle.capnp_c.specs.Fronts.{IsAtFront, LacksMessage};
 ghost use Rattle.capnp_c.specs.Options.{options_of};
-ghost use Rattle.capnp_c.specs.Packing.{IsMessage, PacksChunks, packed_chunks};
+ghost use Rattle.capnp_c.specs.Packing.{IsMessage, PacksChunks};
 
 use crate::options::LinsjoarOptions;
 use crate::packed::pack_into;

@@ -2,7 +2,7 @@
 use Rattle.std.proofs.Common.{◌≡◌, ℕ, zero, suc, ◌+◌, ◌-◌, ◌*◌, ◌/◌, ◌%◌, ◌<◌, ◌≤◌, [], refl, sym, ap, ◌∙◌, arith}
 use Rattle.std.proofs.lemmas.Nat.{div-add-mod', mod_below, mod-mul-add, div-mul-add}
 use Rattle.capnp_layout.specs.Object.{row_places}
-use Rattle.capnp_show.specs.declared.words.StructSize.{StructSize}
+use Rattle.capnp_layout.specs.declared.pointer.StructSize.{StructSize}
 use Rattle.capnp_show.specs.Objects.{size_of}
 use Rattle.capnp_show.specs.Words.{IsPointerOfElement}
 

@@ -1,7 +1,7 @@
 -- Where the cells of a drawing are, and the arrows between them, in pixels (src/arrows.rt): cells of 132 by 26 are four in a
 -- row, with gaps of 40 between columns and of 14 between rows, right of a number of the row.
 use Rattle.std.specs.Prelude.{◌≡◌, ◌⊎◌, ◌==◌, if◌then◌else◌, ℕ, ◌+◌, ◌-◌, ◌*◌, ◌/◌, ◌%◌, ◌^◌, min, List, [], ◌∷◌, ◌++◌, length, Vec, Some, None, slice_get, codes}
-use Rattle.capnp_show.specs.declared.words.Place.{Place}
+use Rattle.capnp_layout.specs.declared.place.Place.{Place}
 use Rattle.capnp_show.specs.declared.arrows.Corner.{Corner}
 use Rattle.capnp_show.specs.declared.arrows.Grid.{Grid}
 use Rattle.capnp_show.specs.declared.owners.Owners.{Owners}

@@ -4,10 +4,10 @@ use Rattle.std.specs.List.{All}
 use Rattle.capnp.specs.Passed.{message_of}
 use Rattle.capnp_frame.specs.declared.error.ErrorKind.TheVariants.{NestingLimitExceeded, ReadLimitExceeded}
 use Rattle.capnp_layout.specs.Object.{word_at, places, row_places}
-use Rattle.capnp_layout.specs.declared.place.Place.{Place as ReadPlace}
-use Rattle.capnp_show.specs.declared.words.Place.{Place}
-use Rattle.capnp_show.specs.declared.words.Object.{Object}
-use Rattle.capnp_show.specs.declared.words.StructSize.{StructSize}
+use Rattle.capnp_layout.specs.Landing.{room_of, shape_of}
+use Rattle.capnp_layout.specs.declared.place.Place.{Place}
+use Rattle.capnp_layout.specs.declared.pointer.StructSize.{StructSize}
+use Rattle.capnp_show.specs.declared.objects.Object.{Object}
 use Rattle.capnp_show.specs.declared.tree.Label.{Label}
 use Rattle.capnp_show.specs.declared.tree.Label.TheVariants.{Root as RootLabel, Pointer as PointerLabel, Element as ElementLabel}
 use Rattle.capnp_show.specs.declared.tree.Node.{Node}
@@ -16,17 +16,13 @@ use Rattle.capnp_show.specs.declared.tree.Found.TheVariants.{Null, Object as AnO
 use Rattle.capnp_show.specs.declared.tree.Row.{Row}
 use Rattle.capnp_show.specs.declared.tree.RowKind.{RowKind}
 use Rattle.capnp_show.specs.declared.tree.RowKind.TheVariants.{Root, Pointers, Elements}
-use Rattle.capnp_show.specs.Objects.{read_place, size_of, words_in, landing_words, traversed_of, stood, IsObject, IsRefused}
-
--- the place a given number of words further; the last one where there is none
-abbrev pub further : Place → ℕ → Place
-further place words = record { segment = place.segment; word = min (place.word + words) (2 ^ 64 - 1) }
+use Rattle.capnp_show.specs.Objects.{counted, further, size_of, IsObject, IsRefused}
 
 -- how many words the next node of a row comes after this one
 abbrev pub step_of : RowKind → ℕ
 step_of Root = 1
 step_of Pointers = 1
-step_of (Elements size) = min (size_of size) (2 ^ 64 - 1)
+step_of (Elements size) = size_of size
 
 -- a node's label, by its row and its number there
 abbrev pub label_of : RowKind → ℕ → Label
@@ -54,42 +50,38 @@ abbrev pub IsSpent : Row → Type 0
 IsSpent row = row.count ≤ row.index
 
 -- the places of the pointers that some nodes of a row have from its next one on: the nodes themselves, or those in elements
-abbrev pub pointers_in : RowKind → ReadPlace → ℕ → List ReadPlace
+abbrev pub pointers_in : RowKind → Place → ℕ → List Place
 pointers_in Root next count = places next.segment next.word count
 pointers_in Pointers next count = places next.segment next.word count
 pointers_in (Elements size) next count = row_places next.segment next.word size.data_words size.pointers count
 
 -- the pointers of an object whose words are within 2^61
-abbrev pub children_by : Object → List ReadPlace → Type 0
-children_by object children = (words : List ℕ) → object.start.word + words_in object.shape < 2 ^ 61
-    → children ≡ (stood words (read_place object.start) object.shape).children
+abbrev pub children_by : Object → List Place → Type 0
+children_by object children = (words : List ℕ) → object.start.word + room_of object.body < 2 ^ 61
+    → children ≡ (shape_of words object.start object.body).children
 
 -- The nodes below an object that a row leads to: those of its pointers, one deeper; none where it has no pointers.
 pub record IsRowBelow (row : Row) (object : Object) (below : Row) : Type 0 where
   pub first : below.index ≡ 0
   pub depth : below.depth ≡ min (row.depth + 1) (2 ^ 64 - 1)
   pub nesting : below.nesting ≡ row.nesting - 1
-  pub children : children_by object (pointers_in below.kind (read_place below.next) below.count)
+  pub children : children_by object (pointers_in below.kind below.next below.count)
 
 abbrev pub IsBelow : Row → Object → Option Row → Type 0
 IsBelow row object None = children_by object []
 IsBelow row object (Some below) = IsRowBelow row object below
 
--- the words that an object counts against the limit
-abbrev pub counted : Object → ℕ
-counted object = landing_words object.landing_pad + traversed_of object.shape
-
 -- What is found at a pointer, at some nesting depth left and within what is left of the limit: null, the object that it leads
 -- to, or why there is none to show.
 abbrev pub Finds : List (List ℕ) → Place → ℕ → Option ℕ → Found → Type 0
-Finds segments place nesting left Null = word_at (message_of segments) (read_place place) ≡ Some 0
+Finds segments place nesting left Null = word_at (message_of segments) place ≡ Some 0
 Finds segments place nesting left (AnObject object) = IsObject segments place object × (0 < nesting)
-    × IfSome left (λ most. counted object < 2 ^ 58 → counted object ≤ most)
+    × IfSome left (λ most. counted object ≤ most)
 Finds segments place nesting left (Element start size) = ⊥
 Finds segments place nesting left (Refused kind) = IsRefused segments place kind
     ⊎ ((object : Object) × IsObject segments place object × (nesting ≡ 0) × (kind ≡ NestingLimitExceeded))
     ⊎ ((object : Object) × (most : ℕ) × IsObject segments place object × (left ≡ Some most) × (0 < nesting)
-    × (counted object < 2 ^ 58 → most < counted object) × (kind ≡ ReadLimitExceeded))
+    × (most < counted object) × (kind ≡ ReadLimitExceeded))
 
 -- The next node of a row: where it is and how deep, and what is found there.
 pub record IsNodeOf (segments : List (List ℕ)) (row : Row) (left : Option ℕ) (node : Node) : Type 0 where
@@ -110,7 +102,7 @@ LeavesRows row (Refused kind) rows left = (kind ≡ ReadLimitExceeded → left �
 -- and the words that are left: an object's are taken off
 abbrev pub LeavesWords : Found → Option ℕ → Option ℕ → Type 0
 LeavesWords Null words left = left ≡ words
-LeavesWords (AnObject object) words left = counted object < 2 ^ 58 → left ≡ option_map (λ most. most - counted object) words
+LeavesWords (AnObject object) words left = left ≡ option_map (λ most. most - counted object) words
 LeavesWords (Element start size) words left = left ≡ words
 LeavesWords (Refused kind) words left = kind ≢ ReadLimitExceeded → left ≡ words
 

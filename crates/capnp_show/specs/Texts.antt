@@ -13,13 +13,15 @@ use Rattle.capnp_show.specs.declared.owners.Lead.{Lead}
 use Rattle.capnp_show.specs.declared.owners.Lead.TheVariants.{Nowhere, Null, Object as LeadObject}
 use Rattle.capnp_show.specs.declared.owners.Word.{Word}
 use Rattle.capnp_show.specs.declared.listing.Listed.{Listed}
-use Rattle.capnp_show.specs.declared.words.Place.{Place}
+use Rattle.capnp_layout.specs.declared.place.Place.{Place}
 use Rattle.capnp_show.specs.declared.text.Escape.{Escape}
 use Rattle.capnp_show.specs.declared.text.Escape.TheVariants.{Plain, Letter, Number}
 use Rattle.capnp_show.specs.declared.markup.Mark.{Mark}
 use Rattle.capnp_show.specs.declared.markup.Mark.TheVariants.{Plain as PlainMark, Named, Control}
-use Rattle.capnp_show.specs.declared.words.ElementSize.{ElementSize}
-use Rattle.capnp_show.specs.declared.words.ElementSize.TheVariants.{Void, Bit, Byte, TwoBytes, FourBytes, EightBytes, Pointer}
+use Rattle.capnp_layout.specs.declared.element_size.ElementSize.{ElementSize}
+use Rattle.capnp_layout.specs.declared.element_size.ElementSize.TheVariants.{Void, Bit, Byte, TwoBytes, FourBytes, EightBytes}
+use Rattle.capnp_layout.specs.declared.object.Body.{Body}
+use Rattle.capnp_layout.specs.declared.object.Body.TheVariants.{Struct, Numbers, Pointers, Structs}
 
 -- the control characters: U+0000 to U+001F, U+007F, and U+0080 to U+009F
 abbrev pub IsControl : ℕ → Type 0
@@ -52,15 +54,21 @@ IsMarkOf character PlainMark =
 IsMarkOf character (Named name) = HasName character name.now
 IsMarkOf character Control = IsControl character
 
--- the name of a list's elements
-abbrev pub element_name : ElementSize → List ℕ
-element_name Void = codes "void"
-element_name Bit = codes "bit"
-element_name Byte = codes "byte"
-element_name TwoBytes = codes "2 bytes"
-element_name FourBytes = codes "4 bytes"
-element_name EightBytes = codes "8 bytes"
-element_name Pointer = codes "pointer"
+-- the name of numbers in a list
+abbrev pub number_name : ElementSize → List ℕ
+number_name Void = codes "void"
+number_name Bit = codes "bit"
+number_name Byte = codes "byte"
+number_name TwoBytes = codes "2 bytes"
+number_name FourBytes = codes "4 bytes"
+number_name EightBytes = codes "8 bytes"
+
+-- the name of a list's elements, and of a struct
+abbrev pub element_name : Body → List ℕ
+element_name (Struct size) = codes "struct"
+element_name (Numbers size count) = number_name size
+element_name (Pointers count) = codes "pointer"
+element_name (Structs elements following) = codes "struct"
 
 -- a character that is shown in this way: its number in four hexadecimal digits
 abbrev pub escaped : ℕ → Escape → List ℕ

@@ -1,10 +1,9 @@
 -- What each word of a message is to its object (src/owners.rt).
 use Rattle.std.specs.Prelude.{◌≡◌, ℕ, ◌+◌, ◌*◌, ◌<◌, ◌≤◌, ⊤, List, Option, None, slice_get, option_and_then}
-use Rattle.capnp_show.specs.declared.words.Place.{Place}
-use Rattle.capnp_show.specs.declared.words.StructSize.{StructSize}
-use Rattle.capnp_show.specs.declared.words.ElementSize.TheVariants.{Pointer as PointerSize}
-use Rattle.capnp_show.specs.declared.words.Shape.{Shape}
-use Rattle.capnp_show.specs.declared.words.Shape.TheVariants.{Struct, List as Listed, Structs}
+use Rattle.capnp_layout.specs.declared.object.Body.{Body}
+use Rattle.capnp_layout.specs.declared.object.Body.TheVariants.{Struct, Numbers, Pointers, Structs}
+use Rattle.capnp_layout.specs.declared.place.Place.{Place}
+use Rattle.capnp_layout.specs.declared.pointer.StructSize.{StructSize}
 use Rattle.capnp_show.specs.declared.owners.Role.{Role}
 use Rattle.capnp_show.specs.declared.owners.Role.TheVariants.{Data, Pointer, Tag, Landing}
 use Rattle.capnp_show.specs.declared.owners.Owner.{Owner}
@@ -30,23 +29,26 @@ IsRoleInElement size count index Tag = ⊥
 IsRoleInElement size count index Landing = ⊥
 
 -- the word of an object is one of its pointers, by how many words it comes after the object's start
-abbrev pub IsPointerIn : Shape → ℕ → Type 0
+abbrev pub IsPointerIn : Body → ℕ → Type 0
 IsPointerIn (Struct size) index = size.data_words ≤ index
-IsPointerIn (Listed size count) index = size ≡ PointerSize
-IsPointerIn (Structs size count following) index = (after_tag : ℕ) × (index ≡ 1 + after_tag) × IsPointerOfElement size count after_tag
+IsPointerIn (Numbers size count) index = ⊥
+IsPointerIn (Pointers count) index = ⊤
+IsPointerIn (Structs elements following) index = (after_tag : ℕ) × (index ≡ 1 + after_tag)
+    × IsPointerOfElement elements.size elements.count after_tag
 
 -- or the tag of a list of structs
-abbrev pub IsTagIn : Shape → ℕ → Type 0
+abbrev pub IsTagIn : Body → ℕ → Type 0
 IsTagIn (Struct size) index = ⊥
-IsTagIn (Listed size count) index = ⊥
-IsTagIn (Structs size count following) index = index ≡ 0
+IsTagIn (Numbers size count) index = ⊥
+IsTagIn (Pointers count) index = ⊥
+IsTagIn (Structs elements following) index = index ≡ 0
 
 -- what a word is to its object: one thing alone, and data where it is nothing else
-abbrev pub IsRole : Shape → ℕ → Role → Type 0
-IsRole shape index Data = (IsPointerIn shape index → ⊥) × (IsTagIn shape index → ⊥)
-IsRole shape index Pointer = IsPointerIn shape index
-IsRole shape index Tag = IsTagIn shape index
-IsRole shape index Landing = ⊥
+abbrev pub IsRole : Body → ℕ → Role → Type 0
+IsRole body index Data = (IsPointerIn body index → ⊥) × (IsTagIn body index → ⊥)
+IsRole body index Pointer = IsPointerIn body index
+IsRole body index Tag = IsTagIn body index
+IsRole body index Landing = ⊥
 
 -- a word of this owner is drawn as a pointer
 abbrev pub IsDrawnAsPointer : Owner → Type 0

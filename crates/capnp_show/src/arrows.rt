@@ -12,7 +12,7 @@ ghost use Rattle.capnp_show.specs.Texts.{counted};
 use crate::drawn::{ROW_WORDS, colour_of};
 use crate::numbers::push_counted;
 use crate::owners::{Owners, Word};
-use crate::words::Place;
+use capnp_layout::place::Place;
 use std::alloc::{AllocError, Global};
 use std::fmt::Write;
 
@@ -125,8 +125,8 @@ impl Grid {
             (IsCorner self.now place) }
     {
         let top = *self.tops.get(place.segment as usize)?;
-        let row = place.word / ROW_WORDS as u64;
-        let column = place.word % ROW_WORDS as u64;
+        let row = (place.word / ROW_WORDS) as u64;
+        let column = (place.word % ROW_WORDS) as u64;
         Some(Corner {
             left: FIRST_LEFT + column * COLUMN_STEP,
             top: top.saturating_add(row.saturating_mul(ROW_STEP)),

@@ -5,13 +5,14 @@ use crate::arrows::Grid;
 use crate::drawn::{Anchor, Drawn, ROW_WORDS, push_row};
 use crate::html::{push_no_root, push_object, push_part};
 use crate::listing::push_node_text;
+use crate::objects::moved;
 use crate::owners::{MOST_NODES, Owners, Word};
 use crate::shown::write_full;
 use crate::tree::{Found, Node, Walk};
-use crate::words::Place;
 use capnp::Result;
 use capnp::io::Write;
 use capnp::message::{ReaderOptions, ReaderSegments};
+use capnp_layout::place::Place;
 use std::alloc::Global;
 
 // The most words of a message that is drawn.
@@ -77,7 +78,7 @@ fn show_segment<W: Write>(
     let mut first = Place { segment, word: 0 };
     for row in words.chunks(ROW_WORDS) {
         push_row(text, drawn, first, row)?;
-        first = first.moved(ROW_WORDS as u64);
+        first = moved(first, ROW_WORDS as u64);
         write_full(text, sink)?;
     }
     text.push_str("</table>\n</div>\n")?;

@@ -4,9 +4,10 @@ ghost use Rattle.capnp_show.specs.Texts.{counted, message_name, word_name, null_
 
 use crate::arrows::Grid;
 use crate::numbers::{push_counted, push_hexadecimal};
+use crate::objects::moved;
 use crate::owners::{Lead, Owner, Owners, Role, Word};
 use crate::refusals::push_refusal;
-use crate::words::Place;
+use capnp_layout::place::Place;
 use std::alloc::AllocError;
 
 /// The number of words in a row.
@@ -37,7 +38,7 @@ impl Anchor {
     {
         self.push(text)?;
         push_counted(text, "-", u64::from(place.segment))?;
-        push_counted(text, "-", place.word)
+        push_counted(text, "-", place.word as u64)
     }
 }
 
@@ -73,12 +74,12 @@ pub fn push_row(
     first: Place,
     words: &[Word],
 ) -> Result<(), AllocError> {
-    push_counted(text, "<tr><th>", first.word)?;
+    push_counted(text, "<tr><th>", first.word as u64)?;
     text.push_str("</th>")?;
     let mut place = first;
     for word in words {
         push_cell(text, drawn, place, word)?;
-        place = place.moved(1);
+        place = moved(place, 1);
     }
     text.push_str("</tr>\n")
 }
@@ -198,7 +199,7 @@ fn push_where(text: &mut String, place: Place) -> Result<(), AllocError>
     ensures { OnOk result (string_bytes text.new ≡ string_bytes text.old ++ where_of place) }
 {
     push_counted(text, "word ", u64::from(place.segment))?;
-    push_counted(text, ":", place.word)?;
+    push_counted(text, ":", place.word as u64)?;
     text.push_str(", ")
 }
 

@@ -1,16 +1,19 @@
 //! Messages as JSON.
 ghost use Rattle.std.specs.Prelude.{◌≡◌, ◌++◌, OnOk, codes, string_bytes};
 ghost use Rattle.capnp_show.specs.Hashes.{IfHash};
-ghost use Rattle.capnp_show.specs.Texts.{AddsEscaped, member, listed_members};
+ghost use Rattle.capnp_show.specs.Texts.{AddsEscaped, counted, member, listed_members};
 
 use crate::hash::Hash;
 use crate::listing::{Listed, name_of};
 use crate::numbers::push_counted;
+use crate::objects::{Object, bytes_of, words_of_landing_pad};
 use crate::refusals::sentence;
 use crate::text::{push_quoted, text_in};
 use crate::tree::{Found, Label, Node};
-use crate::words::{Object, Place, Shape, StructSize, bytes_of};
 use capnp::message::ReaderSegments;
+use capnp_layout::object::Body;
+use capnp_layout::place::Place;
+use capnp_layout::pointer::StructSize;
 use std::alloc::AllocError;
 use std::fmt::Write;
 
@@ -105,29 +108,23 @@ fn push_object<S: ReaderSegments>(
     segments: &S,
     object: &Object,
 ) -> Result<(), AllocError> {
-    match object.shape {
-        Shape::Struct(size) => {
+    let name = name_of(object.body);
+    match object.body {
+        Body::Struct(size) => {
             text.push_str(",\"kind\":\"struct\"")?;
             push_size(text, size)?;
         }
-        Shape::List(size, count) => {
-            text.push_str(",\"kind\":\"list\",\"element\":\"")?;
-            text.push_str(name_of(size))?;
-            push_counted(text, "\",\"count\":", count)?;
-        }
-        Shape::Structs(size, count, _) => {
-            push_counted(
-                text,
-                ",\"kind\":\"list\",\"element\":\"struct\",\"count\":",
-                count,
-            )?;
-            push_size(text, size)?;
+        Body::Numbers(_, count) | Body::Pointers(count) => push_list(text, name, count)?,
+        Body::Structs(elements, _) => {
+            push_list(text, name, elements.count)?;
+            push_size(text, elements.size)?;
         }
     }
     push_place(text, object.start)?;
-    if let Some(landing_pad) = object.landing_pad {
-        push_counted(text, ",\"landing_pad\":{\"words\":", landing_pad.words)?;
-        push_place(text, landing_pad.place)?;
+    if let Some(far) = object.far {
+        let words = words_of_landing_pad(far);
+        push_counted(text, ",\"landing_pad\":{\"words\":", words)?;
+        push_place(text, far.landing_pad)?;
         text.push('}')?;
     }
     if let Some(shown) = bytes_of(segments, object).and_then(text_in) {
@@ -137,13 +134,24 @@ fn push_object<S: ReaderSegments>(
     Ok(())
 }
 
+// Adds a list: what its elements are, and how many there are.
+fn push_list(text: &mut String, name: &str, count: u32) -> Result<(), AllocError>
+    ensures { OnOk result (string_bytes text.new ≡ string_bytes text.old
+        ++ (codes ",\"kind\":\"list\",\"element\":\"" ++ (name.now
+        ++ counted (codes "\",\"count\":") count))) }
+{
+    text.push_str(",\"kind\":\"list\",\"element\":\"")?;
+    text.push_str(name)?;
+    push_counted(text, "\",\"count\":", u64::from(count))
+}
+
 // Adds the words of a struct.
 fn push_size(text: &mut String, size: StructSize) -> Result<(), AllocError>
     ensures { OnOk result (string_bytes text.new ≡ string_bytes text.old
         ++ (member (codes "data") size.data_words ++ member (codes "pointers") size.pointers)) }
 {
-    push_number(text, "data", size.data_words)?;
-    push_number(text, "pointers", size.pointers)
+    push_number(text, "data", u64::from(size.data_words))?;
+    push_number(text, "pointers", u64::from(size.pointers))
 }
 
 // Adds a place, by its segment and its word.
@@ -152,5 +160,5 @@ fn push_place(text: &mut String, place: Place) -> Result<(), AllocError>
         ++ (member (codes "segment") place.segment ++ member (codes "word") place.word)) }
 {
     push_number(text, "segment", u64::from(place.segment))?;
-    push_number(text, "word", place.word)
+    push_number(text, "word", place.word as u64)
 }

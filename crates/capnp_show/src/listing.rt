@@ -1,15 +1,19 @@
 //! Messages as lines.
 ghost use Rattle.std.specs.Prelude.{◌≡◌, ◌++◌, [], MatchOption, OnOk, codes, decimal, string_bytes};
 ghost use Rattle.capnp_show.specs.Hashes.{IfHash};
-ghost use Rattle.capnp_show.specs.Texts.{AddsEscaped, element_name, counted, listed_line};
+ghost use Rattle.capnp_show.specs.Texts.{AddsEscaped, element_name, number_name, counted, listed_line};
 
 use crate::hash::Hash;
 use crate::numbers::{push_counted, push_decimal};
+use crate::objects::{Object, bytes_of, words_of_landing_pad};
 use crate::refusals::{push_refusal, sentence};
 use crate::text::{push_escaped, push_quoted, text_in};
 use crate::tree::{Found, Label, Node};
-use crate::words::{ElementSize, Object, Place, Shape, StructSize, bytes_of};
 use capnp::message::ReaderSegments;
+use capnp_layout::element_size::ElementSize;
+use capnp_layout::object::Body;
+use capnp_layout::place::Place;
+use capnp_layout::pointer::StructSize;
 use std::alloc::AllocError;
 use std::fmt::Write;
 
@@ -128,26 +132,23 @@ fn push_object<S: ReaderSegments>(
     segments: &S,
     object: &Object,
 ) -> Result<(), AllocError> {
-    match object.shape {
-        Shape::Struct(size) => {
-            text.push_str("struct")?;
+    let name = name_of(object.body);
+    match object.body {
+        Body::Struct(size) => {
+            text.push_str(name)?;
             push_size(text, size)?;
         }
-        Shape::List(size, count) => {
-            text.push_str("list, element ")?;
-            text.push_str(name_of(size))?;
-            push_counted(text, ", count ", count)?;
-        }
-        Shape::Structs(size, count, _) => {
-            push_counted(text, "list, element struct, count ", count)?;
-            push_size(text, size)?;
+        Body::Numbers(_, count) | Body::Pointers(count) => push_list(text, name, count)?,
+        Body::Structs(elements, _) => {
+            push_list(text, name, elements.count)?;
+            push_size(text, elements.size)?;
         }
     }
     push_place(text, object.start)?;
-    if let Some(landing_pad) = object.landing_pad {
-        push_counted(text, ", landing pad ", u64::from(landing_pad.place.segment))?;
-        push_counted(text, ":", landing_pad.place.word)?;
-        push_counted(text, ", words ", landing_pad.words)?;
+    if let Some(far) = object.far {
+        push_counted(text, ", landing pad ", u64::from(far.landing_pad.segment))?;
+        push_counted(text, ":", far.landing_pad.word as u64)?;
+        push_counted(text, ", words ", words_of_landing_pad(far))?;
     }
     if let Some(shown) = bytes_of(segments, object).and_then(text_in) {
         text.push_str(", text ")?;
@@ -156,9 +157,20 @@ fn push_object<S: ReaderSegments>(
     Ok(())
 }
 
-/// The name of a list's elements.
-pub fn name_of(size: ElementSize) -> &'static str
-    ensures { result.now ≡ element_name size }
+/// The name of a list's elements, and of a struct.
+pub fn name_of(body: Body) -> &'static str
+    ensures { result.now ≡ element_name body }
+{
+    match body {
+        Body::Struct(_) | Body::Structs(_, _) => "struct",
+        Body::Numbers(size, _) => name_of_number(size),
+        Body::Pointers(_) => "pointer",
+    }
+}
+
+// The name of numbers in a list.
+fn name_of_number(size: ElementSize) -> &'static str
+    ensures { result.now ≡ number_name size }
 {
     match size {
         ElementSize::Void => "void",
@@ -167,8 +179,17 @@ pub fn name_of(size: ElementSize) -> &'static str
         ElementSize::TwoBytes => "2 bytes",
         ElementSize::FourBytes => "4 bytes",
         ElementSize::EightBytes => "8 bytes",
-        ElementSize::Pointer => "pointer",
     }
+}
+
+// Adds a list: what its elements are, and how many there are.
+fn push_list(text: &mut String, name: &str, count: u32) -> Result<(), AllocError>
+    ensures { OnOk result (string_bytes text.new ≡ string_bytes text.old
+        ++ (codes "list, element " ++ (name.now ++ counted (codes ", count ") count))) }
+{
+    text.push_str("list, element ")?;
+    text.push_str(name)?;
+    push_counted(text, ", count ", u64::from(count))
 }
 
 // Adds the words of a struct.
@@ -177,8 +198,8 @@ fn push_size(text: &mut String, size: StructSize) -> Result<(), AllocError>
         ++ (counted (codes ", data ") size.data_words
         ++ counted (codes ", pointers ") size.pointers)) }
 {
-    push_counted(text, ", data ", size.data_words)?;
-    push_counted(text, ", pointers ", size.pointers)
+    push_counted(text, ", data ", u64::from(size.data_words))?;
+    push_counted(text, ", pointers ", u64::from(size.pointers))
 }
 
 // Adds a place, by its segment and its word.
@@ -187,5 +208,5 @@ fn push_place(text: &mut String, place: Place) -> Result<(), AllocError>
         ++ (counted (codes ", at ") place.segment ++ counted (codes ":") place.word)) }
 {
     push_counted(text, ", at ", u64::from(place.segment))?;
-    push_counted(text, ":", place.word)
+    push_counted(text, ":", place.word as u64)
 }

@@ -1,14 +1,16 @@
 //! Which object each word of a message belongs to, and where its pointers lead.
 ghost use Rattle.std.specs.Prelude.{◌≡◌, ◌↔◌, ◌/◌, ◌^◌, ◌<◌, ℕ, length, map, IfOk, IsTrue, Some, MatchOption, option_copied};
 ghost use Rattle.std.specs.Simd.{first_chunks};
-ghost use Rattle.capnp_show.specs.Objects.{size_of};
 ghost use Rattle.capnp_show.specs.Words.{IsDrawnAsPointer, IsRole, IsRoleInElement, word_in, free_word};
 
+use crate::objects::{Object, moved, words_of_landing_pad};
 use crate::tree::{Found, Label, Node, Walk};
-use crate::words::{ElementSize, LandingPad, Object, Place, Shape, StructSize};
 use capnp::ErrorKind;
 use capnp::message::{ReaderOptions, ReaderSegments};
 use capnp::serialize::SEGMENTS_COUNT_LIMIT;
+use capnp_layout::object::Body;
+use capnp_layout::place::Place;
+use capnp_layout::pointer::Elements;
 use std::alloc::{AllocError, Global};
 
 /// How many nodes of a message are followed at most.
@@ -140,7 +142,7 @@ impl Owners {
         ensures { option_copied result ≡ word_in self.now place }
     {
         let words = self.segments.get(place.segment as usize)?;
-        words.get(usize::try_from(place.word).ok()?)
+        words.get(place.word)
     }
 
     // The words of a message before the walk.
@@ -179,14 +181,15 @@ impl Owners {
     // Claims the words of an object and of its landing pad.
     fn claim_object(&mut self, object: &Object) {
         let number = self.objects;
-        if let Some(LandingPad { place, words }) = object.landing_pad {
-            for index in 0..words {
-                self.claim(place.moved(index), Owner::Object(number, Role::Landing));
+        if let Some(far) = object.far {
+            for index in 0..words_of_landing_pad(far) {
+                let place = moved(far.landing_pad, index);
+                self.claim(place, Owner::Object(number, Role::Landing));
             }
         }
-        for index in 0..object.shape.words() {
-            let role = role_of(object.shape, index);
-            if !self.claim(object.start.moved(index), Owner::Object(number, role)) {
+        for index in 0..object.words() {
+            let role = role_of(object.body, index);
+            if !self.claim(moved(object.start, index), Owner::Object(number, role)) {
                 break;
             }
         }
@@ -220,7 +223,7 @@ impl Owners {
 
     fn word_mut(&mut self, place: Place) -> Option<&mut Word> {
         let words = self.segments.get_mut(place.segment as usize)?;
-        words.get_mut(usize::try_from(place.word).ok()?)
+        words.get_mut(place.word)
     }
 }
 
@@ -243,26 +246,27 @@ fn free_words(alloc: Global, segment: &[u8]) -> Result<Vec<Word>, AllocError>
 }
 
 // The role of the word of an object that is this many words after the object's start.
-fn role_of(shape: Shape, index: u64) -> Role
-    ensures { ((size : StructSize) (count words : ℕ) → shape ≡ Shape.Structs size count words
-        → size_of size < 2 ^ 64)
-        → IsRole shape index result }
+fn role_of(body: Body, index: u64) -> Role
+    ensures { IsRole body index result }
 {
-    match shape {
-        Shape::Struct(size) if index >= size.data_words => Role::Pointer,
-        Shape::List(ElementSize::Pointer, _) => Role::Pointer,
-        Shape::Structs(_, _, _) if index == 0 => Role::Tag,
-        Shape::Structs(size, count, _) => role_in_element(size, count, index.saturating_sub(1)),
+    match body {
+        Body::Struct(size) if index >= size.data_words as u64 => Role::Pointer,
+        Body::Pointers(_) => Role::Pointer,
+        Body::Structs(_, _) if index == 0 => Role::Tag,
+        Body::Structs(elements, _) => role_in_element(elements, index.saturating_sub(1)),
         _ => Role::Data,
     }
 }
 
 // The role of the word of a list of structs that is this many words after the list's tag.
-fn role_in_element(size: StructSize, count: u64, after_tag: u64) -> Role
-    ensures { size_of size < 2 ^ 64 → IsRoleInElement size count after_tag result }
+fn role_in_element(elements: Elements, after_tag: u64) -> Role
+    ensures { IsRoleInElement elements.size elements.count after_tag result }
 {
-    let words = size.words();
-    if words != 0 && after_tag / words < count && after_tag % words >= size.data_words {
+    let words = elements.size.words();
+    if words != 0
+        && after_tag / words < elements.count as u64
+        && after_tag % words >= elements.size.data_words as u64
+    {
         Role::Pointer
     } else {
         Role::Data

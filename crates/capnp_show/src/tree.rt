@@ -5,11 +5,14 @@
 ghost use Rattle.std.specs.Prelude.{◌≡◌, ◌↔◌, ◌≤◌, ◌+◌, ◌-◌, [], ◌∷◌, min, MatchOption, IfOk, IfSome, IsTrue, None, option_map};
 ghost use Rattle.std.specs.List.{All};
 ghost use Rattle.capnp_wire.specs.Readers.{nesting_of};
-ghost use Rattle.capnp_show.specs.Rows.{further, row_after, pointers_row, IsSpent, IsNodeOf, LeavesRows, LeavesWords, Comes, Finds, IsBelow};
+ghost use Rattle.capnp_show.specs.Rows.{row_after, pointers_row, IsSpent, IsNodeOf, LeavesRows, LeavesWords, Comes, Finds, IsBelow};
 
-use crate::words::{ElementSize, Object, Place, Shape, StructSize, object_at};
+use crate::objects::{Object, moved, object_at};
 use capnp::ErrorKind;
 use capnp::message::{ReaderOptions, ReaderSegments};
+use capnp_layout::object::Body;
+use capnp_layout::place::Place;
+use capnp_layout::pointer::StructSize;
 use std::alloc::{AllocError, Global};
 
 /// Which place in its parent a node has.
@@ -158,7 +161,7 @@ impl Walk {
         let object = match object_at(segments, row.next) {
             Ok(Some(object)) => object,
             Ok(None) => return Ok(Found::Null),
-            Err(kind) => return Ok(Found::Refused(kind)),
+            Err(error) => return Ok(Found::Refused(error.kind)),
         };
         if row.nesting == 0 {
             return Ok(Found::Refused(ErrorKind::NestingLimitExceeded));
@@ -205,7 +208,7 @@ impl Row {
         Row {
             index: self.index.saturating_add(1),
             count: self.count,
-            next: self.next.moved(words),
+            next: moved(self.next, words),
             kind: self.kind,
             depth: self.depth,
             nesting: self.nesting,
@@ -218,18 +221,18 @@ impl Row {
         ensures { IsBelow self object.now result }
     {
         let nesting = self.nesting.saturating_sub(1);
-        match object.shape {
-            Shape::Struct(size) => Some(self.pointers_of(object.start, size, nesting)),
-            Shape::List(ElementSize::Pointer, count) => {
-                Some(self.row(RowKind::Pointers, object.start, count, nesting))
+        match object.body {
+            Body::Struct(size) => Some(self.pointers_of(object.start, size, nesting)),
+            Body::Numbers(_, _) => None,
+            Body::Pointers(count) => {
+                Some(self.row(RowKind::Pointers, object.start, u64::from(count), nesting))
             }
-            Shape::List(_, _) => None,
-            Shape::Structs(size, _, _) if size.pointers == 0 => None,
-            Shape::Structs(size, count, _) => {
+            Body::Structs(elements, _) if elements.size.pointers == 0 => None,
+            Body::Structs(elements, _) => {
                 Some(self.row(
-                    RowKind::Elements(size),
-                    object.start.moved(1),
-                    count,
+                    RowKind::Elements(elements.size),
+                    moved(object.start, 1),
+                    u64::from(elements.count),
                     nesting,
                 ))
             }
@@ -240,8 +243,8 @@ impl Row {
     fn pointers_of(self, start: Place, size: StructSize, nesting: u64) -> Row
         ensures { result ≡ pointers_row self start size nesting }
     {
-        let first = start.moved(size.data_words);
-        self.row(RowKind::Pointers, first, size.pointers, nesting)
+        let first = moved(start, u64::from(size.data_words));
+        self.row(RowKind::Pointers, first, u64::from(size.pointers), nesting)
     }
 
     // Nodes one step deeper than those of this row.
@@ -262,18 +265,6 @@ impl Row {
             kind,
             depth: self.depth.saturating_add(1),
             nesting,
-        }
-    }
-}
-
-impl Place {
-    /// The place this many words further; the last possible one where there is none.
-    pub fn moved(self, words: u64) -> Place
-        ensures { result ≡ further self words }
-    {
-        Place {
-            segment: self.segment,
-            word: self.word.saturating_add(words),
         }
     }
 }

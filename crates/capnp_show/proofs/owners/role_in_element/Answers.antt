@@ -6,15 +6,15 @@ use Rattle.capnp_show.proofs.owners.role_in_element.Goals as goal
 use Rattle.capnp_show.proofs.owners.role_in_element.Goals.{else-words-ne0-via-then-words-ne0+then-after_tag-words+else-after_tag-words-2, else-words-ne0-via-then-words-ne0+else-after_tag-words, else-words-ne0-via-else-words-ne0}
 
 pub returns-then-after_tag-words-2 : goal.returns-then-after_tag-words-2
-returns-then-after_tag-words-2 c = λ small.
-    let words : c.words-words.result ≡ size_of c.args.size = omega (arith, c.words-words.ensures) in
-    element_of c.args.size c.args.count c.args.after_tag _ words
+returns-then-after_tag-words-2 c =
+    let words : c.words-words.result ≡ size_of c.args.elements.size = omega (arith, c.words-words.ensures) in
+    element_of c.args.elements.size c.args.elements.count c.args.after_tag _ words
     (record { some = omega arith; among = c.if-after_tag-words.true; after = c.if-after_tag-words-2.true })
 
 pub returns-else-words-ne0 : goal.returns-else-words-ne0
-returns-else-words-ne0 c = λ small pointer.
-    let words : c.words-words.result ≡ size_of c.args.size = omega (arith, c.words-words.ensures) in
-    let past = element_is c.args.size c.args.count c.args.after_tag _ words pointer in
+returns-else-words-ne0 c = λ pointer.
+    let words : c.words-words.result ≡ size_of c.args.elements.size = omega (arith, c.words-words.ensures) in
+    let past = element_is c.args.elements.size c.args.elements.count c.args.after_tag _ words pointer in
     let some = past.some in
     let among = past.among in
     let after = past.after in
