@@ -11,4 +11,4 @@ returns-clause-refused g c =
     alone_as g.A.Allocator _ _ _ _
     (λ trees is. person_is v.words a.id v.fields.value.now v.fields.rest.value.words v.fields.rest.value.fields.value.now a.name.now a.city.now trees e.id e.name e.address e.city is)
     (person_fails v.words a.id v.fields.value.now v.fields.rest.value.words v.fields.rest.value.fields.value.now a.name.now a.city.now e.id e.name e.address e.city)
-    _ _ c.set_root_canonical.result c.set_root_canonical.ensures.kind
+    a.built.now c.set_root_canonical.new.self c.set_root_canonical.result c.set_root_canonical.ensures.kind
