@@ -150,8 +150,8 @@ fn push_size(text: &mut String, size: StructSize) -> Result<(), AllocError>
     ensures { OnOk result (string_bytes text.new ≡ string_bytes text.old
         ++ (member (codes "data") size.data_words ++ member (codes "pointers") size.pointers)) }
 {
-    push_number(text, "data", u64::from(size.data_words))?;
-    push_number(text, "pointers", u64::from(size.pointers))
+    push_number(text, "data", size.data_words as u64)?;
+    push_number(text, "pointers", size.pointers as u64)
 }
 
 // Adds a place, by its segment and its word.

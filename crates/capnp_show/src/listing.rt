@@ -198,8 +198,8 @@ fn push_size(text: &mut String, size: StructSize) -> Result<(), AllocError>
         ++ (counted (codes ", data ") size.data_words
         ++ counted (codes ", pointers ") size.pointers)) }
 {
-    push_counted(text, ", data ", u64::from(size.data_words))?;
-    push_counted(text, ", pointers ", u64::from(size.pointers))
+    push_counted(text, ", data ", size.data_words as u64)?;
+    push_counted(text, ", pointers ", size.pointers as u64)
 }
 
 // Adds a place, by its segment and its word.
