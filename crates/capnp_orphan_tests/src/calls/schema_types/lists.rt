@@ -58,8 +58,14 @@ fn palette_of<'a, S: ReaderSegments>(message: &'a Reader<S>) -> Result<palette::
 }
 
 // How many of some colors are this one.
-fn count(colors: &EnumList<'_, Color>, wanted: Color) -> usize {
-    colors.iter().filter(|color| *color == wanted).count()
+fn count(colors: &EnumList<'_, Color>, wanted: Color) -> u32 {
+    let mut found = 0u32;
+    for color in colors.iter() {
+        if color == wanted {
+            found = found.wrapping_add(1);
+        }
+    }
+    found
 }
 
 #[test]
