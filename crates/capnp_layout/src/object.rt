@@ -130,9 +130,10 @@ pub fn words_fit(segment: &[u8])
     ensures length { length segment.now < 2 ^ 64 }
 {}
 
-// The object at a word of a segment, by its pointer.
+/// What begins at a word of a segment, by what the pointer to it says. Fails with
+/// `PointerOutOfBounds` where it doesn't lie within the segment, or with `WrongPointerKind`.
 #[inline(always)]
-fn body_at(segment: &[u8], start: usize, shape: LocalShape) -> Result<Body>
+pub fn body_at(segment: &[u8], start: usize, shape: LocalShape) -> Result<Body>
     ensures found { let words = words_of segment.now in
         IfOk result (λ body. (tag number : ℕ) → IsLocalShape tag shape →
         let place : Place = record { segment = number; word = start } in
