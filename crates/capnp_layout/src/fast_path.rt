@@ -257,7 +257,7 @@ impl<'a> NumberList<'a> {
 impl<'a> PointerRun<'a> {
     /// A cursor over these pointers, for a walk.
     #[inline(always)]
-    pub fn rows(&self) -> PointerSlots
+    pub fn slots(&self) -> PointerSlots
         ensures places { places_in result
             ≡ places self.now.first.segment self.now.first.word self.now.count }
         ensures segment { segment_of result ≡ self.now.first.segment }

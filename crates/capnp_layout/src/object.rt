@@ -130,9 +130,10 @@ pub fn words_fit(segment: &[u8])
     ensures length { length segment.now < 2 ^ 64 }
 {}
 
-// The object at a word of a segment, by its pointer.
+/// What begins at a word of a segment, by what the pointer to it says. Fails with
+/// `PointerOutOfBounds` where it doesn't lie within the segment, or with `WrongPointerKind`.
 #[inline(always)]
-fn body_at(segment: &[u8], start: usize, shape: LocalShape) -> Result<Body>
+pub fn body_at(segment: &[u8], start: usize, shape: LocalShape) -> Result<Body>
     ensures found { let words = words_of segment.now in
         IfOk result (λ body. (tag number : ℕ) → IsLocalShape tag shape →
         let place : Place = record { segment = number; word = start } in
@@ -255,7 +256,7 @@ impl Body {
         }
     }
 
-    /// How many elements a list of numbers of this size has.
+    /// How many elements it has, where it is a list of numbers of this size.
     pub fn count_of(self, wanted: ElementSize) -> Option<u32>
         ensures { MatchOption result ((count : ℕ) → self ≡ Body.Numbers wanted count → ⊥)
             (λ count. self ≡ Body.Numbers wanted count) }
@@ -266,7 +267,7 @@ impl Body {
         }
     }
 
-    /// The elements of a list of structs.
+    /// Its elements, where it is a list of structs.
     pub fn as_structs(self) -> Option<Elements>
         ensures { MatchOption result
             ((elements : Elements) (following : ℕ) → self ≡ Body.Structs elements following → ⊥)
@@ -278,7 +279,7 @@ impl Body {
         }
     }
 
-    /// How many pointers a list of pointers has.
+    /// How many pointers it has, where it is a list of pointers.
     pub fn as_pointers(self) -> Option<u32>
         ensures { MatchOption result ((count : ℕ) → self ≡ Body.Pointers count → ⊥)
             (λ count. self ≡ Body.Pointers count) }
@@ -289,7 +290,7 @@ impl Body {
         }
     }
 
-    /// The size of a struct.
+    /// Its size, where it is a struct.
     pub fn as_struct(self) -> Option<StructSize>
         ensures { MatchOption result ((size : StructSize) → self ≡ Body.Struct size → ⊥)
             (λ size. self ≡ Body.Struct size) }

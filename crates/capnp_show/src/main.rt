@@ -6,7 +6,6 @@ ghost use Rattle.std.specs.Process.{exit_status};
 
 mod arguments;
 mod arrows;
-mod bodies;
 mod counted;
 mod detected;
 mod drawing;

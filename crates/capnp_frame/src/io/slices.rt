@@ -81,6 +81,9 @@ impl Write for Vec<u8> {
 
 /// The slice moves past what was written, so it shows only the room that is left. A chunk that does
 /// not fit fails with `BufferNotLargeEnough`, and nothing of it is written.
+///
+/// It grants the number of bytes that it has, and no other. So a writer that hands on what a sink
+/// grants, as `write_segments` does, says by just how many bytes the slice moves.
 impl Write for &mut [u8] {
     ghost written = { λ _. None };
 
@@ -90,7 +93,7 @@ impl Write for &mut [u8] {
 
     ghost leaves = { LeavesNothing };
 
-    ghost grants = { λ slice bytes. bytes ≤ length slice.now };
+    ghost grants = { λ slice bytes. bytes ≡ length slice.now };
 
     ghost refuses = { ByKind ErrorKind.BufferNotLargeEnough };
 
@@ -99,8 +102,8 @@ impl Write for &mut [u8] {
     fn write_all(&mut self, chunk: &[u8]) -> Result<()>
         ensures added { OnOk result (IfKnown None None (Adds (AppendsSame chunk.now))) }
         ensures left { OnErr result (IfKnown None None (Adds (LeavesNothing chunk.now))) }
-        ensures granted { (more : ℕ) → length chunk.now + more ≤ length self.old.now →
-            IsOk result × (more ≤ length self.new.now) }
+        ensures granted { (more : ℕ) → length chunk.now + more ≡ length self.old.now →
+            IsOk result × (more ≡ length self.new.now) }
         ensures failed { IfErr result (λ error. error.kind ≡ ErrorKind.DeviceFailed → Fails 0 0) }
         ensures moved { OnOk result (self.new.now ≡ drop (length chunk.now) self.old.now) }
         ensures fits { OnOk result (length chunk.now ≤ length self.old.now) }

@@ -213,7 +213,7 @@ impl Walk {
             nesting,
             canonical,
         )? {
-            let mut below = parent.rows();
+            let mut below = parent.slots();
             let inside = nesting - 1;
             'children: while let Some(child) = self.next_parent(
                 segments,
