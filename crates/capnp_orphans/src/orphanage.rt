@@ -7,6 +7,8 @@ ghost use Rattle.capnp_orphans.specs.Segments.{body_of, with_root_alone};
 ghost use Rattle.capnp_orphans.specs.Held.{word_of, HoldsValue, HoldsStruct, HoldsPointers, HoldsStructs, TakesStruct, ExceedsPointer, TakesPointers, ManyPointers, TakesStructs, ManyStructs};
 ghost use Rattle.capnp_orphans.specs.Adding.{Adds, Writes, Fails, SetsRoot, AddsRoot};
 
+mod built;
+
 use crate::draft::StructDraft;
 use crate::draft_source::DraftSource;
 use crate::heap::Heap;
@@ -17,7 +19,6 @@ use crate::region::Region;
 use crate::segment::GrowingSegment;
 use crate::struct_list::StructList;
 use crate::value::Value;
-use capnp_frame::message::{BuiltMessage, ReaderSegments};
 use capnp_frame::{Error, ErrorKind, Result};
 use capnp_layout::pointer_word::link;
 use capnp_values::NumberList;
@@ -299,30 +300,5 @@ impl<S: GrowingSegment> Orphanage<S> {
         let root = self.add(draft)?;
         self.set_root(root);
         Ok(())
-    }
-}
-
-impl<S: GrowingSegment> ReaderSegments for Orphanage<S> {
-    ghost use Rattle.std.specs.Prelude.{◌∷◌, []};
-
-    ghost segments = { λ objects. objects.bytes ∷ [] };
-
-    fn get_segment(&self, id: u32) -> Option<&[u8]> {
-        match id {
-            0 => Some(self.segment.bytes()),
-            _ => None,
-        }
-    }
-}
-
-impl<S: GrowingSegment> BuiltMessage for Orphanage<S> {
-    ghost use Rattle.std.specs.Prelude.{⊤};
-
-    ghost has_segment = { λ objects. ⊤ };
-
-    #[inline(always)]
-    fn can_be_written(&self) {
-        // For the prover: reading a field brings in the invariant, which says this.
-        let _segment = &self.segment;
     }
 }

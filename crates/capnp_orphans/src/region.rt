@@ -9,10 +9,14 @@ use std::marker::Model;
 
 /// A caller-provided region, of which the first bytes are used. It takes no memory, and it does not
 /// matter which bytes the region had before.
+///
+/// Speed: how many bytes a segment can have there is kept, so one test tells whether an object fits
+/// (`tools/time-building built`, `records` in a region).
 #[derive(Drop)]
 pub struct Region<'a> {
     bytes: &'a mut [u8],
     used: u32,
+    room: u32,
 }
 
 impl<'a> Model for Region<'a> {
@@ -27,7 +31,8 @@ impl<'a> Model for Region<'a> {
       capacity = length region.bytes.now;
     } };
 
-    ghost invariant = { λ region. region.used ≤ length region.bytes.now };
+    ghost invariant = { λ region. (region.used ≤ length region.bytes.now)
+        × (region.room ≤ length region.bytes.now) };
 }
 
 impl<'a> Region<'a> {
@@ -43,7 +48,12 @@ impl<'a> Region<'a> {
             return Err(Error::from_kind(ErrorKind::AllocationTooLarge(1)));
         }
         zero_first(bytes);
-        Ok(Region { bytes, used: 8 })
+        let room = bytes.len().min(u32::MAX as usize) as u32;
+        Ok(Region {
+            bytes,
+            used: 8,
+            room,
+        })
     }
 }
 
@@ -69,7 +79,7 @@ impl<'a> GrowingSegment for Region<'a> {
     #[inline(always)]
     fn append_within<O: Object>(&mut self, object: &O, words: u32) -> Option<u64> {
         let end = self.used as usize + 8 * words as usize;
-        if end > self.bytes.len() || end >= 1 << 32 {
+        if end > self.room as usize {
             return None;
         }
         let word = write_over(self.bytes, self.used as usize, words, object);
