@@ -49,7 +49,10 @@ pub trait Allocator: Drop {
 
     /// Takes a segment back, of which the first words were used. The rest of it is zero.
     fn deallocate_segment(&mut self, segment: Self::Segment, words_used: u32)
-        requires is_out { IsOut (out self.old) (record { length = length (Self.Segment.content segment); is_provided = Self.Segment.is_provided segment }) }
+        requires is_out { IsOut (out self.old) (record {
+          length = length (Self.Segment.content segment);
+          is_provided = Self.Segment.is_provided segment;
+        }) }
         requires used { 8 * words_used ≤ length (Self.Segment.content segment) }
         requires zero { ZeroFrom (8 * words_used) (Self.Segment.content segment) }
         ensures { TakesBack out same returns
@@ -78,7 +81,8 @@ impl<A: Allocator> Allocator for &mut A {
 
     ghost refuses = { λ allocator asked kind. A.refuses allocator.now asked kind };
 
-    ghost returns = { λ old segment words new. (new.ghost_name ≡ old.ghost_name) × A.returns old.now segment words new.now };
+    ghost returns = { λ old segment words new. (new.ghost_name ≡ old.ghost_name)
+        × A.returns old.now segment words new.now };
 
     fn allocate_segment(&mut self, minimum_size: u32) -> Result<A::Segment> {
         (**self).allocate_segment(minimum_size)

@@ -88,7 +88,8 @@ impl<'a, M: Building> View<'a, M, Owned> {
         ensures same { IfOk result (λ view. view.message.ghost_name ≡ self.entry.message.ghost_name) }
         ensures looked { IfOk result (λ view. view.message.now ≡ self.entry.message.now) }
         ensures taken { IfOk result (λ view. ForRoot (M.built view.message.now).spaces K.takes) }
-        ensures kind { IfErr result (λ error. DeclinesRoot K.declines (M.built self.entry.message.now).spaces error.kind) }
+        ensures kind { IfErr result (λ error. DeclinesRoot K.declines
+            (M.built self.entry.message.now).spaces error.kind) }
     {
         let View { message, kind: _ } = self;
         accept::<M, K>(message)?;

@@ -53,7 +53,9 @@ impl<'a, M: Building> View<'a, M, Owned> {
 
     /// A data word; 0 past the last one.
     pub fn get_word(&self, index: u16) -> u64
-        ensures root { ForRoot (M.built self.now.message.now).spaces (λ form. (words : List ℕ) → HasData form words → result ≡ slice_index_or words index 0) }
+        ensures root { ForRoot (M.built self.now.message.now).spaces
+            (λ form. (words : List ℕ) → HasData form words →
+            result ≡ slice_index_or words index 0) }
         ensures none { (M.built self.now.message.now).spaces ≡ [] → result ≡ 0 }
     {
         if index >= self.data_words() {
@@ -64,7 +66,8 @@ impl<'a, M: Building> View<'a, M, Owned> {
 
     /// The number of data words.
     pub fn data_words(&self) -> u16
-        ensures count { ForRoot (M.built self.now.message.now).spaces (λ form. (words : List ℕ) → HasData form words → result ≡ length words) }
+        ensures count { ForRoot (M.built self.now.message.now).spaces
+            (λ form. (words : List ℕ) → HasData form words → result ≡ length words) }
         ensures each { (index : ℕ) → index < result → HasField (M.built self.now.message.now).spaces index }
     {
         match self.message.root_kind() {

@@ -29,7 +29,8 @@ impl<S: SegmentSpace> Model for BuilderSegment<S> {
       is_provided = S.is_provided part.segment;
     } };
 
-    ghost invariant = { λ part. (8 * part.words ≤ length (S.content part.segment)) × ZeroFrom (8 * part.words) (S.content part.segment) × (part.words ≤ 2 ^ 29) };
+    ghost invariant = { λ part. (8 * part.words ≤ length (S.content part.segment))
+        × ZeroFrom (8 * part.words) (S.content part.segment) × (part.words ≤ 2 ^ 29) };
 }
 
 impl<S: SegmentSpace> BuilderSegment<S> {

@@ -63,7 +63,8 @@ impl<'a, M: Building> View<'a, M, Owned> {
 
     /// The bytes.
     pub fn as_bytes(&self) -> &[u8]
-        ensures root { ForRoot (M.built self.now.message.now).spaces (λ form. (bytes : List ℕ) → IsData form bytes → result.now ≡ bytes) }
+        ensures root { ForRoot (M.built self.now.message.now).spaces
+            (λ form. (bytes : List ℕ) → IsData form bytes → result.now ≡ bytes) }
         ensures none { (M.built self.now.message.now).spaces ≡ [] → result.now ≡ [] }
     {
         match self.message.root_kind() {
@@ -74,8 +75,10 @@ impl<'a, M: Building> View<'a, M, Owned> {
 
     /// The number of bytes.
     pub fn len(&self) -> u32
-        ensures count { ForRoot (M.built self.now.message.now).spaces (λ form. (bytes : List ℕ) → IsData form bytes → result ≡ length bytes) }
-        ensures each { (index count : ℕ) → 0 < count → index + count ≤ result → HasBytes (M.built self.now.message.now).spaces index count }
+        ensures count { ForRoot (M.built self.now.message.now).spaces
+            (λ form. (bytes : List ℕ) → IsData form bytes → result ≡ length bytes) }
+        ensures each { (index count : ℕ) → 0 < count → index + count ≤ result →
+            HasBytes (M.built self.now.message.now).spaces index count }
     {
         match self.message.root_kind() {
             RootKind::Bytes(n) => n,

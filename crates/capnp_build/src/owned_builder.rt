@@ -34,6 +34,8 @@ pub trait OwnedBuilder {
     /// Checks that an object of this kind, with these bytes, can be viewed as this type. Fails with
     /// a kind that `declines` names.
     fn accept(shown: RootKind, bytes: &[u8]) -> Result<()>
-        ensures taken { OnOk result ((form : Form) → ShowsRoot shown form → HoldsForm bytes.now form → takes form) }
-        ensures declined { IfErr result (λ error. (form : Form) → ShowsRoot shown form → HoldsForm bytes.now form → declines form error.kind) };
+        ensures taken { OnOk result ((form : Form) → ShowsRoot shown form →
+            HoldsForm bytes.now form → takes form) }
+        ensures declined { IfErr result (λ error. (form : Form) → ShowsRoot shown form →
+            HoldsForm bytes.now form → declines form error.kind) };
 }

@@ -53,7 +53,9 @@ impl<'a, M: Building> View<'a, M, Owned<u64>> {
 
     /// An element; 0 past the last one.
     pub fn get(&self, index: u32) -> u64
-        ensures root { ForRoot (M.built self.now.message.now).spaces (λ form. (words : List ℕ) → IsWords form words → result ≡ slice_index_or words index 0) }
+        ensures root { ForRoot (M.built self.now.message.now).spaces
+            (λ form. (words : List ℕ) → IsWords form words →
+            result ≡ slice_index_or words index 0) }
         ensures none { (M.built self.now.message.now).spaces ≡ [] → result ≡ 0 }
     {
         if index >= self.len() {
@@ -64,7 +66,8 @@ impl<'a, M: Building> View<'a, M, Owned<u64>> {
 
     /// The number of elements.
     pub fn len(&self) -> u32
-        ensures count { ForRoot (M.built self.now.message.now).spaces (λ form. (words : List ℕ) → IsWords form words → result ≡ length words) }
+        ensures count { ForRoot (M.built self.now.message.now).spaces
+            (λ form. (words : List ℕ) → IsWords form words → result ≡ length words) }
         ensures each { (index : ℕ) → index < result → HasNumber (M.built self.now.message.now).spaces index }
     {
         match self.message.root_kind() {

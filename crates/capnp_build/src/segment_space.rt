@@ -45,7 +45,8 @@ pub trait SegmentSpace: Drop {
         requires whole { (to - from) % 8 ≡ 0 }
         requires zero { take (to - from) (drop from (content self.old)) ≡ replicate (to - from) 0 }
         requires words { HasWords (V.has_tree value.now) canonical ((to - from) / 8) }
-        ensures filled { IsFilled (V.has_tree value.now) canonical result from (to - from) (content self.old) (content self.new) }
+        ensures filled { IsFilled (V.has_tree value.now) canonical result from (to - from)
+            (content self.old) (content self.new) }
         ensures provided { is_provided self.new ≡ is_provided self.old };
 }
 

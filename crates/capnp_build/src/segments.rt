@@ -57,7 +57,10 @@ impl<A: Allocator> Model for Segments<A> {
 
     ghost view = { λ s. record { spaces = spaces_of s.first s.others.items; allocator = s.allocator } };
 
-    ghost invariant = { λ s. (MatchOption s.first (s.others.items ≡ []) (λ _. ⊤)) × AreOut (A.out s.allocator) (spaces_of s.first s.others.items) × (length s.others.items + 1 < 2 ^ 32) × AllByRecursion UsesWords (spaces_of s.first s.others.items) };
+    ghost invariant = { λ s. (MatchOption s.first (s.others.items ≡ []) (λ _. ⊤))
+        × AreOut (A.out s.allocator) (spaces_of s.first s.others.items)
+        × (length s.others.items + 1 < 2 ^ 32)
+        × AllByRecursion UsesWords (spaces_of s.first s.others.items) };
 }
 
 impl<A: Allocator> Segments<A> {
@@ -190,7 +193,8 @@ impl<A: Allocator> Segments<A> {
         requires within { index < length self.old.spaces }
         requires order { from ≤ to }
         requires room { to ≤ length (space_at self.old.spaces index).used }
-        ensures { self.new ≡ with_space self.old index (with_bytes (space_at self.old.spaces index) from (replicate (to - from) 0)) }
+        ensures { self.new ≡ with_space self.old index
+            (with_bytes (space_at self.old.spaces index) from (replicate (to - from) 0)) }
     {
         match SegmentPlace::of(index) {
             SegmentPlace::First => {
@@ -234,7 +238,9 @@ impl<A: Allocator> Segments<A> {
 
     /// Adds an unused segment of at least this many words. Fails with the kinds of `LacksSegment`.
     pub fn add(&mut self, words: u32) -> Result<()>
-        ensures added { OnOk result ((space : Space) × (self.new.spaces ≡ self.old.spaces ++ space ∷ []) × (space.used ≡ []) × (words ≤ space.size / 8)) }
+        ensures added { OnOk result ((space : Space)
+            × (self.new.spaces ≡ self.old.spaces ++ space ∷ []) × (space.used ≡ [])
+            × (words ≤ space.size / 8)) }
         ensures refused { OnErr result (self.new.spaces ≡ self.old.spaces) }
         ensures kind { IfErr result (λ error. LacksSegment A.Allocator self.old words error.kind) }
         ensures granted { self.old.spaces ≡ [] → (most : ℕ) → A.grants self.old.allocator words most →

@@ -69,7 +69,8 @@ impl<'a, M: Building> View<'a, M, Owned> {
 
     /// The bytes in front of the zero byte at the end.
     pub fn as_bytes(&self) -> &[u8]
-        ensures root { ForRoot (M.built self.now.message.now).spaces (λ form. (bytes : List ℕ) → IsText form bytes → result.now ≡ bytes) }
+        ensures root { ForRoot (M.built self.now.message.now).spaces
+            (λ form. (bytes : List ℕ) → IsText form bytes → result.now ≡ bytes) }
         ensures none { (M.built self.now.message.now).spaces ≡ [] → result.now ≡ [] }
     {
         match self.message.root_kind() {
@@ -80,8 +81,10 @@ impl<'a, M: Building> View<'a, M, Owned> {
 
     /// The number of bytes in front of the zero byte at the end.
     pub fn len(&self) -> u32
-        ensures count { ForRoot (M.built self.now.message.now).spaces (λ form. (bytes : List ℕ) → IsText form bytes → result ≡ length bytes) }
-        ensures each { (index count : ℕ) → 0 < count → index + count ≤ result → HasBytes (M.built self.now.message.now).spaces index (count + 1) }
+        ensures count { ForRoot (M.built self.now.message.now).spaces
+            (λ form. (bytes : List ℕ) → IsText form bytes → result ≡ length bytes) }
+        ensures each { (index count : ℕ) → 0 < count → index + count ≤ result →
+            HasBytes (M.built self.now.message.now).spaces index (count + 1) }
     {
         match self.message.root_kind() {
             RootKind::Bytes(n) => n.saturating_sub(1),

@@ -119,9 +119,11 @@ pub trait BufRead: Read {
         ensures kept { Self.failures self.new ≡ Self.failures self.old }
         ensures advances { Advances Self.unread Self.failures Self.same self.old self.new };
 
-    ghost plain: { (raw : List ℕ) (n : ℕ) (bytes rest : List ℕ) → Splits raw n bytes rest ↔ Self.gives raw n bytes rest };
+    ghost plain: { (raw : List ℕ) (n : ℕ) (bytes rest : List ℕ) →
+        Splits raw n bytes rest ↔ Self.gives raw n bytes rest };
 
-    ghost plain_refusals: { (raw : List ℕ) (n : ℕ) (kind : ErrorKind) → RunsShort raw n kind ↔ Self.refuses raw n kind };
+    ghost plain_refusals: { (raw : List ℕ) (n : ℕ) (kind : ErrorKind) →
+        RunsShort raw n kind ↔ Self.refuses raw n kind };
 }
 
 /// A sink of bytes: it takes whole chunks, or fails.

@@ -5,7 +5,8 @@ pub const STYLE: &str = "\
 body { margin: 16px 24px 48px; background: #fff; color: #222; font: 15px/1.45 system-ui, sans-serif; }
 h1 { margin: 24px 0 8px; font-size: 22px; overflow-wrap: anywhere; }
 h2 { flex: 0 0 100%; margin: 0 0 4px; font-size: 14px; font-weight: 600; overflow-wrap: anywhere; }
-.message { display: flex; flex-wrap: wrap; align-items: flex-start; column-gap: 20px; margin: 0 0 28px; padding: 14px 18px;
+.message { display: flex; flex-wrap: wrap; align-items: flex-start; column-gap: 20px; margin: 0 0 28px;
+  padding: 14px 18px;
   border: 1px solid #d5d9de; border-radius: 8px; }
 .large, .more { color: #666; }
 .more, p.refused { flex: 0 0 100%; }
@@ -24,11 +25,13 @@ p.refused { color: #c4001d; font-weight: 600; }
 .drawing { position: relative; flex: 0 1 var(--drawing-width); min-width: 0; overflow-x: auto; overflow-y: hidden; }
 h3 { box-sizing: border-box; height: var(--heading-height); margin: 0; padding-top: 10px;
   font-size: 13px; line-height: 24px; font-weight: 600; color: #555; }
-.segment { border-collapse: separate; border-spacing: var(--column-gap) var(--row-gap); margin: 0 0 0 calc(0px - var(--column-gap)); }
+.segment { border-collapse: separate; border-spacing: var(--column-gap) var(--row-gap);
+  margin: 0 0 0 calc(0px - var(--column-gap)); }
 .segment th, .segment td { box-sizing: border-box; height: var(--cell-height); padding: 0; white-space: nowrap;
   font: 13px/24px ui-monospace, 'DejaVu Sans Mono', Menlo, Consolas, monospace; }
 .segment th { min-width: var(--number-width); text-align: right; color: #8a929b; font-weight: 400; }
-.segment td { min-width: var(--cell-width); max-width: var(--cell-width); overflow: hidden; text-align: center; border-radius: 3px;
+.segment td { min-width: var(--cell-width); max-width: var(--cell-width); overflow: hidden; text-align: center;
+  border-radius: 3px;
   background: var(--fill); border: 1px solid transparent; }
 .segment td a { color: inherit; text-decoration: none; }
 .segment td a:hover { text-decoration: underline; }
@@ -41,10 +44,12 @@ h3 { box-sizing: border-box; height: var(--heading-height); margin: 0; padding-t
 .segment td.null { font-weight: 400; opacity: 0.6; }
 .segment td.refused { background: #ffdcdc; border-color: #c4001d; color: #c4001d; opacity: 1; }
 .segment svg { position: absolute; left: 0; top: 0; width: 1px; height: 1px; overflow: visible; pointer-events: none; }
-.segment path { fill: none; stroke: var(--line); stroke-width: 1.6; stroke-linejoin: round; stroke-linecap: round; pointer-events: stroke; }
+.segment path { fill: none; stroke: var(--line); stroke-width: 1.6; stroke-linejoin: round; stroke-linecap: round;
+  pointer-events: stroke; }
 .drawing:has(a:hover, a:focus) path { opacity: 0.15; }
 .drawing a:is(:hover, :focus) path { stroke-width: 3.2; opacity: 1; }
-.objects { flex: 1 1 280px; min-width: 0; position: sticky; top: 8px; box-sizing: border-box; max-height: calc(100vh - 16px); overflow-y: auto;
+.objects { flex: 1 1 280px; min-width: 0; position: sticky; top: 8px; box-sizing: border-box;
+  max-height: calc(100vh - 16px); overflow-y: auto;
   margin: 34px 0 0; padding-left: 48px; font: 13px/1.6 ui-monospace, 'DejaVu Sans Mono', Menlo, Consolas, monospace; }
 .objects li { margin: 3px 0; padding: 0 8px; width: fit-content; border-left: 4px solid var(--line);
   background: var(--fill); overflow-wrap: anywhere; }

@@ -132,9 +132,11 @@ fn with_row(reach: Reach, data_words: usize, extent: Extent) -> Reach
 pub(crate) fn kept_by_each<S: StructSource>(items: &S, canonical: bool) -> KeptWords
     requires { S.Value.size < 2 ^ 16 }
     ensures words { (children : Trees) → AreRows (S.has_trees items.now) (S.items items.now) children →
-        result.data_words ≡ element_data canonical S.Value.data_words (map (S.words items.now) (S.items items.now)) }
+        result.data_words ≡ element_data canonical S.Value.data_words
+        (map (S.words items.now) (S.items items.now)) }
     ensures pointers { (children : Trees) → AreRows (S.has_trees items.now) (S.items items.now) children →
-        result.pointers ≡ element_pointers canonical S.Value.size (map (S.words items.now) (S.items items.now)) children }
+        result.pointers ≡ element_pointers canonical S.Value.size
+        (map (S.words items.now) (S.items items.now)) children }
 {
     if !canonical {
         return KeptWords {

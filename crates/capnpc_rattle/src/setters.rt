@@ -203,7 +203,8 @@ fn float_call(
     } else {
         ("u64", "")
     };
+    let set = "self.draft.set_data_field_mask";
     format!(in alloc;
-        "let bits = PrimitiveElement::to_bits(value){all};\nself.draft.set_data_field_mask::<{bits}>({offset}, bits, {default});"
+        "let bits = PrimitiveElement::to_bits(value){all};\n{set}::<{bits}>({offset}, bits, {default});"
     )
 }

@@ -35,7 +35,11 @@ impl<A: Allocator> Model for BuilderArena<A> {
 
     ghost Value = { Built A };
 
-    ghost view = { λ arena. record { spaces = arena.segments.spaces; location = arena.location; allocator = arena.segments.allocator } };
+    ghost view = { λ arena. record {
+      spaces = arena.segments.spaces;
+      location = arena.location;
+      allocator = arena.segments.allocator;
+    } };
 
     ghost invariant = { λ arena. IsBuilt arena.segments.spaces arena.location };
 }
@@ -170,7 +174,8 @@ impl<A: Allocator> BuilderArena<A> {
 
     /// A fact for callers: there is a tree at the root.
     pub fn root_stands(&self)
-        ensures { 0 < length self.now.spaces → (form : Form) × (children : Trees) × (traversed : ℕ) × At (message self.now.spaces) (root ∷ []) (tree form children none) traversed }
+        ensures { 0 < length self.now.spaces → (form : Form) × (children : Trees) × (traversed : ℕ)
+            × At (message self.now.spaces) (root ∷ []) (tree form children none) traversed }
     {
         // For the prover: reading a field brings in the invariant, which says this.
         let location = self.location;

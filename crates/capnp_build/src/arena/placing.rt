@@ -22,13 +22,18 @@ impl<A: Allocator> BuilderArena<A> {
         requires there { 0 < length self.old.spaces }
         requires null { self.old.location ≡ None }
         requires few { words ≤ 2 ^ 29 }
-        ensures found { IfOk result (λ segment. (0 < segment) × (segment < length self.new.spaces) × (words ≤ free_words_of (space_at self.new.spaces segment))) }
-        ensures first { IfOk result (λ segment. (i : ℕ) → 0 < i → i < segment → free_words_of (space_at self.old.spaces i) < words) }
-        ensures older { IfOk result (λ segment. segment < length self.old.spaces → self.new.spaces ≡ self.old.spaces) }
-        ensures newer { IfOk result (λ segment. length self.old.spaces ≤ segment → (segment ≡ length self.old.spaces) × IsAdded self.old.spaces self.new.spaces) }
+        ensures found { IfOk result (λ segment. (0 < segment) × (segment < length self.new.spaces)
+            × (words ≤ free_words_of (space_at self.new.spaces segment))) }
+        ensures first { IfOk result (λ segment. (i : ℕ) → 0 < i → i < segment →
+            free_words_of (space_at self.old.spaces i) < words) }
+        ensures older { IfOk result (λ segment. segment < length self.old.spaces →
+            self.new.spaces ≡ self.old.spaces) }
+        ensures newer { IfOk result (λ segment. length self.old.spaces ≤ segment →
+            (segment ≡ length self.old.spaces) × IsAdded self.old.spaces self.new.spaces) }
         ensures leaves { LeavesNull A.Allocator self.old self.new }
         ensures kept { OnErr result (self.new.spaces ≡ self.old.spaces) }
-        ensures full { OnErr result ((i : ℕ) → 0 < i → i < length self.old.spaces → free_words_of (space_at self.old.spaces i) < words) }
+        ensures full { OnErr result ((i : ℕ) → 0 < i → i < length self.old.spaces →
+            free_words_of (space_at self.old.spaces i) < words) }
         ensures kind { IfErr result (λ error. LacksSegment A.Allocator (state_of self.old) words error.kind) }
         ensures taken { IfErr result (λ error. error.kind ≡ SegmentTaken → (others : List Out) →
             A.out self.old.allocator (pairs self.old.spaces others) →
@@ -49,7 +54,8 @@ impl<A: Allocator> BuilderArena<A> {
         requires null { self.old.location ≡ None }
         requires value { HasWords (V.has_tree value.now) canonical words }
         requires room { words ≤ free_words_of (space_at self.old.spaces 0) }
-        ensures whole { length self.old.spaces ≡ 1 → length (space_at self.old.spaces 0).used ≡ 8 → IsWhole (V.has_tree value.now) canonical self.new.spaces }
+        ensures whole { length self.old.spaces ≡ 1 → length (space_at self.old.spaces 0).used ≡ 8 →
+            IsWhole (V.has_tree value.now) canonical self.new.spaces }
         ensures block { PlacesBlock A.Allocator (V.has_tree value.now) canonical 0 0 words
             self.old self.new }
     {

@@ -22,7 +22,9 @@ impl<A: Allocator> BuilderArena<A> {
         &'a mut self,
         n: u32,
     ) -> Result<View<'a, BuilderArena<A>, K>>
-        ensures* rests { sem 𝓛 (RestsIfErr (the_row A.row A.Segment.row A.Allocator A.Segment.SegmentSpace) self.entry (λ view. view.message.ghost_name) result
+        ensures* rests { sem 𝓛 (RestsIfErr
+            (the_row A.row A.Segment.row A.Allocator A.Segment.SegmentSpace) self.entry
+            (λ view. view.message.ghost_name) result
             (λ last. IsCleared A.Allocator self.old last)) }
         ensures inits { InitsView A.Allocator K.OwnedBuilder n (λ arena. arena)
             (λ view. view.message) self.entry result }
@@ -34,7 +36,9 @@ impl<A: Allocator> BuilderArena<A> {
     /// Makes the root a new object of length 0, and returns a view that writes it. Fails as
     /// `initn_root` does.
     pub fn init_root<'a, K: OwnedBuilder>(&'a mut self) -> Result<View<'a, BuilderArena<A>, K>>
-        ensures* rests { sem 𝓛 (RestsIfErr (the_row A.row A.Segment.row A.Allocator A.Segment.SegmentSpace) self.entry (λ view. view.message.ghost_name) result
+        ensures* rests { sem 𝓛 (RestsIfErr
+            (the_row A.row A.Segment.row A.Allocator A.Segment.SegmentSpace) self.entry
+            (λ view. view.message.ghost_name) result
             (λ last. IsCleared A.Allocator self.old last)) }
         ensures inits { InitsView A.Allocator K.OwnedBuilder 0 (λ arena. arena)
             (λ view. view.message) self.entry result }
@@ -56,7 +60,9 @@ impl<A: Allocator> BuilderArena<A> {
     /// The object at the root, as a view that writes it. Fails as `accept_root` does, and the root
     /// stays as it is.
     pub fn get_root<'a, K: OwnedBuilder>(&'a mut self) -> Result<View<'a, BuilderArena<A>, K>>
-        ensures* rests { sem 𝓛 (RestsIfErr (the_row A.row A.Segment.row A.Allocator A.Segment.SegmentSpace) self.entry (λ view. view.message.ghost_name) result
+        ensures* rests { sem 𝓛 (RestsIfErr
+            (the_row A.row A.Segment.row A.Allocator A.Segment.SegmentSpace) self.entry
+            (λ view. view.message.ghost_name) result
             (λ last. IsLookedAt A.Allocator self.old last)) }
         ensures gets { GetsView A.Allocator K.OwnedBuilder (λ arena. arena)
             (λ view. view.message) self.entry result }

@@ -89,39 +89,23 @@ pub(crate) fn copy_target<S: ReaderSegments, T: BlockItem>(
     if let Some(pointer) = null_or_empty_struct(segment, place.word, nesting) {
         return Copied { pointer, next };
     }
-    if let Some(found) = local_struct(segment, place, nesting) {
-        let left = match begin_struct(&found, canonical, block, following, next) {
+    let (owner, left) = if let Some(found) = local_struct(segment, place, nesting) {
+        match begin_struct(&found, canonical, block, following, next) {
             StructCopy::Whole(copied) => return copied,
-            StructCopy::Pending(left) => left,
-        };
-        let free = copy_run(
-            segments,
-            found.segment,
-            left.first,
-            left.count,
-            nesting - 1,
-            canonical,
-            block,
-            left.slot,
-            left.next,
-        );
-        return Copied {
-            pointer: left.pointer,
-            next: free,
-        };
-    }
-    if let Some(list) = local_list(segment, place, nesting) {
+            StructCopy::Pending(left) => (found.segment, left),
+        }
+    } else if let Some(list) = local_list(segment, place, nesting) {
         return copy_list(&list, block, following, next);
-    }
-    let Some(list) = local_pointers(segment, place, nesting) else {
+    } else if let Some(list) = local_pointers(segment, place, nesting) {
+        (list.segment, begin_list(&list, following, next))
+    } else {
         return copy_object(
             segments, segment, place, nesting, canonical, block, following, next,
         );
     };
-    let left = begin_list(&list, following, next);
     let free = copy_run(
         segments,
-        list.segment,
+        owner,
         left.first,
         left.count,
         nesting - 1,

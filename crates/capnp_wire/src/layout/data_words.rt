@@ -33,18 +33,13 @@ pub(crate) fn put_data_words<T: BlockItem>(
         next (T.as_words block.old) }
     ensures len { length (T.as_words block.new) ≡ length (T.as_words block.old) }
 {
+    let segment = object.segment;
     let start = object.start.word;
     match copied {
-        Body::Struct(size) => put_words(
-            block,
-            next,
-            object.segment,
-            start,
-            size.data_words as usize,
-        ),
+        Body::Struct(size) => put_words(block, next, segment, start, size.data_words as usize),
         Body::Numbers(size, count) => {
             let list = NumberList {
-                segment: object.segment,
+                segment,
                 start: object.start,
                 size,
                 count,
@@ -68,7 +63,7 @@ pub(crate) fn put_data_words<T: BlockItem>(
                     block,
                     next + 1,
                     elements,
-                    object.segment,
+                    segment,
                     start + 1,
                     from.size.words() as usize,
                 );

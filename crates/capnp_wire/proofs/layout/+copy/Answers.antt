@@ -3,6 +3,7 @@ use Rattle.std.proofs.Common.{arith}
 use Rattle.capnp_wire.proofs.layouts.CopyLemmas.{copying_first, copying_next, copying_ends}
 use Rattle.capnp_wire.proofs.layouts.CopiedLemmas.{copyable}
 use Rattle.capnp_wire.proofs.pointers.EmptyStructLemmas.{null_or_empty_copied}
+use Rattle.capnp_wire.proofs.layout.+copy.Goals.{copy::copy_target-in-Some-local_struct+in-Pending, copy::copy_target-in_default-local_struct+in_default-local_list+in-Some-local_pointers}
 use Rattle.capnp_wire.proofs.layout.+copy.Goals as goal
 
 pub copy::copy_target-returns-in-Some-clause-copied : goal.copy::copy_target-returns-in-Some-clause-copied
@@ -38,24 +39,26 @@ pub copy::copy_target-returns-in-Whole-clause-copied : goal.copy::copy_target-re
 copy::copy_target-returns-in-Whole-clause-copied g t c = c.in-Whole.ensures.begun _ _ _ c.requires.there (c.in-Some-local_struct.ensures _ c.requires.content).0
 
 pub copy::copy_target-copy_run-free-requires : goal.copy::copy_target-copy_run-free-requires
-copy::copy_target-copy_run-free-requires g t c κs within =
-    let local = c.in-Some-local_struct.ensures _ c.requires.content in
-    let b = c.in-Pending.ensures.begun _ _ _ c.requires.there local.0 in
-    (omega (arith, local.1), (within.0, (within.1, (b.bound, (b.begins.there, (λ _. b.content, (b.before, omega (arith, c.begin_struct.ensures.len, c.requires.small))))))))
-
-pub copy::copy_target-returns-in-Some-local_struct-clause-copied : goal.copy::copy_target-returns-in-Some-local_struct-clause-copied
-copy::copy_target-returns-in-Some-local_struct-clause-copied g t c =
-    (c.in-Pending.ensures.begun _ _ _ c.requires.there (c.in-Some-local_struct.ensures _ c.requires.content).0).begins.ends _ _ c.copy_run-free.ensures.copied
+copy::copy_target-copy_run-free-requires g t c κs within = elim c.match-local_struct.branch [
+  | copy::copy_target-in-Some-local_struct+in-Pending w ↦
+      let local = w.in-Some-local_struct.ensures _ c.requires.content in
+      let b = w.in-Pending.ensures.begun _ _ _ c.requires.there local.0 in
+      rw w.t-21-is (rw w.block-is (omega (arith, local.1), (within.0, (within.1, (b.bound, (b.begins.there, (λ _. b.content, (b.before, omega (arith, w.begin_struct.ensures.len, c.requires.small)))))))))
+  | copy::copy_target-in_default-local_struct+in_default-local_list+in-Some-local_pointers w ↦
+      let local = w.in-Some-local_pointers.ensures _ c.requires.content in
+      let b = w.begin_list.ensures _ _ _ c.args.canonical _ c.requires.there local.0 in
+      rw w.t-21-is (rw w.block-is (omega (arith, local.1), (within.0, (within.1, (b.bound, (b.begins.there, (λ _. b.content, (b.before, c.requires.small))))))))
+]
 
 pub copy::copy_target-returns-in-Some-local_list-clause-copied : goal.copy::copy_target-returns-in-Some-local_list-clause-copied
 copy::copy_target-returns-in-Some-local_list-clause-copied g t c = c.copy_list.ensures.copied _ _ _ _ c.requires.there (c.in-Some-local_list.ensures _ c.requires.content).0
 
-pub copy::copy_target-copy_run-free-requires-2 : goal.copy::copy_target-copy_run-free-requires-2
-copy::copy_target-copy_run-free-requires-2 g t c κs within =
-    let local = c.in-Some-local_pointers.ensures _ c.requires.content in
-    let b = c.begin_list-left.ensures _ _ _ c.args.canonical _ c.requires.there local.0 in
-    (omega (arith, local.1), (within.0, (within.1, (b.bound, (b.begins.there, (λ _. b.content, (b.before, c.requires.small)))))))
-
 pub copy::copy_target-returns-clause-copied : goal.copy::copy_target-returns-clause-copied
-copy::copy_target-returns-clause-copied g t c =
-    (c.begin_list-left.ensures _ _ _ c.args.canonical _ c.requires.there (c.in-Some-local_pointers.ensures _ c.requires.content).0).begins.ends _ _ c.copy_run-free-2.ensures.copied
+copy::copy_target-returns-clause-copied g t c = elim c.match-local_struct.branch [
+  | copy::copy_target-in-Some-local_struct+in-Pending w ↦
+      rw w.t-21-is ((w.in-Pending.ensures.begun _ _ _ c.requires.there (w.in-Some-local_struct.ensures _ c.requires.content).0).begins.ends _ _
+      (rw w.t-21-is at (rw w.block-is at c.copy_run-free.ensures.copied)))
+  | copy::copy_target-in_default-local_struct+in_default-local_list+in-Some-local_pointers w ↦
+      rw w.t-21-is ((w.begin_list.ensures _ _ _ c.args.canonical _ c.requires.there (w.in-Some-local_pointers.ensures _ c.requires.content).0).begins.ends _ _
+      (rw w.t-21-is at (rw w.block-is at c.copy_run-free.ensures.copied)))
+]

@@ -103,13 +103,13 @@ walk_pointers-returns-in_err-parent-clause-refused g t c = passed_on _ _ c.from_
 
 pub walk_pointers-children-init : goal.walk_pointers-children-init
 walk_pointers-children-init g t c =
-    let parent = rw c.in-Some.is at c.in_ok-parent.ensures.found in going_begins (λ some. rw c.rows-below.ensures.segment parent.0.enters.content)
+    let parent = rw c.in-Some.is at c.in_ok-parent.ensures.found in going_begins (λ some. rw c.slots-below.ensures.segment parent.0.enters.content)
 
 pub walk_pointers-returns-in_err-child-clause-refused : goal.walk_pointers-returns-in_err-child-clause-refused
 walk_pointers-returns-in_err-child-clause-refused g t c =
     let parent = rw c.in-Some.is at c.in_ok-parent.ensures.found in
     passed_on _ _ c.from_residual-in_err-child.ensures.1
-    (parent_stops c.parents.invariant.progress parent.0 c.rows-below.ensures.places (progress_stopped c.children.invariant.progress c.in_err-child.ensures.refused))
+    (parent_stops c.parents.invariant.progress parent.0 c.slots-below.ensures.places (progress_stopped c.children.invariant.progress c.in_err-child.ensures.refused))
 
 pub walk_pointers-children-preserved : goal.walk_pointers-children-preserved
 walk_pointers-children-preserved g t c =
@@ -121,9 +121,9 @@ walk_pointers-returns-in_err-walk_run-clause-refused g t c =
     let parent = rw c.in-Some.is at c.in_ok-parent.ensures.found in
     let child = rw c.in-Some-2.is at c.in_ok-child.ensures.found in
     passed_on _ _ c.from_residual-in_err-walk_run.ensures.1
-    (parent_stops c.parents.invariant.progress parent.0 c.rows-below.ensures.places (parent_stops c.children.invariant.progress child.0 refl c.in_err-walk_run.ensures.refused))
+    (parent_stops c.parents.invariant.progress parent.0 c.slots-below.ensures.places (parent_stops c.children.invariant.progress child.0 refl c.in_err-walk_run.ensures.refused))
 
 pub walk_pointers-parents-preserved : goal.walk_pointers-parents-preserved
 walk_pointers-parents-preserved g t c =
     let parent = rw c.in-Some.is at c.in_ok-parent.ensures.found in
-    going_below c.parents.invariant parent.0 parent.1 c.rows-below.ensures.places (going_done c.children.invariant (rw c.in_default-2.is at c.in_ok-child.ensures.found))
+    going_below c.parents.invariant parent.0 parent.1 c.slots-below.ensures.places (going_done c.children.invariant (rw c.in_default-2.is at c.in_ok-child.ensures.found))
