@@ -6,4 +6,5 @@ mod arenas;
 mod asked;
 mod builders;
 mod given_back;
+mod long_lists;
 mod views;

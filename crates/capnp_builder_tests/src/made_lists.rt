@@ -53,10 +53,10 @@ type AfterNames<'a> = Field<struct_list::Owned, Phones<'a>, NoFields>;
 
 type Person<'a> = StructValue<1, Field<text_list::Owned, Texts<'a>, AfterNames<'a>>>;
 
-// The texts of a list.
+/// The texts of a list.
 #[derive(Drop)]
-struct Names<'a> {
-    names: &'a [&'a str],
+pub(crate) struct Names<'a> {
+    pub(crate) names: &'a [&'a str],
 }
 
 impl<'a> ValueSource<text::Owned> for Names<'a> {
@@ -81,17 +81,17 @@ impl<'a> ValueSource<text::Owned> for Names<'a> {
     }
 }
 
-// What a phone is made of.
+/// What a phone is made of.
 #[derive(Clone, Copy)]
-struct PhoneEntry<'a> {
-    number: &'a str,
-    kind: u64,
+pub(crate) struct PhoneEntry<'a> {
+    pub(crate) number: &'a str,
+    pub(crate) kind: u64,
 }
 
-// The phones of a list.
+/// The phones of a list.
 #[derive(Drop)]
-struct Entries<'a> {
-    entries: &'a [PhoneEntry<'a>],
+pub(crate) struct Entries<'a> {
+    pub(crate) entries: &'a [PhoneEntry<'a>],
 }
 
 impl<'a> StructSource for Entries<'a> {

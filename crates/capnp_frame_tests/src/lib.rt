@@ -25,6 +25,7 @@ mod large;
 #[cfg(test)]
 mod lengths;
 pub mod limits;
+pub mod long_lists;
 #[cfg(test)]
 mod memory;
 pub mod messages;

@@ -6,6 +6,7 @@ mod canonical_words;
 mod empty_structs;
 mod fields;
 mod lists;
+mod long_lists;
 mod numbers;
 mod objects;
 mod pointer_words;

@@ -3,6 +3,7 @@
 mod callers;
 mod drafts;
 mod examples;
+mod long_lists;
 mod read_lists;
 mod rows;
 mod schema_types;

@@ -9,7 +9,7 @@ use std::io;
 /// Gives a few of its bytes a read. Its first reads are interrupted, and the read `bad_read`,
 /// counted from 1, fails.
 #[derive(Drop)]
-struct ChoppyReader<'a> {
+pub struct ChoppyReader<'a> {
     text: &'a [u8],
     most: usize,
     interruptions: u64,
@@ -18,7 +18,7 @@ struct ChoppyReader<'a> {
     longest: usize,
 }
 
-fn giving(text: &[u8], most: usize, interruptions: u64, bad_read: u64) -> ChoppyReader<'_> {
+pub fn giving(text: &[u8], most: usize, interruptions: u64, bad_read: u64) -> ChoppyReader<'_> {
     ChoppyReader {
         text,
         most,

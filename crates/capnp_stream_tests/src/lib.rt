@@ -11,6 +11,8 @@ mod built_and_read;
 #[cfg(test)]
 mod built_messages;
 #[cfg(test)]
+mod calls;
+#[cfg(test)]
 mod calls_declared;
 #[cfg(test)]
 mod canonical_texts;

@@ -1,5 +1,8 @@
 //! Messages with their two encodings.
 use crate::framed_rows::HELLO_FAR_SEGMENTS;
+use capnp::streams::Format;
+use capnp_frame::Result;
+use capnp_frame_tests::long_lists::{append, append_packed};
 
 /// A message and its encodings.
 #[derive(Clone, Copy)]
@@ -75,3 +78,11 @@ pub const FAR: Sample = Sample {
 };
 
 pub const SAMPLES: [Sample; 4] = [TWO_SEGMENTS, FLATTEN, HELLO, FAR];
+
+/// Appends a word that has a zero byte, and after which no word is zero.
+pub fn append_word(stream: &mut Vec<u8>, format: Format, word: u64) -> Result<()> {
+    match format {
+        Format::Framed => append(stream, word),
+        Format::Packed => append_packed(stream, word),
+    }
+}

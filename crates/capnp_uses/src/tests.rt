@@ -11,6 +11,7 @@ mod examples;
 mod fixtures;
 mod large_limits;
 mod large_messages;
+mod large_trees;
 mod long_inputs;
 mod message_streams;
 mod other_options;

@@ -130,7 +130,7 @@ fn read_back(rt: &(impl Abort + AllocGlobal), segment: &[u8]) -> Result<()> {
     unpack(rt, &packed, &framed)
 }
 
-fn framed_text(alloc: Global, segment: &[u8]) -> Result<Vec<u8>> {
+pub(crate) fn framed_text(alloc: Global, segment: &[u8]) -> Result<Vec<u8>> {
     let mut framed = ((segment.len() as u64 / 8) << 32)
         .to_le_bytes()
         .to_vec(alloc)?;
@@ -138,7 +138,7 @@ fn framed_text(alloc: Global, segment: &[u8]) -> Result<Vec<u8>> {
     Ok(framed)
 }
 
-fn pack(rt: &(impl Abort + AllocGlobal), framed: &[u8]) -> Result<Vec<u8>> {
+pub(crate) fn pack(rt: &(impl Abort + AllocGlobal), framed: &[u8]) -> Result<Vec<u8>> {
     let (packed, left) = transcoded(rt.alloc(), Way::Pack, framed)?;
     assert!(rt; left == 0);
     Ok(packed)
@@ -158,7 +158,11 @@ fn has_data<S: ReaderSegments>(reader: &Reader<S>, segment: &[u8]) -> Result<boo
     Ok(segment.ends_with(bytes) && bytes.len().saturating_add(8) == segment.len())
 }
 
-fn read_framed(rt: &(impl Abort + AllocGlobal), framed: &[u8], segment: &[u8]) -> Result<()> {
+pub(crate) fn read_framed(
+    rt: &(impl Abort + AllocGlobal),
+    framed: &[u8],
+    segment: &[u8],
+) -> Result<()> {
     let mut source = framed;
     let read = serialize::read_message(rt.alloc(), &mut source, DEFAULT_READER_OPTIONS)?;
     assert!(rt; holds(&read, segment));
@@ -185,7 +189,11 @@ fn read_slice(rt: &(impl Abort + AllocGlobal), framed: &[u8], segment: &[u8]) ->
     Ok(())
 }
 
-fn read_packed(rt: &(impl Abort + AllocGlobal), packed: &[u8], segment: &[u8]) -> Result<()> {
+pub(crate) fn read_packed(
+    rt: &(impl Abort + AllocGlobal),
+    packed: &[u8],
+    segment: &[u8],
+) -> Result<()> {
     let mut source = packed;
     let options = DEFAULT_READER_OPTIONS;
     let read = serialize_packed::read_message(rt.alloc(), &mut source, options)?;
@@ -206,7 +214,7 @@ fn read_packed_in_room(
     Ok(())
 }
 
-fn unpack(rt: &(impl Abort + AllocGlobal), packed: &[u8], framed: &[u8]) -> Result<()> {
+pub(crate) fn unpack(rt: &(impl Abort + AllocGlobal), packed: &[u8], framed: &[u8]) -> Result<()> {
     let (back, _) = transcoded(rt.alloc(), Way::Unpack, packed)?;
     assert!(rt; back.as_slice() == framed);
     Ok(())
@@ -226,7 +234,7 @@ fn canonicalize(rt: &(impl Abort + AllocGlobal), segment: &[u8]) -> Result<()> {
 }
 
 // Whether the first segment is this one.
-fn stands(message: &Builder<HeapAllocator>, segment: &[u8]) -> bool {
+pub(crate) fn stands(message: &Builder<HeapAllocator>, segment: &[u8]) -> bool {
     match message.get_segment(0) {
         Some(first) => first == segment,
         None => false,

@@ -1,0 +1,230 @@
+//! Lists of 5,005 elements, each told from the others by its index, that are set by values and by
+//! lists that were read, and objects of as many parts that are written in place.
+use crate::fixtures::expect;
+use crate::made_lists::{Entries, Names, PhoneEntry};
+use capnp_build::{any_struct, data, primitive_list};
+use capnp_frame::Result;
+use capnp_frame::message::{ReaderSegments, SegmentArray};
+use capnp_frame_tests::long_lists::{
+    MANY, Numbered, Texts, digits, list_of_bits, list_of_nothings, list_of_numbers,
+    list_of_structs, list_of_texts, number,
+};
+use capnp_message::{Builder, HeapAllocator};
+use capnp_object_tests::arenas::{plain_arena, root_as};
+use capnp_values::{
+    Borrowed, Field, LazyPointerList, LazyStructList, NoFields, NumberList, PointerList,
+    StructList, StructValue,
+};
+use capnp_wire::primitive_element::PrimitiveElement;
+use capnp_wire::traits::SetterInput;
+use capnp_wire::{struct_list, text, text_list};
+use std::alloc::Global;
+use std::process::Abort;
+use std::str::from_utf8;
+
+// A message whose first segment has room for each of these lists.
+fn large_message(alloc: Global) -> Builder<HeapAllocator> {
+    let heap = HeapAllocator::new(alloc).first_segment_words(1 << 15);
+    Builder::new(alloc, heap)
+}
+
+fn has_segment(message: &Builder<HeapAllocator>, wanted: &[u8]) -> bool {
+    match message.get_segment(0) {
+        Some(segment) => segment == wanted,
+        None => false,
+    }
+}
+
+// A root that is set to a value is this segment, as it is and in canonical form.
+fn expect_set<T, V: SetterInput<T>>(
+    rt: &(impl Abort + AllocGlobal),
+    row: &str,
+    value: &V,
+    segment: &[u8],
+) -> Result<()> {
+    let mut message = large_message(rt.alloc());
+    message.set_root::<T, Borrowed<'_, V>>(Borrowed::new(value))?;
+    let mut form = large_message(rt.alloc());
+    form.set_root_canonical::<T, Borrowed<'_, V>>(Borrowed::new(value))?;
+    let found = [has_segment(&message, segment), has_segment(&form, segment)];
+    expect(rt, row, found, [true, true]);
+    Ok(())
+}
+
+// Numbers that stand in a row, and the list of them that is read of the segment.
+fn expect_numbers<N: PrimitiveElement + Numbered + Copy>(
+    rt: &(impl Abort + AllocGlobal),
+    row: &str,
+    segment: &[u8],
+) -> Result<()> {
+    let mut all: Vec<N> = Vec::new(rt.alloc());
+    for index in 0..MANY {
+        all.push(N::at(index))?;
+    }
+    let list = NumberList::new(&all);
+    expect_set::<capnp_wire::primitive_list::Owned<N>, NumberList<'_, N>>(rt, row, &list, segment)?;
+    let segments = [segment];
+    let arena = plain_arena(&segments);
+    let read: capnp_wire::primitive_list::Reader<'_, N> = root_as(&arena)?;
+    expect_set::<capnp_wire::primitive_list::Owned<N>, capnp_wire::primitive_list::Reader<'_, N>>(
+        rt, row, &read, segment,
+    )
+}
+
+#[test]
+fn long_lists_of_numbers(rt: HostRuntime) -> Result<()> {
+    let alloc = rt.alloc();
+    expect_numbers::<()>(&rt, "nothing", &list_of_nothings(alloc, MANY)?)?;
+    expect_numbers::<bool>(&rt, "bools", &list_of_bits(alloc, MANY)?)?;
+    expect_numbers::<u8>(&rt, "bytes", &list_of_numbers(alloc, 1, MANY)?)?;
+    expect_numbers::<i16>(&rt, "two bytes", &list_of_numbers(alloc, 2, MANY)?)?;
+    expect_numbers::<u32>(&rt, "four bytes", &list_of_numbers(alloc, 4, MANY)?)?;
+    expect_numbers::<u64>(&rt, "words", &list_of_numbers(alloc, 8, MANY)?)
+}
+
+// The digits of all texts, one after the other.
+fn all_digits(alloc: Global) -> Result<Vec<u8>> {
+    let mut bytes: Vec<u8> = Vec::new(alloc);
+    for index in 0..MANY {
+        bytes.extend_from_slice(&digits(index))?;
+    }
+    Ok(bytes)
+}
+
+fn names_in(alloc: Global, bytes: &[u8]) -> Result<Vec<&str>> {
+    let mut names = Vec::new(alloc);
+    for part in bytes.chunks(7) {
+        if let Ok(name) = from_utf8(part) {
+            names.push(name)?;
+        }
+    }
+    Ok(names)
+}
+
+type Strings<'a> = PointerList<'a, text::Owned, &'a str>;
+
+type LazyStrings<'a> = LazyPointerList<text::Owned, Names<'a>>;
+
+type ReadTexts<'a> = text_list::Reader<'a, SegmentArray<'a>>;
+
+#[test]
+fn long_lists_of_texts(rt: HostRuntime) -> Result<()> {
+    let bytes = all_digits(rt.alloc())?;
+    let names = names_in(rt.alloc(), &bytes)?;
+    let segment = list_of_texts(rt.alloc(), Texts::After, MANY)?;
+    let list = PointerList::new(&names);
+    expect_set::<text_list::Owned, Strings<'_>>(&rt, "texts", &list, &segment)?;
+    let list = LazyPointerList::new(Names { names: &names });
+    expect_set::<text_list::Owned, LazyStrings<'_>>(&rt, "made texts", &list, &segment)?;
+    let other = list_of_texts(rt.alloc(), Texts::Before, MANY)?;
+    let segments = [other.as_slice()];
+    let arena = plain_arena(&segments);
+    let read: ReadTexts<'_> = root_as(&arena)?;
+    expect_set::<text_list::Owned, ReadTexts<'_>>(&rt, "read texts", &read, &segment)
+}
+
+type Named<'a> = StructValue<1, Field<text::Owned, &'a str, NoFields>>;
+
+type ReadStructs<'a> = struct_list::Reader<'a, SegmentArray<'a>>;
+
+// Structs of a number and a text, and what such structs are made of.
+fn rows_of<'a>(alloc: Global, names: &[&'a str]) -> Result<(Vec<Named<'a>>, Vec<PhoneEntry<'a>>)> {
+    let mut values = Vec::new(alloc);
+    let mut entries = Vec::new(alloc);
+    for (index, name) in (0..MANY).zip(names) {
+        let kind = number(index);
+        values.push(StructValue::new([kind], Field::new(*name, NoFields)))?;
+        entries.push(PhoneEntry {
+            number: *name,
+            kind,
+        })?;
+    }
+    Ok((values, entries))
+}
+
+#[test]
+fn long_lists_of_structs(rt: HostRuntime) -> Result<()> {
+    let bytes = all_digits(rt.alloc())?;
+    let names = names_in(rt.alloc(), &bytes)?;
+    let (values, entries) = rows_of(rt.alloc(), &names)?;
+    let segment = list_of_structs(rt.alloc(), Texts::After, MANY)?;
+    let list = StructList::new(&values);
+    expect_set::<struct_list::Owned, StructList<'_, Named<'_>>>(&rt, "structs", &list, &segment)?;
+    let list = LazyStructList::new(Entries { entries: &entries });
+    expect_set::<struct_list::Owned, LazyStructList<Entries<'_>>>(
+        &rt,
+        "made structs",
+        &list,
+        &segment,
+    )?;
+    let other = list_of_structs(rt.alloc(), Texts::Before, MANY)?;
+    let segments = [other.as_slice()];
+    let arena = plain_arena(&segments);
+    let read: ReadStructs<'_> = root_as(&arena)?;
+    expect_set::<struct_list::Owned, ReadStructs<'_>>(&rt, "read structs", &read, &segment)
+}
+
+// A list of numbers that are set one after another, and got.
+fn write_numbers(message: &mut Builder<HeapAllocator>) -> Result<bool> {
+    let mut list = message.initn_root::<primitive_list::Owned<u64>>(MANY)?;
+    for index in 0..MANY {
+        if index < list.len() {
+            list.set(index, number(index));
+        }
+    }
+    Ok(list.len() == MANY && (0..MANY).all(|index| list.get(index) == number(index)))
+}
+
+// A struct of as many words, whose segment differs from the list's in its root alone.
+fn write_words(message: &mut Builder<HeapAllocator>) -> Result<bool> {
+    let mut fields = message.initn_root::<any_struct::Owned>(MANY)?;
+    for index in 0..MANY as u16 {
+        if index < fields.data_words() {
+            fields.set_word(index, number(index as u32));
+        }
+    }
+    Ok((0..MANY as u16).all(|index| fields.get_word(index) == number(index as u32)))
+}
+
+fn write_bytes(message: &mut Builder<HeapAllocator>) -> Result<()> {
+    let mut bytes = message.initn_root::<data::Owned>(MANY)?;
+    for index in 0..MANY {
+        if index < bytes.len() {
+            bytes.set(index, u8::at(index));
+        }
+    }
+    Ok(())
+}
+
+#[test]
+fn long_objects_in_place(rt: HostRuntime) -> Result<()> {
+    let mut segment = list_of_numbers(rt.alloc(), 8, MANY)?;
+    let mut message = large_message(rt.alloc());
+    let got = write_numbers(&mut message)?;
+    expect(
+        &rt,
+        "numbers",
+        [got, has_segment(&message, &segment)],
+        [true, true],
+    );
+    // A struct of 5,005 data words and no pointers, right after its pointer.
+    assert!(rt; 8 <= segment.len());
+    segment[..8].copy_from_slice(&[0, 0, 0, 0, 0x8d, 0x13, 0, 0]);
+    let mut message = large_message(rt.alloc());
+    let got = write_words(&mut message)?;
+    expect(
+        &rt,
+        "words",
+        [got, has_segment(&message, &segment)],
+        [true, true],
+    );
+    let mut message = large_message(rt.alloc());
+    write_bytes(&mut message)?;
+    expect(
+        &rt,
+        "bytes",
+        has_segment(&message, &list_of_numbers(rt.alloc(), 1, MANY)?),
+        true,
+    );
+    Ok(())
+}

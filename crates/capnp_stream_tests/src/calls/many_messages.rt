@@ -1,0 +1,263 @@
+//! A stream of 1,005 messages, each told from the others by its words, by each call that reads the
+//! next one, and by those that go over a stream.
+use crate::assertions::{At, assert_bytes, assert_count, assert_holds};
+use crate::calls_declared::{assert_call, assert_unread};
+use crate::devices::giving;
+use crate::faults::FORMATS;
+use crate::flat::RULES;
+use crate::samples::append_word;
+use crate::streams::{Call, READERS, Wanted, is_returned};
+use crate::{framed, packed};
+use capnp::Way;
+use capnp::appended::read_messages;
+use capnp::devices::Input;
+use capnp::io::BufRead;
+use capnp::message::{DEFAULT_READER_OPTIONS, Reader};
+use capnp::serialize::{SegmentLengthsBuilder, try_skip_message_with_padding};
+use capnp::streams::{Format, MessageStream, every_message, write_each_message};
+use capnp_frame::message::ReaderSegments;
+use capnp_frame::serialize::{OwnedSegments, Padding};
+use capnp_frame::{Error, ErrorKind, Result};
+use capnp_frame_tests::limits::DEFAULT_LIMIT;
+use capnp_frame_tests::messages::shows;
+use std::alloc::Global;
+use std::process::Abort;
+
+const COUNT: u64 = 1005;
+
+// Message 1 has two segments of the word 1, message 2 three of the word 2, message 3 one of the
+// word 3, and so on. No word is zero, and each has a zero byte.
+fn segments_in(index: u64) -> usize {
+    match index % 3 {
+        0 => 1,
+        1 => 2,
+        _ => 3,
+    }
+}
+
+// The table: the number of segments less one, the length of each, a word, and zeros up to a word.
+fn append_message(stream: &mut Vec<u8>, format: Format, index: u64) -> Result<()> {
+    append_word(stream, format, 1 << 32 | index % 3)?;
+    match index % 3 {
+        0 => {}
+        1 => append_word(stream, format, 1)?,
+        _ => append_word(stream, format, 1 << 32 | 1)?,
+    }
+    for _ in 0..segments_in(index) {
+        append_word(stream, format, index)?;
+    }
+    Ok(())
+}
+
+fn stream_of(alloc: Global, format: Format) -> Result<Vec<u8>> {
+    let mut stream = Vec::new(alloc);
+    for index in 1..=COUNT {
+        append_message(&mut stream, format, index)?;
+    }
+    Ok(stream)
+}
+
+// Whether these are the segments of this message.
+fn is_message<S: ReaderSegments>(segments: &S, index: u64) -> bool {
+    let word = index.to_le_bytes();
+    let last_id = segments_in(index).saturating_sub(1).min(2) as u32;
+    let last = shows(segments, last_id, &word);
+    let first = shows(segments, 0, &word);
+    first && last && segments.len() == segments_in(index)
+}
+
+#[test]
+fn framed_readers_read_each_message(rt: HostRuntime) -> Result<()> {
+    read_by_each(&rt, Format::Framed)
+}
+
+#[test]
+fn packed_readers_read_each_message(rt: HostRuntime) -> Result<()> {
+    read_by_each(&rt, Format::Packed)
+}
+
+fn read_by_each(rt: &(impl Abort + AllocGlobal), format: Format) -> Result<()> {
+    let stream = stream_of(rt.alloc(), format)?;
+    for padding in &RULES {
+        for reader in &READERS {
+            read_each(rt, (format, *padding, *reader), &stream)?;
+        }
+    }
+    Ok(())
+}
+
+fn read_each(rt: &(impl Abort + AllocGlobal), call: Call, stream: &[u8]) -> Result<()> {
+    let mut source = stream;
+    for index in 1..=COUNT {
+        let word = index.to_le_bytes();
+        let all: [&[u8]; 3] = [&word, &word, &word];
+        let wanted = Wanted::Segments(&all[..segments_in(index).min(3)]);
+        let returned = is_returned(rt.alloc(), call, &mut source, DEFAULT_LIMIT, wanted)?;
+        assert_call(rt, returned, call, At::new("many messages", index));
+    }
+    let ended = is_returned(rt.alloc(), call, &mut source, DEFAULT_LIMIT, Wanted::End)?;
+    let at = At::row("their end");
+    assert_call(rt, ended, call, at);
+    assert_unread(rt, source.len(), 0, call, at);
+    Ok(())
+}
+
+// Into the memory of the message before, and by their lengths alone.
+#[test]
+fn each_message_is_read_into_kept_memory(rt: HostRuntime) -> Result<()> {
+    for format in &FORMATS {
+        let stream = stream_of(rt.alloc(), *format)?;
+        for padding in &RULES {
+            reuse(&rt, (*format, *padding), &stream)?;
+        }
+    }
+    let stream = stream_of(rt.alloc(), Format::Framed)?;
+    for padding in &RULES {
+        skip(&rt, *padding, &stream)?;
+    }
+    Ok(())
+}
+
+fn missing() -> Error {
+    Error::from_kind(ErrorKind::PrematureEndOfFile)
+}
+
+fn reuse(
+    rt: &(impl Abort + AllocGlobal),
+    (format, padding): (Format, Padding),
+    stream: &[u8],
+) -> Result<()> {
+    let options = DEFAULT_READER_OPTIONS;
+    let mut source = stream;
+    let mut kept = OwnedSegments::empty(rt.alloc());
+    for index in 1..=COUNT {
+        let found = match format {
+            Format::Framed => framed::next_segments_reusing(padding, &mut source, options, kept)?,
+            Format::Packed => packed::next_segments_reusing(padding, &mut source, options, kept)?,
+        };
+        let Some(segments) = found else {
+            return Err(missing());
+        };
+        assert_holds(
+            rt,
+            is_message(&segments, index),
+            At::new("kept memory", index),
+        );
+        kept = segments;
+    }
+    assert_count(rt, source.len(), 0, At::row("kept memory"));
+    Ok(())
+}
+
+// Skipped, each has as many segments as it has.
+fn skip(rt: &(impl Abort + AllocGlobal), padding: Padding, stream: &[u8]) -> Result<()> {
+    let options = DEFAULT_READER_OPTIONS;
+    let mut source = stream;
+    let mut kept = SegmentLengthsBuilder::empty(rt.alloc());
+    for index in 1..=COUNT {
+        let skipped = try_skip_message_with_padding(&mut source, padding, options, kept)?;
+        let Some(lengths) = skipped else {
+            return Err(missing());
+        };
+        let at = At::new("skipped", index);
+        assert_count(rt, lengths.segments_count(), segments_in(index), at);
+        assert_count(rt, lengths.total_words(), segments_in(index), at);
+        kept = lengths;
+    }
+    assert_count(rt, source.len(), 0, At::row("skipped"));
+    Ok(())
+}
+
+// Messages in order.
+fn assert_all(rt: &impl Abort, messages: &[Reader<OwnedSegments>], row: &str) {
+    assert_count(rt, messages.len(), COUNT as usize, At::row(row));
+    let mut index = 0u64;
+    for message in messages {
+        index = index.wrapping_add(1);
+        assert_holds(
+            rt,
+            is_message(message.get_segments(), index),
+            At::new(row, index),
+        );
+    }
+}
+
+// Over a slice, and over a device that gives seven bytes a read.
+#[test]
+fn calls_go_over_each_message(rt: HostRuntime) -> Result<()> {
+    for format in &FORMATS {
+        let stream = stream_of(rt.alloc(), *format)?;
+        for padding in &RULES {
+            read_all(&rt, (*format, *padding), &stream)?;
+            let mut device = giving(&stream, 7, 0, 0);
+            let input = Input::new(rt.alloc(), &mut device)?;
+            iterate(&rt, (*format, *padding), input)?;
+            iterate(&rt, (*format, *padding), stream.as_slice())?;
+            transcode(&rt, (*format, *padding), &stream)?;
+        }
+    }
+    Ok(())
+}
+
+fn read_all(
+    rt: &(impl Abort + AllocGlobal),
+    (format, padding): (Format, Padding),
+    stream: &[u8],
+) -> Result<()> {
+    let options = DEFAULT_READER_OPTIONS;
+    let read = every_message(rt.alloc(), format, padding, options, stream);
+    assert_all(rt, &read.messages, "at once");
+    let at = At::row("at once");
+    assert_count(rt, read.end, stream.len(), at);
+    assert_holds(rt, read.refusal.is_none(), at);
+    let mut source = stream;
+    let messages = read_messages(rt.alloc(), format, &mut source, COUNT as usize, options)?;
+    assert_all(rt, &messages, "as many");
+    assert_count(rt, source.len(), 0, At::row("as many"));
+    Ok(())
+}
+
+fn iterate<R: BufRead + Drop>(
+    rt: &(impl Abort + AllocGlobal),
+    (format, padding): (Format, Padding),
+    source: R,
+) -> Result<()> {
+    let options = DEFAULT_READER_OPTIONS;
+    let mut index = 0u64;
+    for message in MessageStream::new(rt.alloc(), format, padding, options, source) {
+        index = index.wrapping_add(1);
+        let message = message?;
+        let at = At::new("one by one", index);
+        assert_holds(rt, is_message(message.get_segments(), index), at);
+    }
+    assert_holds(rt, index == COUNT, At::new("one by one", index));
+    Ok(())
+}
+
+// The stream in the other format.
+fn transcode(
+    rt: &(impl Abort + AllocGlobal),
+    (format, padding): (Format, Padding),
+    stream: &[u8],
+) -> Result<()> {
+    let (way, other) = match format {
+        Format::Framed => (Way::Pack, Format::Packed),
+        Format::Packed => (Way::Unpack, Format::Framed),
+    };
+    let wanted = stream_of(rt.alloc(), other)?;
+    let mut source = stream;
+    let mut sink: Vec<u8> = Vec::new(rt.alloc());
+    let options = DEFAULT_READER_OPTIONS;
+    let stopped = write_each_message(
+        rt.alloc(),
+        format,
+        padding,
+        options,
+        &way,
+        &mut source,
+        &mut sink,
+    );
+    assert_holds(rt, stopped.is_ok(), At::row("transcoded"));
+    assert_bytes(rt, &sink, &wanted, At::row("transcoded"));
+    Ok(())
+}
