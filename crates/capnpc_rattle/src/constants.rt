@@ -5,13 +5,17 @@ use crate::numbers::{literal, number_of};
 use crate::paths::path_to;
 use crate::schema::{Base, Body, Node, Request, Type, Value};
 use crate::signatures::{WIDTH, signature};
-use crate::templates::GET_WORDS;
+use crate::templates::{GET_WORDS, LAYOUT, NO_LAYOUT};
+use crate::trees::wrapped;
 use crate::views::{CONSTANT, View, view_of};
-use crate::words::push_words;
+use crate::words::{push_words, tree_of, words_of};
 use std::alloc::{AllocError, Global};
 
 // What is said of a constant that is left out.
 const LEFT_OUT: &str = "// The constant `@name@` is left out.";
+
+// The most bytes of words that a law names: the time of its proof grows with their square.
+const MAX_BYTES: usize = 4096;
 
 /// Adds the constants that are declared in a node.
 pub fn push_constants(
@@ -60,7 +64,7 @@ fn push_constant(
             let value = byte_string(alloc, bytes.as_slice())?;
             push_line(alloc, code, name, "&[u8]", value.as_str())
         }
-        Value::Object(words) => push_object(alloc, code, request, node, name, of, words.as_slice()),
+        Value::Object(_) => push_object(alloc, code, request, node, name, of, value),
         _ => code.add_with(LEFT_OUT, "name", name),
     }
 }
@@ -73,17 +77,18 @@ fn push_object(
     node: &Node,
     name: &str,
     of: Type,
-    words: &[u8],
+    value: &Value,
 ) -> Result<(), AllocError> {
     let Some(view) = view_of(alloc, request, node.scope, of, CONSTANT)? else {
         return code.add_with(LEFT_OUT, "name", name);
     };
     let title = format!(in alloc; "The constant `{}`.", node.name);
     let getter = snake(alloc, node.name.as_str());
-    push_view(alloc, code, title, name, getter, &view, words)
+    push_view(alloc, code, title, name, getter, &view, value)
 }
 
-/// Adds words as a `static` of this name, and the getter that returns a view of them.
+/// Adds the words of a value as a `static` of this name, the law that they are its layout, and the
+/// getter that returns a view of them.
 pub fn push_view(
     alloc: Global,
     code: &mut Code,
@@ -91,8 +96,9 @@ pub fn push_view(
     name: &str,
     getter: Result<String, AllocError>,
     view: &View,
-    words: &[u8],
+    value: &Value,
 ) -> Result<(), AllocError> {
+    let words = words_of(alloc, value)?;
     let holes = Holes::new(alloc)
         .holding(
             "signature",
@@ -101,8 +107,34 @@ pub fn push_view(
         .holding("title", title)
         .with("name", name)
         .holding("fact", view.fact(alloc, "result"));
-    push_words(alloc, code, name, words)?;
+    push_words(alloc, code, name, words.as_slice())?;
+    push_layout(alloc, code, name, value, words.len())?;
     code.add(GET_WORDS, &holes)
+}
+
+// Adds the law that the words of this name, of a given number of bytes, are the layout of a value's
+// tree, where they are few and that is known.
+fn push_layout(
+    alloc: Global,
+    code: &mut Code,
+    name: &str,
+    value: &Value,
+    bytes: usize,
+) -> Result<(), AllocError> {
+    let tree = if bytes > MAX_BYTES {
+        None
+    } else {
+        tree_of(alloc, value)?
+    };
+    let Some(tree) = tree else {
+        return code.add_lines(NO_LAYOUT);
+    };
+    let tree = wrapped(alloc, code.depth, tree.as_str());
+    let holes = Holes::new(alloc)
+        .with("name", name)
+        .holding("law", name.to_ascii_lowercase(alloc))
+        .holding("tree", tree);
+    code.add(LAYOUT, &holes)
 }
 
 // The head of the getter of this name, of a view of a given number of bytes.

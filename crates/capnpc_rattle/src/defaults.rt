@@ -169,7 +169,6 @@ fn push_default(
         return Ok(());
     };
     let name = default_name(alloc, field.name.as_str())?;
-    let words = words_of(alloc, &place.default)?;
     code.add_gap()?;
     push_view(
         alloc,
@@ -178,7 +177,7 @@ fn push_default(
         name.as_str(),
         getter_name(alloc, field),
         &view,
-        words.as_slice(),
+        &place.default,
     )
 }
 

@@ -13,6 +13,8 @@ const DEFINITIONS: &[(&str, &[&str])] = &[
             "◌==◌",
             "◌↔◌",
             "◌≢◌",
+            "◌∷◌",
+            "[]",
             "if◌then◌else◌",
             "IfOk",
             "IsTrue",
@@ -55,10 +57,24 @@ const DEFINITIONS: &[(&str, &[&str])] = &[
         &["segments_of", "root_of", "IsDefaultData"],
     ),
     ("capnp_wire.specs.Fields", &["field"]),
+    ("capnp_wire.specs.Layout", &["layout"]),
     ("capnp_wire.specs.ListViews", &["element_of"]),
     ("capnp_wire.specs.Lists", &["FindsElement", "IsIterator"]),
     ("capnp_wire.specs.Object", &["nothing"]),
+    ("capnp_wire.specs.Pointer", &["words_of"]),
     ("capnp_wire.specs.Readers", &["struct_of", "pointer_of"]),
+    (
+        "capnp_wire.specs.Tree",
+        &[
+            "none as NoTrees",
+            "tree as TreeOf",
+            "null as NullForm",
+            "struct as StructForm",
+            "numbers as NumbersForm",
+            "pointers as PointersForm",
+            "structs as StructsForm",
+        ],
+    ),
     (
         "capnp_wire.specs.UpgradedReaders",
         &[
@@ -198,7 +214,7 @@ fn cites(text: &str, word: &str) -> bool {
     for line in text.lines() {
         if line.contains(word)
             && !line.trim_start().starts_with("//")
-            && line.split(is_between).any(|part| part == word)
+            && (word == "[]" || line.split(is_between).any(|part| part == word))
         {
             return true;
         }

@@ -40,6 +40,7 @@ mod setters;
 mod signatures;
 mod structs;
 mod templates;
+mod trees;
 mod types;
 mod unions;
 mod views;

@@ -117,9 +117,17 @@ pub enum Value {
     Data(Vec<u8>),
     /// A null pointer.
     Null,
-    /// A list, a struct or any pointer that is not null, as the words of a message of one segment
-    /// whose root it is.
-    Object(Vec<u8>),
+    /// A list, a struct or any pointer that is not null.
+    Object(Object),
+}
+
+/// A value that a pointer leads to.
+#[derive(Drop)]
+pub struct Object {
+    /// The words of a message of one segment whose root it is.
+    pub words: Vec<u8>,
+    /// Its tree as a clause has it, where that is known.
+    pub tree: Option<String>,
 }
 
 /// A file for which code is asked for.

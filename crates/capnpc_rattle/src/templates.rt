@@ -157,6 +157,20 @@ pub static @name@: Words<@size@> = Words { bytes: [
 ] };
 ";
 
+/// That the words of a constant or a default are those of its value in the schema.
+pub const LAYOUT: &str = "
+/// The words of `@name@` are the layout of the schema's value.
+pub fn @law@_is_laid_out()
+    ensures { words_of @name@.bytes ≡ layout
+        @tree@ }
+{}
+";
+
+/// What is said of words that no law names.
+pub const NO_LAYOUT: &str = "
+// No law says which value these words are: it is large, or a list of structs in it is empty.
+";
+
 /// What reads a constant or a default.
 pub const GET_WORDS: &str = "
 /// @title@

@@ -7,8 +7,9 @@ ghost use Rattle.capnp_wire.specs.Tree.{Trees};
 ghost use Rattle.capnp_wire.specs.Values.{HasWords, LeadsToTree};
 
 use crate::request::read_text;
-use crate::schema::{Base, Type, Value};
+use crate::schema::{Base, Object, Type, Value};
 use crate::schema_capnp::{type_, value};
+use crate::trees::tree_at;
 use anyhow::{Result, bail};
 use capnp_frame::message::ReaderSegments;
 use capnp_wire::any_pointer;
@@ -107,7 +108,7 @@ pub fn read_value<S: ReaderSegments>(alloc: Global, read: &value::Reader<'_, S>)
     })
 }
 
-// What a pointer leads to: the bytes of a message of one segment whose root it is.
+// What a pointer leads to: the words of a message of one segment whose root it is, and its tree.
 fn read_object<S: ReaderSegments>(
     alloc: Global,
     pointer: &any_pointer::Reader<'_, S>,
@@ -120,7 +121,10 @@ fn read_object<S: ReaderSegments>(
     let root = write_object(pointer, &mut block);
     let mut bytes = Vec::from_slice(alloc, &root.to_le_bytes())?;
     bytes.extend_from_slice(block.as_slice())?;
-    Ok(Value::Object(bytes))
+    Ok(Value::Object(Object {
+        words: bytes,
+        tree: tree_at(alloc, pointer)?,
+    }))
 }
 
 // Writes what a pointer leads to into zeros of exactly its words, and returns the pointer to it

@@ -2,6 +2,7 @@
 use crate::code::{Code, Holes};
 use crate::schema::Value;
 use crate::templates::WORDS;
+use crate::trees::tree_of_bytes;
 use capnp_layout::pointer_word::list_word;
 use std::alloc::{AllocError, Global};
 use std::fmt::Write;
@@ -11,18 +12,31 @@ pub fn words_of(alloc: Global, value: &Value) -> Result<Vec<u8>, AllocError> {
     match value {
         Value::Text(text) => list_of_bytes(alloc, text.as_bytes(), true),
         Value::Data(bytes) => list_of_bytes(alloc, bytes.as_slice(), false),
-        Value::Object(words) => Vec::from_slice(alloc, words.as_slice()),
+        Value::Object(object) => Vec::from_slice(alloc, object.words.as_slice()),
         Value::Bits(_) | Value::Null => Vec::from_slice(alloc, &[0; 8]),
+    }
+}
+
+/// The tree of a value that a pointer leads to, as a clause has it, where that is known.
+pub fn tree_of(alloc: Global, value: &Value) -> Result<Option<String>, AllocError> {
+    match value {
+        Value::Text(text) => Ok(Some(tree_of_bytes(alloc, text.as_bytes(), true)?)),
+        Value::Data(bytes) => Ok(Some(tree_of_bytes(alloc, bytes.as_slice(), false)?)),
+        Value::Object(object) => match &object.tree {
+            Some(tree) => Ok(Some(String::from_str(alloc, tree.as_str())?)),
+            None => Ok(None),
+        },
+        Value::Bits(_) | Value::Null => Ok(None),
     }
 }
 
 /// Whether a struct, which a pointer leads to, has pointers that are null alone: what follows its data
 /// words is zero (encoding document, "Structs").
 pub fn sets_no_pointers(value: &Value) -> bool {
-    let Value::Object(words) = value else {
+    let Value::Object(object) = value else {
         return false;
     };
-    let words = words.as_slice();
+    let words = object.words.as_slice();
     let (Some(low), Some(high)) = (words.get(4), words.get(5)) else {
         return false;
     };

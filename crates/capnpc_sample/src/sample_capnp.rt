@@ -1,5 +1,5 @@
 //! Types of `sample.capnp`, made by `capnpc-rattle`: change that file, and make them again.
-ghost use Rattle.std.specs.Prelude.{◌≡◌, ◌≤◌, ◌<◌, ◌==◌, ◌↔◌, ◌≢◌, if◌then◌else◌, IfOk, IsTrue, bit_xor, from_bits, to_bits, length, map, replicate, slice_index_or, slice_set};
+ghost use Rattle.std.specs.Prelude.{◌≡◌, ◌≤◌, ◌<◌, ◌==◌, ◌↔◌, ◌≢◌, ◌∷◌, [], if◌then◌else◌, IfOk, IsTrue, bit_xor, from_bits, to_bits, length, map, replicate, slice_index_or, slice_set};
 ghost use Rattle.std.specs.Float.{binary64};
 ghost use Rattle.std.specs.Int.{w32, w64, cast_signed, cast_unsigned};
 ghost use Rattle.capnp_orphans.specs.Adding.{Adds, AddsRoot, Fails, Writes};
@@ -9,10 +9,13 @@ ghost use Rattle.capnp_orphans.specs.Segments.{body_of};
 ghost use Rattle.capnp_values.specs.DataSections.{with_field};
 ghost use Rattle.capnp_wire.specs.Constants.{segments_of, root_of, IsDefaultData};
 ghost use Rattle.capnp_wire.specs.Fields.{field};
+ghost use Rattle.capnp_wire.specs.Layout.{layout};
 ghost use Rattle.capnp_wire.specs.ListViews.{element_of};
 ghost use Rattle.capnp_wire.specs.Lists.{FindsElement, IsIterator};
 ghost use Rattle.capnp_wire.specs.Object.{nothing};
+ghost use Rattle.capnp_wire.specs.Pointer.{words_of};
 ghost use Rattle.capnp_wire.specs.Readers.{struct_of, pointer_of};
+ghost use Rattle.capnp_wire.specs.Tree.{none as NoTrees, tree as TreeOf, struct as StructForm, numbers as NumbersForm, pointers as PointersForm};
 ghost use Rattle.capnp_wire.specs.UpgradedReaders.{upgraded_structs_of, upgraded_numbers_of, upgraded_pointers_of};
 ghost use Rattle.capnp_wire.specs.UpgradedViews.{IsUpgradedStructs, IsUpgradedPointers, ReadsAsNumbers, TakesRows, TakesFields, TakesFirstPointers, DeclinesRows, DeclinesFields, DeclinesFirstPointers};
 ghost use Rattle.capnp_wire.specs.Views.{Struct, IsViewOf, IsStruct, IsText, IsData, Accepts, Refuses, Declines, Denotes, Reads, TakesStruct, TakesText, TakesNumbers, DeclinesStruct, DeclinesText, DeclinesNumbers, pointer_in};
@@ -27,6 +30,12 @@ pub static CORNER: Words<16> = Words { bytes: [
     0, 0, 0, 0, 1, 0, 0, 0,
     128, 2, 0, 0, 224, 1, 0, 0,
 ] };
+
+/// The words of `CORNER` are the layout of the schema's value.
+pub fn corner_is_laid_out()
+    ensures { words_of CORNER.bytes ≡ layout
+        (TreeOf (StructForm (0x1e000000280 ∷ [])) NoTrees NoTrees) }
+{}
 
 /// The constant `corner`.
 pub fn get_corner() -> Result<point::Reader<'static, Words<16>>>
@@ -1536,6 +1545,12 @@ pub mod sample {
         110, 111, 110, 101, 0, 0, 0, 0,
     ] };
 
+    /// The words of `NOTE_DEFAULT` are the layout of the schema's value.
+    pub fn note_default_is_laid_out()
+        ensures { words_of NOTE_DEFAULT.bytes ≡ layout
+            (TreeOf (NumbersForm 2 (110 ∷ 111 ∷ 110 ∷ 101 ∷ 0 ∷ [])) NoTrees NoTrees) }
+    {}
+
     /// The default of the field `note`.
     pub fn get_note_default() -> Result<text::Reader<'static>>
         ensures { let pointer = root_of NOTE_DEFAULT in
@@ -1552,6 +1567,12 @@ pub mod sample {
         0, 0, 0, 0, 1, 0, 0, 0,
         3, 0, 0, 0, 4, 0, 0, 0,
     ] };
+
+    /// The words of `TARGET_DEFAULT` are the layout of the schema's value.
+    pub fn target_default_is_laid_out()
+        ensures { words_of TARGET_DEFAULT.bytes ≡ layout
+            (TreeOf (StructForm (0x400000003 ∷ [])) NoTrees NoTrees) }
+    {}
 
     /// The default of the field `target`.
     pub fn get_target_default() -> Result<super::point::Reader<'static, Words<16>>>
@@ -2423,6 +2444,13 @@ pub mod palette {
         1, 0, 0, 0, 42, 0, 0, 0,
         110, 111, 110, 101, 0, 0, 0, 0,
     ] };
+
+    /// The words of `NAMES_DEFAULT` are the layout of the schema's value.
+    pub fn names_default_is_laid_out()
+        ensures { words_of NAMES_DEFAULT.bytes ≡ layout
+            (TreeOf PointersForm (TreeOf (NumbersForm 2 (110 ∷ 111 ∷ 110 ∷ 101 ∷ 0 ∷ []))
+            NoTrees NoTrees) NoTrees) }
+    {}
 
     /// The default of the field `names`.
     pub fn get_names_default() -> Result<

@@ -1,0 +1,216 @@
+//! Trees of values that pointers lead to, as clauses have them: terms of `Trees` of `capnp_wire`, in
+//! the names under which `imports.rt` imports its constructors.
+use crate::signatures::WIDTH;
+use anyhow::Result;
+use capnp_frame::message::ReaderSegments;
+use capnp_wire::any_object::Numbers;
+use capnp_wire::any_struct::StructReader;
+use capnp_wire::{any_object, any_pointer, struct_list};
+use std::alloc::{AllocError, Global};
+use std::fmt::Write;
+
+/// The most bytes of a tree's text; the proof of a clause with a longer one takes a second and more.
+const MAX_TEXT: usize = 32768;
+
+/// What is still to be written of a tree.
+#[derive(Drop)]
+enum Step<'a, S: ReaderSegments> {
+    /// What a pointer leads to.
+    Object(any_pointer::Reader<'a, S>),
+    /// The end of a list of trees, by their number.
+    End(u32),
+}
+
+/// A tree that is being written.
+#[derive(Drop)]
+struct TreeText<'a, S: ReaderSegments> {
+    text: String,
+    /// What follows the text, the next part last.
+    steps: Vec<Step<'a, S>>,
+}
+
+/// The tree that a pointer leads to. There is none where its text would be too long, and where a list
+/// of structs in it is empty, of which no view says how large its elements are.
+pub fn tree_at<S: ReaderSegments>(
+    alloc: Global,
+    pointer: &any_pointer::Reader<'_, S>,
+) -> Result<Option<String>> {
+    let mut tree = TreeText {
+        text: String::new(alloc),
+        steps: Vec::new(alloc),
+    };
+    tree.steps.push(Step::End(1))?;
+    let mut is_known = tree.add_object(pointer)?;
+    for _ in 0..u64::MAX {
+        if !is_known || is_full(tree.text.as_str()) {
+            return Ok(None);
+        }
+        let Some(step) = tree.steps.pop() else {
+            break;
+        };
+        match step {
+            Step::Object(pointer) => is_known = tree.add_object(&pointer)?,
+            Step::End(count) => tree.add_end(count)?,
+        }
+    }
+    Ok(Some(tree.text))
+}
+
+// Whether a text is too long for a tree's, so that no more is added.
+fn is_full(text: &str) -> bool {
+    text.len() > MAX_TEXT
+}
+
+impl<'a, S: ReaderSegments> TreeText<'a, S> {
+    // Adds the form of what a pointer leads to; its pointers, and the end of their trees, are still
+    // to be written. Returns whether the form is known.
+    fn add_object(&mut self, pointer: &any_pointer::Reader<'a, S>) -> Result<bool> {
+        self.text.push_str("(TreeOf ")?;
+        match pointer.get_as()? {
+            any_object::Reader::Null => {
+                self.text.push_str("NullForm ")?;
+                self.steps.push(Step::End(0))?;
+            }
+            any_object::Reader::Struct(fields) => self.add_struct(&fields)?,
+            any_object::Reader::Structs(list) => return self.add_structs(&list),
+            any_object::Reader::Pointers(list) => {
+                self.text.push_str("PointersForm ")?;
+                self.steps.push(Step::End(list.len()))?;
+                for index in (0..list.len()).rev() {
+                    if let Some(pointer) = list.try_get(index) {
+                        self.steps.push(Step::Object(pointer))?;
+                    }
+                }
+            }
+            any_object::Reader::Numbers(numbers) => {
+                push_numbers(&mut self.text, &numbers)?;
+                self.steps.push(Step::End(0))?;
+            }
+        }
+        Ok(true)
+    }
+
+    // Adds the form of a struct.
+    fn add_struct(&mut self, fields: &StructReader<'a, S>) -> Result<(), AllocError> {
+        self.text.push_str("(StructForm ")?;
+        push_words(&mut self.text, fields)?;
+        self.text.push_str(") ")?;
+        self.steps.push(Step::End(fields.pointers() as u32))?;
+        self.add_pointers(fields)
+    }
+
+    // The pointers of a struct are still to be written.
+    fn add_pointers(&mut self, fields: &StructReader<'a, S>) -> Result<(), AllocError> {
+        for index in (0..fields.pointers()).rev() {
+            self.steps.push(Step::Object(fields.get_pointer(index)))?;
+        }
+        Ok(())
+    }
+
+    // Adds the form of a list of structs. Returns whether it is known.
+    fn add_structs(&mut self, list: &struct_list::Reader<'a, S>) -> Result<bool> {
+        let Some(first) = list.try_get(0) else {
+            return Ok(false);
+        };
+        let (data_words, pointers) = (first.data_words(), first.pointers());
+        write!(self.text, "(StructsForm {data_words} {pointers} (")?;
+        for fields in list.iter() {
+            if is_full(self.text.as_str()) {
+                return Ok(false);
+            }
+            push_words(&mut self.text, &fields)?;
+            self.text.push_str(" ∷ ")?;
+        }
+        self.text.push_str("[])) ")?;
+        let count = list.len().saturating_mul(pointers as u32);
+        self.steps.push(Step::End(count))?;
+        for index in (0..list.len()).rev() {
+            if let Some(fields) = list.try_get(index) {
+                self.add_pointers(&fields)?;
+            }
+        }
+        Ok(true)
+    }
+
+    // Adds the end of a list of trees.
+    fn add_end(&mut self, count: u32) -> Result<(), AllocError> {
+        self.text.push_str("NoTrees")?;
+        for _ in 0..count {
+            self.text.push(')')?;
+        }
+        if !self.steps.is_empty() {
+            self.text.push(' ')?;
+        }
+        Ok(())
+    }
+}
+
+// Adds the data words of a struct, as a list.
+fn push_words<S: ReaderSegments>(
+    text: &mut String,
+    fields: &StructReader<'_, S>,
+) -> Result<(), AllocError> {
+    if fields.data_words() == 0 {
+        return text.push_str("[]");
+    }
+    text.push('(')?;
+    for index in 0..fields.data_words() {
+        let word = fields.get_word(index);
+        write!(text, "{word:#x} ∷ ")?;
+    }
+    text.push_str("[])")
+}
+
+// Adds the form of a list of numbers.
+fn push_numbers(text: &mut String, numbers: &Numbers<'_>) -> Result<(), AllocError> {
+    let code = match numbers.bits_of_each() {
+        0 => 0,
+        1 => 1,
+        8 => 2,
+        16 => 3,
+        32 => 4,
+        _ => 5,
+    };
+    if numbers.len() == 0 {
+        return write!(text, "(NumbersForm {code} []) ");
+    }
+    write!(text, "(NumbersForm {code} (")?;
+    for index in 0..numbers.len() {
+        if is_full(text.as_str()) {
+            break;
+        }
+        let number = numbers.get(index);
+        write!(text, "{number} ∷ ")?;
+    }
+    text.push_str("[])) ")
+}
+
+/// The tree of a list of bytes, with a zero byte after them where it is a text.
+pub fn tree_of_bytes(alloc: Global, bytes: &[u8], is_text: bool) -> Result<String, AllocError> {
+    let mut text = String::from_str(alloc, "(TreeOf (NumbersForm 2 (")?;
+    for byte in bytes {
+        write!(text, "{byte} ∷ ")?;
+    }
+    text.push_str(if is_text { "0 ∷ []" } else { "[]" })?;
+    text.push_str(")) NoTrees NoTrees)")?;
+    Ok(text)
+}
+
+/// A term in lines that are not too wide for a clause at some depth of modules.
+pub fn wrapped(alloc: Global, depth: usize, term: &str) -> Result<String, AllocError> {
+    let width = WIDTH.saturating_sub(depth.saturating_mul(4).saturating_add(12));
+    let mut text = String::new(alloc);
+    let mut column: usize = 0;
+    for word in term.split(' ') {
+        let letters = word.chars().count();
+        if column.saturating_add(letters) > width && word != "∷" {
+            text.push('\n')?;
+            column = 0;
+        } else if !text.is_empty() {
+            text.push(' ')?;
+        }
+        text.push_str(word)?;
+        column = column.saturating_add(letters).saturating_add(1);
+    }
+    Ok(text)
+}
