@@ -16,19 +16,28 @@ use Rattle.capnp_frame.proofs.TextLemmas.{texts_part}
 use Rattle.capnp_pack.specs.RefusingLaws.{unpacking}
 use Rattle.capnp_pack.proofs.PackedFrameLemmas.{packed_requests, packed_text_is}
 use Rattle.capnp_wire.specs.Readers.{default_root}
-use Rattle.capnp_wire.specs.Views.{Pointer, Struct, HasData, IsStruct, Reads}
+use Rattle.capnp_wire.specs.Tree.{Form}
+use Rattle.capnp_wire.specs.Reached.{root}
+use Rattle.capnp_wire.specs.Faults.{NoWord}
+use Rattle.capnp_wire.specs.Views.{Pointer, Struct, HasData, IsStruct, Reads, Refuses, DeclinesStruct}
 use Rattle.capnp.specs.declared.streams.Format.TheVariants.{Packed}
 use Rattle.capnp.specs.Streams.{BeginsPacked, RefusesNext}
 use Rattle.capnp.specs.Written.{IsPackedEncodingOf}
 use Rattle.capnp_uses.specs.Reading.{ShowsPackedStruct}
-use Rattle.capnp_uses.specs.Roots.{RefusesPackedStruct}
+use Rattle.capnp_uses.specs.Roots.{HasPlainRoot, RefusesPackedStruct}
 use Rattle.capnp.proofs.StreamLemmas.{slice_refused}
 use Rattle.capnp.proofs.WriterLemmas.{IsWithin-written}
 
-pub packed_read : (limit : Option ℕ) (read message : List (List ℕ)) (text left : List ℕ) → BeginsPacked Zero limit read text left → IsWritable message → IsPackedEncodingOf message text → read ≡ message
+packed_read : (limit : Option ℕ) (read message : List (List ℕ)) (text left : List ℕ) → BeginsPacked Zero limit read text left → IsWritable message → IsPackedEncodingOf message text → read ≡ message
 packed_read limit read message text left begins writable packed =
     let whole = packed_text_is Zero text message (HasTable-writable message writable) packed in
     (texts_part Zero unpacking (packed_requests Zero) begins.text text left [] read message begins.is_text whole (sym begins.spelled ∙ sym (append-nil text))).1
+
+-- so a root that is written is the root that is read
+pub packed_root : (limit : Option ℕ) (form : Form) (read message : List (List ℕ)) (text left : List ℕ) → BeginsPacked Zero limit read text left → IsWritable message
+    → IsPackedEncodingOf message text → HasPlainRoot message form → HasPlainRoot read form
+packed_root limit form read message text left begins writable packed stands =
+    subst (λ (m : List (List ℕ)). HasPlainRoot m form) (sym (packed_read limit read message text left begins writable packed)) stands
 
 -- what is added to nothing
 pub added_text : (message : List (List ℕ)) (old new : List ℕ) → old ≡ [] → Adds (IsPackedEncodingOf message) old new → IsPackedEncodingOf message new
@@ -48,6 +57,13 @@ pub packed_refused : {X : Type 0} (A B C : ErrorKind → Type 0) (message : List
     → IfErr r (λ e. A e.kind ⊎ B e.kind ⊎ C e.kind ⊎ ((spelled : List ℕ) × IsPackedEncodingOf message spelled × RefusesPackedStruct spelled e.kind))
 packed_refused A B C message text (Ok x) is refused = tt
 packed_refused A B C message text (Err e) is refused = inr (inr (inr (text, is, refused)))
+
+-- or no struct is at the root
+pub lacks_struct : (text : List ℕ) (segments : List (List ℕ)) (left : List ℕ) (pointer : Pointer) (kind : ErrorKind) → pointer ≡ default_root segments
+    → BeginsPacked Zero default_limit segments text left → NoWord pointer.message root kind ⊎ Refuses pointer DeclinesStruct kind → RefusesPackedStruct text kind
+lacks_struct text segments left pointer kind same begins declined =
+    let at_root = subst (λ (p : Pointer). NoWord p.message root kind ⊎ Refuses p DeclinesStruct kind) same declined in
+    inr (inr (inr (segments, left, begins, at_root)))
 
 -- and is at the front of its encoding
 pub begins_packed : (limit : Option ℕ) (message : List (List ℕ)) (text : List ℕ) → IsWritable message → IsWithinSegmentLimit message → KeepsLimit (lengths message) limit

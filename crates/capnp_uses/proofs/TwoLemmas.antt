@@ -1,5 +1,5 @@
 -- The first two messages of a stream, as an iterator over its messages returns them.
-use Rattle.std.proofs.Common.{◌≡◌, ◌⊎◌, inl, inr, ℕ, ◌<◌, List, [], ◌∷◌, Option, Some, None, Result, Ok, Err, refl, sym, ◌∙◌, subst}
+use Rattle.std.proofs.Common.{◌≡◌, ◌⊎◌, inl, inr, ℕ, ◌<◌, List, [], Option, Some, None, Result, Ok, Err, refl, sym, ◌∙◌, subst, arith}
 use Rattle.capnp_frame.specs.declared.error.Error.{Error}
 use Rattle.capnp_frame.specs.declared.error.ErrorKind.TheVariants.{OutOfMemory}
 use Rattle.capnp_frame.specs.declared.io.Read.{Ghosts}
@@ -7,17 +7,19 @@ use Rattle.capnp_frame.specs.declared.message.options.ReaderOptions.{ReaderOptio
 use Rattle.capnp_frame.specs.declared.serialize.segment_table.Padding.{Padding}
 use Rattle.capnp_frame.specs.declared.serialize.segment_table.Padding.TheVariants.{Zero}
 use Rattle.capnp_frame.specs.Limits.{default_limit}
+use Rattle.capnp_frame.specs.Source.{IfKnown}
 use Rattle.capnp_frame.specs.Streams.{ReadsStream}
 use Rattle.capnp.specs.declared.streams.Format.{Format}
 use Rattle.capnp.specs.declared.streams.message_stream.MessageStream.{MessageStream}
-use Rattle.capnp.specs.MessageStreams.{source_of, messages_left, HasSettings, read_in, GivesMessage}
+use Rattle.capnp.specs.MessageStreams.{source_of, messages_left, HasSettings, IsNewStream, read_in, GivesMessage}
 use Rattle.capnp.specs.Streams.{rules_of, StandsNext, EndsBy}
+use Rattle.capnp.proofs.FormatLemmas.{stands_next}
 use Rattle.capnp.proofs.ReaderLemmas.{nothing_begins}
 use Rattle.capnp.proofs.RunLemmas.{format_lawful, format_requested, format_parts}
 use Rattle.capnp_uses.specs.Streaming.{BeginWith, ReadsTwo}
 
 -- while it has not ended, an iterator reads by its settings
-pub reads_by : {S X : Type 0} (source : Ghosts S) (segments : X → List (List ℕ)) (options_of : X → ReaderOptions) (old new : MessageStream S) (given : Option (Result X Error))
+reads_by : {S X : Type 0} (source : Ghosts S) (segments : X → List (List ℕ)) (options_of : X → ReaderOptions) (old new : MessageStream S) (given : Option (Result X Error))
     (format : Format) (padding : Padding) (options : ReaderOptions) (from : S) → GivesMessage source segments options_of old given new → source_of old ≡ from
     → HasSettings old format padding options → 0 < messages_left old
     → ReadsStream source from (source_of new) (rules_of padding format) options.traversal_limit_in_words (read_in segments given)
@@ -30,7 +32,7 @@ reads_by {S} source segments options_of old new given format padding options fro
     subst (λ (s : S). ReadsStream source s (source_of new) (rules_of padding format) options.traversal_limit_in_words result) from_is limited
 
 -- which it keeps
-pub settings_kept : {S X : Type 0} (source : Ghosts S) (segments : X → List (List ℕ)) (options_of : X → ReaderOptions) (old new : MessageStream S) (given : Option (Result X Error))
+settings_kept : {S X : Type 0} (source : Ghosts S) (segments : X → List (List ℕ)) (options_of : X → ReaderOptions) (old new : MessageStream S) (given : Option (Result X Error))
     (format : Format) (padding : Padding) (options : ReaderOptions) → GivesMessage source segments options_of old given new → HasSettings old format padding options
     → HasSettings new format padding options
 settings_kept source segments options_of old new given format padding options gives settings = record {
@@ -39,10 +41,34 @@ settings_kept source segments options_of old new given format padding options gi
   options_are = gives.settings.options_are ∙ settings.options_are;
 }
 
+-- so a new one reads its first item from the source that it was made of
+pub reads_new : {S X : Type 0} (source : Ghosts S) (segments : X → List (List ℕ)) (options_of : X → ReaderOptions) (old new : MessageStream S) (given : Option (Result X Error))
+    (format : Format) (padding : Padding) (options : ReaderOptions) (from : S) → GivesMessage source segments options_of old given new → source_of old ≡ from
+    → IsNewStream old format padding options
+    → ReadsStream source from (source_of new) (rules_of padding format) options.traversal_limit_in_words (read_in segments given)
+reads_new source segments options_of old new given format padding options from gives from_is begins =
+    let some : 0 < messages_left old = omega (arith, begins.left) in
+    reads_by source segments options_of old new given format padding options from gives from_is begins.settings some
+
+-- and after a message the second item from where the first message ends
+pub reads_second : {S X : Type 0} (source : Ghosts S) (segments : X → List (List ℕ)) (options_of : X → ReaderOptions) (old mid new : MessageStream S) (one : X)
+    (given : Option (Result X Error)) (format : Format) (padding : Padding) (options : ReaderOptions) (from : S)
+    → GivesMessage source segments options_of old (Some (Ok one)) mid → source_of old ≡ from → IsNewStream old format padding options
+    → GivesMessage source segments options_of mid given new
+    → IfKnown (source.unread from) (source.unread (source_of mid)) (StandsNext padding format options.traversal_limit_in_words (segments one))
+    × ReadsStream source (source_of mid) (source_of new) (rules_of padding format) options.traversal_limit_in_words (read_in segments given)
+reads_second source segments options_of old mid new one given format padding options from first from_is begins second =
+    let reads = reads_new source segments options_of old mid (Some (Ok one)) format padding options from first from_is begins in
+    let settings = settings_kept source segments options_of old mid (Some (Ok one)) format padding options first begins.settings in
+    let more : 0 < messages_left mid = omega (arith, begins.left, first.goes_on) in (
+      stands_next padding format options.traversal_limit_in_words (segments one) (source.unread from) (source.unread (source_of mid)) reads.within reads.found,
+      reads_by source segments options_of mid new given format padding options (source_of mid) second refl settings more,
+    )
+
 -- nothing begins where nothing is unread
-never : (format : Format) (message : List (List ℕ)) (stream rest : List ℕ) → stream ≡ [] → StandsNext Zero format default_limit message stream rest → ⊥
-never format message stream rest none begins =
-    nothing_begins Zero (format_lawful format) (format_requested Zero format) default_limit (λ m. ⊥) (Some stream) none message rest begins
+pub never : (format : Format) (limit : Option ℕ) (message : List (List ℕ)) (stream rest : List ℕ) → stream ≡ [] → StandsNext Zero format limit message stream rest → ⊥
+never format limit message stream rest none begins =
+    nothing_begins Zero (format_lawful format) (format_requested Zero format) limit (λ m. ⊥) (Some stream) none message rest begins
 
 -- the first message is the one that is read, and the second one begins where it ends
 first_is : (format : Format) (read first second : List (List ℕ)) (stream mid rest : List ℕ) → StandsNext Zero format default_limit read stream mid → BeginWith format first second stream rest
@@ -57,7 +83,7 @@ pub none_at_all : {X : Type 0} (format : Format) (stream : List ℕ) (segments :
 none_at_all format stream segments none = record {
   found = tt;
   none = inl none;
-  accepted = λ first second rest (between, begins, others). absurd (never format first stream between none begins);
+  accepted = λ first second rest (between, begins, others). absurd (never format default_limit first stream between none begins);
   refused = tt;
 }
 
@@ -79,7 +105,7 @@ none_after format stream mid segments one stands none = record {
   none = inr (segments one, subst (λ (l : List ℕ). StandsNext Zero format default_limit (segments one) stream l) none stands);
   accepted = λ first second rest begin.
       let next = first_is format (segments one) first second stream mid rest stands begin in
-      absurd (never format second mid next.1.0 none next.1.1);
+      absurd (never format default_limit second mid next.1.0 none next.1.1);
   refused = tt;
 }
 

@@ -9,6 +9,7 @@ pub mod account_list;
 pub mod any_numbers;
 pub mod building;
 pub mod canonical;
+pub mod devices;
 pub mod entries;
 pub mod packed_struct;
 pub mod packing;

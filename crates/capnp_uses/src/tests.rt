@@ -6,6 +6,7 @@ mod any_numbers;
 mod built_roots;
 mod callers;
 mod composed;
+mod devices;
 mod entries;
 mod examples;
 mod fixtures;

@@ -35,8 +35,8 @@ pub fn both(alloc: Global, format: Format) -> std::result::Result<Vec<u8>, Alloc
     Ok(stream)
 }
 
-// How many segments a message has, where there is one.
-fn segments_of(message: Option<Reader<OwnedSegments>>) -> Option<usize> {
+/// How many segments a message has, where there is one.
+pub fn segments_of(message: Option<Reader<OwnedSegments>>) -> Option<usize> {
     match message {
         Some(message) => Some(message.get_segments().len()),
         None => None,

@@ -1,19 +1,16 @@
 -- The message that is read is the one that was written, and the fields are at its root.
-use Rattle.std.proofs.Common.{◌≡◌, ◌⊎◌, rules, refl, sym, subst, [], ◌∷◌, inl, inr}
+use Rattle.std.proofs.Common.{◌≡◌, rules, refl, [], ◌∷◌, inl, inr}
 use Rattle.std.proofs.lemmas.Result.{err_from_is_err_and}
 use Rattle.capnp_frame.specs.declared.error.ErrorKind.TheVariants.{DeviceFailed}
 use Rattle.capnp_frame.specs.Source.{Fails}
 use Rattle.capnp_wire.specs.Tree.{struct}
-use Rattle.capnp_wire.specs.Reached.{root}
-use Rattle.capnp_wire.specs.Faults.{NoWord}
-use Rattle.capnp_wire.specs.Views.{Pointer, Refuses, DeclinesStruct}
+use Rattle.capnp_wire.specs.Views.{DeclinesStruct}
 use Rattle.capnp_message.specs.Seen.{root_of}
 use Rattle.capnp.proofs.AppendedLemmas.{memory_only}
 use Rattle.capnp_frame.specs.Limits.{default_limit}
-use Rattle.capnp_uses.specs.Roots.{HasPlainRoot}
 use Rattle.capnp_uses.proofs.ReadingLemmas.{default_depth, root_is_default}
 use Rattle.capnp_uses.proofs.RootLemmas.{read_at_root, root_meets_limit, struct_is_taken}
-use Rattle.capnp_uses.proofs.PackedStructLemmas.{packed_read, begins_packed, packed_stops, shows_packed}
+use Rattle.capnp_uses.proofs.PackedStructLemmas.{packed_root, begins_packed, packed_stops, lacks_struct, shows_packed}
 use Rattle.capnp_uses.proofs.packed_struct.read_packed_words.Goals as goal
 
 pub returns-in_err-message-clause-found : goal.returns-in_err-message-clause-found
@@ -33,8 +30,7 @@ returns-in_err-message-clause-refused c =
 pub returns-in_err-fields-clause-found : goal.returns-in_err-fields-clause-found
 returns-in_err-fields-clause-found c message first second writable few size packed stands =
     let reader = c.in_ok-message.message in
-    let same = packed_read default_limit reader.segments message c.args.text.now _ c.in_ok-message.ensures.texts.found writable packed in
-    let here = subst (λ m. HasPlainRoot m (struct (first ∷ second ∷ []))) (sym same) stands in
+    let here = packed_root default_limit (struct (first ∷ second ∷ [])) reader.segments message c.args.text.now _ c.in_ok-message.ensures.texts.found writable packed stands in
     let p = err_from_is_err_and c.from_residual-in_err-fields.result c.from_residual-in_err-fields.ensures.1 in
     rw (p.1, p.2) (inr (root_meets_limit (root_of (λ segments. segments) reader) (struct (first ∷ second ∷ [])) DeclinesStruct c.in_err-fields.field-0.0.kind refl here (default_depth reader.options c.in_ok-message.ensures.options)
     (struct_is_taken (first ∷ second ∷ []) c.in_err-fields.field-0.0.kind) c.in_err-fields.ensures.returned).2)
@@ -42,17 +38,14 @@ returns-in_err-fields-clause-found c message first second writable few size pack
 pub returns-in_err-fields-clause-refused : goal.returns-in_err-fields-clause-refused
 returns-in_err-fields-clause-refused c =
     let reader = c.in_ok-message.message in
-    let error = c.in_err-fields.field-0.0 in
     let p = err_from_is_err_and c.from_residual-in_err-fields.result c.from_residual-in_err-fields.ensures.1 in
     let same = root_is_default reader.segments reader.segments reader.options refl c.in_ok-message.ensures.options in
-    let declared = subst (λ (root_pointer : Pointer). NoWord root_pointer.message root error.kind ⊎ Refuses root_pointer DeclinesStruct error.kind) same c.in_err-fields.ensures.returned in
-    rw (p.1, p.2) (inr (inr (inr (reader.segments, _, c.in_ok-message.ensures.texts.found, declared))))
+    rw (p.1, p.2) (lacks_struct c.args.text.now reader.segments _ _ c.in_err-fields.field-0.0.kind same c.in_ok-message.ensures.texts.found c.in_err-fields.ensures.returned)
 
 pub returns-clause-words : goal.returns-clause-words
 returns-clause-words c message first second writable packed stands =
     let reader = c.in_ok-message.message in
-    let same = packed_read default_limit reader.segments message c.args.text.now _ c.in_ok-message.ensures.texts.found writable packed in
-    let here = subst (λ m. HasPlainRoot m (struct (first ∷ second ∷ []))) (sym same) stands in
+    let here = packed_root default_limit (struct (first ∷ second ∷ [])) reader.segments message c.args.text.now _ c.in_ok-message.ensures.texts.found writable packed stands in
     let there = read_at_root (root_of (λ segments. segments) reader) (struct (first ∷ second ∷ [])) _ refl here c.in_ok-fields.ensures.returned.shown in
     search rules
 

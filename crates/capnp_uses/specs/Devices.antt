@@ -1,0 +1,39 @@
+-- What callers return of devices whose bytes are known, in a format, of zero padding and within a limit of words.
+use Rattle.std.specs.Prelude.{◌≡◌, ◌⊎◌, ℕ, List, [], Option, Some, None, IfSome, IfNone, Result, IfOk, IfErr, MatchResult}
+use Rattle.std.specs.Result.{IsErrAnd}
+use Rattle.capnp_frame.specs.declared.error.Error.{Error}
+use Rattle.capnp_frame.specs.declared.error.ErrorKind.{ErrorKind}
+use Rattle.capnp_frame.specs.declared.serialize.segment_table.Padding.TheVariants.{Zero}
+use Rattle.capnp.specs.declared.streams.Format.{Format}
+use Rattle.capnp.specs.Headline.{IsFault}
+use Rattle.capnp.specs.Streams.{StandsNext, EndsBy, IsStream}
+
+-- What is returned of the first message of a device that gives these bytes.
+pub record ReadsFirst (format : Format) (limit : Option ℕ) (result : Result (Option (List (List ℕ))) Error) (bytes : List ℕ) : Type 0 where
+  -- the bytes begin with an encoding of the message that is returned
+  pub found : IfOk result (λ found. IfSome found (λ message. (rest : List ℕ) × StandsNext Zero format limit message bytes rest))
+  -- None is returned only where there are no bytes
+  pub none : IfOk result (λ found. IfNone found (bytes ≡ []))
+  -- where they begin with an encoding of a message within the limit, that message is returned, except for a fault
+  pub accepted : (message : List (List ℕ)) (rest : List ℕ) → StandsNext Zero format limit message bytes rest → MatchResult result
+      (λ found. found ≡ Some message) (λ error. IsFault error.kind)
+  -- and where there are none None, except for a fault
+  pub end : bytes ≡ [] → MatchResult result (λ found. found ≡ None) (λ error. IsFault error.kind)
+  -- it fails for a fault, or as the reader of the message does
+  pub refused : IfErr result (λ error. IsFault error.kind ⊎ EndsBy Zero format limit (Some error.kind) bytes)
+  -- and where that fails with this kind, with no other one, except for a fault
+  pub exact : (kind : ErrorKind) → EndsBy Zero format limit (Some kind) bytes → IsErrAnd result (λ error. IsFault error.kind ⊎ (error.kind ≡ kind))
+
+-- What is returned of all messages of a device that gives these bytes; `messages` is what is seen of the list that is returned.
+pub record ReadsAll {X : Type 0} (format : Format) (limit : Option ℕ) (messages : X → List (List (List ℕ))) (result : Result X Error) (bytes : List ℕ)
+    : Type 0 where
+  -- the bytes are encodings of the messages that are returned, one right after the other, and no others
+  pub found : IfOk result (λ read. IsStream Zero format limit (messages read) None bytes)
+  -- it fails for a fault, or as the reader does after the messages before
+  pub refused : IfErr result (λ error. IsFault error.kind ⊎ ((before : List (List (List ℕ))) × IsStream Zero format limit before (Some error.kind) bytes))
+  -- where the bytes are encodings of messages, just these are returned, except for a fault
+  pub accepted : (listed : List (List (List ℕ))) → IsStream Zero format limit listed None bytes → MatchResult result
+      (λ read. messages read ≡ listed) (λ error. IsFault error.kind)
+  -- and where the reader fails after some with this kind, with no other one, except for a fault
+  pub exact : (before : List (List (List ℕ))) (kind : ErrorKind) → IsStream Zero format limit before (Some kind) bytes
+      → IsErrAnd result (λ error. IsFault error.kind ⊎ (error.kind ≡ kind))
