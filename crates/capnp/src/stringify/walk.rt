@@ -1,0 +1,385 @@
+//! A walk over a struct and what is below it, which adds the text of each.
+//!
+//! It keeps the structs and lists that it is in, and doesn't call itself.
+use crate::any_pointer;
+use crate::any_struct::StructReader;
+use crate::data;
+use crate::message::ReaderSegments;
+use crate::primitive_element::PrimitiveElement;
+use crate::stringify::literals::{push_data, push_text};
+use crate::stringify::numbers::{bits_of, push_bits};
+use crate::stringify::schema::{Base, DefaultValue, Field, Schema, Type};
+use crate::text;
+use crate::upgraded::{NumberList, PointerList, StructList};
+use capnp_frame::Error;
+use std::alloc::{AllocError, Global};
+use std::fmt::Write;
+
+/// The fields of a struct, or of a group of it, that are still to come.
+#[derive(Clone, Copy)]
+struct Fields {
+    /// The struct's or the group's number in the schema.
+    of: u32,
+    next: usize,
+    /// Whether none was added yet.
+    is_first: bool,
+    is_group: bool,
+    /// How many more structs and lists may be within the struct.
+    depth: u32,
+}
+
+/// The elements of a list that are still to come.
+#[derive(Drop)]
+struct Elements<L> {
+    list: L,
+    next: u32,
+    /// The type of each.
+    of: Type,
+    /// How many more structs and lists may be within the list.
+    depth: u32,
+}
+
+/// What is still to come of a struct or a list.
+#[derive(Drop)]
+enum Row<'a, S: ReaderSegments> {
+    Fields(Fields),
+    Structs(Elements<StructList<'a, S>>),
+    Pointers(Elements<PointerList<'a, S>>),
+}
+
+/// A walk over a struct.
+#[derive(Drop)]
+pub struct Walk<'r, 'a, S: ReaderSegments> {
+    alloc: Global,
+    schema: &'r Schema,
+    root: &'r StructReader<'a, S>,
+    // The structs below the root that the walk is in, the innermost last.
+    structs: Vec<StructReader<'a, S>>,
+    rows: Vec<Row<'a, S>>,
+}
+
+impl<'r, 'a, S: ReaderSegments> Walk<'r, 'a, S> {
+    /// A walk before its root.
+    pub fn new(alloc: Global, schema: &'r Schema, root: &'r StructReader<'a, S>) -> Self {
+        Walk {
+            alloc,
+            schema,
+            root,
+            structs: Vec::new(alloc),
+            rows: Vec::new(alloc),
+        }
+    }
+
+    /// Begins the root, of the struct of this number.
+    pub fn open_root(&mut self, text: &mut String, of: u32, depth: u32) -> Result<(), AllocError> {
+        if depth == 0 {
+            return text.push_str("(..)");
+        }
+        self.open_fields(text, of, false, depth.saturating_sub(1))
+    }
+
+    /// Adds what comes next; returns false at the end.
+    pub fn go_on(&mut self, text: &mut String) -> Result<bool, AllocError> {
+        let Some(row) = self.rows.pop() else {
+            return Ok(false);
+        };
+        match row {
+            Row::Fields(row) => self.push_next_field(text, row)?,
+            Row::Structs(row) => self.push_next_struct(text, row)?,
+            Row::Pointers(row) => self.push_next_pointer(text, row)?,
+        }
+        Ok(true)
+    }
+
+    // The struct that the walk is in.
+    fn current(&self) -> &StructReader<'a, S> {
+        self.structs.last().unwrap_or(self.root)
+    }
+
+    // Begins a struct that is the current one, or a group of it.
+    fn open_fields(
+        &mut self,
+        text: &mut String,
+        of: u32,
+        is_group: bool,
+        depth: u32,
+    ) -> Result<(), AllocError> {
+        self.rows.push(Row::Fields(Fields {
+            of,
+            next: 0,
+            is_first: true,
+            is_group,
+            depth,
+        }))?;
+        text.push('(')
+    }
+
+    // Adds the next field that is shown, or the end of a struct.
+    fn push_next_field(&mut self, text: &mut String, row: Fields) -> Result<(), AllocError> {
+        let Some(field) = self.schema.field(row.of, row.next) else {
+            if !row.is_group {
+                let _ = self.structs.pop();
+            }
+            return text.push(')');
+        };
+        let is_shown = self.is_shown(row.of, &field);
+        self.rows.push(Row::Fields(Fields {
+            of: row.of,
+            next: row.next.saturating_add(1),
+            is_first: row.is_first && !is_shown,
+            is_group: row.is_group,
+            depth: row.depth,
+        }))?;
+        if !is_shown {
+            return Ok(());
+        }
+        if !row.is_first {
+            text.push_str(", ")?;
+        }
+        text.push_str(field.name)?;
+        text.push_str(" = ")?;
+        self.push_field(text, &field, row.depth)
+    }
+
+    // Whether a field of the current struct is shown: a member of a union where it is set, and a
+    // pointer where it is not null, or the member of another number than 0.
+    fn is_shown(&self, of: u32, field: &Field) -> bool {
+        let fields = self.current();
+        if let Some(number) = field.member
+            && let Some(offset) = self.schema.discriminant(of)
+        {
+            if fields.get_data_field::<u16>(offset) != number {
+                return false;
+            }
+            if number != 0 {
+                return true;
+            }
+        }
+        !field.of.is_pointer() || fields.has_pointer(field.pointer_index())
+    }
+
+    // Adds the value of a field of the current struct.
+    fn push_field(
+        &mut self,
+        text: &mut String,
+        field: &Field,
+        depth: u32,
+    ) -> Result<(), AllocError> {
+        if let Base::Group(of) = field.of.base {
+            return self.open_fields(text, of, true, depth);
+        }
+        if !field.of.is_pointer() {
+            let bits = bits_of(self.current(), field);
+            return push_bits(self.alloc, text, self.schema, field.of.base, bits);
+        }
+        let pointer = self.current().get_pointer(field.pointer_index());
+        match field.default {
+            DefaultValue::Text(default) if pointer.is_null() => push_text(text, default.as_bytes()),
+            DefaultValue::Data(default) if pointer.is_null() => push_data(text, default),
+            _ => self.push_pointer(text, pointer, field.of, depth),
+        }
+    }
+
+    // Adds what a pointer leads to, or begins it.
+    fn push_pointer(
+        &mut self,
+        text: &mut String,
+        pointer: any_pointer::Reader<'a, S>,
+        of: Type,
+        depth: u32,
+    ) -> Result<(), AllocError> {
+        if of.lists > 0 {
+            return self.open_list(text, pointer, of.element(), depth);
+        }
+        match of.base {
+            Base::Text => match pointer.get_as::<text::Reader<'a>>() {
+                Ok(shown) => push_text(text, shown.as_bytes()),
+                Err(error) => push_error(text, &error),
+            },
+            Base::Data => match pointer.get_as::<data::Reader<'a>>() {
+                Ok(bytes) => push_data(text, bytes),
+                Err(error) => push_error(text, &error),
+            },
+            Base::Struct(of) => self.open_struct(text, pointer, of, depth),
+            Base::Interface => text.push_str("<external capability>"),
+            _ => text.push_str("<opaque pointer>"),
+        }
+    }
+
+    // Begins a struct that a pointer leads to.
+    fn open_struct(
+        &mut self,
+        text: &mut String,
+        pointer: any_pointer::Reader<'a, S>,
+        of: u32,
+        depth: u32,
+    ) -> Result<(), AllocError> {
+        if depth == 0 {
+            return text.push_str("(..)");
+        }
+        match pointer.get_as::<StructReader<'a, S>>() {
+            Ok(fields) => {
+                self.structs.push(fields)?;
+                self.open_fields(text, of, false, depth.saturating_sub(1))
+            }
+            Err(error) => push_error(text, &error),
+        }
+    }
+
+    // Adds a list of numbers, or begins another one.
+    fn open_list(
+        &mut self,
+        text: &mut String,
+        pointer: any_pointer::Reader<'a, S>,
+        of: Type,
+        depth: u32,
+    ) -> Result<(), AllocError> {
+        if depth == 0 {
+            return text.push_str("[..]");
+        }
+        if of.lists > 0 {
+            return self.open_pointers(text, pointer, of, depth);
+        }
+        match of.base {
+            Base::Void => self.push_numbers::<()>(text, pointer, of.base),
+            Base::Bool => self.push_numbers::<bool>(text, pointer, of.base),
+            Base::Int8 | Base::Uint8 => self.push_numbers::<u8>(text, pointer, of.base),
+            Base::Int16 | Base::Uint16 | Base::Enum(_) => {
+                self.push_numbers::<u16>(text, pointer, of.base)
+            }
+            Base::Int32 | Base::Uint32 | Base::Float32 => {
+                self.push_numbers::<u32>(text, pointer, of.base)
+            }
+            Base::Int64 | Base::Uint64 | Base::Float64 => {
+                self.push_numbers::<u64>(text, pointer, of.base)
+            }
+            Base::Struct(_) => self.open_structs(text, pointer, of, depth),
+            _ => self.open_pointers(text, pointer, of, depth),
+        }
+    }
+
+    // Adds a list of numbers that have as many bits as `T`.
+    fn push_numbers<T: PrimitiveElement + Drop>(
+        &self,
+        text: &mut String,
+        pointer: any_pointer::Reader<'a, S>,
+        base: Base,
+    ) -> Result<(), AllocError> {
+        match pointer.get_as::<NumberList<'a, T>>() {
+            Ok(list) => {
+                text.push('[')?;
+                let mut separator = "";
+                for number in list.iter() {
+                    text.push_str(separator)?;
+                    separator = ", ";
+                    push_bits(self.alloc, text, self.schema, base, number.to_bits())?;
+                }
+                text.push(']')
+            }
+            Err(error) => push_error(text, &error),
+        }
+    }
+
+    // Begins a list of structs.
+    fn open_structs(
+        &mut self,
+        text: &mut String,
+        pointer: any_pointer::Reader<'a, S>,
+        of: Type,
+        depth: u32,
+    ) -> Result<(), AllocError> {
+        match pointer.get_as::<StructList<'a, S>>() {
+            Ok(list) => {
+                self.rows.push(Row::Structs(Elements {
+                    list,
+                    next: 0,
+                    of,
+                    depth: depth.saturating_sub(1),
+                }))?;
+                text.push('[')
+            }
+            Err(error) => push_error(text, &error),
+        }
+    }
+
+    // Begins a list of pointers.
+    fn open_pointers(
+        &mut self,
+        text: &mut String,
+        pointer: any_pointer::Reader<'a, S>,
+        of: Type,
+        depth: u32,
+    ) -> Result<(), AllocError> {
+        match pointer.get_as::<PointerList<'a, S>>() {
+            Ok(list) => {
+                self.rows.push(Row::Pointers(Elements {
+                    list,
+                    next: 0,
+                    of,
+                    depth: depth.saturating_sub(1),
+                }))?;
+                text.push('[')
+            }
+            Err(error) => push_error(text, &error),
+        }
+    }
+
+    // Begins the next struct of a list, or adds the end of the list.
+    fn push_next_struct(
+        &mut self,
+        text: &mut String,
+        row: Elements<StructList<'a, S>>,
+    ) -> Result<(), AllocError> {
+        let Some(element) = row.list.try_get(row.next) else {
+            return text.push(']');
+        };
+        let of = row.of.base;
+        let depth = row.depth;
+        if row.next > 0 {
+            text.push_str(", ")?;
+        }
+        self.rows.push(Row::Structs(row.after()))?;
+        match of {
+            Base::Struct(of) if depth > 0 => {
+                self.structs.push(element)?;
+                self.open_fields(text, of, false, depth.saturating_sub(1))
+            }
+            _ => text.push_str("(..)"),
+        }
+    }
+
+    // Adds what the next pointer of a list leads to, or the end of the list.
+    fn push_next_pointer(
+        &mut self,
+        text: &mut String,
+        row: Elements<PointerList<'a, S>>,
+    ) -> Result<(), AllocError> {
+        let Some(pointer) = row.list.try_get(row.next) else {
+            return text.push(']');
+        };
+        let of = row.of;
+        let depth = row.depth;
+        if row.next > 0 {
+            text.push_str(", ")?;
+        }
+        self.rows.push(Row::Pointers(row.after()))?;
+        self.push_pointer(text, pointer, of, depth)
+    }
+}
+
+impl<L> Elements<L> {
+    // The elements after the next one.
+    fn after(self) -> Elements<L> {
+        Elements {
+            list: self.list,
+            next: self.next.saturating_add(1),
+            of: self.of,
+            depth: self.depth,
+        }
+    }
+}
+
+// Adds an error in place of what can't be read.
+fn push_error(text: &mut String, error: &Error) -> Result<(), AllocError> {
+    write!(text, "<{error}>")
+}
