@@ -12,3 +12,4 @@ pub mod Devices
 pub mod Reading
 pub mod RecordLog
 pub mod MessageStreams
+pub mod Printed

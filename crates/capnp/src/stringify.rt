@@ -10,10 +10,9 @@ mod numbers;
 mod schema;
 mod walk;
 
-pub use crate::stringify::schema::{Base, DefaultValue, Field, Schema, StructType, Type};
-
 use crate::any_struct::StructReader;
 use crate::message::ReaderSegments;
+pub use crate::stringify::schema::{Base, DefaultValue, Field, Schema, StructType, Type};
 use crate::stringify::walk::Walk;
 use std::alloc::{AllocError, Global};
 

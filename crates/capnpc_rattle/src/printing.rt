@@ -94,12 +94,19 @@ fn push_field(
 ) -> Result<(), AllocError> {
     let (lists, base, offset) = match &field.slot {
         Slot::At(place) => (place.of.lists, base_of(alloc, table, place)?, place.offset),
-        Slot::Group(id) => (0, numbered(alloc, "Group", table.structs.as_slice(), *id)?, 0),
+        Slot::Group(id) => (
+            0,
+            numbered(alloc, "Group", table.structs.as_slice(), *id)?,
+            0,
+        ),
         Slot::Unknown => return Ok(()),
     };
     let holes = Holes::new(alloc)
         .with("name", field.name.as_str())
-        .holding("member", optional(alloc, field.member.map(|member| member as u32)))
+        .holding(
+            "member",
+            optional(alloc, field.member.map(|member| member as u32)),
+        )
         .holding("lists", format!(in alloc; "{lists}"))
         .with("base", base.as_str())
         .holding("offset", format!(in alloc; "{offset}"))
@@ -175,7 +182,10 @@ fn data_default(alloc: Global, bytes: &[u8]) -> Result<String, AllocError> {
 fn enums_of(alloc: Global, request: &Request, table: &TypeTable) -> Result<String, AllocError> {
     let mut rows = Code::new(alloc, 0);
     for id in table.enums.as_slice() {
-        let holes = Holes::new(alloc).holding("names", names_of(alloc, enumerants_of(request, *id)));
+        let holes = Holes::new(alloc).holding(
+            "names",
+            names_of(alloc, enumerants_of(request, *id)),
+        );
         rows.add(ENUM, &holes)?;
     }
     let _ = rows.text.pop();

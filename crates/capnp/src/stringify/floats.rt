@@ -2,13 +2,14 @@
 //! back as the same number.
 use std::alloc::{AllocError, Global};
 
-/// Adds a float: in 6 significant digits where these are read as the same number, and else in 8.
+/// Adds a float: in 6 significant digits where these are read as the same number, and that is a normal
+/// one, and else in 8.
 pub fn push_float32(alloc: Global, text: &mut String, number: f32) -> Result<(), AllocError> {
     if let Some(name) = name_of(f64::from(number)) {
         return text.push_str(name);
     }
     let few = format!(in alloc; "{number:.5e}")?;
-    if few.as_str().parse::<f32>() == Ok(number) {
+    if !is_subnormal(number) && few.as_str().parse::<f32>() == Ok(number) {
         return push_digits(text, few.as_str(), 6);
     }
     let more = format!(in alloc; "{number:.7e}")?;
@@ -26,6 +27,11 @@ pub fn push_float64(alloc: Global, text: &mut String, number: f64) -> Result<(),
     }
     let more = format!(in alloc; "{number:.16e}")?;
     push_digits(text, more.as_str(), 17)
+}
+
+// Whether a float is nearer to 0 than the smallest normal one.
+fn is_subnormal(number: f32) -> bool {
+    number != 0.0 && number < f32::MIN_POSITIVE && number > -f32::MIN_POSITIVE
 }
 
 // The name of a float that is no finite number.

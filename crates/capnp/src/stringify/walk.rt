@@ -1,16 +1,14 @@
 //! A walk over a struct and what is below it, which adds the text of each.
 //!
 //! It keeps the structs and lists that it is in, and doesn't call itself.
-use crate::any_pointer;
 use crate::any_struct::StructReader;
-use crate::data;
 use crate::message::ReaderSegments;
 use crate::primitive_element::PrimitiveElement;
 use crate::stringify::literals::{push_data, push_text};
 use crate::stringify::numbers::{bits_of, push_bits};
 use crate::stringify::schema::{Base, DefaultValue, Field, Schema, Type};
-use crate::text;
 use crate::upgraded::{NumberList, PointerList, StructList};
+use crate::{any_pointer, data, text};
 use capnp_frame::Error;
 use std::alloc::{AllocError, Global};
 use std::fmt::Write;
