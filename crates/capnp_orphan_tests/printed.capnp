@@ -2,7 +2,7 @@
 # What the tests print.
 
 struct Printed {
-  level @0 :Int16 = -5;
+  balance @0 :Int16 = -5;
   ratio @1 :Float64;
   color @2 :Color;
   title @3 :Text;

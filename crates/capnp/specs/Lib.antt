@@ -13,3 +13,4 @@ pub mod Reading
 pub mod RecordLog
 pub mod MessageStreams
 pub mod Printed
+pub mod PrintedFields

@@ -4,6 +4,7 @@
 //! here with a table of the schema.
 ghost use Rattle.std.specs.Prelude.{◌≡◌, IfOk, codes, string_bytes};
 
+mod fields;
 mod floats;
 mod literals;
 mod numbers;
@@ -30,10 +31,15 @@ pub fn to_text<S: ReaderSegments>(
     schema: &Schema,
     of: u32,
     depth: u32,
-) -> Result<String, AllocError> {
+) -> Result<String, AllocError>
+    ensures { depth ≡ 0 → IfOk result (λ text. string_bytes text ≡ codes "(..)") }
+{
+    if depth == 0 {
+        return String::from_str(alloc, "(..)");
+    }
     let mut text = String::new(alloc);
     let mut walk = Walk::new(alloc, schema, fields);
-    walk.open_root(&mut text, of, depth)?;
+    walk.open_root(&mut text, of, depth - 1)?;
     for _ in 0..u64::MAX {
         if !walk.go_on(&mut text)? {
             break;

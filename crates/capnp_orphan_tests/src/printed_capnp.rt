@@ -35,8 +35,8 @@ pub mod printed {
     }
 
     impl<'a, S: ReaderSegments> Reader<'a, S> {
-        /// The field `level`.
-        pub fn get_level(&self) -> i16
+        /// The field `balance`.
+        pub fn get_balance(&self) -> i16
             ensures { let fields = struct_of S.segments self.now.fields in
                 result ≡ cast_signed w16 (bit_xor (field fields.words 16 0) 65531) }
         {
@@ -609,7 +609,7 @@ pub mod the_schema {
         structs: &[
             // `Printed`
             StructType { discriminant: Some(3), fields: &[
-                Field { name: "level", member: None, of: Type { lists: 0, base: Base::Int16 }, offset: 0, default: DefaultValue::Bits(65531) },
+                Field { name: "balance", member: None, of: Type { lists: 0, base: Base::Int16 }, offset: 0, default: DefaultValue::Bits(65531) },
                 Field { name: "ratio", member: None, of: Type { lists: 0, base: Base::Float64 }, offset: 1, default: DefaultValue::Bits(0) },
                 Field { name: "color", member: None, of: Type { lists: 0, base: Base::Enum(0) }, offset: 1, default: DefaultValue::Bits(0) },
                 Field { name: "title", member: None, of: Type { lists: 0, base: Base::Text }, offset: 0, default: DefaultValue::Bits(0) },

@@ -4,6 +4,8 @@ use std::alloc::{AllocError, Global};
 
 /// Adds a float: in 6 significant digits where these are read as the same number, and that is a normal
 /// one, and else in 8.
+///
+/// Fails only where memory is lacking.
 pub fn push_float32(alloc: Global, text: &mut String, number: f32) -> Result<(), AllocError> {
     if let Some(name) = name_of(f64::from(number)) {
         return text.push_str(name);
@@ -17,6 +19,8 @@ pub fn push_float32(alloc: Global, text: &mut String, number: f32) -> Result<(),
 }
 
 /// Adds a float: in 15 significant digits where these are read as the same number, and else in 17.
+///
+/// Fails only where memory is lacking.
 pub fn push_float64(alloc: Global, text: &mut String, number: f64) -> Result<(), AllocError> {
     if let Some(name) = name_of(number) {
         return text.push_str(name);
@@ -87,7 +91,7 @@ fn push_point(text: &mut String, whole: &str, fraction: &str) -> Result<(), Allo
     Ok(())
 }
 
-// Adds the digits after the first one, the point after so many of them.
+// Adds the digits after the first one, the point after this many of them.
 fn push_moved(text: &mut String, digits: &str, count: i32) -> Result<(), AllocError> {
     let mut left = count;
     for digit in digits.chars() {

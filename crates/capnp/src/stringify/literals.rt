@@ -49,6 +49,8 @@ pub fn escape_of_byte(byte: u8) -> Escape
 }
 
 /// Adds a character, escaped in this way.
+///
+/// Fails only where memory is lacking.
 pub fn push_escape(text: &mut String, character: char, escape: Escape) -> Result<(), AllocError>
     ensures { OnOk result (string_bytes text.new ≡ string_bytes text.old ++ escaped character escape) }
 {
@@ -66,6 +68,8 @@ pub fn push_escape(text: &mut String, character: char, escape: Escape) -> Result
 }
 
 /// Adds data, within quotation marks.
+///
+/// Fails only where memory is lacking.
 pub fn push_data(text: &mut String, bytes: &[u8]) -> Result<(), AllocError>
     ensures { OnOk result (AddsData bytes.now (string_bytes text.old) (string_bytes text.new)) }
 {
@@ -88,6 +92,8 @@ fn push_characters(text: &mut String, shown: &str) -> Result<(), AllocError>
 }
 
 /// Adds the bytes of a text, within quotation marks; as data where they are not UTF-8.
+///
+/// Fails only where memory is lacking.
 pub fn push_text(text: &mut String, bytes: &[u8]) -> Result<(), AllocError>
     ensures text { IsUtf8 bytes.now →
         OnOk result (AddsText bytes.now (string_bytes text.old) (string_bytes text.new)) }

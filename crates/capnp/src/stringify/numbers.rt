@@ -29,6 +29,8 @@ pub fn bits_of<S: ReaderSegments>(fields: &StructReader<'_, S>, field: &Field) -
 
 /// Adds the number, the bool or the enumerant of some bits, as many as its type has; `void` for
 /// other types.
+///
+/// Fails only where memory is lacking.
 pub fn push_bits(
     alloc: Global,
     text: &mut String,

@@ -1,4 +1,6 @@
 //! The types of a schema, as a table in a program's static data.
+ghost use Rattle.std.specs.Prelude.{◌≡◌, ◌↔◌, ◌%◌, IsTrue};
+ghost use Rattle.capnp.specs.PrintedFields.{IsPointer};
 
 /// The structs and enums that the structs of a schema lead to.
 #[derive(Clone, Copy)]
@@ -97,7 +99,9 @@ impl Schema {
 
 impl Field {
     /// Its index among the pointers, where it is one.
-    pub(crate) fn pointer_index(&self) -> u16 {
+    pub(crate) fn pointer_index(&self) -> u16
+        ensures { result ≡ self.now.offset % 65536 }
+    {
         (self.offset % 65536) as u16
     }
 
@@ -112,7 +116,9 @@ impl Field {
 
 impl Type {
     /// Whether a field of it is a pointer.
-    pub(crate) fn is_pointer(&self) -> bool {
+    pub(crate) fn is_pointer(&self) -> bool
+        ensures { IsTrue result ↔ IsPointer self.now.lists self.now.base }
+    {
         self.lists > 0
             || matches!(
                 self.base,

@@ -4,6 +4,7 @@
 use crate::any_struct::StructReader;
 use crate::message::ReaderSegments;
 use crate::primitive_element::PrimitiveElement;
+use crate::stringify::fields::is_shown;
 use crate::stringify::literals::{push_data, push_text};
 use crate::stringify::numbers::{bits_of, push_bits};
 use crate::stringify::schema::{Base, DefaultValue, Field, Schema, Type};
@@ -68,15 +69,16 @@ impl<'r, 'a, S: ReaderSegments> Walk<'r, 'a, S> {
         }
     }
 
-    /// Begins the root, of the struct of this number.
+    /// Begins the root, of the struct of this number, with this depth left within it.
+    ///
+    /// Fails only where memory is lacking.
     pub fn open_root(&mut self, text: &mut String, of: u32, depth: u32) -> Result<(), AllocError> {
-        if depth == 0 {
-            return text.push_str("(..)");
-        }
-        self.open_fields(text, of, false, depth.saturating_sub(1))
+        self.open_fields(text, of, false, depth)
     }
 
     /// Adds what comes next; returns false at the end.
+    ///
+    /// Fails only where memory is lacking.
     pub fn go_on(&mut self, text: &mut String) -> Result<bool, AllocError> {
         let Some(row) = self.rows.pop() else {
             return Ok(false);
@@ -120,7 +122,7 @@ impl<'r, 'a, S: ReaderSegments> Walk<'r, 'a, S> {
             }
             return text.push(')');
         };
-        let is_shown = self.is_shown(row.of, &field);
+        let is_shown = is_shown(self.current(), self.schema.discriminant(row.of), &field);
         self.rows.push(Row::Fields(Fields {
             of: row.of,
             next: row.next.saturating_add(1),
@@ -137,23 +139,6 @@ impl<'r, 'a, S: ReaderSegments> Walk<'r, 'a, S> {
         text.push_str(field.name)?;
         text.push_str(" = ")?;
         self.push_field(text, &field, row.depth)
-    }
-
-    // Whether a field of the current struct is shown: a member of a union where it is set, and a
-    // pointer where it is not null, or the member of another number than 0.
-    fn is_shown(&self, of: u32, field: &Field) -> bool {
-        let fields = self.current();
-        if let Some(number) = field.member
-            && let Some(offset) = self.schema.discriminant(of)
-        {
-            if fields.get_data_field::<u16>(offset) != number {
-                return false;
-            }
-            if number != 0 {
-                return true;
-            }
-        }
-        !field.of.is_pointer() || fields.has_pointer(field.pointer_index())
     }
 
     // Adds the value of a field of the current struct.
@@ -266,10 +251,12 @@ impl<'r, 'a, S: ReaderSegments> Walk<'r, 'a, S> {
         match pointer.get_as::<NumberList<'a, T>>() {
             Ok(list) => {
                 text.push('[')?;
-                let mut separator = "";
+                let mut is_first = true;
                 for number in list.iter() {
-                    text.push_str(separator)?;
-                    separator = ", ";
+                    if !is_first {
+                        text.push_str(", ")?;
+                    }
+                    is_first = false;
                     push_bits(self.alloc, text, self.schema, base, number.to_bits())?;
                 }
                 text.push(']')

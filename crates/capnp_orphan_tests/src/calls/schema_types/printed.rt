@@ -6,7 +6,7 @@ use capnp_frame::message::SegmentArray;
 use std::alloc::Global;
 use std::test::Fail;
 
-// (level = 12, ratio = -2.5, color = deepBlue, title = "A \"title\"\n", payload = 0x"01 41 ff",
+// (balance = 12, ratio = -2.5, color = deepBlue, title = "A \"title\"\n", payload = 0x"01 41 ff",
 // points = [(x = 1, y = -2), ()], colors = [red, deepBlue], any = a struct, size = (width = 80),
 // label = "here")
 #[rattlefmt::skip]
@@ -31,7 +31,7 @@ const FILLED: &[u8] = &[
     104, 101, 114, 101, 0, 0, 0, 0,
 ];
 
-// (inner = (level = 1, inner = (ratio = 0.1))), without the pointers and words that are zero at the
+// (inner = (balance = 1, inner = (ratio = 0.1))), without the pointers and words that are zero at the
 // end of each struct.
 #[rattlefmt::skip]
 const NESTED: &[u8] = &[
@@ -81,14 +81,14 @@ const SPOILT: &[u8] = &[
 // Segments, the depth to which they are printed, and the line.
 #[rattlefmt::skip]
 const LINES: [(&[u8], u32, &str); 9] = [
-    (FILLED, 8, r#"(level = 12, ratio = -2.5, color = deepBlue, title = "A \"title\"\n", payload = "\001A\377", points = [(x = 1, y = -2), (x = 0, y = 3)], colors = [red, deepBlue], any = <opaque pointer>, size = (width = 80), label = "here")"#),
-    (NESTED, 3, "(level = -5, ratio = 0, color = red, size = (width = 0), inner = (level = 1, ratio = 0, color = red, size = (width = 0), inner = (level = -5, ratio = 0.1, color = red, size = (width = 0), nothing = void)))"),
-    (UNNAMED, 1, r#"(level = -5, ratio = 0, color = (5), size = (width = 7), label = "none")"#),
-    (OTHER_MEMBER, 1, "(level = -5, ratio = 0, color = red, size = (width = 0))"),
-    (SPOILT, 1, "(level = -5, ratio = 0, color = red, title = <WrongPointerKind>, payload = <PointerOutOfBounds>, size = (width = 0), nothing = void)"),
-    (FILLED, 2, r#"(level = 12, ratio = -2.5, color = deepBlue, title = "A \"title\"\n", payload = "\001A\377", points = [(..), (..)], colors = [red, deepBlue], any = <opaque pointer>, size = (width = 80), label = "here")"#),
-    (FILLED, 1, r#"(level = 12, ratio = -2.5, color = deepBlue, title = "A \"title\"\n", payload = "\001A\377", points = [..], colors = [..], any = <opaque pointer>, size = (width = 80), label = "here")"#),
-    (NESTED, 2, "(level = -5, ratio = 0, color = red, size = (width = 0), inner = (level = 1, ratio = 0, color = red, size = (width = 0), inner = (..)))"),
+    (FILLED, 8, r#"(balance = 12, ratio = -2.5, color = deepBlue, title = "A \"title\"\n", payload = "\001A\377", points = [(x = 1, y = -2), (x = 0, y = 3)], colors = [red, deepBlue], any = <opaque pointer>, size = (width = 80), label = "here")"#),
+    (NESTED, 3, "(balance = -5, ratio = 0, color = red, size = (width = 0), inner = (balance = 1, ratio = 0, color = red, size = (width = 0), inner = (balance = -5, ratio = 0.1, color = red, size = (width = 0), nothing = void)))"),
+    (UNNAMED, 1, r#"(balance = -5, ratio = 0, color = (5), size = (width = 7), label = "none")"#),
+    (OTHER_MEMBER, 1, "(balance = -5, ratio = 0, color = red, size = (width = 0))"),
+    (SPOILT, 1, "(balance = -5, ratio = 0, color = red, title = <WrongPointerKind>, payload = <PointerOutOfBounds>, size = (width = 0), nothing = void)"),
+    (FILLED, 2, r#"(balance = 12, ratio = -2.5, color = deepBlue, title = "A \"title\"\n", payload = "\001A\377", points = [(..), (..)], colors = [red, deepBlue], any = <opaque pointer>, size = (width = 80), label = "here")"#),
+    (FILLED, 1, r#"(balance = 12, ratio = -2.5, color = deepBlue, title = "A \"title\"\n", payload = "\001A\377", points = [..], colors = [..], any = <opaque pointer>, size = (width = 80), label = "here")"#),
+    (NESTED, 2, "(balance = -5, ratio = 0, color = red, size = (width = 0), inner = (balance = 1, ratio = 0, color = red, size = (width = 0), inner = (..)))"),
     (NESTED, 0, "(..)"),
 ];
 

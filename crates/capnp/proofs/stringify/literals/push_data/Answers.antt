@@ -1,12 +1,12 @@
 -- Each byte is shown after those before it.
-use Rattle.std.proofs.Common.{List, ℕ, [], ◌++◌}
+use Rattle.std.proofs.Common.{arith, List, ℕ, [], ◌++◌}
 use Rattle.std.proofs.lemmas.List.{take_more}
 use Rattle.capnp.specs.Printed.{none_shown, one_shown, escaped}
-use Rattle.capnp.proofs.PrintedLemmas.{added_after}
+use Rattle.capnp.proofs.PrintedLemmas.{added_after, opened}
 use Rattle.capnp.proofs.stringify.literals.push_data.Goals as goal
 
 pub loop-byte-init : goal.loop-byte-init
-loop-byte-init c = ([], c.in_ok-push.ensures.bytes, none_shown)
+loop-byte-init c = ([], opened _ _ _ c.in_ok-push.ensures.bytes (c.in_ok-push.ensures.ascii (omega arith)), none_shown)
 
 pub loop-byte-preserved : goal.loop-byte-preserved
 loop-byte-preserved c =
