@@ -1,5 +1,5 @@
 -- Each character is shown after those before it.
-use Rattle.std.proofs.Common.{arith, List, ℕ, [], ◌++◌}
+use Rattle.std.proofs.Common.{arith, [], ◌++◌}
 use Rattle.std.specs.Char.{encode_utf8}
 use Rattle.std.proofs.lemmas.Iterator.{YieldsList-from_chars}
 use Rattle.std.proofs.lemmas.Iterator.Consumers.{YieldsList-end}
@@ -25,4 +25,4 @@ returns c =
     let ended = YieldsList-end (YieldsList-from_chars c.args.shown.now c.utf8.shown cc) c.loop-character.yielded _ c.loop-character.yielded_by _ _ c.in-None.is c.next.ensures.steps in
     let all = all_shown _ _ before.0 ended.0 before.2 in
     on_ok_weaker c.push-2.result (λ is. (before.0, is, all))
-      (closed c.push-2.result _ before.0 _ (encode_utf8 34) _ before.1 c.push-2.ensures.bytes (c.push-2.ensures.ascii (omega arith)))
+    (closed c.push-2.result _ before.0 _ (encode_utf8 34) _ before.1 c.push-2.ensures.bytes (c.push-2.ensures.ascii (omega arith)))

@@ -1,5 +1,5 @@
 -- Each byte is shown after those before it.
-use Rattle.std.proofs.Common.{arith, List, ℕ, [], ◌++◌}
+use Rattle.std.proofs.Common.{arith, [], ◌++◌}
 use Rattle.std.proofs.lemmas.List.{take_more}
 use Rattle.capnp.specs.Printed.{none_shown, one_shown, escaped}
 use Rattle.capnp.proofs.PrintedLemmas.{added_after, opened}
