@@ -14,3 +14,4 @@ pub mod RecordLog
 pub mod MessageStreams
 pub mod Printed
 pub mod PrintedFields
+pub mod PrintedNumbers

@@ -1,17 +1,27 @@
 //! Numbers, bools and enumerants by their bits.
+ghost use Rattle.std.specs.Prelude.{◌≡◌, ◌++◌, IfSome, OnOk, string_bytes};
+ghost use Rattle.capnp_wire.specs.Readers.{struct_of};
+ghost use Rattle.capnp.specs.PrintedNumbers.{stored_bits, signed_of, shown_bits};
+
 use crate::any_struct::StructReader;
 use crate::message::ReaderSegments;
 use crate::stringify::floats::{push_float32, push_float64};
-use crate::stringify::schema::{Base, Field, Schema};
+use crate::stringify::schema::{Base, Schema};
 use std::alloc::{AllocError, Global};
 use std::fmt::Write;
 use std::num::{f32_from_bits_with_nan, f64_from_bits_with_nan};
 
-/// The bits of a field of the data section, those of its default where they are not there.
-pub fn bits_of<S: ReaderSegments>(fields: &StructReader<'_, S>, field: &Field) -> u64 {
-    let offset = field.offset;
-    let default = field.default_bits();
-    match field.of.base {
+/// The bits of a field of the data section, of this type, at an offset in units of its width; those of
+/// its default where they are not there, and 0 for other types.
+pub fn bits_of<S: ReaderSegments>(
+    fields: &StructReader<'_, S>,
+    base: Base,
+    offset: u32,
+    default: u64,
+) -> u64
+    ensures { result ≡ stored_bits (struct_of S.segments fields.now).words base offset default }
+{
+    match base {
         Base::Bool => fields.get_data_field_mask(offset, default % 2 == 1) as u64,
         Base::Int8 | Base::Uint8 => {
             fields.get_data_field_mask(offset, (default % 0x100) as u8) as u64
@@ -37,7 +47,10 @@ pub fn push_bits(
     schema: &Schema,
     base: Base,
     bits: u64,
-) -> Result<(), AllocError> {
+) -> Result<(), AllocError>
+    ensures { OnOk result (IfSome (shown_bits base bits)
+        (λ shown. string_bytes text.new ≡ string_bytes text.old ++ shown)) }
+{
     match base {
         Base::Bool => text.push_str(if bits == 0 { "false" } else { "true" }),
         Base::Uint8 | Base::Uint16 | Base::Uint32 | Base::Uint64 => write!(text, "{bits}"),
@@ -56,7 +69,9 @@ pub fn push_bits(
 }
 
 // The number with a sign that some bits are.
-fn signed(base: Base, bits: u64) -> i64 {
+fn signed(base: Base, bits: u64) -> i64
+    ensures { result ≡ signed_of base bits }
+{
     match base {
         Base::Int8 => ((bits % 0x100) as u8).cast_signed() as i64,
         Base::Int16 => ((bits % 0x1_0000) as u16).cast_signed() as i64,

@@ -152,7 +152,12 @@ impl<'r, 'a, S: ReaderSegments> Walk<'r, 'a, S> {
             return self.open_fields(text, of, true, depth);
         }
         if !field.of.is_pointer() {
-            let bits = bits_of(self.current(), field);
+            let bits = bits_of(
+                self.current(),
+                field.of.base,
+                field.offset,
+                field.default_bits(),
+            );
             return push_bits(self.alloc, text, self.schema, field.of.base, bits);
         }
         let pointer = self.current().get_pointer(field.pointer_index());
