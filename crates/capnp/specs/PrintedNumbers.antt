@@ -4,7 +4,8 @@ use Rattle.std.specs.Fmt.{signed_decimal}
 use Rattle.std.specs.Int.{w8, w16, w32, w64, cast_signed}
 use Rattle.capnp_wire.specs.Fields.{field}
 use Rattle.capnp.specs.declared.stringify.schema.Base.{Base}
-use Rattle.capnp.specs.declared.stringify.schema.Base.TheVariants.{Bool as OfBool, Int8, Int16, Int32, Int64, Uint8, Uint16, Uint32, Uint64, Float32, Float64, Enum}
+use Rattle.capnp.specs.declared.stringify.schema.Base.TheVariants.{Bool as OfBool, Int8, Int16, Int32, Int64, Uint8, Uint16, Uint32, Uint64}
+use Rattle.capnp.specs.declared.stringify.schema.Base.TheVariants.{Float32, Float64, Enum}
 
 -- The bits of a field of the data section at an offset in units of its width, each changed where the default has a one; 0 for what
 -- is not in the data section. Encoding document, "Structs".

@@ -638,9 +638,9 @@ pub mod the_schema {
     };
 
     impl<'a, S: ReaderSegments> super::printed::Reader<'a, S> {
-        /// The struct as text, as `capnp decode --short` prints it. `depth` says how many structs and
-        /// lists may be within one another; below, they are shown as `(..)` and `[..]`. What can't be
-        /// read is shown as its error, `<PointerOutOfBounds>`.
+        /// The struct as text, as `capnp decode --short` prints it. `depth` says how many structs
+        /// and lists may be within one another; below, they are shown as `(..)` and `[..]`. What
+        /// can't be read is shown as its error, `<PointerOutOfBounds>`.
         ///
         /// Fails only where memory is lacking.
         pub fn to_text(&self, alloc: Global, depth: u32) -> Result<String, AllocError> {
@@ -649,9 +649,9 @@ pub mod the_schema {
     }
 
     impl<'a, S: ReaderSegments> super::printed::point::Reader<'a, S> {
-        /// The struct as text, as `capnp decode --short` prints it. `depth` says how many structs and
-        /// lists may be within one another; below, they are shown as `(..)` and `[..]`. What can't be
-        /// read is shown as its error, `<PointerOutOfBounds>`.
+        /// The struct as text, as `capnp decode --short` prints it. `depth` says how many structs
+        /// and lists may be within one another; below, they are shown as `(..)` and `[..]`. What
+        /// can't be read is shown as its error, `<PointerOutOfBounds>`.
         ///
         /// Fails only where memory is lacking.
         pub fn to_text(&self, alloc: Global, depth: u32) -> Result<String, AllocError> {

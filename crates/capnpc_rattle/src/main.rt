@@ -3,10 +3,10 @@
 //!
 //! It reads a `CodeGeneratorRequest` from standard input, and writes `NAME_capnp.rt` for each file
 //! that is asked for, into the folder in which it runs, or into that of its first argument; to
-//! standard output if that is `-`. Nothing is written before everything is made. Its other arguments,
-//! or else the words of the environment's `CAPNPC_RATTLE`, with commas between them, say what it
-//! writes: where one is `readers`, only readers, and else builders, too; where one is `print`, for
-//! each struct a method that prints it.
+//! standard output if that is `-`. Nothing is written before everything is made. Its other
+//! arguments, or else the words of the environment's `CAPNPC_RATTLE`, with commas between them, say
+//! what it writes: where one is `readers`, only readers, and else builders, too; where one is
+//! `print`, for each struct a method that prints it.
 #![tactic(auto)]
 
 mod builder_getters;

@@ -40,9 +40,9 @@ pub const ENUM: &str = "&[@names@],";
 /// The method of a struct.
 pub const METHOD: &str = "
 impl<'a, S: ReaderSegments> super::@path@::Reader<'a, S> {
-    /// The struct as text, as `capnp decode --short` prints it. `depth` says how many structs and
-    /// lists may be within one another; below, they are shown as `(..)` and `[..]`. What can't be
-    /// read is shown as its error, `<PointerOutOfBounds>`.
+    /// The struct as text, as `capnp decode --short` prints it. `depth` says how many structs
+    /// and lists may be within one another; below, they are shown as `(..)` and `[..]`. What
+    /// can't be read is shown as its error, `<PointerOutOfBounds>`.
     ///
     /// Fails only where memory is lacking.
     pub fn to_text(&self, alloc: Global, depth: u32) -> Result<String, AllocError> {

@@ -2,8 +2,8 @@
 //! back as the same number.
 use std::alloc::{AllocError, Global};
 
-/// Adds a float: in 6 significant digits where these are read as the same number, and that is a normal
-/// one, and else in 8.
+/// Adds a float: in 6 significant digits where these are read as the same number, and that is a
+/// normal one, and else in 8.
 ///
 /// Fails only where memory is lacking.
 pub fn push_float32(alloc: Global, text: &mut String, number: f32) -> Result<(), AllocError> {

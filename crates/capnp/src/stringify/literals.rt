@@ -52,7 +52,8 @@ pub fn escape_of_byte(byte: u8) -> Escape
 ///
 /// Fails only where memory is lacking.
 pub fn push_escape(text: &mut String, character: char, escape: Escape) -> Result<(), AllocError>
-    ensures { OnOk result (string_bytes text.new ≡ string_bytes text.old ++ escaped character escape) }
+    ensures { OnOk result (string_bytes text.new
+        ≡ string_bytes text.old ++ escaped character escape) }
 {
     match escape {
         Escape::Plain => text.push(character),
