@@ -21,6 +21,7 @@ import struct
 UNSIGNED = {"UInt8": 8, "UInt16": 16, "UInt32": 32, "UInt64": 64}
 SIGNED = {"Int8": 8, "Int16": 16, "Int32": 32, "Int64": 64}
 FLOATS = {"Float32": "f", "Float64": "d"}
+OPAQUE = "opaque"
 NUMBERS = ["Bool", *UNSIGNED, *SIGNED, *FLOATS]
 
 
@@ -101,7 +102,8 @@ class Schema:
         self.identity, self.outer, self.structs, self.enums = identity, outer, structs, enums
 
     def text(self, with_any):
-        """The schema, with any pointers, or with what they lead to in their place."""
+        """The schema, with any pointers (if OPAQUE, in the place of parameters, too), or with what they lead to in
+        their place."""
         lines = ["@0x%016x;" % self.identity, "interface Called {}"]
         for made in self.enums:
             if not made.scope:
@@ -121,7 +123,7 @@ def struct_lines(made, with_any):
     for held in made.structs:
         inner += struct_lines(held, with_any)
     inner += member_lines(made.members, with_any)
-    parameter = "(Parameter)" if made.parameter and with_any else ""
+    parameter = "(Parameter)" if made.parameter and with_any is True else ""
     return ["struct %s%s {" % (made.name, parameter), *("  " + line for line in inner), "}"]
 
 
@@ -144,11 +146,12 @@ def kind_text(kind, with_any):
     if form == "list":
         return "List(%s)" % kind_text(of, with_any)
     if form in ("any", "parameter"):
-        return {"any": "AnyPointer", "parameter": "Parameter"}[form] if with_any else kind_text(of, with_any)
+        is_parameter = form == "parameter" and with_any is True
+        return ("Parameter" if is_parameter else "AnyPointer") if with_any else kind_text(of, with_any)
     return {"number": of, "text": "Text", "data": "Data", "interface": ".Called"}[form]
 
 
 def applied(part, with_any):
     """The name of a struct or an enum, a struct with what its parameter stands for."""
     parameter = getattr(part, "parameter", None)
-    return "%s(%s)" % (part.name, kind_text(parameter, with_any)) if parameter and with_any else part.name
+    return "%s(%s)" % (part.name, kind_text(parameter, with_any)) if parameter and with_any is True else part.name

@@ -16,3 +16,4 @@ pub mod DeviceLemmas
 pub mod StreamLemmas
 pub mod LogLemmas
 pub mod CutLemmas
+pub mod PrintedLemmas

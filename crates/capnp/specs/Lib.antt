@@ -12,3 +12,6 @@ pub mod Devices
 pub mod Reading
 pub mod RecordLog
 pub mod MessageStreams
+pub mod Printed
+pub mod PrintedFields
+pub mod PrintedNumbers

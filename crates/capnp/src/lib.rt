@@ -24,6 +24,7 @@ pub mod roots;
 pub mod serialize;
 pub mod serialize_packed;
 pub mod streams;
+pub mod stringify;
 pub mod struct_list;
 pub mod text;
 pub mod text_list;

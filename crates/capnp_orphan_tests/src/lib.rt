@@ -11,6 +11,8 @@ mod fixtures;
 #[cfg(test)]
 mod kept_memory;
 #[cfg(test)]
+mod printed_capnp;
+#[cfg(test)]
 mod refusals;
 #[cfg(test)]
 mod regions;

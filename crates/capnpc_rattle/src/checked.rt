@@ -31,7 +31,7 @@ fn check_node(alloc: Global, request: &Request, node: &Node, left: &mut Vec<u64>
     left.extend_from_slice(node.nested.as_slice())?;
     if let Body::Struct(body) = &node.body {
         check_fields(request, node, body)?;
-        if request.has_builders && !body.is_group {
+        if request.wanted.builders && !body.is_group {
             check_setters(alloc, request, node.id)?;
         }
         push_groups(left, body)?;

@@ -235,7 +235,7 @@ pub fn push_enum(
         .holding("arms", variant_arms(alloc, type_name, names));
     code.add(ENUM_END, &holes)?;
     code.add_with(ENUM_ELEMENT, "type", type_name)?;
-    if request.has_builders {
+    if request.wanted.builders {
         push_to_number(alloc, code, type_name, names)?;
     }
     Ok(())

@@ -4,6 +4,7 @@ use crate::constants::push_constants;
 use crate::enums::push_enum;
 use crate::imports::{push_definitions, push_imports};
 use crate::names::base_name;
+use crate::printing::push_printing;
 use crate::schema::{Body, Node, Request, Slot, Struct};
 use crate::structs::{close_module, open_module, push_struct};
 use crate::templates::FILE;
@@ -37,6 +38,9 @@ pub fn code_of(alloc: Global, request: &Request, file: u64) -> Result<String, Al
                 }
             }
         }
+    }
+    if request.wanted.printing {
+        push_printing(alloc, &mut body, request, file)?;
     }
     let mut code = Code::new(alloc, 0);
     let name = base_name(request.file_name(file).unwrap_or(""));

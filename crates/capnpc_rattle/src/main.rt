@@ -3,9 +3,10 @@
 //!
 //! It reads a `CodeGeneratorRequest` from standard input, and writes `NAME_capnp.rt` for each file
 //! that is asked for, into the folder in which it runs, or into that of its first argument; to
-//! standard output if that is `-`. Nothing is written before everything is made. If its second
-//! argument is `readers`, or the environment has that as `CAPNPC_RATTLE`, it writes only readers,
-//! and else builders, too.
+//! standard output if that is `-`. Nothing is written before everything is made. Its other
+//! arguments, or else the words of the environment's `CAPNPC_RATTLE`, with commas between them, say
+//! what it writes: where one is `readers`, only readers, and else builders, too; where one is
+//! `print`, for each struct a method that prints it.
 #![tactic(auto)]
 
 mod builder_getters;
@@ -31,6 +32,8 @@ mod owned_types;
 mod owners;
 mod paths;
 mod pointer_setters;
+mod print_templates;
+mod printing;
 mod request;
 mod reserved;
 mod schema;
@@ -41,14 +44,17 @@ mod signatures;
 mod structs;
 mod templates;
 mod trees;
+mod type_table;
 mod types;
 mod unions;
 mod views;
+mod wanted;
 mod words;
 
 use crate::output::{Output, outputs_of, write_outputs};
 use crate::schema::Request;
 use crate::schema_capnp::code_generator_request;
+use crate::wanted::Wanted;
 use anyhow::{Context, Result};
 use capnp_frame::serialize::OwnedSegments;
 use std::alloc::Global;
@@ -65,32 +71,41 @@ fn main(rt: HostRuntime) -> ExitCode {
     }
 }
 
-// Whether only readers are asked for, by an argument or by the environment.
-fn is_for_readers(rt: &HostRuntime, words: &[String]) -> bool {
-    if let Some(word) = words.get(2) {
-        return word.as_str() == "readers";
+// What is wanted beside readers, by the arguments after the folder, or else by the environment.
+fn wanted_by(rt: &HostRuntime, words: &[String]) -> Wanted {
+    let mut wanted = Wanted::new();
+    match words.get(2..) {
+        Some(words) if !words.is_empty() => {
+            for word in words {
+                wanted.ask(word.as_str());
+            }
+        }
+        _ => {
+            if let Ok(words) = env::var(rt, "CAPNPC_RATTLE") {
+                for word in words.as_str().split(',') {
+                    wanted.ask(word);
+                }
+            }
+        }
     }
-    match env::var(rt, "CAPNPC_RATTLE") {
-        Ok(word) => word.as_str() == "readers",
-        Err(_) => false,
-    }
+    wanted
 }
 
 // Reads the request from standard input.
-fn request_from(alloc: Global, rt: &HostRuntime, has_builders: bool) -> Result<Request> {
+fn request_from(alloc: Global, rt: &HostRuntime, wanted: Wanted) -> Result<Request> {
     let message = input::read_message(alloc, &mut rt.stdin())?;
     let root: code_generator_request::Reader<'_, OwnedSegments> = message
         .get_root()
         .and_then(|root| root.get_as())
         .context("standard input is no request of the schema compiler")?;
-    request::read_request(alloc, &root, has_builders).context(
+    request::read_request(alloc, &root, wanted).context(
         "standard input is no request of the schema compiler",
     )
 }
 
 // Reads the request, and makes what it asks for.
-fn outputs_from(alloc: Global, rt: &HostRuntime, has_builders: bool) -> Result<Vec<Output>> {
-    let request = request_from(alloc, rt, has_builders)?;
+fn outputs_from(alloc: Global, rt: &HostRuntime, wanted: Wanted) -> Result<Vec<Output>> {
+    let request = request_from(alloc, rt, wanted)?;
     outputs_of(alloc, &request)
 }
 
@@ -111,7 +126,7 @@ fn run(rt: HostRuntime) -> Result<()> {
         Some(folder) => folder.as_str(),
         None => ".",
     };
-    let outputs = outputs_from(alloc, &rt, !is_for_readers(&rt, words.as_slice()))?;
+    let outputs = outputs_from(alloc, &rt, wanted_by(&rt, words.as_slice()))?;
     if folder == "-" {
         print_outputs(&rt, outputs.as_slice())
     } else {

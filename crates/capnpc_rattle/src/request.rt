@@ -3,24 +3,25 @@
 use crate::schema::{Body, Field, Node, Place, Request, RequestedFile, Slot, Struct};
 use crate::schema_capnp::{code_generator_request, field, node};
 use crate::types::{read_type, read_value};
+use crate::wanted::Wanted;
 use anyhow::{Result, bail};
 use capnp_frame::message::ReaderSegments;
 use capnp_wire::text;
 use std::alloc::Global;
 use std::str::from_utf8;
 
-/// The request at the root of a message, for builders and readers, or for readers only.
+/// The request at the root of a message, for readers and what is wanted beside them.
 pub fn read_request<S: ReaderSegments>(
     alloc: Global,
     root: &code_generator_request::Reader<'_, S>,
-    has_builders: bool,
+    wanted: Wanted,
 ) -> Result<Request> {
     let nodes = read_nodes(alloc, root)?;
     let files = read_files(alloc, root)?;
     let mut request = Request {
         nodes,
         files,
-        has_builders,
+        wanted,
     };
     add_comments(alloc, root, &mut request)?;
     Ok(request)

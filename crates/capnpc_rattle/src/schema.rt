@@ -1,5 +1,6 @@
 //! A schema, as a request to generate code has it (`schema.capnp` of Cap'n Proto), as far as the
 //! compiler needs it.
+use crate::wanted::Wanted;
 
 /// A declaration.
 #[derive(Drop)]
@@ -142,8 +143,7 @@ pub struct RequestedFile {
 pub struct Request {
     pub nodes: Vec<Node>,
     pub files: Vec<RequestedFile>,
-    /// Whether builders are written, too.
-    pub has_builders: bool,
+    pub wanted: Wanted,
 }
 
 impl Request {

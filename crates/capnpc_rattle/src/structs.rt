@@ -75,7 +75,7 @@ fn push_reader(
         code.add_lines(FROM_POINTER)?;
         code.add_lines(LIST_READER)?;
     }
-    if site.request.has_builders {
+    if site.request.wanted.builders {
         push_builder(alloc, code, site, body)?;
     }
     push_defaults(alloc, code, site, body)

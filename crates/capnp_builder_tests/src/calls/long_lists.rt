@@ -107,15 +107,26 @@ type LazyStrings<'a> = LazyPointerList<text::Owned, Names<'a>>;
 
 type ReadTexts<'a> = text_list::Reader<'a, SegmentArray<'a>>;
 
+// Texts in a slice.
+fn expect_texts(rt: &(impl Abort + AllocGlobal), bytes: &[u8], segment: &[u8]) -> Result<()> {
+    let names = names_in(rt.alloc(), bytes)?;
+    let list = PointerList::new(&names);
+    expect_set::<text_list::Owned, Strings<'_>>(rt, "texts", &list, segment)
+}
+
+// Texts that are made when they are asked for.
+fn expect_made_texts(rt: &(impl Abort + AllocGlobal), bytes: &[u8], segment: &[u8]) -> Result<()> {
+    let names = names_in(rt.alloc(), bytes)?;
+    let list = LazyPointerList::new(Names { names: &names });
+    expect_set::<text_list::Owned, LazyStrings<'_>>(rt, "made texts", &list, segment)
+}
+
 #[test]
 fn long_lists_of_texts(rt: HostRuntime) -> Result<()> {
     let bytes = all_digits(rt.alloc())?;
-    let names = names_in(rt.alloc(), &bytes)?;
     let segment = list_of_texts(rt.alloc(), Texts::After, MANY)?;
-    let list = PointerList::new(&names);
-    expect_set::<text_list::Owned, Strings<'_>>(&rt, "texts", &list, &segment)?;
-    let list = LazyPointerList::new(Names { names: &names });
-    expect_set::<text_list::Owned, LazyStrings<'_>>(&rt, "made texts", &list, &segment)?;
+    expect_texts(&rt, &bytes, &segment)?;
+    expect_made_texts(&rt, &bytes, &segment)?;
     let other = list_of_texts(rt.alloc(), Texts::Before, MANY)?;
     let segments = [other.as_slice()];
     let arena = plain_arena(&segments);

@@ -7,6 +7,7 @@ mod changed;
 mod fields;
 mod lists;
 mod people;
+mod printed;
 mod read;
 mod shown;
 mod trees;

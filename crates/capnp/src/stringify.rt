@@ -1,0 +1,49 @@
+//! Structs as text, by their schema: what `capnp decode --short` of the C++ tool prints.
+//!
+//! Types that `capnpc-rattle` writes with `print` have a method `to_text`, which calls `to_text`
+//! here with a table of the schema.
+ghost use Rattle.std.specs.Prelude.{◌≡◌, IfOk, codes, string_bytes};
+
+mod fields;
+mod floats;
+mod literals;
+mod numbers;
+mod schema;
+mod walk;
+
+use crate::any_struct::StructReader;
+use crate::message::ReaderSegments;
+pub use crate::stringify::schema::{Base, DefaultValue, Field, Schema, StructType, Type};
+use crate::stringify::walk::Walk;
+use std::alloc::{AllocError, Global};
+
+/// A struct as text, of the type of this number of a schema.
+///
+/// `depth` says how many structs and lists may be within one another; the struct is the first of
+/// them, and a group none of its own. Below, a struct is shown as `(..)` and a list as `[..]`, and
+/// neither is read. What a pointer leads to that can't be read, or would go past the limits of its
+/// reader, is shown as its error, `<PointerOutOfBounds>`, and the text goes on after it.
+///
+/// Fails only where memory is lacking.
+pub fn to_text<S: ReaderSegments>(
+    alloc: Global,
+    fields: &StructReader<'_, S>,
+    schema: &Schema,
+    of: u32,
+    depth: u32,
+) -> Result<String, AllocError>
+    ensures { depth ≡ 0 → IfOk result (λ text. string_bytes text ≡ codes "(..)") }
+{
+    if depth == 0 {
+        return String::from_str(alloc, "(..)");
+    }
+    let mut text = String::new(alloc);
+    let mut walk = Walk::new(alloc, schema, fields);
+    walk.open_root(&mut text, of, depth - 1)?;
+    for _ in 0..u64::MAX {
+        if !walk.go_on(&mut text)? {
+            break;
+        }
+    }
+    Ok(text)
+}

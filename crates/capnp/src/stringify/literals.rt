@@ -1,0 +1,108 @@
+//! Texts and bytes within quotation marks, with the escapes of C.
+ghost use Rattle.std.specs.Prelude.{◌≡◌, ◌++◌, IsUtf8, OnOk, string_bytes};
+ghost use Rattle.capnp.specs.Printed.{IsEscapeOf, IsByteEscape, escaped, AddsData, AddsText};
+
+use std::alloc::AllocError;
+use std::fmt::Write;
+use std::str::from_utf8;
+
+/// How a character is shown within quotation marks.
+#[derive(Clone, Copy)]
+pub enum Escape {
+    /// As it is.
+    Plain,
+    /// As this letter, after a backslash.
+    Letter(char),
+    /// As its number, in three octal digits after a backslash.
+    Number,
+}
+
+/// How a character of a text is shown, or one of ASCII of data.
+pub fn escape_of(character: char) -> Escape
+    ensures { IsEscapeOf character result }
+{
+    match character {
+        '\x07' => Escape::Letter('a'),
+        '\x08' => Escape::Letter('b'),
+        '\x0c' => Escape::Letter('f'),
+        '\n' => Escape::Letter('n'),
+        '\r' => Escape::Letter('r'),
+        '\t' => Escape::Letter('t'),
+        '\x0b' => Escape::Letter('v'),
+        '"' => Escape::Letter('"'),
+        '\'' => Escape::Letter('\''),
+        '\\' => Escape::Letter('\\'),
+        '\0'..='\x1f' | '\x7f' => Escape::Number,
+        _ => Escape::Plain,
+    }
+}
+
+/// How a byte of data is shown.
+pub fn escape_of_byte(byte: u8) -> Escape
+    ensures { IsByteEscape byte result }
+{
+    if byte < 128 {
+        escape_of(byte as char)
+    } else {
+        Escape::Number
+    }
+}
+
+/// Adds a character, escaped in this way.
+///
+/// Fails only where memory is lacking.
+pub fn push_escape(text: &mut String, character: char, escape: Escape) -> Result<(), AllocError>
+    ensures { OnOk result (string_bytes text.new
+        ≡ string_bytes text.old ++ escaped character escape) }
+{
+    match escape {
+        Escape::Plain => text.push(character),
+        Escape::Letter(letter) => {
+            text.push('\\')?;
+            text.push(letter)
+        }
+        Escape::Number => {
+            let number = character as u32;
+            write!(text, "\\{number:03o}")
+        }
+    }
+}
+
+/// Adds data, within quotation marks.
+///
+/// Fails only where memory is lacking.
+pub fn push_data(text: &mut String, bytes: &[u8]) -> Result<(), AllocError>
+    ensures { OnOk result (AddsData bytes.now (string_bytes text.old) (string_bytes text.new)) }
+{
+    text.push('"')?;
+    for byte in bytes {
+        push_escape(text, *byte as char, escape_of_byte(*byte))?;
+    }
+    text.push('"')
+}
+
+// Adds a text, within quotation marks.
+fn push_characters(text: &mut String, shown: &str) -> Result<(), AllocError>
+    ensures { OnOk result (AddsText shown.now (string_bytes text.old) (string_bytes text.new)) }
+{
+    text.push('"')?;
+    for character in shown.chars() {
+        push_escape(text, character, escape_of(character))?;
+    }
+    text.push('"')
+}
+
+/// Adds the bytes of a text, within quotation marks; as data where they are not UTF-8.
+///
+/// Fails only where memory is lacking.
+pub fn push_text(text: &mut String, bytes: &[u8]) -> Result<(), AllocError>
+    ensures text { IsUtf8 bytes.now →
+        OnOk result (AddsText bytes.now (string_bytes text.old) (string_bytes text.new)) }
+    ensures data { (IsUtf8 bytes.now → ⊥) →
+        OnOk result (AddsData bytes.now (string_bytes text.old) (string_bytes text.new)) }
+{
+    match from_utf8(bytes) {
+        Ok(shown) => push_characters(text, shown),
+        Err(_) => push_data(text, bytes),
+    }
+}

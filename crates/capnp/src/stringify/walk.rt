@@ -1,0 +1,212 @@
+//! A walk over a struct and what is below it, which adds the text of each.
+//!
+//! It keeps the structs and lists that it is in, and doesn't call itself.
+mod lists;
+
+use crate::any_struct::StructReader;
+use crate::message::ReaderSegments;
+use crate::stringify::fields::is_shown;
+use crate::stringify::literals::{push_data, push_text};
+use crate::stringify::numbers::{bits_of, push_bits};
+use crate::stringify::schema::{Base, DefaultValue, Field, Schema, Type};
+use crate::stringify::walk::lists::Elements;
+use crate::upgraded::{PointerList, StructList};
+use crate::{any_pointer, data, text};
+use capnp_frame::Error;
+use std::alloc::{AllocError, Global};
+use std::fmt::Write;
+
+/// The fields of a struct, or of a group of it, that are still to come.
+#[derive(Clone, Copy)]
+struct Fields {
+    /// The struct's or the group's number in the schema.
+    of: u32,
+    next: usize,
+    /// Whether none was added yet.
+    is_first: bool,
+    is_group: bool,
+    /// How many more structs and lists may be within the struct.
+    depth: u32,
+}
+
+/// What is still to come of a struct or a list.
+#[derive(Drop)]
+enum Row<'a, S: ReaderSegments> {
+    Fields(Fields),
+    Structs(Elements<StructList<'a, S>>),
+    Pointers(Elements<PointerList<'a, S>>),
+}
+
+/// A walk over a struct.
+#[derive(Drop)]
+pub struct Walk<'r, 'a, S: ReaderSegments> {
+    alloc: Global,
+    schema: &'r Schema,
+    root: &'r StructReader<'a, S>,
+    // The structs below the root that the walk is in, the innermost last.
+    structs: Vec<StructReader<'a, S>>,
+    rows: Vec<Row<'a, S>>,
+}
+
+impl<'r, 'a, S: ReaderSegments> Walk<'r, 'a, S> {
+    /// A walk before its root.
+    pub fn new(alloc: Global, schema: &'r Schema, root: &'r StructReader<'a, S>) -> Self {
+        Walk {
+            alloc,
+            schema,
+            root,
+            structs: Vec::new(alloc),
+            rows: Vec::new(alloc),
+        }
+    }
+
+    /// Begins the root, of the struct of this number, with this depth left within it.
+    ///
+    /// Fails only where memory is lacking.
+    pub fn open_root(&mut self, text: &mut String, of: u32, depth: u32) -> Result<(), AllocError> {
+        self.open_fields(text, of, false, depth)
+    }
+
+    /// Adds what comes next; returns false at the end.
+    ///
+    /// Fails only where memory is lacking.
+    pub fn go_on(&mut self, text: &mut String) -> Result<bool, AllocError> {
+        let Some(row) = self.rows.pop() else {
+            return Ok(false);
+        };
+        match row {
+            Row::Fields(row) => self.push_next_field(text, row)?,
+            Row::Structs(row) => self.push_next_struct(text, row)?,
+            Row::Pointers(row) => self.push_next_pointer(text, row)?,
+        }
+        Ok(true)
+    }
+
+    // The struct that the walk is in.
+    fn current(&self) -> &StructReader<'a, S> {
+        self.structs.last().unwrap_or(self.root)
+    }
+
+    // Begins a struct that is the current one, or a group of it.
+    fn open_fields(
+        &mut self,
+        text: &mut String,
+        of: u32,
+        is_group: bool,
+        depth: u32,
+    ) -> Result<(), AllocError> {
+        self.rows.push(Row::Fields(Fields {
+            of,
+            next: 0,
+            is_first: true,
+            is_group,
+            depth,
+        }))?;
+        text.push('(')
+    }
+
+    // Adds the next field that is shown, or the end of a struct.
+    fn push_next_field(&mut self, text: &mut String, row: Fields) -> Result<(), AllocError> {
+        let Some(field) = self.schema.field(row.of, row.next) else {
+            if !row.is_group {
+                let _ = self.structs.pop();
+            }
+            return text.push(')');
+        };
+        let is_shown = is_shown(self.current(), self.schema.discriminant(row.of), &field);
+        self.rows.push(Row::Fields(Fields {
+            of: row.of,
+            next: row.next.saturating_add(1),
+            is_first: row.is_first && !is_shown,
+            is_group: row.is_group,
+            depth: row.depth,
+        }))?;
+        if !is_shown {
+            return Ok(());
+        }
+        if !row.is_first {
+            text.push_str(", ")?;
+        }
+        text.push_str(field.name)?;
+        text.push_str(" = ")?;
+        self.push_field(text, &field, row.depth)
+    }
+
+    // Adds the value of a field of the current struct.
+    fn push_field(
+        &mut self,
+        text: &mut String,
+        field: &Field,
+        depth: u32,
+    ) -> Result<(), AllocError> {
+        if let Base::Group(of) = field.of.base {
+            return self.open_fields(text, of, true, depth);
+        }
+        if !field.of.is_pointer() {
+            let bits = bits_of(
+                self.current(),
+                field.of.base,
+                field.offset,
+                field.default_bits(),
+            );
+            return push_bits(self.alloc, text, self.schema, field.of.base, bits);
+        }
+        let pointer = self.current().get_pointer(field.pointer_index());
+        match field.default {
+            DefaultValue::Text(default) if pointer.is_null() => push_text(text, default.as_bytes()),
+            DefaultValue::Data(default) if pointer.is_null() => push_data(text, default),
+            _ => self.push_pointer(text, pointer, field.of, depth),
+        }
+    }
+
+    // Adds what a pointer leads to, or begins it.
+    fn push_pointer(
+        &mut self,
+        text: &mut String,
+        pointer: any_pointer::Reader<'a, S>,
+        of: Type,
+        depth: u32,
+    ) -> Result<(), AllocError> {
+        if of.lists > 0 {
+            return self.open_list(text, pointer, of.element(), depth);
+        }
+        match of.base {
+            Base::Text => match pointer.get_as::<text::Reader<'a>>() {
+                Ok(shown) => push_text(text, shown.as_bytes()),
+                Err(error) => push_error(text, &error),
+            },
+            Base::Data => match pointer.get_as::<data::Reader<'a>>() {
+                Ok(bytes) => push_data(text, bytes),
+                Err(error) => push_error(text, &error),
+            },
+            Base::Struct(of) => self.open_struct(text, pointer, of, depth),
+            Base::Interface => text.push_str("<external capability>"),
+            _ => text.push_str("<opaque pointer>"),
+        }
+    }
+
+    // Begins a struct that a pointer leads to.
+    fn open_struct(
+        &mut self,
+        text: &mut String,
+        pointer: any_pointer::Reader<'a, S>,
+        of: u32,
+        depth: u32,
+    ) -> Result<(), AllocError> {
+        if depth == 0 {
+            return text.push_str("(..)");
+        }
+        match pointer.get_as::<StructReader<'a, S>>() {
+            Ok(fields) => {
+                self.structs.push(fields)?;
+                self.open_fields(text, of, false, depth.saturating_sub(1))
+            }
+            Err(error) => push_error(text, &error),
+        }
+    }
+}
+
+// Adds an error in place of what can't be read.
+fn push_error(text: &mut String, error: &Error) -> Result<(), AllocError> {
+    write!(text, "<{error}>")
+}

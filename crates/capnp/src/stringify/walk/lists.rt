@@ -1,0 +1,182 @@
+//! The lists that a walk is in.
+use crate::any_pointer;
+use crate::message::ReaderSegments;
+use crate::primitive_element::PrimitiveElement;
+use crate::stringify::numbers::push_bits;
+use crate::stringify::schema::{Base, Type};
+use crate::stringify::walk::{Row, Walk, push_error};
+use crate::upgraded::{NumberList, PointerList, StructList};
+use std::alloc::AllocError;
+
+/// The elements of a list that are still to come.
+#[derive(Drop)]
+pub struct Elements<L> {
+    list: L,
+    next: u32,
+    /// The type of each.
+    of: Type,
+    /// How many more structs and lists may be within the list.
+    depth: u32,
+}
+
+impl<'r, 'a, S: ReaderSegments> Walk<'r, 'a, S> {
+    /// Adds a list of numbers, or begins another one.
+    ///
+    /// Fails only where memory is lacking.
+    pub(super) fn open_list(
+        &mut self,
+        text: &mut String,
+        pointer: any_pointer::Reader<'a, S>,
+        of: Type,
+        depth: u32,
+    ) -> Result<(), AllocError> {
+        if depth == 0 {
+            return text.push_str("[..]");
+        }
+        if of.lists > 0 {
+            return self.open_pointers(text, pointer, of, depth);
+        }
+        match of.base {
+            Base::Void => self.push_numbers::<()>(text, pointer, of.base),
+            Base::Bool => self.push_numbers::<bool>(text, pointer, of.base),
+            Base::Int8 | Base::Uint8 => self.push_numbers::<u8>(text, pointer, of.base),
+            Base::Int16 | Base::Uint16 | Base::Enum(_) => {
+                self.push_numbers::<u16>(text, pointer, of.base)
+            }
+            Base::Int32 | Base::Uint32 | Base::Float32 => {
+                self.push_numbers::<u32>(text, pointer, of.base)
+            }
+            Base::Int64 | Base::Uint64 | Base::Float64 => {
+                self.push_numbers::<u64>(text, pointer, of.base)
+            }
+            Base::Struct(_) => self.open_structs(text, pointer, of, depth),
+            _ => self.open_pointers(text, pointer, of, depth),
+        }
+    }
+
+    // Adds a list of numbers that have as many bits as `T`.
+    fn push_numbers<T: PrimitiveElement + Drop>(
+        &self,
+        text: &mut String,
+        pointer: any_pointer::Reader<'a, S>,
+        base: Base,
+    ) -> Result<(), AllocError> {
+        match pointer.get_as::<NumberList<'a, T>>() {
+            Ok(list) => {
+                text.push('[')?;
+                let mut is_first = true;
+                for number in list.iter() {
+                    if !is_first {
+                        text.push_str(", ")?;
+                    }
+                    is_first = false;
+                    push_bits(self.alloc, text, self.schema, base, number.to_bits())?;
+                }
+                text.push(']')
+            }
+            Err(error) => push_error(text, &error),
+        }
+    }
+
+    // Begins a list of structs.
+    fn open_structs(
+        &mut self,
+        text: &mut String,
+        pointer: any_pointer::Reader<'a, S>,
+        of: Type,
+        depth: u32,
+    ) -> Result<(), AllocError> {
+        match pointer.get_as::<StructList<'a, S>>() {
+            Ok(list) => {
+                self.rows.push(Row::Structs(Elements {
+                    list,
+                    next: 0,
+                    of,
+                    depth: depth.saturating_sub(1),
+                }))?;
+                text.push('[')
+            }
+            Err(error) => push_error(text, &error),
+        }
+    }
+
+    // Begins a list of pointers.
+    fn open_pointers(
+        &mut self,
+        text: &mut String,
+        pointer: any_pointer::Reader<'a, S>,
+        of: Type,
+        depth: u32,
+    ) -> Result<(), AllocError> {
+        match pointer.get_as::<PointerList<'a, S>>() {
+            Ok(list) => {
+                self.rows.push(Row::Pointers(Elements {
+                    list,
+                    next: 0,
+                    of,
+                    depth: depth.saturating_sub(1),
+                }))?;
+                text.push('[')
+            }
+            Err(error) => push_error(text, &error),
+        }
+    }
+
+    /// Begins the next struct of a list, or adds the end of the list.
+    ///
+    /// Fails only where memory is lacking.
+    pub(super) fn push_next_struct(
+        &mut self,
+        text: &mut String,
+        row: Elements<StructList<'a, S>>,
+    ) -> Result<(), AllocError> {
+        let Some(element) = row.list.try_get(row.next) else {
+            return text.push(']');
+        };
+        let of = row.of.base;
+        let depth = row.depth;
+        if row.next > 0 {
+            text.push_str(", ")?;
+        }
+        self.rows.push(Row::Structs(row.after()))?;
+        match of {
+            Base::Struct(of) if depth > 0 => {
+                self.structs.push(element)?;
+                self.open_fields(text, of, false, depth.saturating_sub(1))
+            }
+            _ => text.push_str("(..)"),
+        }
+    }
+
+    /// Adds what the next pointer of a list leads to, or the end of the list.
+    ///
+    /// Fails only where memory is lacking.
+    pub(super) fn push_next_pointer(
+        &mut self,
+        text: &mut String,
+        row: Elements<PointerList<'a, S>>,
+    ) -> Result<(), AllocError> {
+        let Some(pointer) = row.list.try_get(row.next) else {
+            return text.push(']');
+        };
+        let of = row.of;
+        let depth = row.depth;
+        if row.next > 0 {
+            text.push_str(", ")?;
+        }
+        self.rows.push(Row::Pointers(row.after()))?;
+        self.push_pointer(text, pointer, of, depth)
+    }
+}
+
+impl<L> Elements<L> {
+    // The elements after the next one.
+    fn after(self) -> Elements<L> {
+        Elements {
+            list: self.list,
+            next: self.next.saturating_add(1),
+            of: self.of,
+            depth: self.depth,
+        }
+    }
+}

@@ -1,0 +1,108 @@
+//! The types to which the structs of a file lead, each by its number in a table.
+use crate::schema::{Base, Body, Field, Node, Request, Slot};
+use std::alloc::{AllocError, Global};
+
+/// The types of a table, by their nodes.
+#[derive(Drop)]
+pub struct TypeTable {
+    /// Structs and groups: those that the file declares first, in its order.
+    pub structs: Vec<u64>,
+    /// How many of them the file declares.
+    pub own: usize,
+    pub enums: Vec<u64>,
+}
+
+impl TypeTable {
+    /// The types of a file.
+    pub fn of_file(alloc: Global, request: &Request, file: u64) -> Result<TypeTable, AllocError> {
+        let structs = structs_in(alloc, request, file)?;
+        let own = structs.len();
+        let mut table = TypeTable {
+            structs,
+            own,
+            enums: Vec::new(alloc),
+        };
+        let mut index: usize = 0;
+        for _ in 0..u64::MAX {
+            let Some(id) = table.structs.get(index).copied() else {
+                break;
+            };
+            index = index.saturating_add(1);
+            table.add_fields(request, id)?;
+        }
+        Ok(table)
+    }
+
+    // Adds the types of a struct's fields.
+    fn add_fields(&mut self, request: &Request, id: u64) -> Result<(), AllocError> {
+        let Some(node) = request.find(id) else {
+            return Ok(());
+        };
+        if let Body::Struct(body) = &node.body {
+            for field in body.fields.as_slice() {
+                self.add_type(field)?;
+            }
+        }
+        Ok(())
+    }
+
+    // Adds the type of a field.
+    fn add_type(&mut self, field: &Field) -> Result<(), AllocError> {
+        match &field.slot {
+            Slot::At(place) => match place.of.base {
+                Base::Struct(id) => add(&mut self.structs, id),
+                Base::Enum(id) => add(&mut self.enums, id),
+                _ => Ok(()),
+            },
+            Slot::Group(id) => add(&mut self.structs, *id),
+            Slot::Unknown => Ok(()),
+        }
+    }
+}
+
+/// The number of a node among others; that after the last one where it is not there.
+pub fn number_in(nodes: &[u64], id: u64) -> usize {
+    let mut number: usize = 0;
+    for other in nodes {
+        if *other == id {
+            break;
+        }
+        number = number.saturating_add(1);
+    }
+    number
+}
+
+// Adds a node, unless it is there.
+fn add(nodes: &mut Vec<u64>, id: u64) -> Result<(), AllocError> {
+    if !nodes.contains(&id) {
+        nodes.push(id)?;
+    }
+    Ok(())
+}
+
+// The structs that are declared in a node and in those in it, in the order of the file.
+fn structs_in(alloc: Global, request: &Request, id: u64) -> Result<Vec<u64>, AllocError> {
+    let mut found = Vec::new(alloc);
+    let mut left: Vec<u64> = Vec::new(alloc);
+    left.push(id)?;
+    for _ in 0..u64::MAX {
+        let Some(id) = left.pop() else {
+            break;
+        };
+        if let Some(node) = request.find(id) {
+            if let Body::Struct(_) = &node.body {
+                found.push(id)?;
+            }
+            push_nested(&mut left, node)?;
+        }
+    }
+    Ok(found)
+}
+
+// Adds the nodes that are declared in a node to those that are left, the first on top.
+fn push_nested(left: &mut Vec<u64>, node: &Node) -> Result<(), AllocError> {
+    for id in node.nested.iter().rev() {
+        left.push(*id)?;
+    }
+    Ok(())
+}
