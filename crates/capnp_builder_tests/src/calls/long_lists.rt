@@ -15,8 +15,9 @@ use capnp_values::{
     Borrowed, Field, LazyPointerList, LazyStructList, NoFields, NumberList, PointerList,
     StructList, StructValue,
 };
+use capnp_wire::arena::ReaderArena;
 use capnp_wire::primitive_element::PrimitiveElement;
-use capnp_wire::traits::SetterInput;
+use capnp_wire::traits::{FromPointerReader, SetterInput};
 use capnp_wire::{struct_list, text, text_list};
 use std::alloc::Global;
 use std::process::Abort;
@@ -49,6 +50,17 @@ fn expect_set<T, V: SetterInput<T>>(
     let found = [has_segment(&message, segment), has_segment(&form, segment)];
     expect(rt, row, found, [true, true]);
     Ok(())
+}
+
+// A root that is set to what is read as the root of other segments.
+fn expect_read<'a, S: ReaderSegments, T, V: FromPointerReader<'a, S> + SetterInput<T> + Drop>(
+    rt: &(impl Abort + AllocGlobal),
+    row: &str,
+    arena: &'a ReaderArena<S>,
+    segment: &[u8],
+) -> Result<()> {
+    let list: V = root_as(arena)?;
+    expect_set::<T, V>(rt, row, &list, segment)
 }
 
 // Numbers that stand in a row, and the list of them that is read of the segment.
@@ -130,8 +142,7 @@ fn long_lists_of_texts(rt: HostRuntime) -> Result<()> {
     let other = list_of_texts(rt.alloc(), Texts::Before, MANY)?;
     let segments = [other.as_slice()];
     let arena = plain_arena(&segments);
-    let read: ReadTexts<'_> = root_as(&arena)?;
-    expect_set::<text_list::Owned, ReadTexts<'_>>(&rt, "read texts", &read, &segment)
+    expect_read::<_, text_list::Owned, ReadTexts<'_>>(&rt, "read texts", &arena, &segment)
 }
 
 type Named<'a> = StructValue<1, Field<text::Owned, &'a str, NoFields>>;
@@ -171,8 +182,7 @@ fn long_lists_of_structs(rt: HostRuntime) -> Result<()> {
     let other = list_of_structs(rt.alloc(), Texts::Before, MANY)?;
     let segments = [other.as_slice()];
     let arena = plain_arena(&segments);
-    let read: ReadStructs<'_> = root_as(&arena)?;
-    expect_set::<struct_list::Owned, ReadStructs<'_>>(&rt, "read structs", &read, &segment)
+    expect_read::<_, struct_list::Owned, ReadStructs<'_>>(&rt, "read structs", &arena, &segment)
 }
 
 // A list of numbers that are set one after another, and got.
