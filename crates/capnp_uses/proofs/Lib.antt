@@ -3,6 +3,7 @@ pub mod AccountListLemmas
 pub mod AnyNumberLemmas
 pub mod BackLemmas
 pub mod ContactLemmas
+pub mod DeviceLemmas
 pub mod LargeLemmas
 pub mod PackedStructLemmas
 pub mod PackingLemmas
