@@ -63,7 +63,7 @@ fn is_message<S: ReaderSegments>(segments: &S, index: u64) -> bool {
     let last_id = segments_in(index).saturating_sub(1).min(2) as u32;
     let last = shows(segments, last_id, &word);
     let first = shows(segments, 0, &word);
-    first && last && segments.len() == segments_in(index)
+    first && last && segments.get_segment(last_id + 1).is_none()
 }
 
 #[test]
