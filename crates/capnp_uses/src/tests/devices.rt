@@ -65,10 +65,21 @@ fn a_stream_in_two_parts(rt: HostRuntime) -> Result<()> {
         let (first, second) = (&stream[..end], &stream[end..]);
         expect(&rt, end, count_of(alloc, first, second)?, 2);
     }
-    let number = match count_of(alloc, &stream[..30], &stream[30..55]) {
-        Ok(_) => 0,
-        Err(error) => error.kind.number(),
-    };
-    expect(&rt, "a byte less", number, 1);
+    Ok(())
+}
+
+#[test]
+fn a_stream_in_two_parts_that_is_cut(rt: HostRuntime) -> Result<()> {
+    let alloc = rt.alloc();
+    let mut stream = both(alloc, Format::Framed)?;
+    let _ = stream.pop();
+    assert!(rt; stream.len() == 55);
+    for end in 0..56usize {
+        let number = match count_of(alloc, &stream[..end], &stream[end..]) {
+            Ok(_) => 0,
+            Err(error) => error.kind.number(),
+        };
+        expect(&rt, end, number, 1);
+    }
     Ok(())
 }
