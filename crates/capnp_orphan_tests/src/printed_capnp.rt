@@ -1,13 +1,16 @@
 //! Types of `printed.capnp`, made by `capnpc-rattle`: change that file, and make them again.
-ghost use Rattle.std.specs.Prelude.{◌≡◌, ◌≤◌, ◌<◌, ◌↔◌, IsTrue, bit_xor, from_bits, length};
+ghost use Rattle.std.specs.Prelude.{◌≡◌, ◌≤◌, ◌<◌, ◌↔◌, ◌∷◌, [], IsTrue, bit_xor, from_bits, length};
 ghost use Rattle.std.specs.Float.{binary64};
 ghost use Rattle.std.specs.Int.{w16, w32, cast_signed};
 ghost use Rattle.capnp_wire.specs.Constants.{root_of};
 ghost use Rattle.capnp_wire.specs.Fields.{field};
+ghost use Rattle.capnp_wire.specs.Layout.{layout};
 ghost use Rattle.capnp_wire.specs.ListViews.{element_of};
 ghost use Rattle.capnp_wire.specs.Lists.{FindsElement, IsIterator};
 ghost use Rattle.capnp_wire.specs.Object.{nothing};
+ghost use Rattle.capnp_wire.specs.Pointer.{words_of};
 ghost use Rattle.capnp_wire.specs.Readers.{struct_of, pointer_of};
+ghost use Rattle.capnp_wire.specs.Tree.{none as NoTrees, tree as TreeOf, numbers as NumbersForm};
 ghost use Rattle.capnp_wire.specs.UpgradedReaders.{upgraded_structs_of, upgraded_numbers_of};
 ghost use Rattle.capnp_wire.specs.UpgradedViews.{IsUpgradedStructs, ReadsAsNumbers, TakesRows, TakesFields, DeclinesRows, DeclinesFields};
 ghost use Rattle.capnp_wire.specs.Views.{Struct, IsViewOf, IsStruct, IsText, IsData, Accepts, Refuses, Declines, Denotes, Reads, TakesStruct, TakesText, TakesNumbers, DeclinesStruct, DeclinesText, DeclinesNumbers, pointer_in};
@@ -383,6 +386,12 @@ pub mod printed {
         1, 0, 0, 0, 42, 0, 0, 0,
         110, 111, 110, 101, 0, 0, 0, 0,
     ] };
+
+    /// The words of `LABEL_DEFAULT` are the layout of the schema's value.
+    pub fn label_default_is_laid_out()
+        ensures { words_of LABEL_DEFAULT.bytes ≡ layout
+            (TreeOf (NumbersForm 2 (110 ∷ 111 ∷ 110 ∷ 101 ∷ 0 ∷ [])) NoTrees NoTrees) }
+    {}
 
     /// The default of the field `label`.
     pub fn get_label_default() -> Result<text::Reader<'static>>
