@@ -6,6 +6,7 @@ use Rattle.capnp_frame.specs.declared.error.ErrorKind.TheVariants.{OutOfMemory}
 use Rattle.capnp_frame.specs.declared.serialize.segment_table.Padding.TheVariants.{Zero}
 use Rattle.capnp_frame.specs.Limits.{KeepsLimit}
 use Rattle.capnp_frame.specs.Message.{lengths}
+use Rattle.capnp_frame.specs.Sink.{Adds}
 use Rattle.capnp_frame.specs.Writers.{KeepsCount}
 use Rattle.capnp_frame.specs.Writing.{IsWritable, IsWithinSegmentLimit, RefusesMany}
 use Rattle.capnp.specs.declared.streams.Format.TheVariants.{Packed}
@@ -25,6 +26,8 @@ pub record AppendsRecord {X : Type 0} (message : List (List ℕ)) (old new : Lis
   -- a log of records becomes one with this record after them
   pub appended : (limit : Option ℕ) (records : List (List (List ℕ))) → IsLog limit records old → KeepsLimit (lengths message) limit
       → OnOk result (IsLog limit (records ++ message ∷ []) new)
+  -- what was there before stays, and the record's packed encoding follows it
+  pub added : OnOk result (Adds (IsPackedEncodingOf message) old new)
   -- a call that fails leaves the log as it was
   pub unchanged : OnErr result (new ≡ old)
   -- it fails by the number of segments exactly where there are more than a reader accepts, and else

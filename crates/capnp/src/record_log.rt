@@ -5,6 +5,7 @@
 ghost use Rattle.std.specs.Prelude.{◌≡◌, map};
 ghost use Rattle.std.specs.List.{AllByRecursion};
 ghost use Rattle.capnp_frame.specs.Writing.{IsWritable};
+ghost use Rattle.capnp.specs.Reading.{ReadsEach};
 ghost use Rattle.capnp.specs.RecordLog.{AppendsRecord, ReadsLog};
 
 use crate::serialize_packed;
@@ -59,6 +60,9 @@ pub fn append_segments<S: ReaderSegments>(
 /// appended.
 pub fn read_log(alloc: Global, log: &[u8], options: ReaderOptions) -> StreamRead
     ensures read { ReadsLog options.traversal_limit_in_words log.now
+        (map (λ reader. reader.segments) result.messages.items) result.end result.refusal }
+    // Of bytes that are no log: the messages at the front, as `every_message` reads them.
+    ensures each { ReadsEach Padding.Zero Format.Packed options.traversal_limit_in_words log.now
         (map (λ reader. reader.segments) result.messages.items) result.end result.refusal }
     ensures options { AllByRecursion (λ reader. reader.options ≡ options) result.messages.items }
 {

@@ -59,7 +59,6 @@ impl MessageWriter for Way {
 ///
 /// Fails as the reader of the next message does, with `NonZeroPadding` for a padding that isn't
 /// zero, or as the sink does, or with `OutOfMemory`. The messages before are then written.
-/// written.
 ///
 /// ```
 /// let mut packed = Vec::new(alloc);

@@ -1,9 +1,10 @@
 -- What is at the root of a message, and why a root is not set.
-use Rattle.std.specs.Prelude.{◌≡◌, ◌⊎◌, ℕ, List, [], map, slice_set, false, Some}
+use Rattle.std.specs.Prelude.{◌≡◌, ◌⊎◌, ℕ, List, [], map, slice_set, Bool, false, Some}
 use Rattle.capnp_frame.specs.declared.error.ErrorKind.{ErrorKind}
 use Rattle.capnp_frame.specs.declared.error.ErrorKind.TheVariants.{OutOfMemory, PrematureEndOfFile}
 use Rattle.capnp_frame.specs.declared.serialize.segment_table.Padding.TheVariants.{Zero}
 use Rattle.capnp_frame.specs.Limits.{default_limit}
+use Rattle.capnp_frame.specs.Writing.{RefusesMany}
 use Rattle.capnp_wire.specs.Tree.{Form, struct, Trees, none, tree}
 use Rattle.capnp_wire.specs.Object.{message_of}
 use Rattle.capnp_wire.specs.Reached.{root, Root}
@@ -13,11 +14,12 @@ use Rattle.capnp_wire.specs.Views.{Refuses, TakesStruct, DeclinesStruct}
 use Rattle.capnp_wire.specs.Values.{HasWords, LacksWords}
 use Rattle.capnp_build.specs.declared.allocator.Allocator.{Ghosts}
 use Rattle.capnp_build.specs.Bytes.{Space}
-use Rattle.capnp_build.specs.Built.{Built, message}
-use Rattle.capnp_build.specs.Placed.{FindsNoRoom, FoundNoRoom, InitWords}
+use Rattle.capnp_build.specs.Built.{Built, message, IsSet}
+use Rattle.capnp_build.specs.Placed.{FindsNoRoom, FoundNoRoom, InitWords, IsCleared, IsPut}
 use Rattle.capnp_build.specs.Outcomes.{LacksFirst, StopsFirst, RefusesCanonical}
 use Rattle.capnp.specs.declared.streams.Format.TheVariants.{Packed}
 use Rattle.capnp.specs.Streams.{StandsNext, EndsBy}
+use Rattle.capnp.specs.Written.{output_of}
 use Rattle.capnp_build.specs.BuilderState.{used_of}
 
 -- an object without pointers is at the root of these segments
@@ -42,6 +44,18 @@ RefusesRoot alloc has_tree refuses old new kind =
 -- nor to its canonical form
 abbrev pub RefusesForm : {A S : Type 0} → Ghosts A S → (Trees → Type 0) → (ErrorKind → Type 0) → Built A → Built A → ErrorKind → Type 0
 RefusesForm alloc has_tree refuses old new kind = StopsFirst alloc old new.spaces kind ⊎ RefusesCanonical has_tree refuses new.spaces kind
+
+-- Why a value's canonical form is not made the root, and what that leaves: a null root.
+pub record StaysWithoutForm {A S : Type 0} (alloc : Ghosts A S) (has_tree : Trees → Type 0) (refuses : ErrorKind → Type 0) (old new : Built A) (kind : ErrorKind) : Type 0 where
+  pub cleared : IsCleared alloc old new
+  pub refused : RefusesForm alloc has_tree refuses old new kind
+
+-- Why a message whose root is set is not written, and what that leaves: the value at the root.
+pub record StaysUnwritten {A S : Type 0} (alloc : Ghosts A S) (has_tree : Trees → Type 0) (canonical : Bool) (old new : Built A) (kind : ErrorKind) : Type 0 where
+  pub set : IsSet has_tree canonical new.spaces
+  pub placed : IsPut alloc (HasWords has_tree canonical) old new
+  -- it has too many segments, or memory is lacking
+  pub refused : RefusesMany (output_of new) kind ⊎ (kind ≡ OutOfMemory)
 
 -- No struct is read at the root of a packed message: memory is lacking, no message is there, or its
 -- root fails.

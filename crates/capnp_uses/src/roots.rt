@@ -2,10 +2,11 @@
 ghost use Rattle.std.specs.Prelude.{◌≡◌, ◌⊎◌, false, true, IfOk, IfErr, OnOk, OnErr};
 ghost use Rattle.capnp_wire.specs.Reached.{root};
 ghost use Rattle.capnp_wire.specs.Faults.{NoWord};
-ghost use Rattle.capnp_wire.specs.Values.{LeadsToTree, StopsWalkFrom, IsTextTree, LongText};
+ghost use Rattle.capnp_wire.specs.Values.{HasWords, LeadsToTree, StopsWalkFrom, IsTextTree, LongText};
 ghost use Rattle.capnp_build.specs.Built.{IsSet};
-ghost use Rattle.capnp_build.specs.Placed.{IsCleared};
+ghost use Rattle.capnp_build.specs.Placed.{IsCleared, IsPut};
 ghost use Rattle.capnp_message.specs.Seen.{root_of};
+ghost use Rattle.capnp.specs.Roots.{StaysUnset};
 ghost use Rattle.capnp_uses.specs.Roots.{RefusesRoot};
 
 use capnp_build::allocator::Allocator;
@@ -21,9 +22,12 @@ pub fn copy_root<S: ReaderSegments, A: Allocator>(
 ) -> Result<()>
     ensures set { OnOk result
         (IsSet (LeadsToTree (root_of S.segments reader.now)) false message.new.spaces) }
+    ensures placed { OnOk result (IsPut A.Allocator
+        (HasWords (LeadsToTree (root_of S.segments reader.now)) false) message.old message.new) }
+    // The message stays as it was where the root's word can't be read, and else its root is null.
     ensures refused { let pointer = root_of S.segments reader.now in IfErr result (λ error.
-        NoWord pointer.message root error.kind
-        ⊎ RefusesRoot A.Allocator (LeadsToTree pointer) (StopsWalkFrom pointer)
+        NoWord pointer.message root error.kind × (message.new ≡ message.old)
+        ⊎ StaysUnset A.Allocator (LeadsToTree pointer) (StopsWalkFrom pointer)
         message.old message.new error.kind) }
 {
     let root: any_pointer::Reader<'_, S> = reader.get_root()?;

@@ -1,17 +1,18 @@
 //! Roots that are set to what another message holds, and messages that are written right after.
 ghost use Rattle.std.specs.Prelude.{◌≡◌, ◌⊎◌, ◌<◌, ◌∷◌, [], ℕ, List, length, map, slice_set, false, true, OnOk, IfOk, IfErr};
-ghost use Rattle.capnp_frame.specs.declared.error.ErrorKind.{ErrorKind};
-ghost use Rattle.capnp_frame.specs.Writing.{RefusesMany};
 ghost use Rattle.capnp_wire.specs.Tree.{Form, Trees, none, tree, struct};
 ghost use Rattle.capnp_wire.specs.Object.{message_of};
 ghost use Rattle.capnp_wire.specs.Reached.{Root};
 ghost use Rattle.capnp_wire.specs.Layout.{canon};
 ghost use Rattle.capnp_wire.specs.Readers.{pointer_of};
 ghost use Rattle.capnp_wire.specs.Views.{DeclinesStruct};
-ghost use Rattle.capnp_wire.specs.Values.{LeadsToTree, StopsWalkFrom};
-ghost use Rattle.capnp_build.specs.Built.{Built, message, IsSet};
+ghost use Rattle.capnp_wire.specs.Values.{HasWords, LeadsToTree, StopsWalkFrom};
+ghost use Rattle.capnp_build.specs.Built.{message, IsSet};
+ghost use Rattle.capnp_build.specs.Outcomes.{SetsRoot, SetsRootCanonical};
+ghost use Rattle.capnp_build.specs.Placed.{IsPut};
 ghost use Rattle.capnp.specs.Written.{IsFrameEncoding, output_of};
-ghost use Rattle.capnp_uses.specs.Roots.{RefusesRoot, RefusesForm, IsSetWithWord};
+ghost use Rattle.capnp.specs.Roots.{StaysUnset};
+ghost use Rattle.capnp_uses.specs.Roots.{IsSetWithWord, StaysUnwritten, StaysWithoutForm};
 
 use capnp::serialize;
 use capnp_build::allocator::Allocator;
@@ -31,11 +32,9 @@ pub fn set_tree<A: Allocator, S: ReaderSegments>(
     ensures set { (form : Form) (children : Trees) →
         LeadsToTree (pointer_of S.segments source.entry) (tree form children none) →
         OnOk result ((traversed : ℕ) × Root (message built.new.spaces) form children traversed) }
-    ensures stands { OnOk result
-        (IsSet (LeadsToTree (pointer_of S.segments source.entry)) false built.new.spaces) }
-    ensures refused { let pointer = pointer_of S.segments source.entry in IfErr result (λ error.
-        RefusesRoot A.Allocator (LeadsToTree pointer) (StopsWalkFrom pointer)
-        built.old built.new error.kind) }
+    ensures root { let pointer = pointer_of S.segments source.entry in
+        SetsRoot A.Allocator (LeadsToTree pointer) (StopsWalkFrom pointer)
+        built.old built.new result }
 {
     built.set_root::<any_pointer::Owned, any_pointer::Reader<'_, S>>(source)
 }
@@ -53,10 +52,11 @@ pub fn set_tree_and_word<A: Allocator, S: ReaderSegments>(
     // Where it succeeds, the pointer leads to a struct, or to null, and then the root is null.
     ensures stands { OnOk result (IsSetWithWord (LeadsToTree (pointer_of S.segments source.entry))
         word built.new.spaces) }
-    // It fails as setting the root does, or where what is set is no struct.
+    // It fails as setting the root does, and then the root is null, or where what is set is no
+    // struct.
     ensures refused { let pointer = pointer_of S.segments source.entry in IfErr result (λ error.
-        ((last : Built A) × RefusesRoot A.Allocator (LeadsToTree pointer) (StopsWalkFrom pointer)
-        built.old last error.kind)
+        StaysUnset A.Allocator (LeadsToTree pointer) (StopsWalkFrom pointer)
+        built.old built.new error.kind
         ⊎ ((form : Form) × (children : Trees) × LeadsToTree pointer (tree form children none)
         × DeclinesStruct form error.kind)) }
 {
@@ -76,9 +76,9 @@ pub fn set_canonical<A: Allocator, S: ReaderSegments>(
     requires { built.old.spaces ≡ [] }
     ensures set { (trees : Trees) → LeadsToTree (pointer_of S.segments source.entry) trees →
         OnOk result (message built.new.spaces ≡ canon trees ∷ []) }
-    ensures refused { let pointer = pointer_of S.segments source.entry in IfErr result (λ error.
-        RefusesForm A.Allocator (LeadsToTree pointer) (StopsWalkFrom pointer)
-        built.old built.new error.kind) }
+    ensures root { let pointer = pointer_of S.segments source.entry in
+        SetsRootCanonical A.Allocator (LeadsToTree pointer) (StopsWalkFrom pointer)
+        built.old built.new result }
 {
     built.set_root_canonical::<any_pointer::Owned, any_pointer::Reader<'_, S>>(source)
 }
@@ -90,10 +90,13 @@ pub fn set_and_write<T, V: SetterInput<T> + Drop, A: Allocator>(
     value: V,
 ) -> Result<Vec<u8>>
     ensures set { OnOk result (IsSet (V.has_tree value) false built.new.spaces) }
+    ensures placed { OnOk result
+        (IsPut A.Allocator (HasWords (V.has_tree value) false) built.old built.new) }
     ensures written { IfOk result (λ text. IsFrameEncoding (output_of built.new) text.items) }
+    // The root is null, or the value.
     ensures refused { IfErr result (λ error.
-        RefusesRoot A.Allocator (V.has_tree value) (V.refuses value) built.old built.new error.kind
-        ⊎ RefusesMany (output_of built.new) error.kind ⊎ (error.kind ≡ ErrorKind.OutOfMemory)) }
+        StaysUnset A.Allocator (V.has_tree value) (V.refuses value) built.old built.new error.kind
+        ⊎ StaysUnwritten A.Allocator (V.has_tree value) false built.old built.new error.kind) }
 {
     built.set_root::<T, V>(value)?;
     let mut text = Vec::new(alloc);
@@ -108,10 +111,14 @@ pub fn set_canonical_and_write<T, V: SetterInput<T> + Drop, A: Allocator>(
     value: V,
 ) -> Result<Vec<u8>>
     ensures set { OnOk result (IsSet (V.has_tree value) true built.new.spaces) }
+    ensures placed { OnOk result
+        (IsPut A.Allocator (HasWords (V.has_tree value) true) built.old built.new) }
     ensures written { IfOk result (λ text. IsFrameEncoding (output_of built.new) text.items) }
+    // The root is null, or the value.
     ensures refused { IfErr result (λ error.
-        RefusesForm A.Allocator (V.has_tree value) (V.refuses value) built.old built.new error.kind
-        ⊎ RefusesMany (output_of built.new) error.kind ⊎ (error.kind ≡ ErrorKind.OutOfMemory)) }
+        StaysWithoutForm A.Allocator (V.has_tree value) (V.refuses value)
+        built.old built.new error.kind
+        ⊎ StaysUnwritten A.Allocator (V.has_tree value) true built.old built.new error.kind) }
 {
     built.set_root_canonical::<T, V>(value)?;
     let mut text = Vec::new(alloc);

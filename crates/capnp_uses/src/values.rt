@@ -1,8 +1,10 @@
 //! Composed values: a person is set as the root of a message, written and read back.
-ghost use Rattle.std.specs.Prelude.{◌≡◌, ◌∷◌, [], map, IfOk, IfErr, OnOk};
+ghost use Rattle.std.specs.Prelude.{◌≡◌, ◌∷◌, [], map, IfOk, IfErr, OnOk, OnErr};
 ghost use Rattle.capnp_wire.specs.Layout.{canon};
 ghost use Rattle.capnp_build.specs.Built.{message};
+ghost use Rattle.capnp_build.specs.Placed.{IsCleared};
 ghost use Rattle.capnp.specs.Roots.{HasRootTree};
+ghost use Rattle.capnp.specs.Written.{output_of};
 ghost use Rattle.capnp_uses.specs.People.{contact_tree, person_tree, RefusesAlone, RefusesBack};
 
 use capnp::roots::set_and_read_back;
@@ -49,6 +51,7 @@ pub fn person_is_read_back<A: Allocator>(
 ) -> Result<Reader<OwnedSegments>>
     ensures back { IfOk result (λ reader. HasRootTree reader.segments
         (person_tree id name.now city.now)) }
+    ensures written { IfOk result (λ reader. reader.segments ≡ output_of message.new) }
     ensures options { IfOk result (λ reader. reader.options ≡ options) }
     ensures refused { IfErr result (λ error. RefusesBack A.Allocator (name.now ∷ city.now ∷ [])
         (person_tree id name.now city.now) options.traversal_limit_in_words
@@ -68,6 +71,7 @@ pub fn person_is_canonical<A: Allocator>(
     requires { built.old.spaces ≡ [] }
     ensures form { OnOk result (message built.new.spaces
         ≡ canon (person_tree id name.now city.now) ∷ []) }
+    ensures cleared { OnErr result (IsCleared A.Allocator built.old built.new) }
     ensures refused { IfErr result (λ error. RefusesAlone A.Allocator (name.now ∷ city.now ∷ [])
         (person_tree id name.now city.now) built.old built.new error.kind) }
 {
@@ -121,6 +125,7 @@ pub fn contact_is_read_back<'a, A: Allocator>(
     ensures back { IfOk result (λ reader. HasRootTree reader.segments
         (contact_tree id name.now mail.now (map (λ phone. phone.words) phones.now)
         (map (λ phone. phone.fields.value.now) phones.now))) }
+    ensures written { IfOk result (λ reader. reader.segments ≡ output_of message.new) }
     ensures options { IfOk result (λ reader. reader.options ≡ options) }
     ensures refused { let texts = map (λ phone. phone.fields.value.now) phones.now in
         IfErr result (λ error. RefusesBack A.Allocator (name.now ∷ mail.now ∷ texts)

@@ -8,6 +8,7 @@ pub returns-in-Ok : goal.returns-in-Ok
 returns-in-Ok g c = record {
   appended = appended_log (g.S.ReaderSegments.segments c.args.segments.now) c.args.log.now.items c.write_message_segments.new.sink.items
       c.requires c.in-Ok.ensures.count.few (c.in-Ok.ensures.text (λ chunk text same. same));
+  added = c.in-Ok.ensures.text (λ chunk text same. same);
   unchanged = tt;
   count = c.in-Ok.ensures.count;
   refused = tt;
@@ -18,6 +19,7 @@ returns-in-Err g c =
     let end : c.len-end.result ≡ length c.args.log.now.items = omega (arith, c.len-end.ensures, c.args.log.now.ok.0) in
     record {
       appended = λ limit records log size. tt;
+      added = tt;
       unchanged = kept_back c.args.log.now.items c.write_message_segments.new.sink.items _ _ c.write_message_segments.ensures.grows.front end c.truncate.ensures.items;
       count = c.in-Err.ensures.count;
       refused = packed_memory (g.S.ReaderSegments.segments c.args.segments.now) c.in-Err.error.kind c.requires c.in-Err.ensures.refused c.in-Err.ensures.failed;

@@ -1,5 +1,5 @@
 -- The text is that of the used words.
-use Rattle.std.proofs.Common.{inr}
+use Rattle.std.proofs.Common.{inl, inr}
 use Rattle.std.proofs.lemmas.Result.{err_from_is_err_and}
 use Rattle.capnp.specs.Written.{output_of}
 use Rattle.capnp_uses.proofs.SetLemmas.{added_frame, not_written}
@@ -13,5 +13,14 @@ returns-clause-written g c =
 pub returns-in_err-write_message-clause-refused : goal.returns-in_err-write_message-clause-refused
 returns-in_err-write_message-clause-refused g c =
     let p = err_from_is_err_and c.from_residual-in_err-write_message.result c.from_residual-in_err-write_message.ensures.1 in
-    rw (p.1, p.2) (inr (not_written (output_of c.set_root.new.self) c.in_err-write_message.field-0.0
-    c.in_err-write_message.ensures.refused c.in_err-write_message.ensures.failed))
+    rw (p.1, p.2) (inr (record {
+      set = c.in_ok-set_root.ensures.set;
+      placed = c.in_ok-set_root.ensures.placed;
+      refused = not_written (output_of c.set_root.new.self) c.in_err-write_message.field-0.0
+          c.in_err-write_message.ensures.refused c.in_err-write_message.ensures.failed;
+    }))
+
+pub returns-in_err-set_root-clause-refused : goal.returns-in_err-set_root-clause-refused
+returns-in_err-set_root-clause-refused g c =
+    let p = err_from_is_err_and c.from_residual.result c.from_residual.ensures.1 in
+    rw (p.1, p.2) (inl (record { cleared = c.in_err-set_root.ensures.nulled; refused = c.in_err-set_root.ensures.kind }))

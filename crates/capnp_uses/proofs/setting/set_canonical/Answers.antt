@@ -10,5 +10,5 @@ returns g c =
     record {
       set = λ trees is. on_ok c.set_root_canonical.result _ _ (canonical_as pointer c.set_root_canonical.new.self.spaces trees is)
           (c.set_root_canonical.ensures.whole c.requires);
-      refused = c.set_root_canonical.ensures.kind;
+      root = c.set_root_canonical.ensures;
     }

@@ -9,6 +9,5 @@ returns g c =
     let pointer = pointer_of g.S.ReaderSegments.segments c.args.source in
     record {
       set = λ form children is. on_ok c.set_root.result _ _ (set_as pointer c.set_root.new.self.spaces form children is) c.set_root.ensures.set;
-      stands = c.set_root.ensures.set;
-      refused = c.set_root.ensures.kind;
+      root = c.set_root.ensures;
     }

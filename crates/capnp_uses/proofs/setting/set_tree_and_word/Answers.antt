@@ -13,7 +13,7 @@ returns-then-data_words-gt0 g c = record {
   refused = tt;
   stands =
       let pointer = pointer_of g.S.ReaderSegments.segments c.args.source in
-      let set = set_form pointer _ c.in_ok-set_tree.ensures.stands in
+      let set = set_form pointer _ c.in_ok-set_tree.ensures.root.set in
       let same = c.in_ok-fields.ensures.gets.looked.stays (root_has_segment _ set.0 set.1 set.2 set.4) in
       let there = subst (λ (b : Built _). Root (message b.spaces) set.0 set.1 set.2) (sym same) set.4 in
       let taken = c.in_ok-fields.ensures.gets.taken set.0 set.1 set.2 there in
@@ -32,7 +32,7 @@ returns-else-data_words-gt0 g c = record {
   refused = tt;
   stands =
       let pointer = pointer_of g.S.ReaderSegments.segments c.args.source in
-      let set = set_form pointer _ c.in_ok-set_tree.ensures.stands in
+      let set = set_form pointer _ c.in_ok-set_tree.ensures.root.set in
       let same = c.in_ok-fields.ensures.gets.looked.stays (root_has_segment _ set.0 set.1 set.2 set.4) in
       let there = subst (λ (b : Built _). Root (message b.spaces) set.0 set.1 set.2) (sym same) set.4 in
       let taken = c.in_ok-fields.ensures.gets.taken set.0 set.1 set.2 there in
@@ -49,9 +49,9 @@ returns-else-data_words-gt0 g c = record {
 pub returns-in_err-set_tree-clause-refused : goal.returns-in_err-set_tree-clause-refused
 returns-in_err-set_tree-clause-refused g c =
     let p = err_from_is_err_and c.from_residual.result c.from_residual.ensures.1 in
-    rw (p.1, p.2) (inl (c.set_tree.new.built, c.in_err-set_tree.ensures.refused))
+    rw (p.1, p.2) (inl (record { cleared = c.in_err-set_tree.ensures.root.nulled; refused = c.in_err-set_tree.ensures.root.kind }))
 
 pub returns-in_err-fields-clause-refused : goal.returns-in_err-fields-clause-refused
 returns-in_err-fields-clause-refused g c =
     let p = err_from_is_err_and c.from_residual-in_err-fields.result c.from_residual-in_err-fields.ensures.1 in
-    rw (p.1, p.2) (inr (declined_tree g.A.Allocator _ c.set_tree.new.built _ c.in_ok-set_tree.ensures.stands c.in_err-fields.ensures.gets.kind))
+    rw (p.1, p.2) (inr (declined_tree g.A.Allocator _ c.set_tree.new.built _ c.in_ok-set_tree.ensures.root.set c.in_err-fields.ensures.gets.kind))

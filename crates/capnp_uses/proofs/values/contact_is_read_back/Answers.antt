@@ -13,6 +13,7 @@ returns g c =
           (λ trees is. contact_is (λ p. p.words) (λ p. p.fields.value.now) v.fields.rest.rest.value.items.now a.phones.now v.words a.id v.fields.value.now v.fields.rest.value.now
           a.name.now a.mail.now trees e.id e.name e.mail e.phones is)
           c.set_and_read_back.ensures.tree;
+      written = c.set_and_read_back.ensures.back;
       options = c.set_and_read_back.ensures.options;
       refused = back_as g.A.Allocator _ _ _ _
           (λ trees is. contact_is (λ p. p.words) (λ p. p.fields.value.now) v.fields.rest.rest.value.items.now a.phones.now v.words a.id v.fields.value.now v.fields.rest.value.now
