@@ -1,5 +1,5 @@
 -- Messages of a stream that lies in memory, one after another.
-use Rattle.std.proofs.Common.{◌≡◌, ◌⊎◌, inl, inr, ℕ, ◌-◌, ◌≤◌, Option, Some, List, [], ◌∷◌, ◌++◌, length, drop, sym, ap, ◌∙◌, subst, arith, append_assoc, length-append}
+use Rattle.std.proofs.Common.{◌≡◌, ◌⊎◌, inl, inr, ℕ, ◌-◌, ◌<◌, ◌≤◌, Option, Some, None, List, [], ◌∷◌, ◌++◌, length, drop, refl, sym, ap, ◌∙◌, subst, arith, append_assoc, length-append}
 use Rattle.std.proofs.Math.Seq.{drop-append_seam}
 use Rattle.capnp_frame.specs.declared.serialize.segment_table.Padding.{Padding}
 use Rattle.capnp_frame.specs.declared.error.Error.{Error}
@@ -12,6 +12,7 @@ use Rattle.capnp_frame.proofs.TextLemmas.{AreEncodings-push}
 use Rattle.capnp.specs.declared.streams.Format.{Format}
 use Rattle.capnp.specs.Streams.{grammar_of, StandsNext, RefusesNext, EndsBy, IsStream}
 use Rattle.capnp.proofs.EndLemmas.{stream_once}
+use Rattle.capnp.proofs.RunLemmas.{format_parts}
 use Rattle.capnp.specs.Reading.{kind_of, LacksMemory}
 
 -- a slice never fails, so its reader fails only for want of memory or with an error of its bytes
@@ -21,6 +22,20 @@ pub slice_refused : (rule : Padding) (format : Format) (limit : Option ℕ) (kin
 slice_refused rule format limit kind old new T failed (inl device) = absurd (never_fails kind failed device)
 slice_refused rule format limit kind old new T failed (inr (inl memory)) = inl memory.0
 slice_refused rule format limit kind old new T failed (inr (inr line)) = inr (new, line)
+
+-- memory is lacking only where there are bytes, since at the end of a stream the device alone fails
+pub memory_at_bytes : (raw : List ℕ) (kind : ErrorKind) → (Some raw ≡ Some [] → kind ≡ DeviceFailed) → kind ≡ OutOfMemory → 0 < length raw
+memory_at_bytes [] kind end memory = let device : kind ≡ DeviceFailed = end refl in let never : OutOfMemory ≡ DeviceFailed = sym memory ∙ device in cc
+memory_at_bytes (byte ∷ raw) kind end memory = omega arith
+
+-- an encoding has bytes
+pub stands_at_bytes : (rule : Padding) (format : Format) (limit : Option ℕ) (m : List (List ℕ)) (raw rest : List ℕ) → StandsNext rule format limit m raw rest → 0 < length raw
+stands_at_bytes rule format limit m [] rest stands = absurd ((format_parts rule format limit).ends_apart None m [] rest refl stands)
+stands_at_bytes rule format limit m (byte ∷ raw) rest stands = omega arith
+
+-- the kind of an error for which memory is lacking
+pub lacks_kind : (error : Error) → LacksMemory (Some error) → error.kind ≡ OutOfMemory
+lacks_kind error lacks = cc
 
 -- encodings are at the front of a stream
 pub texts_front : (IsText : Grammar) (limit : Option ℕ) (ms : List (List (List ℕ))) (raw rest : List ℕ) → AreEncodings IsText limit ms raw rest

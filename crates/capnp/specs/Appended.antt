@@ -1,7 +1,8 @@
 -- What writing messages one after the other, and reading them back, leads to (src/appended.rt).
-use Rattle.std.specs.Prelude.{◌≡◌, ◌⊎◌, ℕ, ◌<◌, List, [], length, map, Option, None, Result, Err, IfSome, IfOk, OnOk, IfErr}
+use Rattle.std.specs.Prelude.{◌≡◌, ◌⊎◌, ℕ, ◌<◌, ◌≤◌, List, [], length, map, Option, None, Result, Err, IfSome, IfOk, OnOk, IfErr}
 use Rattle.std.specs.List.{AllByRecursion}
 use Rattle.capnp_frame.specs.declared.error.Error.{Error}
+use Rattle.capnp_frame.specs.declared.error.ErrorKind.{ErrorKind}
 use Rattle.capnp_frame.specs.declared.error.ErrorKind.TheVariants.{DeviceFailed, OutOfMemory}
 use Rattle.capnp_frame.specs.declared.message.options.ReaderOptions.{ReaderOptions}
 use Rattle.capnp_frame.specs.declared.io.Read.{Ghosts}
@@ -29,6 +30,14 @@ pub record StopsWithin {S : Type 0} (source : Ghosts S) (old new : S) (rule : Pa
   -- what the reader of the next message keeps where it fails
   pub next : OrFailsAtEnd (ReadsStream source between new (rules_of rule format) limit) (Err error)
 
+-- Memory is lacking for the list of these messages, the first ones, which were read; it fails with this kind.
+pub record LacksList {S : Type 0} (source : Ghosts S) (old new : S) (format : Format) (limit : Option ℕ) (count : ℕ) (kind : ErrorKind) : Type 0 where
+  pub memory : kind ≡ OutOfMemory
+  pub messages : List (List (List ℕ))
+  pub some : 0 < length messages
+  pub within : length messages ≤ count
+  pub texts : IfKnown (source.unread old) (source.unread new) (AreEncodings (grammar_of Zero format) limit messages)
+
 -- What a call returns that reads `count` messages of zero padding. `segments` and `options_of` are
 -- what is seen of a reader, and `readers` the list of them.
 pub record ReadsMessages {S V X : Type 0} (source : Ghosts S) (old new : S) (format : Format) (options : ReaderOptions) (count : ℕ)
@@ -43,7 +52,7 @@ pub record ReadsMessages {S V X : Type 0} (source : Ghosts S) (old new : S) (for
   pub accepted : IfErr result (λ error. IfSome (source.unread old) (λ raw. (messages : List (List (List ℕ))) (rest : List ℕ)
       → AreEncodings (grammar_of Zero format) options.traversal_limit_in_words messages raw rest → length messages ≡ count → IsFault error.kind))
   -- it fails where the reader of one message does, or for want of memory for the list
-  pub stops : IfErr result (λ error. (error.kind ≡ OutOfMemory)
+  pub stops : IfErr result (λ error. LacksList source old new format options.traversal_limit_in_words count error.kind
       ⊎ StopsWithin source old new Zero format options.traversal_limit_in_words count error)
   -- `DeviceFailed` is returned only where the device failed
   pub failed : IfErr result (λ error. error.kind ≡ DeviceFailed → Fails (source.failures old) (source.failures new))

@@ -1,5 +1,5 @@
 -- What is read of a stream in memory, and which errors say that it is cut (src/streams/reading.rt).
-use Rattle.std.specs.Prelude.{◌≡◌, ◌⊎◌, ◌≤◌, ◌↔◌, ℕ, List, length, drop, Option, Some, None, Bool, IsTrue, IsSomeAnd}
+use Rattle.std.specs.Prelude.{◌≡◌, ◌⊎◌, ◌<◌, ◌≤◌, ◌↔◌, ℕ, List, length, drop, Option, Some, None, Bool, IsTrue, IsSomeAnd}
 use Rattle.capnp_frame.specs.declared.error.Error.{Error}
 use Rattle.capnp_frame.specs.declared.error.ErrorKind.{ErrorKind}
 use Rattle.capnp_frame.specs.declared.error.ErrorKind.TheVariants.{FailedToFillTheWholeBuffer, OutOfMemory, PrematureEndOfPackedInput}
@@ -35,6 +35,8 @@ pub record ReadsEach (rule : Padding) (format : Format) (limit : Option ℕ) (st
   pub texts : AreEncodings (grammar_of rule format) limit messages stream (drop end stream)
   -- and there the stream ends, or its reader fails with this kind
   pub ends : LacksMemory refusal ⊎ EndsBy rule format limit (kind_of refusal) (drop end stream)
+  -- memory is taken only where there are bytes
+  pub some : LacksMemory refusal → 0 < length stream
   -- so it is the only list of messages that the stream is, unless memory is lacking
   pub exact : (listed : List (List (List ℕ))) (ending : Option ErrorKind) → IsStream rule format limit listed ending stream
       → LacksMemory refusal ⊎ (messages ≡ listed) × (kind_of refusal ≡ ending)

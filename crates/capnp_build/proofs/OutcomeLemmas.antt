@@ -171,6 +171,7 @@ looks_at_root alloc schema old last shown bytes (Ok done) told shows holds takes
   there = told.there;
   looked = told.looked;
   kind = tt;
+  none = λ gone. tt;
   granted = λ empty most grants. tt;
   available = λ empty out. tt;
   others = told.others;
@@ -183,6 +184,7 @@ looks_at_root {A} alloc schema old last shown bytes (Err error) told shows holds
       there = tt;
       looked = told.looked;
       kind = inr is;
+      none = λ gone. absurd (omega (arith, ap length gone, told.there));
       granted = λ empty most grants. is;
       available = λ empty out taken. is;
       others = told.others;

@@ -178,6 +178,8 @@ pub record LooksAtRoot {A S K : Type 0} (alloc : allocator.Ghosts A S) (schema :
   -- it fails as the allocator fails to hand out the first segment, or because the type declines the
   -- root
   pub kind : IfErr result (λ error. StopsFirst alloc old new.spaces error.kind ⊎ DeclinesRoot schema.declines old.spaces error.kind)
+  -- there is no segment only where the first one could not be had
+  pub none : new.spaces ≡ [] → IfErr result (λ error. LacksFirst alloc old error.kind)
   -- where it has to be granted, the first segment is
   pub granted : WhereGranted alloc old (IfErr result (λ error. DeclinesRoot schema.declines old.spaces error.kind))
   pub available : NotExhaustedWhileAvailable alloc (DeclinesRoot schema.declines old.spaces) old result

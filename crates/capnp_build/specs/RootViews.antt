@@ -18,9 +18,9 @@ use Rattle.capnp_build.specs.declared.owned_builder.OwnedBuilder as owned_builde
 use Rattle.capnp_build.specs.Bytes.{Space}
 use Rattle.capnp_build.specs.BuilderState.{used_of, KeepsOthers}
 use Rattle.capnp_build.specs.Built.{Built, state_of, message as words_of_message, ForRoot}
-use Rattle.capnp_build.specs.Placed.{DeclinesRoot, InitWords, IsInit, FoundNoRoom, IsLookedAt}
+use Rattle.capnp_build.specs.Placed.{DeclinesRoot, InitWords, IsCleared, IsInit, FindsNoRoom, FoundNoRoom, IsLookedAt}
 use Rattle.capnp_build.specs.Written.{IsWritten}
-use Rattle.capnp_build.specs.Outcomes.{LacksFirst, FitsFirst, WhereGranted, NotExhaustedWhileAvailable}
+use Rattle.capnp_build.specs.Outcomes.{LacksFirst, StopsFirst, FitsFirst, WhereGranted, NotExhaustedWhileAvailable}
 
 -- What is kept by a call that makes the root a new object of length `n` and returns a view that
 -- writes it.
@@ -45,6 +45,15 @@ pub record InitsView {A S K M V : Type 0} (alloc : allocator.Ghosts A S) (schema
   -- what else the allocator has out stays out
   pub others : IfOk result (λ view. KeepsOthers alloc.out (state_of (built old.now)) (state_of (built (message view).now)))
 
+-- What a call leaves that fails to make the root a new object of length `n`: a null root.
+pub record LeavesNull {A S K V : Type 0} (alloc : allocator.Ghosts A S) (schema : owned_builder.Ghosts K) (n : ℕ) (old last : Built A)
+    (result : Result V Error) : Type 0 where
+  pub cleared : IsCleared alloc old last
+  pub kind : IfErr result (λ error. schema.refuses n error.kind ⊎ StopsFirst alloc old last.spaces error.kind
+      ⊎ FindsNoRoom alloc (InitWords schema.inits n) old last.spaces error.kind)
+  -- there is no segment only where the first one could not be had
+  pub none : last.spaces ≡ [] → IfErr result (λ error. LacksFirst alloc old error.kind)
+
 -- What is kept by a call that returns a view of the root's object, where the type accepts it.
 pub record GetsView {A S K M V : Type 0} (alloc : allocator.Ghosts A S) (schema : owned_builder.Ghosts K) (built : M → Built A)
     (message : V → MutBor M) (old : MutBor M) (result : Result V Error) : Type 0 where
@@ -63,6 +72,14 @@ pub record GetsView {A S K M V : Type 0} (alloc : allocator.Ghosts A S) (schema 
   -- where it has to be granted, the first segment is
   pub granted : WhereGranted alloc (built old.now) (IfErr result (λ error. DeclinesRoot schema.declines (built old.now).spaces error.kind))
   pub available : NotExhaustedWhileAvailable alloc (DeclinesRoot schema.declines (built old.now).spaces) (built old.now) result
+
+-- What a call leaves that returns no view of the root's object: the root as it was, or null where there was no segment.
+pub record LeavesRoot {A S K V : Type 0} (alloc : allocator.Ghosts A S) (schema : owned_builder.Ghosts K) (old last : Built A)
+    (result : Result V Error) : Type 0 where
+  pub looked : IsLookedAt alloc old last
+  pub kind : IfErr result (λ error. StopsFirst alloc old last.spaces error.kind ⊎ DeclinesRoot schema.declines old.spaces error.kind)
+  -- there is no segment only where the first one could not be had
+  pub none : last.spaces ≡ [] → IfErr result (λ error. LacksFirst alloc old error.kind)
 
 -- What writing into the root's object keeps: `writes` relates the segments before and after, and
 -- says what is written.

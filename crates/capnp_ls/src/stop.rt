@@ -1,8 +1,8 @@
 //! Why the program stops before the end of its input.
 ghost use Rattle.std.specs.Prelude.{◌≡◌, ◌⊎◌, List, ℕ, IfOk, IfErr, OnOk, string_bytes};
 ghost use Rattle.capnp.specs.Passed.{ErrorKind, Fails, IfKnown, Adds, Grows};
-ghost use Rattle.capnp_ls.specs.declared.stop.Stop.TheVariants.{Refused};
-ghost use Rattle.capnp_ls.specs.Stop.{IsLineOf, IsFaultLine, status_of};
+ghost use Rattle.capnp_ls.specs.declared.stop.Stop.TheVariants.{Usage, Refused};
+ghost use Rattle.capnp_ls.specs.Stop.{IsLineOf, IsFaultLine, status_of, usage_line};
 
 use capnp::io::Write;
 use capnp::{Error, ErrorKind, Result};
@@ -36,7 +36,7 @@ impl Stop {
 /// Writes the stop as one line, in one chunk.
 ///
 /// Fails as the sink does for that chunk, or with `OutOfMemory` where there is no memory for the
-/// line.
+/// line, which that of the usage doesn't take.
 pub fn report<W: Write>(alloc: Global, stop: &Stop, sink: &mut W) -> Result<()>
     ensures line { OnOk result (IfKnown (W.written sink.old) (W.written sink.new)
         (Adds (λ text. (line : List ℕ) × IsLineOf stop.now line × W.appends line text))) }
@@ -45,6 +45,9 @@ pub fn report<W: Write>(alloc: Global, stop: &Stop, sink: &mut W) -> Result<()>
     ensures refused { IfErr result (λ error. (error.kind ≡ ErrorKind.DeviceFailed)
         ⊎ (error.kind ≡ ErrorKind.OutOfMemory)
         ⊎ ((line : List ℕ) × IsLineOf stop.now line × W.refuses line error.kind)) }
+    // The usage line takes no memory.
+    ensures usage { stop.now ≡ Usage → IfErr result (λ error.
+        (error.kind ≡ ErrorKind.DeviceFailed) ⊎ W.refuses usage_line error.kind) }
     ensures grows { Grows W.written W.failures W.same sink.old sink.new }
 {
     match stop {

@@ -2,8 +2,7 @@
 ghost use Rattle.std.specs.Prelude.{length};
 ghost use Rattle.std.specs.Borrow.{RestsIfErr, sem};
 ghost use Rattle.capnp_build.specs.Built.{message};
-ghost use Rattle.capnp_build.specs.Placed.{IsCleared, IsLookedAt};
-ghost use Rattle.capnp_build.specs.RootViews.{InitsView, GetsView};
+ghost use Rattle.capnp_build.specs.RootViews.{InitsView, GetsView, LeavesNull, LeavesRoot};
 
 use crate::builder::Builder;
 use capnp_build::allocator::Allocator;
@@ -70,7 +69,7 @@ impl<A: Allocator> Builder<A> {
         ensures* rests { sem 𝓛 (RestsIfErr
             (the_row A.row A.Segment.row A.Allocator A.Segment.SegmentSpace)
             self.entry (λ view. view.message.ghost_name) result
-            (λ last. IsCleared A.Allocator self.old last)) }
+            (λ last. LeavesNull A.Allocator K.OwnedBuilder n self.old last result)) }
         ensures inits { InitsView A.Allocator K.OwnedBuilder n (λ message. message)
             (λ view. view.message) self.entry result }
     {
@@ -84,7 +83,7 @@ impl<A: Allocator> Builder<A> {
         ensures* rests { sem 𝓛 (RestsIfErr
             (the_row A.row A.Segment.row A.Allocator A.Segment.SegmentSpace)
             self.entry (λ view. view.message.ghost_name) result
-            (λ last. IsCleared A.Allocator self.old last)) }
+            (λ last. LeavesNull A.Allocator K.OwnedBuilder 0 self.old last result)) }
         ensures inits { InitsView A.Allocator K.OwnedBuilder 0 (λ message. message)
             (λ view. view.message) self.entry result }
     {
@@ -101,7 +100,7 @@ impl<A: Allocator> Builder<A> {
         ensures* rests { sem 𝓛 (RestsIfErr
             (the_row A.row A.Segment.row A.Allocator A.Segment.SegmentSpace)
             self.entry (λ view. view.message.ghost_name) result
-            (λ last. IsLookedAt A.Allocator self.old last)) }
+            (λ last. LeavesRoot A.Allocator K.OwnedBuilder self.old last result)) }
         ensures gets { GetsView A.Allocator K.OwnedBuilder (λ message. message)
             (λ view. view.message) self.entry result }
     {

@@ -4,9 +4,8 @@ ghost use Rattle.std.specs.Borrow.{RestsIfErr, sem};
 ghost use Rattle.capnp_wire.specs.Readers.{unlimited_root};
 ghost use Rattle.capnp_build.specs.BuilderState.{used_of};
 ghost use Rattle.capnp_build.specs.Built.{Built, message};
-ghost use Rattle.capnp_build.specs.Placed.{IsCleared, IsLookedAt};
 ghost use Rattle.capnp_build.specs.Outcomes.{SetsRoot, IsNewMessage};
-ghost use Rattle.capnp_build.specs.RootViews.{InitsView, GetsView};
+ghost use Rattle.capnp_build.specs.RootViews.{InitsView, GetsView, LeavesNull, LeavesRoot};
 ghost use Rattle.capnp_wire.specs.Views.{IsViewOf};
 ghost use Rattle.capnp_message.specs.Roots.{IsReadUnlimited};
 ghost use Rattle.capnp_message.specs.Heaps.{IsHeapOf};
@@ -175,7 +174,7 @@ impl<T: OwnedBuilder, A: Allocator> TypedBuilder<T, A> {
         ensures* rests { sem 𝓛 (RestsIfErr
             (typed_row T.row A.row A.Segment.row A.Allocator A.Segment.SegmentSpace)
             self.entry (λ view. view.message.ghost_name) result
-            (λ last. IsCleared A.Allocator self.old last)) }
+            (λ last. LeavesNull A.Allocator T.OwnedBuilder n self.old last result)) }
         ensures inits { InitsView A.Allocator T.OwnedBuilder n (λ typed. typed)
             (λ view. view.message) self.entry result }
     {
@@ -188,7 +187,7 @@ impl<T: OwnedBuilder, A: Allocator> TypedBuilder<T, A> {
         ensures* rests { sem 𝓛 (RestsIfErr
             (typed_row T.row A.row A.Segment.row A.Allocator A.Segment.SegmentSpace)
             self.entry (λ view. view.message.ghost_name) result
-            (λ last. IsCleared A.Allocator self.old last)) }
+            (λ last. LeavesNull A.Allocator T.OwnedBuilder 0 self.old last result)) }
         ensures inits { InitsView A.Allocator T.OwnedBuilder 0 (λ typed. typed)
             (λ view. view.message) self.entry result }
     {
@@ -201,7 +200,7 @@ impl<T: OwnedBuilder, A: Allocator> TypedBuilder<T, A> {
         ensures* rests { sem 𝓛 (RestsIfErr
             (typed_row T.row A.row A.Segment.row A.Allocator A.Segment.SegmentSpace)
             self.entry (λ view. view.message.ghost_name) result
-            (λ last. IsLookedAt A.Allocator self.old last)) }
+            (λ last. LeavesRoot A.Allocator T.OwnedBuilder self.old last result)) }
         ensures gets { GetsView A.Allocator T.OwnedBuilder (λ typed. typed)
             (λ view. view.message) self.entry result }
     {

@@ -1,6 +1,8 @@
 //! What is shown for a message, and for an input.
-ghost use Rattle.std.specs.Prelude.{◌≡◌, ◌<◌, OnOk, Some, None, string_bytes, if◌then◌else◌};
+ghost use Rattle.std.specs.Prelude.{◌≡◌, ◌⊎◌, ◌<◌, OnOk, IfErr, IsOk, Some, None, string_bytes, if◌then◌else◌};
 ghost use Rattle.std.specs.String.{string_len};
+ghost use Rattle.capnp_frame.specs.declared.error.ErrorKind.{ErrorKind};
+ghost use Rattle.capnp_frame.specs.Source.{Fails};
 ghost use Rattle.capnp_show.specs.Shown.{WritesFull};
 
 use crate::drawing::{is_drawn, show_drawing};
@@ -176,6 +178,11 @@ pub fn write_full<W: Write>(text: &mut String, sink: &mut W) -> Result<()>
     ensures short { OnOk result (string_len text.new < TEXT_BYTES) }
     ensures writes { OnOk result (WritesFull TEXT_BYTES W.appends (string_bytes text.old)
         (string_bytes text.new) (W.written sink.old) (W.written sink.new)) }
+    ensures fits { string_len text.old < TEXT_BYTES → IsOk result }
+    ensures refused { IfErr result (λ error. (error.kind ≡ ErrorKind.DeviceFailed)
+        ⊎ W.refuses (string_bytes text.old) error.kind) }
+    ensures failed { IfErr result (λ error. error.kind ≡ ErrorKind.DeviceFailed →
+        Fails (W.failures sink.old) (W.failures sink.new)) }
 {
     if text.len() >= TEXT_BYTES {
         sink.write_all(text.as_bytes())?;

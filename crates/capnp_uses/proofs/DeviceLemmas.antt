@@ -73,7 +73,7 @@ first_of_bytes source old new format limit (Err error) bytes is texts reads = re
   found = tt;
   none = tt;
   accepted = at_known _ (source.unread old) bytes is texts.accepted;
-  end = λ empty. let unread : source.unread old ≡ Some [] = cc in inl (reads.end unread);
+  end = λ empty. let unread : source.unread old ≡ Some [] = cc in reads.end unread;
   refused = faults_first error.kind (source.unread old) (source.unread new) bytes (RefusesNext Zero format limit error.kind) is reads.refused;
   exact = λ kind (left, line). fault_or error.kind (at_known _ (source.unread old) bytes is reads.exact kind left line);
 }

@@ -1,5 +1,5 @@
 -- Readers of bytes in memory return the one message that is there.
-use Rattle.std.proofs.Common.{◌≡◌, ◌⊎◌, inl, inr, ◌<◌, ℕ, List, [], Option, Some, None, Result, Ok, Err, IsOk, IfOk, IfErr, MatchResult, sym, ap, subst, arith}
+use Rattle.std.proofs.Common.{◌≡◌, ◌⊎◌, inl, inr, ◌<◌, ℕ, List, [], Option, Some, None, Result, Ok, Err, IsOk, IfOk, IfErr, MatchResult, refl, sym, ap, subst, arith}
 use Rattle.std.specs.Prelude.{IfNone, IsSomeAnd, IsOkAnd}
 use Rattle.capnp_frame.specs.declared.serialize.segment_table.Padding.TheVariants.{Zero}
 use Rattle.capnp_frame.specs.declared.error.Error.{Error}
@@ -22,6 +22,7 @@ use Rattle.capnp.specs.Headline.{ReturnsEncodings}
 use Rattle.capnp.proofs.RunLemmas.{format_lawful, format_requested, format_parts}
 use Rattle.capnp.proofs.ReaderLemmas.{nothing_begins}
 use Rattle.capnp.proofs.AppendedLemmas.{memory_only}
+use Rattle.capnp_frame.proofs.AskLemmas.{never_fails}
 use Rattle.capnp_uses.specs.Reading.{ReturnsCanonical}
 
 -- a slice is a plain source
@@ -41,6 +42,13 @@ exactly segments format limit bytes left (Ok (Some x)) texts none failed message
     ((format_parts Zero format limit).begins_once (segments x) message bytes left rest texts.found begins).0
 exactly segments format limit bytes left (Err e) texts none failed message rest begins =
     memory_only e.kind (texts.accepted message rest begins) failed
+
+-- and where there are no bytes it succeeds
+pub succeeds_at_none : {X : Type 0} (segments : X → List (List ℕ)) (bytes : List ℕ) (r : Result (Option X) Error)
+    → IfErr (next_in segments r) (λ e. Some bytes ≡ Some [] → e.kind ≡ DeviceFailed) → IfErr (next_in segments r) (λ e. e.kind ≡ DeviceFailed → Fails 0 0)
+    → bytes ≡ [] → IsOk r
+succeeds_at_none segments bytes (Ok found) end failed empty = refl
+succeeds_at_none segments bytes (Err e) end failed empty = absurd (never_fails e.kind failed (end (ap Some empty)))
 
 -- and one that asks for none
 pub exactly_provided : {X : Type 0} (segments : X → List (List ℕ)) (format : Format) (limit : Option ℕ) (bytes left : List ℕ) (r : Result X Error)
@@ -77,19 +85,19 @@ no_form numbers_of bytes error none refused = record {
   stands = tt;
   form = λ message rest begins. tt;
   found = λ message rest begins form. absurd (none message rest begins);
-  refused = inr (inl refused);
+  refused = inl refused;
 }
 
 -- why it has none
 pub form_refused : {X : Type 0} (is_form : X → Type 0) (pointer : Pointer) (m : List (List ℕ)) (bytes : List ℕ) (Q : ErrorKind → Type 0) (r : Result X Error)
     → pointer ≡ default_root m → (rest : List ℕ) × BeginsFramed Zero default_limit m bytes rest
     → MatchResult r is_form (λ e. LacksForm pointer e.kind ⊎ (e.kind ≡ OutOfMemory))
-    → IfErr r (λ e. (e.kind ≡ OutOfMemory) ⊎ Q e.kind
-    ⊎ ((message : List (List ℕ)) × (rest : List ℕ) × BeginsFramed Zero default_limit message bytes rest × LacksForm (default_root message) e.kind))
+    → IfErr r (λ e. Q e.kind ⊎ ((message : List (List ℕ)) × (rest : List ℕ) × BeginsFramed Zero default_limit message bytes rest
+    × (LacksForm (default_root message) e.kind ⊎ (e.kind ≡ OutOfMemory))))
 form_refused is_form pointer m bytes Q (Ok x) same begins returned = tt
 form_refused is_form pointer m bytes Q (Err e) same begins (inl lacks) =
-    inr (inr (m, begins.0, begins.1, subst (λ p. LacksForm p e.kind) same lacks))
-form_refused is_form pointer m bytes Q (Err e) same begins (inr memory) = inl memory
+    inr (m, begins.0, begins.1, inl (subst (λ p. LacksForm p e.kind) same lacks))
+form_refused is_form pointer m bytes Q (Err e) same begins (inr memory) = inr (m, begins.0, begins.1, inr memory)
 
 -- an object may be at that root
 pub default_depth : (options : ReaderOptions) → options ≡ DEFAULT_READER_OPTIONS → 0 < nesting_of options.nesting_limit

@@ -1,14 +1,15 @@
 -- The first two messages of a stream, as an iterator over its messages returns them.
-use Rattle.std.proofs.Common.{◌≡◌, ◌⊎◌, inl, inr, ℕ, ◌<◌, List, [], Option, Some, None, Result, Ok, Err, refl, sym, ◌∙◌, subst, arith}
+use Rattle.std.proofs.Common.{◌≡◌, ◌⊎◌, inl, inr, ℕ, ◌<◌, List, [], Option, Some, None, Result, Ok, Err, refl, sym, ap, ◌∙◌, subst, arith}
 use Rattle.capnp_frame.specs.declared.error.Error.{Error}
-use Rattle.capnp_frame.specs.declared.error.ErrorKind.TheVariants.{OutOfMemory}
+use Rattle.capnp_frame.specs.declared.error.ErrorKind.TheVariants.{DeviceFailed, OutOfMemory}
 use Rattle.capnp_frame.specs.declared.io.Read.{Ghosts}
 use Rattle.capnp_frame.specs.declared.message.options.ReaderOptions.{ReaderOptions}
 use Rattle.capnp_frame.specs.declared.serialize.segment_table.Padding.{Padding}
 use Rattle.capnp_frame.specs.declared.serialize.segment_table.Padding.TheVariants.{Zero}
 use Rattle.capnp_frame.specs.Limits.{default_limit}
-use Rattle.capnp_frame.specs.Source.{IfKnown}
+use Rattle.capnp_frame.specs.Source.{IfKnown, Fails}
 use Rattle.capnp_frame.specs.Streams.{ReadsStream}
+use Rattle.capnp_frame.proofs.AskLemmas.{never_fails}
 use Rattle.capnp.specs.declared.streams.Format.{Format}
 use Rattle.capnp.specs.declared.streams.message_stream.MessageStream.{MessageStream}
 use Rattle.capnp.specs.MessageStreams.{source_of, messages_left, HasSettings, IsNewStream, read_in, GivesMessage}
@@ -84,17 +85,20 @@ none_at_all format stream segments none = record {
   found = tt;
   none = inl none;
   accepted = λ first second rest (between, begins, others). absurd (never format default_limit first stream between none begins);
+  empty = λ is. refl;
   refused = tt;
 }
 
 pub fails_at_once : {X : Type 0} (format : Format) (stream : List ℕ) (segments : X → List (List ℕ)) (error : Error)
+    → (error.kind ≡ DeviceFailed → Fails 0 0) → (Some stream ≡ Some [] → error.kind ≡ DeviceFailed)
     → (error.kind ≡ OutOfMemory) ⊎ EndsBy Zero format default_limit (Some error.kind) stream
     → ((message : List (List ℕ)) (rest : List ℕ) → StandsNext Zero format default_limit message stream rest → error.kind ≡ OutOfMemory)
     → ReadsTwo format stream segments (Err error)
-fails_at_once format stream segments error stops memory = record {
+fails_at_once format stream segments error failed end stops memory = record {
   found = tt;
   none = tt;
   accepted = λ first second rest (between, begins, others). memory first between begins;
+  empty = λ none. absurd (never_fails error.kind failed (end (ap Some none)));
   refused = elim stops [ inl lacks ↦ inl lacks | inr ends ↦ inr (inl ends) ];
 }
 
@@ -106,6 +110,7 @@ none_after format stream mid segments one stands none = record {
   accepted = λ first second rest begin.
       let next = first_is format (segments one) first second stream mid rest stands begin in
       absurd (never format default_limit second mid next.1.0 none next.1.1);
+  empty = λ is. refl;
   refused = tt;
 }
 
@@ -119,6 +124,7 @@ fails_after format stream mid segments one error stands stops memory = record {
   accepted = λ first second rest begin.
       let next = first_is format (segments one) first second stream mid rest stands begin in
       memory second next.1.0 next.1.1;
+  empty = λ none. absurd (never format default_limit (segments one) stream mid none stands);
   refused = elim stops [ inl lacks ↦ inl lacks | inr ends ↦ inr (inr (segments one, mid, stands, ends)) ];
 }
 
@@ -131,5 +137,6 @@ both format stream mid left segments one other stands follows = record {
       let next = first_is format (segments one) first second stream mid rest stands begin in
       let same = (format_parts Zero format default_limit).begins_once (segments other) second mid left next.1.0 follows next.1.1 in
       (next.0, same.0);
+  empty = λ is. refl;
   refused = tt;
 }

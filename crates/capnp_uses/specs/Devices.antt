@@ -3,6 +3,7 @@ use Rattle.std.specs.Prelude.{◌≡◌, ◌⊎◌, ℕ, List, [], Option, Some,
 use Rattle.std.specs.Result.{IsErrAnd}
 use Rattle.capnp_frame.specs.declared.error.Error.{Error}
 use Rattle.capnp_frame.specs.declared.error.ErrorKind.{ErrorKind}
+use Rattle.capnp_frame.specs.declared.error.ErrorKind.TheVariants.{DeviceFailed}
 use Rattle.capnp_frame.specs.declared.serialize.segment_table.Padding.TheVariants.{Zero}
 use Rattle.capnp.specs.declared.streams.Format.{Format}
 use Rattle.capnp.specs.Headline.{IsFault}
@@ -17,8 +18,8 @@ pub record ReadsFirst (format : Format) (limit : Option ℕ) (result : Result (O
   -- where they begin with an encoding of a message within the limit, that message is returned, except for a fault
   pub accepted : (message : List (List ℕ)) (rest : List ℕ) → StandsNext Zero format limit message bytes rest → MatchResult result
       (λ found. found ≡ Some message) (λ error. IsFault error.kind)
-  -- and where there are none None, except for a fault
-  pub end : bytes ≡ [] → MatchResult result (λ found. found ≡ None) (λ error. IsFault error.kind)
+  -- and where there are none None, except for the device's failure
+  pub end : bytes ≡ [] → MatchResult result (λ found. found ≡ None) (λ error. error.kind ≡ DeviceFailed)
   -- it fails for a fault, or as the reader of the message does
   pub refused : IfErr result (λ error. IsFault error.kind ⊎ EndsBy Zero format limit (Some error.kind) bytes)
   -- and where that fails with this kind, with no other one, except for a fault

@@ -23,9 +23,10 @@ pub record ReturnsCanonical {T : Type 0} (bytes : List ℕ) (words : T → List 
   -- they are returned wherever there are such words, unless memory is lacking
   pub found : (message : List (List ℕ)) (rest : List ℕ) → BeginsFramed Zero default_limit message bytes rest → HasForm (default_root message)
       → IfErr result (λ error. error.kind ≡ OutOfMemory)
-  -- else it fails as the reader does, or with the reason why the message has no form
-  pub refused : IfErr result (λ error. (error.kind ≡ OutOfMemory) ⊎ RefusesBy (no_alloc_rules Zero default_limit) error.kind bytes
-      ⊎ ((message : List (List ℕ)) × (rest : List ℕ) × BeginsFramed Zero default_limit message bytes rest × LacksForm (default_root message) error.kind))
+  -- else it fails as the reader does, which takes no memory, or with the reason why the message has no form, or for want of memory
+  pub refused : IfErr result (λ error. RefusesBy (no_alloc_rules Zero default_limit) error.kind bytes
+      ⊎ ((message : List (List ℕ)) × (rest : List ℕ) × BeginsFramed Zero default_limit message bytes rest
+      × (LacksForm (default_root message) error.kind ⊎ (error.kind ≡ OutOfMemory))))
 
 -- these are the first two data words of the struct that a pointer leads to, 0 past its last one
 abbrev pub AreFirstWords : Pointer → ℕ × ℕ → Type 0

@@ -1,5 +1,5 @@
 -- What callers return of streams and of logs.
-use Rattle.std.specs.Prelude.{◌≡◌, ◌⊎◌, ◌∷◌, ℕ, List, [], length, Option, Some, None, Bool, IsTrue, IsFalse, IfSome, IfNone, IsSomeAnd, Result, IfOk, IfErr, MatchResult}
+use Rattle.std.specs.Prelude.{◌≡◌, ◌⊎◌, ◌∷◌, ℕ, List, [], length, Option, Some, None, Bool, IsTrue, IsFalse, IfSome, IfNone, IsSomeAnd, Result, IsOk, IfOk, IfErr, MatchResult}
 use Rattle.std.specs.Result.{IsErrAnd}
 use Rattle.capnp_frame.specs.declared.error.Error.{Error}
 use Rattle.capnp_frame.specs.declared.error.ErrorKind.{ErrorKind}
@@ -61,6 +61,8 @@ pub record ReadsTwo {X : Type 0} (format : Format) (stream : List ℕ) (segments
   -- where two messages begin the stream, they are returned, unless memory is lacking
   pub accepted : (first second : List (List ℕ)) (rest : List ℕ) → BeginWith format first second stream rest → MatchResult result
       (λ found. IsSomeAnd found (λ two. (segments two.0 ≡ first) × (segments two.1 ≡ second))) (λ error. error.kind ≡ OutOfMemory)
+  -- an empty stream takes no memory
+  pub empty : stream ≡ [] → IsOk result
   -- it fails for want of memory, or as the reader of the first message does, or of the second one
   pub refused : IfErr result (λ error. (error.kind ≡ OutOfMemory) ⊎ EndsBy Zero format default_limit (Some error.kind) stream
       ⊎ ((message : List (List ℕ)) × (rest : List ℕ) × StandsNext Zero format default_limit message stream rest

@@ -1,7 +1,7 @@
 //! Messages of devices whose bytes are known, as those of a cursor or of slices are.
-ghost use Rattle.std.specs.Prelude.{◌≡◌, ◌++◌, map, drop, IsSome, IfSome, IfOk, IfErr};
+ghost use Rattle.std.specs.Prelude.{◌≡◌, ◌++◌, map, drop, Some, IsSome, IfSome, IfOk, IfErr};
 ghost use Rattle.std.specs.List.{AllByRecursion};
-ghost use Rattle.std.specs.Io.Cursor.{cursor_inner, cursor_position};
+ghost use Rattle.std.specs.Io.Cursor.{cursor_inner, cursor_position, cursor_remaining};
 ghost use Rattle.capnp_frame.specs.declared.error.ErrorKind.{ErrorKind};
 ghost use Rattle.capnp_frame.specs.declared.serialize.segment_table.Padding.TheVariants.{Zero};
 ghost use Rattle.capnp_frame.specs.Source.{IfKnown, Fails};
@@ -70,6 +70,11 @@ pub fn first_of_cursor(
     ensures first { IfOk result (λ done. ReadsFirst format options.traversal_limit_in_words
         (next_in (λ reader. reader.segments) done.read)
         (drop (cursor_position cursor) (cursor_inner cursor).items)) }
+    // Just the message's encoding is consumed.
+    ensures rest { IfOk result (λ done. IfOk done.read (λ found. IfSome found (λ reader.
+        IfKnown (Some (drop (cursor_position cursor) (cursor_inner cursor).items))
+        (unread_of (cursor_remaining (λ bytes. Some bytes.items)) done.rest)
+        (StandsNext Zero format options.traversal_limit_in_words reader.segments)))) }
     ensures options { IfOk result (λ done. IfOk done.read (λ found. IfSome found (λ reader.
         reader.options ≡ options))) }
     ensures failed { IfOk result (λ done. IfErr done.read (λ error.

@@ -1,5 +1,5 @@
 //! The next message of a stream in either format, and all messages of a stream in memory.
-ghost use Rattle.std.specs.Prelude.{◌≡◌, ◌++◌, ◌∷◌, [], ◌⊎◌, ◌↔◌, List, ℕ, Some, map, IsTrue, IsFalse, IfSome, IfOk, IfErr, OnErr};
+ghost use Rattle.std.specs.Prelude.{◌≡◌, ◌<◌, ◌++◌, ◌∷◌, [], ◌⊎◌, ◌↔◌, List, ℕ, Some, length, map, IsTrue, IsFalse, IfSome, IfOk, IfErr, OnErr};
 ghost use Rattle.std.specs.List.{AllByRecursion};
 ghost use Rattle.capnp_frame.specs.declared.error.ErrorKind.{ErrorKind};
 ghost use Rattle.capnp_frame.specs.Streams.{next_in, ReadsStream};
@@ -83,7 +83,8 @@ impl StreamRead {
 /// Reads every message of a stream, one after another, by this rule of padding, up to the end of
 /// the stream or the first error.
 ///
-/// Where memory is lacking, `refusal` is `OutOfMemory`, and what was read before is returned.
+/// Where memory is lacking, `refusal` is `OutOfMemory`, and what was read before is returned. None is
+/// taken where the stream is empty.
 pub fn every_message(
     alloc: Global,
     format: Format,
@@ -141,6 +142,8 @@ fn add_next(
         (rest.old.now ≡ []) × (messages.new.items ≡ messages.old.items)) }
     ensures refused { IfErr result (λ error. (error.kind ≡ ErrorKind.OutOfMemory)
         ⊎ EndsBy padding format options.traversal_limit_in_words (Some error.kind) rest.old.now) }
+    ensures some { IfErr result (λ error. error.kind ≡ ErrorKind.OutOfMemory →
+        0 < length rest.old.now) }
     ensures kept { OnErr result (messages.new.items ≡ messages.old.items) }
     // All readers keep having these options.
     ensures options { AllByRecursion (λ reader. reader.options ≡ options) messages.old.items →

@@ -2,9 +2,8 @@
 ghost use Rattle.std.specs.Prelude.{◌+◌, ◌<◌, ◌≤◌, [], length, None, OnErr};
 ghost use Rattle.std.specs.Borrow.{RestsIfErr, sem};
 ghost use Rattle.capnp_build.specs.Built.{message};
-ghost use Rattle.capnp_build.specs.Placed.{IsCleared, IsLookedAt};
 ghost use Rattle.capnp_build.specs.Outcomes.{LooksAtRoot};
-ghost use Rattle.capnp_build.specs.RootViews.{InitsView, GetsView};
+ghost use Rattle.capnp_build.specs.RootViews.{InitsView, GetsView, LeavesNull, LeavesRoot};
 
 use crate::allocator::Allocator;
 use crate::arena::builder_arena::BuilderArena;
@@ -25,7 +24,7 @@ impl<A: Allocator> BuilderArena<A> {
         ensures* rests { sem 𝓛 (RestsIfErr
             (the_row A.row A.Segment.row A.Allocator A.Segment.SegmentSpace) self.entry
             (λ view. view.message.ghost_name) result
-            (λ last. IsCleared A.Allocator self.old last)) }
+            (λ last. LeavesNull A.Allocator K.OwnedBuilder n self.old last result)) }
         ensures inits { InitsView A.Allocator K.OwnedBuilder n (λ arena. arena)
             (λ view. view.message) self.entry result }
     {
@@ -39,7 +38,7 @@ impl<A: Allocator> BuilderArena<A> {
         ensures* rests { sem 𝓛 (RestsIfErr
             (the_row A.row A.Segment.row A.Allocator A.Segment.SegmentSpace) self.entry
             (λ view. view.message.ghost_name) result
-            (λ last. IsCleared A.Allocator self.old last)) }
+            (λ last. LeavesNull A.Allocator K.OwnedBuilder 0 self.old last result)) }
         ensures inits { InitsView A.Allocator K.OwnedBuilder 0 (λ arena. arena)
             (λ view. view.message) self.entry result }
     {
@@ -63,7 +62,7 @@ impl<A: Allocator> BuilderArena<A> {
         ensures* rests { sem 𝓛 (RestsIfErr
             (the_row A.row A.Segment.row A.Allocator A.Segment.SegmentSpace) self.entry
             (λ view. view.message.ghost_name) result
-            (λ last. IsLookedAt A.Allocator self.old last)) }
+            (λ last. LeavesRoot A.Allocator K.OwnedBuilder self.old last result)) }
         ensures gets { GetsView A.Allocator K.OwnedBuilder (λ arena. arena)
             (λ view. view.message) self.entry result }
     {

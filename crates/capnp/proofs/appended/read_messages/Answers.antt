@@ -1,5 +1,5 @@
 -- Each turn reads one more message.
-use Rattle.std.proofs.Common.{◌≡◌, ◌+◌, ◌<◌, Err, inl, inr, length, map, arith, ap, sym, ◌∙◌}
+use Rattle.std.proofs.Common.{◌≡◌, ◌+◌, ◌<◌, ◌++◌, ◌∷◌, [], Err, inl, inr, length, map, arith, ap, refl, sym, ◌∙◌}
 use Rattle.std.proofs.lemmas.List.{length-map, length_push}
 use Rattle.std.proofs.lemmas.Result.{err_from_is_err_and}
 use Rattle.capnp_frame.proofs.SourceLemmas.{Advances-join, Fails-join}
@@ -32,12 +32,21 @@ returns-in_err-reader g c =
 pub returns-in_err-push : goal.returns-in_err-push
 returns-in_err-push g c =
     let p = err_from_is_err_and c.from_residual-in_err-push.result c.from_residual-in_err-push.ensures.1 in
+    let more = c.loop-index.readers.items ++ c.in_ok-reader.reader ∷ [] in
     rw p.1 (record {
       counted = tt;
       found = tt;
       options_are = tt;
       accepted = accepted_at_memory Zero c.args.format c.args.options.traversal_limit_in_words c.args.count p.0.kind _ p.2;
-      stops = inl p.2;
+      stops = inl (record {
+        memory = p.2;
+        messages = map (λ reader. reader.segments) more;
+        some = omega (arith, length-map more (λ reader. reader.segments), length_push c.loop-index.readers.items c.in_ok-reader.reader);
+        within = omega (arith, length-map more (λ reader. reader.segments), length_push c.loop-index.readers.items c.in_ok-reader.reader,
+            c.loop-index.invariant.counted, length-map c.loop-index.readers.items (λ reader. reader.segments), c.loop-index-test.true);
+        texts = texts_next Zero c.args.format c.args.options.traversal_limit_in_words (λ reader. reader.segments) c.loop-index.readers.items
+            more c.in_ok-reader.reader _ _ _ refl c.loop-index.invariant.texts c.in_ok-reader.ensures.texts.found;
+      });
       failed = λ device. let never : OutOfMemory ≡ DeviceFailed = sym p.2 ∙ device in cc;
       advances = Advances-join _ _ _ (g.met.R.Read.keeps.transitive _ _ _) c.loop-index.invariant.advances
           (or_fails_advances g.R.Read _ _ _ _ _ c.read_message.ensures.reads);

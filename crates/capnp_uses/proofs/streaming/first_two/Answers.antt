@@ -21,7 +21,7 @@ returns-in-Some-Err-clause-two c =
     let steps = rw c.in-Some-Err.field-0-is at c.in-Some-Err.ensures.steps in
     let reads = reads_new _ _ _ stream.result _ _ c.args.format Zero DEFAULT_READER_OPTIONS _ steps stream.ensures.source stream.ensures.begins in
     let kind = c.in-Some-Err.error.kind in
-    fails_at_once c.args.format c.args.stream.now _ c.in-Some-Err.error
+    fails_at_once c.args.format c.args.stream.now _ c.in-Some-Err.error reads.failed reads.end
     (slice_refused Zero c.args.format default_limit kind _ _ _ reads.failed reads.refused)
     (λ message rest here. memory_only kind (reads.accepted message rest (here.text, here.is_text, here.spelled) here.within) reads.failed)
 

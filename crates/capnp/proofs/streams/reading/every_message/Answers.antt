@@ -1,7 +1,8 @@
 -- Each turn reads one more message, and where the reading stops the stream ends, or memory does.
-use Rattle.std.proofs.Common.{refl, ap, map, inl, inr, None, Some}
+use Rattle.std.proofs.Common.{◌<◌, length, refl, ap, map, inl, inr, None, Some, arith}
 use Rattle.capnp.specs.Streams.{grammar_of}
-use Rattle.capnp.proofs.StreamLemmas.{texts_within, next_texts, refused_ends, stopped}
+use Rattle.capnp.specs.Reading.{LacksMemory}
+use Rattle.capnp.proofs.StreamLemmas.{texts_within, next_texts, refused_ends, stopped, stands_at_bytes, lacks_kind}
 use Rattle.capnp.proofs.streams.reading.every_message.Goals as goal
 
 pub overflow_sub-end : goal.overflow_sub-end
@@ -14,6 +15,13 @@ loop-count-preserved c = record {
   texts = next_texts c.args.padding c.args.format c.args.options.traversal_limit_in_words _ _ c.args.stream.now c.loop-count.rest.now c.add_next.new.rest.now
       c.loop-count.invariant.texts (c.in-Ok-true.ensures.added c.in-Ok-true.field-0-test);
   options = c.add_next.ensures.options c.loop-count.invariant.options;
+  some = λ more.
+      let (message, stands, same) = c.in-Ok-true.ensures.added c.in-Ok-true.field-0-test in
+      omega (
+        arith,
+        stands_at_bytes c.args.padding c.args.format c.args.options.traversal_limit_in_words message c.loop-count.rest.now c.add_next.new.rest.now stands,
+        texts_within (grammar_of c.args.padding c.args.format) c.args.options.traversal_limit_in_words _ c.args.stream.now c.loop-count.rest.now c.loop-count.invariant.texts,
+      );
   at = refl;
 }
 
@@ -22,17 +30,22 @@ returns-in-Ok-false c =
     let ended = c.in-Ok-false.ensures.ended c.in-Ok-false.field-0-test in
     let stop = stopped c.args.padding c.args.format c.args.options.traversal_limit_in_words _ _ None c.args.stream.now c.loop-count.rest.now c.loop-count.end
     (ap (map (λ reader. reader.segments)) ended.1) c.loop-count.invariant.texts c.loop-count.invariant.at (inr ended.0) in
-    record { read = record { within = stop.0; texts = stop.1; ends = stop.2; exact = stop.3 }; options = c.add_next.ensures.options c.loop-count.invariant.options }
+    record { read = record { within = stop.0; texts = stop.1; ends = stop.2; some = λ lacks. cc; exact = stop.3 }; options = c.add_next.ensures.options c.loop-count.invariant.options }
 
 pub returns-in-Err : goal.returns-in-Err
 returns-in-Err c =
     let stop = stopped c.args.padding c.args.format c.args.options.traversal_limit_in_words _ _ (Some c.in-Err.error) c.args.stream.now c.loop-count.rest.now c.loop-count.end
     (ap (map (λ reader. reader.segments)) c.in-Err.ensures.kept) c.loop-count.invariant.texts c.loop-count.invariant.at
     (refused_ends c.in-Err.error _ c.in-Err.ensures.refused) in
-    record { read = record { within = stop.0; texts = stop.1; ends = stop.2; exact = stop.3 }; options = c.add_next.ensures.options c.loop-count.invariant.options }
+    let some : LacksMemory (Some c.in-Err.error) → 0 < length c.args.stream.now = λ lacks. omega (
+      arith,
+      c.in-Err.ensures.some (lacks_kind c.in-Err.error lacks),
+      texts_within (grammar_of c.args.padding c.args.format) c.args.options.traversal_limit_in_words _ c.args.stream.now c.loop-count.rest.now c.loop-count.invariant.texts,
+    ) in
+    record { read = record { within = stop.0; texts = stop.1; ends = stop.2; some = some; exact = stop.3 }; options = c.add_next.ensures.options c.loop-count.invariant.options }
 
 pub returns : goal.returns
 returns c =
     let stop = stopped c.args.padding c.args.format c.args.options.traversal_limit_in_words _ _ (Some c.from_kind.result) c.args.stream.now c.loop-count.rest.now c.loop-count.end
     refl c.loop-count.invariant.texts c.loop-count.invariant.at (inl (ap Some c.from_kind.ensures)) in
-    record { read = record { within = stop.0; texts = stop.1; ends = stop.2; exact = stop.3 }; options = c.loop-count.invariant.options }
+    record { read = record { within = stop.0; texts = stop.1; ends = stop.2; some = λ lacks. c.loop-count.invariant.some (omega (arith, c.loop-count-test.false)); exact = stop.3 }; options = c.loop-count.invariant.options }

@@ -9,6 +9,6 @@ returns-in_err-init g c =
     let p = err_from_is_err_and c.from_residual.result c.from_residual.ensures.1 in
     let told = c.in_err-init.ensures.inits in
     rw (p.1, p.2) (
-      (refl, λ w. tt, told.nulled),
+      (refl, λ w. tt, record { cleared = told.nulled; kind = told.kind; none = told.none }),
       record { rests = tt; inits = init_refused g.A.Allocator g.T.OwnedBuilder c.args.n (λ typed. typed) (λ view. view.message) c.args.self _ _ told },
     )
