@@ -1,5 +1,5 @@
 //! Why the program stops before the end of its input.
-ghost use Rattle.std.specs.Prelude.{◌≡◌, ◌⊎◌, List, ℕ, IfOk, IfErr, OnOk, string_bytes};
+ghost use Rattle.std.specs.Prelude.{◌≡◌, ◌⊎◌, List, ℕ, [], IfOk, IfErr, OnOk, OnErr, string_bytes};
 ghost use Rattle.capnp.specs.Passed.{ErrorKind, Fails, IfKnown, Adds, Grows};
 ghost use Rattle.capnp_ls.specs.declared.stop.Stop.TheVariants.{Usage, Refused};
 ghost use Rattle.capnp_ls.specs.Stop.{IsLineOf, IsFaultLine, status_of, usage_line};
@@ -45,6 +45,8 @@ pub fn report<W: Write>(alloc: Global, stop: &Stop, sink: &mut W) -> Result<()>
     ensures refused { IfErr result (λ error. (error.kind ≡ ErrorKind.DeviceFailed)
         ⊎ (error.kind ≡ ErrorKind.OutOfMemory)
         ⊎ ((line : List ℕ) × IsLineOf stop.now line × W.refuses line error.kind)) }
+    ensures left { OnErr result (IfKnown (W.written sink.old) (W.written sink.new) (Adds (λ part.
+        (part ≡ []) ⊎ ((line : List ℕ) × IsLineOf stop.now line × W.leaves line part)))) }
     // The usage line takes no memory.
     ensures usage { stop.now ≡ Usage → IfErr result (λ error.
         (error.kind ≡ ErrorKind.DeviceFailed) ⊎ W.refuses usage_line error.kind) }
@@ -90,6 +92,8 @@ pub fn report_fault<W: Write>(
     ensures refused { IfErr result (λ error. (error.kind ≡ ErrorKind.DeviceFailed)
         ⊎ (error.kind ≡ ErrorKind.OutOfMemory)
         ⊎ ((line : List ℕ) × IsFaultLine name.now line × W.refuses line error.kind)) }
+    ensures left { OnErr result (IfKnown (W.written sink.old) (W.written sink.new) (Adds (λ part.
+        (part ≡ []) ⊎ ((line : List ℕ) × IsFaultLine name.now line × W.leaves line part)))) }
     ensures grows { Grows W.written W.failures W.same sink.old sink.new }
 {
     let line = fault_line(alloc, name, fault)?;

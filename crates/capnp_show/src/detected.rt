@@ -1,7 +1,8 @@
 //! Whether the messages of an input are packed, by the bytes at its front.
 ghost use Rattle.std.specs.Prelude.{◌≡◌, IfOk, MatchOption};
 ghost use Rattle.std.specs.Io.KnownBytes.{IsAtEnd};
-ghost use Rattle.capnp_show.specs.Fronts.{Ends, Says, Takes, Tells};
+ghost use Rattle.capnp_show.specs.declared.detected.Look.TheVariants.{More};
+ghost use Rattle.capnp_show.specs.Fronts.{Says, Takes, Tells};
 
 use capnp::ErrorKind;
 use capnp::message::ReaderOptions;
@@ -53,7 +54,7 @@ pub fn detect<D: Read>(
     ensures taken { IfOk result (λ _. Takes front.old.items front.new.items
         (D.remaining device.old) (D.remaining device.new)) }
     ensures told { IfOk result (λ found. MatchOption found
-        (Ends limits.traversal_limit_in_words front.new.items)
+        (Says FRONT_BYTES limits.traversal_limit_in_words front.new.items More)
         (Tells FRONT_BYTES limits.traversal_limit_in_words front.new.items
         (D.remaining device.new))) }
 {

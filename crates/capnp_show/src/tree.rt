@@ -2,7 +2,7 @@
 //!
 //! A walk ends whatever the pointers are: it goes no deeper than the nesting limit, and stops where
 //! the objects have more words than the limit of words.
-ghost use Rattle.std.specs.Prelude.{◌≡◌, ◌↔◌, ◌≤◌, ◌+◌, ◌-◌, [], ◌∷◌, min, MatchOption, IfOk, IfSome, IsTrue, None, option_map};
+ghost use Rattle.std.specs.Prelude.{◌≡◌, ◌↔◌, ◌≤◌, ◌+◌, ◌-◌, [], ◌∷◌, min, MatchOption, IfOk, IfSome, IsTrue, IsFalse, None, option_map};
 ghost use Rattle.std.specs.List.{All};
 ghost use Rattle.capnp_wire.specs.Readers.{nesting_of};
 ghost use Rattle.capnp_show.specs.Rows.{row_after, pointers_row, IsSpent, IsNodeOf, LeavesRows, LeavesWords, Comes, Finds, IsBelow};
@@ -181,6 +181,7 @@ impl Walk {
         ensures within { IfSome self.old.left (λ left. IsTrue result ↔ (words ≤ left)) }
         ensures unlimited { self.old.left ≡ None → IsTrue result }
         ensures taken { IsTrue result → self.new.left ≡ option_map (λ left. left - words) self.old.left }
+        ensures kept { IsFalse result → self.new.left ≡ self.old.left }
         ensures rows { self.new.rows ≡ self.old.rows }
     {
         let Some(left) = self.left else {
