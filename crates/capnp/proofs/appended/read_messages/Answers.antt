@@ -42,8 +42,14 @@ returns-in_err-push g c =
         memory = p.2;
         messages = map (λ reader. reader.segments) more;
         some = omega (arith, length-map more (λ reader. reader.segments), length_push c.loop-index.readers.items c.in_ok-reader.reader);
-        within = omega (arith, length-map more (λ reader. reader.segments), length_push c.loop-index.readers.items c.in_ok-reader.reader,
-            c.loop-index.invariant.counted, length-map c.loop-index.readers.items (λ reader. reader.segments), c.loop-index-test.true);
+        within = omega (
+          arith,
+          length-map more (λ reader. reader.segments),
+          length_push c.loop-index.readers.items c.in_ok-reader.reader,
+          c.loop-index.invariant.counted,
+          length-map c.loop-index.readers.items (λ reader. reader.segments),
+          c.loop-index-test.true,
+        );
         texts = texts_next Zero c.args.format c.args.options.traversal_limit_in_words (λ reader. reader.segments) c.loop-index.readers.items
             more c.in_ok-reader.reader _ _ _ refl c.loop-index.invariant.texts c.in_ok-reader.ensures.texts.found;
       });
