@@ -1,7 +1,8 @@
 //! Messages that are built, and read once the view that wrote them is gone.
-ghost use Rattle.std.specs.Prelude.{◌≡◌, ◌⊎◌, ◌+◌, ◌-◌, ◌/◌, ◌<◌, ◌^◌, ◌++◌, ◌∷◌, [], length, replicate, true, IfOk, IfErr, OnOk};
+ghost use Rattle.std.specs.Prelude.{◌≡◌, ◌⊎◌, ◌+◌, ◌-◌, ◌/◌, ◌<◌, ◌^◌, ◌++◌, ◌∷◌, [], length, replicate, true, IfOk, IfErr, OnOk, OnErr};
 ghost use Rattle.capnp_frame.specs.declared.error.ErrorKind.{ErrorKind};
 ghost use Rattle.capnp_wire.specs.Tree.{null, struct, numbers};
+ghost use Rattle.capnp_build.specs.Placed.{IsCleared};
 ghost use Rattle.capnp_uses.specs.Roots.{HasRootForm, LacksRoom};
 
 use capnp_build::allocator::Allocator;
@@ -17,6 +18,7 @@ use std::alloc::Global;
 pub fn write_text<A: Allocator>(message: &mut Builder<A>, bytes: &[u8]) -> Result<()>
     requires { length bytes.now < 2 ^ 29 }
     ensures stands { OnOk result (HasRootForm message.new.spaces (numbers 2 (bytes.now ++ 0 ∷ []))) }
+    ensures cleared { OnErr result (IsCleared A.Allocator message.old message.new) }
     ensures refused { IfErr result (λ error. ((2 ^ 29 - 2 < length bytes.now)
         × (error.kind ≡ ErrorKind.AllocationTooLarge (length bytes.now / 8 + 1)))
         ⊎ LacksRoom A.Allocator (numbers 2 (replicate (length bytes.now + 1) 0)) message.old
@@ -53,6 +55,7 @@ pub fn text_is_read_back<A: Allocator>(
 pub fn write_data<A: Allocator>(message: &mut Builder<A>, bytes: &[u8]) -> Result<()>
     requires { length bytes.now < 2 ^ 29 }
     ensures stands { OnOk result (HasRootForm message.new.spaces (numbers 2 bytes.now)) }
+    ensures cleared { OnErr result (IsCleared A.Allocator message.old message.new) }
     ensures refused { IfErr result (λ error. LacksRoom A.Allocator
         (numbers 2 (replicate (length bytes.now) 0)) message.old error.kind) }
 {
@@ -85,6 +88,7 @@ pub fn data_is_read_back<A: Allocator>(
 pub fn write_numbers<A: Allocator>(message: &mut Builder<A>, first: u64, second: u64) -> Result<()>
     ensures stands { OnOk result (HasRootForm message.new.spaces
         (numbers 5 (first ∷ second ∷ []))) }
+    ensures cleared { OnErr result (IsCleared A.Allocator message.old message.new) }
     ensures refused { IfErr result (λ error. LacksRoom A.Allocator
         (numbers 5 (0 ∷ 0 ∷ [])) message.old error.kind) }
 {
@@ -122,6 +126,7 @@ pub fn numbers_are_read_back<A: Allocator>(
 /// Makes a struct of two words the root.
 pub fn write_struct<A: Allocator>(message: &mut Builder<A>, first: u64, second: u64) -> Result<()>
     ensures stands { OnOk result (HasRootForm message.new.spaces (struct (first ∷ second ∷ []))) }
+    ensures cleared { OnErr result (IsCleared A.Allocator message.old message.new) }
     ensures refused { IfErr result (λ error. LacksRoom A.Allocator
         (struct (0 ∷ 0 ∷ [])) message.old error.kind) }
 {
@@ -150,6 +155,7 @@ pub fn a_struct_is_read_back<A: Allocator>(
 /// Makes the root null.
 pub fn write_null<A: Allocator>(message: &mut Builder<A>) -> Result<()>
     ensures stands { OnOk result (HasRootForm message.new.spaces null) }
+    ensures cleared { OnErr result (IsCleared A.Allocator message.old message.new) }
     ensures refused { IfErr result (λ error. LacksRoom A.Allocator
         null message.old error.kind) }
 {
