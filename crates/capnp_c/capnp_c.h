@@ -2,8 +2,10 @@
  *
  * Each call returns 0, or the number of a refusal, an `enum linsjoar_error`; then each number that it has
  * to write is 0. A pointer and the length after it are one block; what is written overlaps nothing else
- * that is passed. Messages have 1 to 511 segments, zeros as the padding of their table, and no more words
- * than a limit, which is 8,388,608 (64 MiB) but in the calls that take a `struct linsjoar_options`. */
+ * that is passed. A call puts its result at the front of the block that it writes; the bytes after that
+ * may have changed, and beside a refusal all bytes of the block. Messages have 1 to 511 segments, zeros as
+ * the padding of their table, and no more words than a limit, which is 8,388,608 (64 MiB) but in the calls
+ * that take a `struct linsjoar_options`. */
 #ifndef CAPNP_C_H
 #define CAPNP_C_H
 
