@@ -73,11 +73,9 @@ impl<R: io::Read> BufRead for Input<R> {
         ensures at_end { IfOk result (λ bytes. bytes.now ≡ [] →
             IsAtEnd (coming R.remaining self.old)) }
         ensures device { IfErr result (λ error. error.kind ≡ ErrorKind.DeviceFailed) }
-        // The device's bytes are not lost, whether the call fails or not.
-        ensures* after_borrow { sem 𝓛 (Rests (the_row R.row R.Read) self.entry (λ last.
-            Fills (unread_of R.remaining) (λ input. input.failures.count) (λ _ _. ⊤) read_ahead
-            result self.entry.now last
-            × Keeps (coming R.remaining self.entry.now) (coming R.remaining last))) }
+        ensures* after_borrow { sem 𝓛 (Rests (the_row R.row R.Read) self.entry
+            (Fills (unread_of R.remaining) (λ input. input.failures.count) (λ _ _. ⊤) read_ahead
+            result self.entry.now)) }
     {
         if io::BufRead::fill_buf(&mut self.buffered).is_err() {
             return Err(self.failures.add());
