@@ -32,7 +32,7 @@ pub fn no_message_begins_an_end()
         StandsNext rule format limit message raw rest → ⊥ }
 {}
 
-/// A stream is one list of messages, and ends in only one way.
+/// The same bytes are a stream of at most one list of messages, and end in at most one way.
 pub fn a_stream_is_one_list()
     ensures { (rule : Padding) (format : Format) (limit : Option ℕ) (messages others : List (List (List ℕ)))
         (ending other : Option ErrorKind) (raw : List ℕ) →

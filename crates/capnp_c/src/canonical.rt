@@ -54,7 +54,7 @@ fn measure_form(bytes: &[u8], options: ReaderOptions, words: &mut usize) -> u8
 
 /// Writes the canonical form of the message at the front of these bytes to the front of a block,
 /// and counts its words. Returns 2 where the block has no room for it, and else what
-/// `linsjoar_canonical_size` returns.
+/// `linsjoar_canonical_size` returns. What follows the form in the block may have changed.
 #[unsafe(no_mangle)]
 pub extern "C" fn linsjoar_canonical(bytes: &[u8], block: &mut [u8], words: &mut usize) -> u8
     ensures { WritesForm DEFAULT_READER_OPTIONS bytes.now block.new words.new result }

@@ -18,7 +18,8 @@ use capnp_pack::{PackedRead, PackedWrite, laws};
 /// Packs whole words into `text`, and counts the bytes that this takes.
 ///
 /// Returns 0 exactly where the words are whole ones and `text` has room for their packed encoding,
-/// 14 where they aren't whole words, and 2 where there is no room.
+/// 14 where they aren't whole words, and 2 where there is no room. What follows in `text` may have
+/// changed.
 #[unsafe(no_mangle)]
 pub extern "C" fn linsjoar_pack(words: &[u8], text: &mut [u8], written: &mut usize) -> u8
     ensures packed { result ≡ 0 → Packs words.now (take written.new text.new) }

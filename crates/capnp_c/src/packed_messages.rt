@@ -26,6 +26,7 @@ use capnp_pack::stream::try_read_packed_framed_into;
 ///
 /// The bytes have to be one message and no more. Returns 6 where it is cut, or where bytes follow
 /// it; 2 where there is no room for its packed encoding; and else what `linsjoar_message` returns.
+/// What follows the encoding in the block may have changed.
 #[unsafe(no_mangle)]
 pub extern "C" fn linsjoar_pack_message(
     framed: &[u8],
@@ -79,7 +80,8 @@ fn pack_message(
 /// the next.
 ///
 /// Returns 2 before all else where there is no room for 8 bytes, 9 where there are no packed bytes,
-/// and else 0 or the number of the reader's error.
+/// and else 0 or the number of the reader's error. What follows the encoding in the block may have
+/// changed.
 #[unsafe(no_mangle)]
 pub extern "C" fn linsjoar_unpack_message(
     packed: &[u8],

@@ -60,7 +60,8 @@ abbrev pub children_by : Object → List Place → Type 0
 children_by object children = (words : List ℕ) → object.start.word + room_of object.body < 2 ^ 61
     → children ≡ (shape_of words object.start object.body).children
 
--- The nodes below an object that a row leads to: those of its pointers, one deeper; none where it has no pointers.
+-- The nodes below an object that a row leads to, one deeper: its pointers, or elements that together have just these; none where it has
+-- no pointers.
 pub record IsRowBelow (row : Row) (object : Object) (below : Row) : Type 0 where
   pub first : below.index ≡ 0
   pub depth : below.depth ≡ min (row.depth + 1) (2 ^ 64 - 1)

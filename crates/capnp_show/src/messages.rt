@@ -87,7 +87,7 @@ fn show_read<W: Write>(
     }
 }
 
-// Writes a message that was read in the other format.
+// Writes a message, which was read, in the other format.
 fn convert<W: Write>(
     alloc: Global,
     way: Way,

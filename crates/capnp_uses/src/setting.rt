@@ -39,7 +39,8 @@ pub fn set_tree<A: Allocator, S: ReaderSegments>(
     built.set_root::<any_pointer::Owned, any_pointer::Reader<'_, S>>(source)
 }
 
-/// Does the same, and then sets another first data word: what the struct's pointers lead to stays.
+/// Does the same, and then sets another first data word, where the struct has one: what its pointers
+/// lead to stays.
 pub fn set_tree_and_word<A: Allocator, S: ReaderSegments>(
     built: &mut Builder<A>,
     source: any_pointer::Reader<'_, S>,
