@@ -1,12 +1,12 @@
 -- The line of a message, segment by segment.
-use Rattle.std.proofs.Common.{◌≡◌, ℕ, ◌+◌, ◌≤◌, ◌<◌, Some, None, List, [], ◌∷◌, ◌++◌, length, take, get_or, map, inl, inr, refl, sym, ap, ◌∙◌, arith, append_assoc}
+use Rattle.std.proofs.Common.{◌≡◌, ◌⊎◌, ℕ, ◌+◌, ◌≤◌, ◌<◌, Option, Some, None, Result, Ok, Err, OnErr, List, [], ◌∷◌, ◌++◌, length, take, get_or, map, inl, inr, refl, sym, ap, ◌∙◌, arith, append_assoc}
 use Rattle.std.proofs.lemmas.List.{take_all, take_more, append-nil, length-map}
 use Rattle.std.proofs.lemmas.List.Concat.{flat_map-append}
 use Rattle.std.proofs.lemmas.List.Sums.{sum_by-take-le, sum-map}
 use Rattle.std.proofs.lemmas.Option.{slice_get_within, slice_get_cases, get_or_from_slice_get, none-some}
 use Rattle.std.specs.Prelude.{slice_get, sum, decimal}
 use Rattle.std.specs.List.{flat_map}
-use Rattle.capnp.specs.Passed.{word_count, lengths, size_in_words}
+use Rattle.capnp.specs.Passed.{word_count, lengths, size_in_words, Leaving, IfKnown, Adds, Error}
 use Rattle.capnp.proofs.Passed.{lengths-next, size-next}
 use Rattle.capnp_ls.specs.Output.{spaced, line, line_of}
 
@@ -130,3 +130,18 @@ pub three_words : {X : Type 0} (f : X → List ℕ) (xs : List X) (x y z : X) (a
 three_words f [] x y z a b c some few first second third p q r = absurd (omega arith)
 three_words f (s ∷ xs) x y z a b c some few first second third p q r =
     ap (λ word. word ∷ map f xs) (ap f (sym first) ∙ p) ∙ ap (λ words. a ∷ words) (two_words f xs y z b c (omega arith) (omega arith) second third q r)
+
+-- what a sink leaves of a line, it leaves of some line
+pub line_left : {X : Type 0} (IsLine : List ℕ → Type 0) (leaves : Leaving) (line : List ℕ) (r : Result X Error) (old new : Option (List ℕ)) → IsLine line
+    → OnErr r (IfKnown old new (Adds (leaves line)))
+    → OnErr r (IfKnown old new (Adds (λ part. (part ≡ []) ⊎ ((line : List ℕ) × IsLine line × leaves line part))))
+line_left IsLine leaves line (Ok done) old new is left = tt
+line_left IsLine leaves line (Err error) None new is left = tt
+line_left IsLine leaves line (Err error) (Some before) None is left = left
+line_left IsLine leaves line (Err error) (Some before) (Some after) is (part, here, added) = (part, inr (line, is, here), added)
+
+-- and nothing where nothing is written
+pub none_left : {X : Type 0} (P : List ℕ → Type 0) (r : Result X Error) (written : Option (List ℕ)) → OnErr r (IfKnown written written (Adds (λ part. (part ≡ []) ⊎ P part)))
+none_left P (Ok done) written = tt
+none_left P (Err error) None = tt
+none_left P (Err error) (Some before) = ([], inl refl, sym (append-nil before))
