@@ -68,7 +68,8 @@ def page_of_comment(source):
     about = re.split(r"[:.]", first)[0]
     marked = [re.sub(r"`(.*?)`", r"\\fB\1\\fR", " ".join(part.split()).replace("-", "\\-"))
               for part in [first] + paragraphs]
-    return about, [".SH SYNOPSIS", bold(re.search(r"`(.*?)`", first)[1]), ".SH DESCRIPTION", "\n.PP\n".join(marked)]
+    usage = re.search(r"`(.*?)`", first)[1] + "[:FOLDER] SCHEMA.."
+    return about, [".SH SYNOPSIS", bold(usage), ".SH DESCRIPTION", "\n.PP\n".join(marked)]
 
 
 root, crate, name = sys.argv[1:]
