@@ -5,23 +5,25 @@ use Rattle.capnp_frame.specs.declared.serialize.segment_table.Padding.{Padding}
 use Rattle.capnp_frame.specs.declared.error.Error.{Error}
 use Rattle.capnp_frame.specs.declared.error.ErrorKind.{ErrorKind}
 use Rattle.capnp_frame.specs.declared.error.ErrorKind.TheVariants.{DeviceFailed, OutOfMemory}
+use Rattle.capnp_frame.specs.Limits.{IsWithin}
 use Rattle.capnp_frame.specs.Source.{Fails}
 use Rattle.capnp_frame.specs.Texts.{Grammar, AreEncodings}
 use Rattle.capnp_frame.proofs.AskLemmas.{never_fails}
 use Rattle.capnp_frame.proofs.TextLemmas.{AreEncodings-push}
 use Rattle.capnp.specs.declared.streams.Format.{Format}
-use Rattle.capnp.specs.Streams.{grammar_of, StandsNext, RefusesNext, EndsBy, IsStream}
+use Rattle.capnp_frame.specs.Refusals.{TakesMemory}
+use Rattle.capnp.specs.Streams.{grammar_of, gives_of, StandsNext, RefusesNext, TakesForNext, EndsBy, IsStream}
 use Rattle.capnp.proofs.EndLemmas.{stream_once}
 use Rattle.capnp.proofs.RunLemmas.{format_parts}
-use Rattle.capnp.specs.Reading.{kind_of, LacksMemory}
+use Rattle.capnp.specs.Reading.{kind_of, LacksMemory, TakesForListed, EndsReading}
 
 -- a slice never fails, so its reader fails only for want of memory or with an error of its bytes
-pub slice_refused : (rule : Padding) (format : Format) (limit : Option ℕ) (kind : ErrorKind) (old new : List ℕ) (T : Type 0) → (kind ≡ DeviceFailed → Fails 0 0)
-    → (kind ≡ DeviceFailed) ⊎ ((kind ≡ OutOfMemory) × T) ⊎ RefusesNext rule format limit kind old new
-    → (kind ≡ OutOfMemory) ⊎ EndsBy rule format limit (Some kind) old
-slice_refused rule format limit kind old new T failed (inl device) = absurd (never_fails kind failed device)
-slice_refused rule format limit kind old new T failed (inr (inl memory)) = inl memory.0
-slice_refused rule format limit kind old new T failed (inr (inr line)) = inr (new, line)
+pub slice_refuses : (rule : Padding) (format : Format) (limit : Option ℕ) (kind : ErrorKind) (old new : List ℕ) → (kind ≡ DeviceFailed → Fails 0 0)
+    → (kind ≡ DeviceFailed) ⊎ ((kind ≡ OutOfMemory) × TakesMemory rule (gives_of format) limit old new) ⊎ RefusesNext rule format limit kind old new
+    → ((kind ≡ OutOfMemory) × TakesForNext rule format limit old) ⊎ EndsBy rule format limit (Some kind) old
+slice_refuses rule format limit kind old new failed (inl device) = absurd (never_fails kind failed device)
+slice_refuses rule format limit kind old new failed (inr (inl memory)) = inl (memory.0, (new, memory.1))
+slice_refuses rule format limit kind old new failed (inr (inr line)) = inr (new, line)
 
 -- memory is lacking only where there are bytes, since at the end of a stream the device alone fails
 pub memory_at_bytes : (raw : List ℕ) (kind : ErrorKind) → (Some raw ≡ Some [] → kind ≡ DeviceFailed) → kind ≡ OutOfMemory → 0 < length raw
@@ -32,6 +34,16 @@ memory_at_bytes (byte ∷ raw) kind end memory = omega arith
 pub stands_at_bytes : (rule : Padding) (format : Format) (limit : Option ℕ) (m : List (List ℕ)) (raw rest : List ℕ) → StandsNext rule format limit m raw rest → 0 < length raw
 stands_at_bytes rule format limit m [] rest stands = absurd ((format_parts rule format limit).ends_apart None m [] rest refl stands)
 stands_at_bytes rule format limit m (byte ∷ raw) rest stands = omega arith
+
+-- and is read from more bytes than what follows it
+moves_on_by : (rule : Padding) (format : Format) (limit : Option ℕ) (m : List (List ℕ)) (text raw rest : List ℕ) → grammar_of rule format text m → IsWithin m limit
+    → raw ≡ text ++ rest → length rest < length raw
+moves_on_by rule format limit m [] raw rest is_text within spelled = absurd ((format_parts rule format limit).ends_apart None m [] [] refl
+    (record { text = []; is_text = is_text; within = within; spelled = refl }))
+moves_on_by rule format limit m (byte ∷ text) raw rest is_text within spelled = omega (arith, ap length spelled, length-append (byte ∷ text) rest)
+
+pub moves_on : (rule : Padding) (format : Format) (limit : Option ℕ) (m : List (List ℕ)) (raw rest : List ℕ) → StandsNext rule format limit m raw rest → length rest < length raw
+moves_on rule format limit m raw rest stands = moves_on_by rule format limit m stands.text raw rest stands.is_text stands.within stands.spelled
 
 -- the kind of an error for which memory is lacking
 pub lacks_kind : (error : Error) → LacksMemory (Some error) → error.kind ≡ OutOfMemory
@@ -78,20 +90,27 @@ pub next_texts : (rule : Padding) (format : Format) (limit : Option ℕ) (ms ns 
 next_texts rule format limit ms ns raw rest left texts (message, stands, more) =
     subst (λ l. AreEncodings (grammar_of rule format) limit l raw left) (sym more) (AreEncodings-push (grammar_of rule format) limit ms message raw rest left texts stands)
 
-pub refused_ends : (error : Error) (Q : Type 0) → (error.kind ≡ OutOfMemory) ⊎ Q → LacksMemory (Some error) ⊎ Q
-refused_ends error Q (inl memory) = inl (ap Some memory)
-refused_ends error Q (inr ends) = inr ends
+pub refused_ends : (error : Error) (P T Q : Type 0) → ((error.kind ≡ OutOfMemory) × T) ⊎ Q → (LacksMemory (Some error) × (P → T)) ⊎ Q
+refused_ends error P T Q (inl memory) = inl (ap Some memory.0, λ few. memory.1)
+refused_ends error P T Q (inr ends) = inr ends
+
+-- wherever memory is lacking
+pub ends_or_lacks : (rule : Padding) (format : Format) (limit : Option ℕ) (refusal : Option Error) (raw rest : List ℕ) → EndsReading rule format limit refusal raw rest
+    → LacksMemory refusal ⊎ EndsBy rule format limit (kind_of refusal) rest
+ends_or_lacks rule format limit refusal raw rest (inl lacks) = inl lacks.0
+ends_or_lacks rule format limit refusal raw rest (inr ends) = inr ends
 
 -- What is returned where the reading stops.
 pub stopped : (rule : Padding) (format : Format) (limit : Option ℕ) (ms ns : List (List (List ℕ))) (refusal : Option Error) (raw rest : List ℕ) (end : ℕ)
-    → ns ≡ ms → AreEncodings (grammar_of rule format) limit ms raw rest → end ≡ length raw - length rest → LacksMemory refusal ⊎ EndsBy rule format limit (kind_of refusal) rest
-    → (end ≤ length raw) × AreEncodings (grammar_of rule format) limit ns raw (drop end raw) × (LacksMemory refusal ⊎ EndsBy rule format limit (kind_of refusal) (drop end raw))
+    → ns ≡ ms → AreEncodings (grammar_of rule format) limit ms raw rest → end ≡ length raw - length rest → EndsReading rule format limit refusal raw rest
+    → (end ≤ length raw) × AreEncodings (grammar_of rule format) limit ns raw (drop end raw) × EndsReading rule format limit refusal raw (drop end raw)
     × ((messages : List (List (List ℕ))) (ending : Option ErrorKind) → IsStream rule format limit messages ending raw → LacksMemory refusal ⊎ (ns ≡ messages) × (kind_of refusal ≡ ending))
 stopped rule format limit ms ns refusal raw rest end same texts at ends =
     let left : drop end raw ≡ rest = texts_end (grammar_of rule format) limit ms raw rest end texts at in
     let declared = subst (λ l. AreEncodings (grammar_of rule format) limit l raw rest) (sym same) texts in (
       omega (arith, at),
       subst (λ l. AreEncodings (grammar_of rule format) limit ns raw l) (sym left) declared,
-      subst (λ l. LacksMemory refusal ⊎ EndsBy rule format limit (kind_of refusal) l) (sym left) ends,
-      λ messages ending stream. stream_is_one rule format limit ns messages refusal raw rest declared ends ending stream,
+      subst (λ l. EndsReading rule format limit refusal raw l) (sym left) ends,
+      λ messages ending stream.
+          stream_is_one rule format limit ns messages refusal raw rest declared (ends_or_lacks rule format limit refusal raw rest ends) ending stream,
     )

@@ -1,12 +1,12 @@
 -- What is read of a stream in memory, and which errors say that it is cut (src/streams/reading.rt).
-use Rattle.std.specs.Prelude.{◌≡◌, ◌⊎◌, ◌<◌, ◌≤◌, ◌↔◌, ℕ, List, length, drop, Option, Some, None, Bool, IsTrue, IsSomeAnd}
+use Rattle.std.specs.Prelude.{◌≡◌, ◌⊎◌, ◌<◌, ◌≤◌, ◌-◌, ◌^◌, ◌↔◌, ℕ, List, length, drop, Option, Some, None, Bool, IsTrue, IsSomeAnd}
 use Rattle.capnp_frame.specs.declared.error.Error.{Error}
 use Rattle.capnp_frame.specs.declared.error.ErrorKind.{ErrorKind}
 use Rattle.capnp_frame.specs.declared.error.ErrorKind.TheVariants.{FailedToFillTheWholeBuffer, OutOfMemory, PrematureEndOfPackedInput}
 use Rattle.capnp_frame.specs.declared.serialize.segment_table.Padding.{Padding}
 use Rattle.capnp_frame.specs.Texts.{AreEncodings}
 use Rattle.capnp.specs.declared.streams.Format.{Format}
-use Rattle.capnp.specs.Streams.{grammar_of, EndsBy, IsStream}
+use Rattle.capnp.specs.Streams.{grammar_of, StandsNext, TakesForNext, EndsBy, IsStream}
 
 -- the kind of an error, if there is one
 abbrev pub kind_of : Option Error → Option ErrorKind
@@ -26,6 +26,17 @@ IsCut refusal = IsSomeAnd refusal (λ error. IsCutKind error.kind)
 abbrev pub TellsCut : Option Error → Bool → Type 0
 TellsCut refusal declared = IsTrue declared ↔ IsCut refusal
 
+-- memory is taken for the next message of these bytes: to read it, or, once it is read, for its place in a list
+abbrev pub TakesForListed : Padding → Format → Option ℕ → List ℕ → Type 0
+TakesForListed rule format limit rest = TakesForNext rule format limit rest
+    ⊎ ((message : List (List ℕ)) × (left : List ℕ) × StandsNext rule format limit message rest left)
+
+-- Why no further message is read of a stream, of which `rest` is left: memory is lacking, and is taken there (a list of 2^64 - 1
+-- messages takes no further one; a stream of fewer bytes has fewer), or the stream ends, or its reader fails.
+abbrev pub EndsReading : Padding → Format → Option ℕ → Option Error → List ℕ → List ℕ → Type 0
+EndsReading rule format limit refusal stream rest =
+    (LacksMemory refusal × (length stream < 2 ^ 64 - 1 → TakesForListed rule format limit rest)) ⊎ EndsBy rule format limit (kind_of refusal) rest
+
 -- What is read of a stream in memory: messages, where the last of them ends, and why no further one
 -- was read, if the stream doesn't end there.
 pub record ReadsEach (rule : Padding) (format : Format) (limit : Option ℕ) (stream : List ℕ) (messages : List (List (List ℕ))) (end : ℕ)
@@ -33,8 +44,8 @@ pub record ReadsEach (rule : Padding) (format : Format) (limit : Option ℕ) (st
   -- the messages are the first `end` bytes
   pub within : end ≤ length stream
   pub texts : AreEncodings (grammar_of rule format) limit messages stream (drop end stream)
-  -- and there the stream ends, or its reader fails with this kind
-  pub ends : LacksMemory refusal ⊎ EndsBy rule format limit (kind_of refusal) (drop end stream)
+  -- and there the stream ends, or its reader fails with this kind, or memory is taken and lacking
+  pub ends : EndsReading rule format limit refusal stream (drop end stream)
   -- memory is taken only where there are bytes
   pub some : LacksMemory refusal → 0 < length stream
   -- so it is the only list of messages that the stream is, unless memory is lacking

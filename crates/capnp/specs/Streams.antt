@@ -61,6 +61,10 @@ StandsNext rule format limit message raw rest = BeginsWith (grammar_of rule form
 abbrev pub RefusesNext : Padding → Format → Option ℕ → ErrorKind → List ℕ → List ℕ → Type 0
 RefusesNext rule format limit kind rest left = RefusesStream rule (gives_of format) (refuses_of format) limit None kind rest left
 
+-- the reader of this format takes memory for the next message of these bytes: for the lengths of its segments, or for them
+abbrev pub TakesForNext : Padding → Format → Option ℕ → List ℕ → Type 0
+TakesForNext rule format limit rest = (left : List ℕ) × TakesMemory rule (gives_of format) limit rest left
+
 -- why no further message is there: nothing is left, or the reader fails with this kind
 abbrev pub EndsBy : Padding → Format → Option ℕ → Option ErrorKind → List ℕ → Type 0
 EndsBy rule format limit ending rest = EndsEncodings rule (gives_of format) (refuses_of format) limit ending rest

@@ -1,5 +1,5 @@
 -- What is read of a device whose bytes are known.
-use Rattle.std.proofs.Common.{◌≡◌, ◌⊎◌, inl, inr, ℕ, List, [], Option, Some, None, IfSome, Result, Ok, Err, IfOk, IfErr, refl, ap, ◌∙◌, subst}
+use Rattle.std.proofs.Common.{◌≡◌, ◌⊎◌, inl, inr, ℕ, ◌<◌, List, [], ◌∷◌, length, Option, Some, None, IfSome, Result, Ok, Err, IfOk, IfErr, refl, ap, ◌∙◌, subst, arith}
 use Rattle.std.specs.Prelude.{IsSomeAnd}
 use Rattle.capnp_frame.specs.declared.error.Error.{Error}
 use Rattle.capnp_frame.specs.declared.error.ErrorKind.{ErrorKind}
@@ -11,7 +11,8 @@ use Rattle.capnp_frame.specs.Streams.{next_in, ReadsStream}
 use Rattle.capnp_frame.specs.Texts.{AreEncodings}
 use Rattle.capnp.specs.declared.streams.Format.{Format}
 use Rattle.capnp.specs.Headline.{IsFault, ReturnsEncodings}
-use Rattle.capnp.specs.Streams.{grammar_of, rules_of, StandsNext, RefusesNext, IsStream}
+use Rattle.capnp_frame.specs.Refusals.{TakesMemory}
+use Rattle.capnp.specs.Streams.{grammar_of, gives_of, rules_of, StandsNext, RefusesNext, IsStream}
 use Rattle.capnp.proofs.EndLemmas.{stream_once}
 use Rattle.capnp.proofs.RunLemmas.{format_parts}
 use Rattle.capnp_uses.specs.Devices.{ReadsFirst, ReadsAll}
@@ -32,12 +33,13 @@ rest_of P (Some rest) known = (rest, known)
 rest_after : (P : List ℕ → List ℕ → Type 0) (old new : Option (List ℕ)) (bytes : List ℕ) → old ≡ Some bytes → IfKnown old new P → (rest : List ℕ) × P bytes rest
 rest_after P old new bytes is known = rest_of (P bytes) new (subst (λ (o : Option (List ℕ)). IfKnown o new P) is known)
 
--- a reader's reasons to fail, with the faults first
-faults_first : {T : Type 0} (kind : ErrorKind) (old new : Option (List ℕ)) (bytes : List ℕ) (P : List ℕ → List ℕ → Type 0) → old ≡ Some bytes
-    → (kind ≡ DeviceFailed) ⊎ ((kind ≡ OutOfMemory) × T) ⊎ IfKnown old new P → IsFault kind ⊎ ((left : List ℕ) × P bytes left)
-faults_first kind old new bytes P is (inl device) = inl (inl device)
-faults_first kind old new bytes P is (inr (inl (memory, taken))) = inl (inr memory)
-faults_first kind old new bytes P is (inr (inr line)) = inr (rest_after P old new bytes is line)
+-- a reader's reasons to fail
+reasons : (kind : ErrorKind) (old new : Option (List ℕ)) (bytes : List ℕ) (T P : List ℕ → List ℕ → Type 0) → old ≡ Some bytes
+    → (kind ≡ DeviceFailed) ⊎ ((kind ≡ OutOfMemory) × IfKnown old new T) ⊎ IfKnown old new P
+    → (kind ≡ DeviceFailed) ⊎ ((kind ≡ OutOfMemory) × ((left : List ℕ) × T bytes left)) ⊎ ((left : List ℕ) × P bytes left)
+reasons kind old new bytes T P is (inl device) = inl device
+reasons kind old new bytes T P is (inr (inl (memory, taken))) = inr (inl (memory, rest_after T old new bytes is taken))
+reasons kind old new bytes T P is (inr (inr line)) = inr (inr (rest_after P old new bytes is line))
 
 fault_or : {T : Type 0} (kind : ErrorKind) → (kind ≡ DeviceFailed) ⊎ (kind ≡ OutOfMemory) ⊎ T → IsFault kind ⊎ T
 fault_or kind (inl device) = inl (inl device)
@@ -74,7 +76,8 @@ first_of_bytes source old new format limit (Err error) bytes is texts reads = re
   none = tt;
   accepted = at_known _ (source.unread old) bytes is texts.accepted;
   end = λ empty. let unread : source.unread old ≡ Some [] = cc in reads.end unread;
-  refused = faults_first error.kind (source.unread old) (source.unread new) bytes (RefusesNext Zero format limit error.kind) is reads.refused;
+  refused = reasons error.kind (source.unread old) (source.unread new) bytes (TakesMemory Zero (gives_of format) limit)
+      (RefusesNext Zero format limit error.kind) is reads.refused;
   exact = λ kind (left, line). fault_or error.kind (at_known _ (source.unread old) bytes is reads.exact kind left line);
 }
 
@@ -104,11 +107,18 @@ pub failed_next : {X : Type 0} (segments : X → List (List ℕ)) (r : Result (O
 failed_next segments (Ok found) before after failed = tt
 failed_next segments (Err error) before after failed = failed
 
+-- No bytes are encodings of no messages alone.
+nothing_listed : (format : Format) (limit : Option ℕ) (ms : List (List (List ℕ))) (bytes rest : List ℕ) → AreEncodings (grammar_of Zero format) limit ms bytes rest
+    → bytes ≡ [] → (ms ≡ []) × (rest ≡ [])
+nothing_listed format limit [] bytes rest texts none = (refl, texts ∙ none)
+nothing_listed format limit (m ∷ ms) bytes rest (between, begins, texts) none = absurd (never format limit m bytes between none begins)
+
 -- All messages are read, or the reader fails after some, or there is a fault.
 all_read : {X : Type 0} (format : Format) (limit : Option ℕ) (messages : X → List (List (List ℕ))) (read : X) (bytes : List ℕ)
     → IsStream Zero format limit (messages read) None bytes → ReadsAll format limit messages (Ok read) bytes
 all_read format limit messages read bytes stream = record {
   found = stream;
+  end = λ none. (nothing_listed format limit (messages read) bytes stream.rest stream.texts none).0;
   refused = tt;
   accepted = λ listed also. (stream_once Zero format limit (messages read) listed None None bytes stream also).0;
   exact = λ before kind also.
@@ -117,16 +127,19 @@ all_read format limit messages read bytes stream = record {
 }
 
 all_fail : {X : Type 0} (format : Format) (limit : Option ℕ) (messages : X → List (List (List ℕ))) (error : Error) (bytes : List ℕ)
+    → (bytes ≡ [] → error.kind ≡ DeviceFailed)
     → IsFault error.kind ⊎ ((before : List (List (List ℕ))) × IsStream Zero format limit before (Some error.kind) bytes)
     → ReadsAll format limit messages (Err error) bytes
-all_fail format limit messages error bytes (inl fault) = record {
+all_fail format limit messages error bytes end (inl fault) = record {
   found = tt;
+  end = end;
   refused = inl fault;
   accepted = λ listed also. fault;
   exact = λ before kind also. inl fault;
 }
-all_fail format limit messages error bytes (inr (before, stream)) = record {
+all_fail format limit messages error bytes end (inr (before, stream)) = record {
   found = tt;
+  end = end;
   refused = inr (before, stream);
   accepted = λ listed also.
       let other : Some error.kind ≡ None = (stream_once Zero format limit before listed (Some error.kind) None bytes stream also).1 in
@@ -153,17 +166,37 @@ pub all_of_bytes : {X : Type 0} (format : Format) (limit : Option ℕ) (messages
 all_of_bytes format limit messages r known unread same reads = subst (λ (o : Option (List ℕ)). IfSome o (ReadsAll format limit messages r)) same reads
 
 pub fails_after : {X : Type 0} (format : Format) (limit : Option ℕ) (messages : X → List (List (List ℕ))) (error : Error) (before : List (List (List ℕ)))
-    (known unread new : Option (List ℕ)) (T : Type 0) → IfKnown known unread (AreEncodings (grammar_of Zero format) limit before)
-    → (error.kind ≡ DeviceFailed) ⊎ ((error.kind ≡ OutOfMemory) × T) ⊎ IfKnown unread new (RefusesNext Zero format limit error.kind)
+    (known unread new : Option (List ℕ)) (T : List ℕ → List ℕ → Type 0) → IfKnown known unread (AreEncodings (grammar_of Zero format) limit before)
+    → (unread ≡ Some [] → error.kind ≡ DeviceFailed)
+    → (error.kind ≡ DeviceFailed) ⊎ ((error.kind ≡ OutOfMemory) × IfKnown unread new T) ⊎ IfKnown unread new (RefusesNext Zero format limit error.kind)
     → IfSome known (ReadsAll format limit messages (Err error))
-fails_after format limit messages error before None unread new T texts refused = tt
-fails_after format limit messages error before (Some bytes) None new T texts refused = absurd texts
-fails_after format limit messages error before (Some bytes) (Some rest) new T texts refused =
-    all_fail format limit messages error bytes (elim (faults_first error.kind (Some rest) new rest (RefusesNext Zero format limit error.kind) refl refused) [
-      | inl fault ↦ inl fault
-      | inr ends ↦ inr (before, record { rest = rest; texts = texts; ends = ends })
+fails_after format limit messages error before None unread new T texts end refused = tt
+fails_after format limit messages error before (Some bytes) None new T texts end refused = absurd texts
+fails_after format limit messages error before (Some bytes) (Some rest) new T texts end refused =
+    all_fail format limit messages error bytes (λ none. end (ap Some (nothing_listed format limit before bytes rest texts none).1))
+    (elim (reasons error.kind (Some rest) new rest T (RefusesNext Zero format limit error.kind) refl refused) [
+      | inl device ↦ inl (inl device)
+      | inr (inl memory) ↦ inl (inr memory.0)
+      | inr (inr ends) ↦ inr (before, record { rest = rest; texts = texts; ends = ends })
     ])
 
-pub fails_by_fault : {X : Type 0} (format : Format) (limit : Option ℕ) (messages : X → List (List (List ℕ))) (error : Error) (known : Option (List ℕ)) → IsFault error.kind
-    → IfSome known (ReadsAll format limit messages (Err error))
-fails_by_fault format limit messages error known fault = for_known known (ReadsAll format limit messages (Err error)) (λ bytes is. all_fail format limit messages error bytes (inl fault))
+-- A message that was read is not listed for want of memory.
+pub fails_to_list : {X : Type 0} (format : Format) (limit : Option ℕ) (messages : X → List (List (List ℕ))) (error : Error) (before : List (List (List ℕ))) (message : List (List ℕ))
+    (known unread new : Option (List ℕ)) → IfKnown known unread (AreEncodings (grammar_of Zero format) limit before)
+    → IfKnown unread new (StandsNext Zero format limit message) → IsFault error.kind → IfSome known (ReadsAll format limit messages (Err error))
+fails_to_list format limit messages error before message None unread new texts stands fault = tt
+fails_to_list format limit messages error before message (Some bytes) None new texts stands fault = absurd texts
+fails_to_list format limit messages error before message (Some bytes) (Some rest) None texts stands fault = absurd stands
+fails_to_list format limit messages error before message (Some bytes) (Some rest) (Some left) texts stands fault =
+    all_fail format limit messages error bytes
+    (λ none. absurd (never format limit message rest left (nothing_listed format limit before bytes rest texts none).1 stands)) (inl fault)
+
+-- Nor is the message past a full list.
+pub fails_past_full : {X : Type 0} (format : Format) (limit : Option ℕ) (messages : X → List (List (List ℕ))) (error : Error) (before : List (List (List ℕ)))
+    (known unread : Option (List ℕ)) → IfKnown known unread (AreEncodings (grammar_of Zero format) limit before) → 0 < length before
+    → IsFault error.kind → IfSome known (ReadsAll format limit messages (Err error))
+fails_past_full format limit messages error before None unread texts many fault = tt
+fails_past_full format limit messages error before (Some bytes) None texts many fault = absurd texts
+fails_past_full format limit messages error before (Some bytes) (Some rest) texts many fault =
+    all_fail format limit messages error bytes
+    (λ none. absurd (omega (arith, many, ap length (nothing_listed format limit before bytes rest texts none).0))) (inl fault)

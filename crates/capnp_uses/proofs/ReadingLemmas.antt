@@ -17,11 +17,13 @@ use Rattle.capnp_frame.specs.Source.{Fails, Splits, RunsShort}
 use Rattle.capnp.specs.declared.streams.Format.{Format}
 use Rattle.capnp_frame.specs.FlatReaders.{RefusesBy, no_alloc_rules}
 use Rattle.capnp_frame.specs.Streams.{next_in}
-use Rattle.capnp.specs.Streams.{grammar_of, BeginsFramed, StandsNext, IsPlainSource}
+use Rattle.capnp_frame.specs.Refusals.{TakesMemory}
+use Rattle.capnp.specs.Streams.{grammar_of, gives_of, BeginsFramed, StandsNext, RefusesNext, TakesForNext, EndsBy, IsPlainSource}
 use Rattle.capnp.specs.Headline.{ReturnsEncodings}
 use Rattle.capnp.proofs.RunLemmas.{format_lawful, format_requested, format_parts}
 use Rattle.capnp.proofs.ReaderLemmas.{nothing_begins}
 use Rattle.capnp.proofs.AppendedLemmas.{memory_only}
+use Rattle.capnp.proofs.StreamLemmas.{slice_refuses}
 use Rattle.capnp_frame.proofs.AskLemmas.{never_fails}
 use Rattle.capnp_uses.specs.Reading.{ReturnsCanonical}
 
@@ -49,6 +51,15 @@ pub succeeds_at_none : {X : Type 0} (segments : X → List (List ℕ)) (bytes : 
     → bytes ≡ [] → IsOk r
 succeeds_at_none segments bytes (Ok found) end failed empty = refl
 succeeds_at_none segments bytes (Err e) end failed empty = absurd (never_fails e.kind failed (end (ap Some empty)))
+
+-- and else lacks memory where it takes some, or fails by a line
+pub refuses_next : {X : Type 0} (segments : X → List (List ℕ)) (format : Format) (limit : Option ℕ) (bytes left : List ℕ) (r : Result (Option X) Error)
+    → IfErr (next_in segments r) (λ e. e.kind ≡ DeviceFailed → Fails 0 0)
+    → IfErr (next_in segments r) (λ e. (e.kind ≡ DeviceFailed) ⊎ ((e.kind ≡ OutOfMemory) × TakesMemory Zero (gives_of format) limit bytes left)
+    ⊎ RefusesNext Zero format limit e.kind bytes left)
+    → IfErr r (λ e. ((e.kind ≡ OutOfMemory) × TakesForNext Zero format limit bytes) ⊎ EndsBy Zero format limit (Some e.kind) bytes)
+refuses_next segments format limit bytes left (Ok found) failed refused = tt
+refuses_next segments format limit bytes left (Err e) failed refused = slice_refuses Zero format limit e.kind bytes left failed refused
 
 -- and one that asks for none
 pub exactly_provided : {X : Type 0} (segments : X → List (List ℕ)) (format : Format) (limit : Option ℕ) (bytes left : List ℕ) (r : Result X Error)

@@ -13,11 +13,11 @@ use Rattle.capnp_frame.proofs.AskLemmas.{never_fails}
 use Rattle.capnp.specs.declared.streams.Format.{Format}
 use Rattle.capnp.specs.declared.streams.message_stream.MessageStream.{MessageStream}
 use Rattle.capnp.specs.MessageStreams.{source_of, messages_left, HasSettings, IsNewStream, read_in, GivesMessage}
-use Rattle.capnp.specs.Streams.{rules_of, StandsNext, EndsBy}
+use Rattle.capnp.specs.Streams.{rules_of, StandsNext}
 use Rattle.capnp.proofs.FormatLemmas.{stands_next}
 use Rattle.capnp.proofs.ReaderLemmas.{nothing_begins}
 use Rattle.capnp.proofs.RunLemmas.{format_lawful, format_requested, format_parts}
-use Rattle.capnp_uses.specs.Streaming.{BeginWith, ReadsTwo}
+use Rattle.capnp_uses.specs.Streaming.{BeginWith, FailsNext, ReadsTwo}
 
 -- while it has not ended, an iterator reads by its settings
 reads_by : {S X : Type 0} (source : Ghosts S) (segments : X → List (List ℕ)) (options_of : X → ReaderOptions) (old new : MessageStream S) (given : Option (Result X Error))
@@ -91,7 +91,7 @@ none_at_all format stream segments none = record {
 
 pub fails_at_once : {X : Type 0} (format : Format) (stream : List ℕ) (segments : X → List (List ℕ)) (error : Error)
     → (error.kind ≡ DeviceFailed → Fails 0 0) → (Some stream ≡ Some [] → error.kind ≡ DeviceFailed)
-    → (error.kind ≡ OutOfMemory) ⊎ EndsBy Zero format default_limit (Some error.kind) stream
+    → FailsNext format error.kind stream
     → ((message : List (List ℕ)) (rest : List ℕ) → StandsNext Zero format default_limit message stream rest → error.kind ≡ OutOfMemory)
     → ReadsTwo format stream segments (Err error)
 fails_at_once format stream segments error failed end stops memory = record {
@@ -99,7 +99,7 @@ fails_at_once format stream segments error failed end stops memory = record {
   none = tt;
   accepted = λ first second rest (between, begins, others). memory first between begins;
   empty = λ none. absurd (never_fails error.kind failed (end (ap Some none)));
-  refused = elim stops [ inl lacks ↦ inl lacks | inr ends ↦ inr (inl ends) ];
+  refused = inl stops;
 }
 
 pub none_after : {X : Type 0} (format : Format) (stream mid : List ℕ) (segments : X → List (List ℕ)) (one : X) → StandsNext Zero format default_limit (segments one) stream mid → mid ≡ []
@@ -115,7 +115,7 @@ none_after format stream mid segments one stands none = record {
 }
 
 pub fails_after : {X : Type 0} (format : Format) (stream mid : List ℕ) (segments : X → List (List ℕ)) (one : X) (error : Error) → StandsNext Zero format default_limit (segments one) stream mid
-    → (error.kind ≡ OutOfMemory) ⊎ EndsBy Zero format default_limit (Some error.kind) mid
+    → FailsNext format error.kind mid
     → ((message : List (List ℕ)) (rest : List ℕ) → StandsNext Zero format default_limit message mid rest → error.kind ≡ OutOfMemory)
     → ReadsTwo format stream segments (Err error)
 fails_after format stream mid segments one error stands stops memory = record {
@@ -125,7 +125,7 @@ fails_after format stream mid segments one error stands stops memory = record {
       let next = first_is format (segments one) first second stream mid rest stands begin in
       memory second next.1.0 next.1.1;
   empty = λ none. absurd (never format default_limit (segments one) stream mid none stands);
-  refused = elim stops [ inl lacks ↦ inl lacks | inr ends ↦ inr (inr (segments one, mid, stands, ends)) ];
+  refused = inr (segments one, mid, stands, stops);
 }
 
 pub both : {X : Type 0} (format : Format) (stream mid left : List ℕ) (segments : X → List (List ℕ)) (one other : X) → StandsNext Zero format default_limit (segments one) stream mid

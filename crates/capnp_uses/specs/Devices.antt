@@ -3,11 +3,11 @@ use Rattle.std.specs.Prelude.{◌≡◌, ◌⊎◌, ℕ, List, [], Option, Some,
 use Rattle.std.specs.Result.{IsErrAnd}
 use Rattle.capnp_frame.specs.declared.error.Error.{Error}
 use Rattle.capnp_frame.specs.declared.error.ErrorKind.{ErrorKind}
-use Rattle.capnp_frame.specs.declared.error.ErrorKind.TheVariants.{DeviceFailed}
+use Rattle.capnp_frame.specs.declared.error.ErrorKind.TheVariants.{DeviceFailed, OutOfMemory}
 use Rattle.capnp_frame.specs.declared.serialize.segment_table.Padding.TheVariants.{Zero}
 use Rattle.capnp.specs.declared.streams.Format.{Format}
 use Rattle.capnp.specs.Headline.{IsFault}
-use Rattle.capnp.specs.Streams.{StandsNext, EndsBy, IsStream}
+use Rattle.capnp.specs.Streams.{StandsNext, TakesForNext, EndsBy, IsStream}
 
 -- What is returned of the first message of a device that gives these bytes.
 pub record ReadsFirst (format : Format) (limit : Option ℕ) (result : Result (Option (List (List ℕ))) Error) (bytes : List ℕ) : Type 0 where
@@ -20,8 +20,9 @@ pub record ReadsFirst (format : Format) (limit : Option ℕ) (result : Result (O
       (λ found. found ≡ Some message) (λ error. IsFault error.kind)
   -- and where there are none None, except for the device's failure
   pub end : bytes ≡ [] → MatchResult result (λ found. found ≡ None) (λ error. error.kind ≡ DeviceFailed)
-  -- it fails for a fault, or as the reader of the message does
-  pub refused : IfErr result (λ error. IsFault error.kind ⊎ EndsBy Zero format limit (Some error.kind) bytes)
+  -- it fails with the device's failure, for want of memory where memory is taken, or as the reader of the message does
+  pub refused : IfErr result (λ error. (error.kind ≡ DeviceFailed) ⊎ ((error.kind ≡ OutOfMemory) × TakesForNext Zero format limit bytes)
+      ⊎ EndsBy Zero format limit (Some error.kind) bytes)
   -- and where that fails with this kind, with no other one, except for a fault
   pub exact : (kind : ErrorKind) → EndsBy Zero format limit (Some kind) bytes → IsErrAnd result (λ error. IsFault error.kind ⊎ (error.kind ≡ kind))
 
@@ -30,6 +31,8 @@ pub record ReadsAll {X : Type 0} (format : Format) (limit : Option ℕ) (message
     : Type 0 where
   -- the bytes are encodings of the messages that are returned, one right after the other, and no others
   pub found : IfOk result (λ read. IsStream Zero format limit (messages read) None bytes)
+  -- of no bytes none, except for the device's failure
+  pub end : bytes ≡ [] → MatchResult result (λ read. messages read ≡ []) (λ error. error.kind ≡ DeviceFailed)
   -- it fails for a fault, or as the reader does after the messages before
   pub refused : IfErr result (λ error. IsFault error.kind ⊎ ((before : List (List (List ℕ))) × IsStream Zero format limit before (Some error.kind) bytes))
   -- where the bytes are encodings of messages, just these are returned, except for a fault

@@ -14,7 +14,7 @@ use Rattle.capnp.specs.declared.streams.Format.{Format}
 use Rattle.capnp.specs.Headline.{IsFault}
 use Rattle.capnp.specs.Reading.{LacksMemory}
 use Rattle.capnp.specs.RecordLog.{IsLog}
-use Rattle.capnp.specs.Streams.{grammar_of, gives_of, refuses_of, StandsNext, RefusesNext, EndsBy}
+use Rattle.capnp.specs.Streams.{grammar_of, gives_of, refuses_of, StandsNext, RefusesNext, TakesForNext, EndsBy}
 
 -- What a call returns that reads past the next message of a stream, of zero padding, and returns
 -- whether there was one. `source` is what is seen of the source (the members of the trait Read),
@@ -50,6 +50,10 @@ pub record SkipsMessage {S : Type 0} (source : Ghosts S) (old new : S) (format :
 abbrev pub BeginWith : Format → List (List ℕ) → List (List ℕ) → List ℕ → List ℕ → Type 0
 BeginWith format first second stream rest = AreEncodings (grammar_of Zero format) default_limit (first ∷ second ∷ []) stream rest
 
+-- no message of these bytes is returned: memory is taken and lacking, or the reader fails
+abbrev pub FailsNext : Format → ErrorKind → List ℕ → Type 0
+FailsNext format kind rest = ((kind ≡ OutOfMemory) × TakesForNext Zero format default_limit rest) ⊎ EndsBy Zero format default_limit (Some kind) rest
+
 -- What is returned that reads the first two messages of a stream in memory, of zero padding and within the default limit of
 -- words. `segments` is what is seen of a message's reader.
 pub record ReadsTwo {X : Type 0} (format : Format) (stream : List ℕ) (segments : X → List (List ℕ)) (result : Result (Option (X × X)) Error)
@@ -63,10 +67,9 @@ pub record ReadsTwo {X : Type 0} (format : Format) (stream : List ℕ) (segments
       (λ found. IsSomeAnd found (λ two. (segments two.0 ≡ first) × (segments two.1 ≡ second))) (λ error. error.kind ≡ OutOfMemory)
   -- an empty stream takes no memory
   pub empty : stream ≡ [] → IsOk result
-  -- it fails for want of memory, or as the reader of the first message does, or of the second one
-  pub refused : IfErr result (λ error. (error.kind ≡ OutOfMemory) ⊎ EndsBy Zero format default_limit (Some error.kind) stream
-      ⊎ ((message : List (List ℕ)) × (rest : List ℕ) × StandsNext Zero format default_limit message stream rest
-      × EndsBy Zero format default_limit (Some error.kind) rest))
+  -- it fails as the reader of the first message does, or of the second one
+  pub refused : IfErr result (λ error. FailsNext format error.kind stream
+      ⊎ ((message : List (List ℕ)) × (rest : List ℕ) × StandsNext Zero format default_limit message stream rest × FailsNext format error.kind rest))
 
 -- What is read of a log of two records, unless memory is lacking: both, and the last one ends where
 -- the log does to which they were appended.

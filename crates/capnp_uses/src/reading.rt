@@ -9,7 +9,7 @@ ghost use Rattle.capnp_message.specs.Roots.{ReadsRoot};
 ghost use Rattle.capnp_message.specs.Seen.{root_of};
 ghost use Rattle.capnp_frame.specs.FlatReaders.{RefusesBy, no_alloc_rules};
 ghost use Rattle.capnp.specs.declared.streams.Format.{Format};
-ghost use Rattle.capnp.specs.Streams.{BeginsFramed, EndsBy};
+ghost use Rattle.capnp.specs.Streams.{BeginsFramed, TakesForNext, EndsBy};
 ghost use Rattle.capnp_frame.specs.Limits.{default_limit};
 ghost use Rattle.capnp_uses.specs.Roots.{HasPlainRoot};
 
@@ -29,7 +29,8 @@ pub fn first_message(alloc: Global, bytes: &[u8]) -> Result<Option<Reader<OwnedS
         BeginsFramed Zero default_limit message bytes.now rest → MatchResult result
         (λ found. IsSomeAnd found (λ reader. reader.segments ≡ message))
         (λ error. error.kind ≡ ErrorKind.OutOfMemory) }
-    ensures refused { IfErr result (λ error. (error.kind ≡ ErrorKind.OutOfMemory)
+    ensures refused { IfErr result (λ error. ((error.kind ≡ ErrorKind.OutOfMemory)
+        × TakesForNext Zero Format.Framed default_limit bytes.now)
         ⊎ EndsBy Zero Format.Framed default_limit (Some error.kind) bytes.now) }
     ensures options { IfOk result (λ found. IfSome found (λ reader.
         reader.options ≡ DEFAULT_READER_OPTIONS)) }

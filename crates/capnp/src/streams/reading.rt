@@ -4,7 +4,7 @@ ghost use Rattle.std.specs.List.{AllByRecursion};
 ghost use Rattle.capnp_frame.specs.declared.error.ErrorKind.{ErrorKind};
 ghost use Rattle.capnp_frame.specs.Streams.{next_in, ReadsStream};
 ghost use Rattle.capnp.specs.Streams.{rules_of, StandsNext, EndsBy};
-ghost use Rattle.capnp.specs.Reading.{IsCutKind, TellsCut, ReadsEach};
+ghost use Rattle.capnp.specs.Reading.{IsCutKind, TellsCut, TakesForListed, ReadsEach};
 
 use crate::streams::{Format, read_next};
 use capnp_frame::io::BufRead;
@@ -140,7 +140,8 @@ fn add_next(
         ≡ map (λ reader. reader.segments) messages.old.items ++ message ∷ [])) }
     ensures ended { IfOk result (λ more. IsFalse more →
         (rest.old.now ≡ []) × (messages.new.items ≡ messages.old.items)) }
-    ensures refused { IfErr result (λ error. (error.kind ≡ ErrorKind.OutOfMemory)
+    ensures refused { IfErr result (λ error. ((error.kind ≡ ErrorKind.OutOfMemory)
+        × TakesForListed padding format options.traversal_limit_in_words rest.old.now)
         ⊎ EndsBy padding format options.traversal_limit_in_words (Some error.kind) rest.old.now) }
     ensures some { IfErr result (λ error. error.kind ≡ ErrorKind.OutOfMemory →
         0 < length rest.old.now) }

@@ -1,5 +1,6 @@
 -- What is read of a log is its records.
 use Rattle.capnp.proofs.LogLemmas.{log_is_read, cut_is_declared, cut_declared}
+use Rattle.capnp.proofs.StreamLemmas.{ends_or_lacks}
 use Rattle.capnp.proofs.record_log.read_log.Goals as goal
 
 pub returns-clause-read : goal.returns-clause-read
@@ -8,10 +9,11 @@ returns-clause-read c =
     let refusal = c.every_message.result.refusal in
     let end = c.every_message.result.end in
     let read = c.every_message.ensures.read in
+    let ends = ends_or_lacks _ _ limit refusal c.args.log.now _ read.ends in
     record {
       within = read.within;
-      back = log_is_read limit _ refusal c.args.log.now end read.within read.ends read.exact;
-      cut = cut_is_declared limit _ refusal c.args.log.now end read.within read.texts read.ends;
-      ends = read.ends;
-      declared = cut_declared limit _ refusal c.args.log.now end read.within read.texts read.ends;
+      back = log_is_read limit _ refusal c.args.log.now end read.within ends read.exact;
+      cut = cut_is_declared limit _ refusal c.args.log.now end read.within read.texts ends;
+      ends = ends;
+      declared = cut_declared limit _ refusal c.args.log.now end read.within read.texts ends;
     }

@@ -1,11 +1,12 @@
 -- Each turn reads one more message, and where the reading stops the bytes end, the reader fails, or memory is lacking.
-use Rattle.std.proofs.Common.{◌≡◌, ◌∙◌, inr, map, sym, arith}
+use Rattle.std.proofs.Common.{◌≡◌, ◌∙◌, inr, [], ◌∷◌, length, map, ap, sym, arith, length-append}
+use Rattle.std.proofs.lemmas.List.{length-map}
 use Rattle.std.proofs.lemmas.Result.{err_from_is_err_and}
 use Rattle.capnp_frame.specs.declared.error.ErrorKind.TheVariants.{DeviceFailed, OutOfMemory}
 use Rattle.capnp_frame.specs.declared.serialize.segment_table.Padding.TheVariants.{Zero}
 use Rattle.capnp_frame.proofs.SourceLemmas.{Fails-join}
 use Rattle.capnp.proofs.AppendedLemmas.{texts_next, AllByRecursion-push}
-use Rattle.capnp_uses.proofs.DeviceLemmas.{reads_all, fails_after, fails_by_fault}
+use Rattle.capnp_uses.proofs.DeviceLemmas.{reads_all, fails_after, fails_to_list, fails_past_full}
 use Rattle.capnp_uses.proofs.devices.all_of_source.Goals as goal
 
 pub loop-count-preserved : goal.loop-count-preserved
@@ -16,6 +17,7 @@ loop-count-preserved g c =
           c.push.new.self.items c.in-Some.message _ _ _ c.in_ok-push-in-Some.ensures.items c.loop-count.invariant.texts reads.texts.found;
       options = AllByRecursion-push (λ reader. reader.options ≡ c.args.options) c.loop-count.messages.items c.push.new.self.items c.in-Some.message
           c.in_ok-push-in-Some.ensures.items c.loop-count.invariant.options reads.options;
+      many = omega (arith, c.loop-count.invariant.many, ap length c.in_ok-push-in-Some.ensures.items, length-append c.loop-count.messages.items (c.in-Some.message ∷ []));
       counted = omega (arith, c.loop-count.invariant.counted, reads.reads.advances.counted);
     }
 
@@ -29,7 +31,8 @@ pub returns-in_err-message-clause-all : goal.returns-in_err-message-clause-all
 returns-in_err-message-clause-all g c =
     let p = err_from_is_err_and c.from_residual.result c.from_residual.ensures.1 in
     rw (p.1, p.2) (fails_after c.args.format c.args.options.traversal_limit_in_words _ c.in_err-message.field-0.0
-    (map (λ reader. reader.segments) c.loop-count.messages.items) _ _ _ _ c.loop-count.invariant.texts c.in_err-message.ensures.reads.refused)
+    (map (λ reader. reader.segments) c.loop-count.messages.items) _ _ _ _ c.loop-count.invariant.texts c.in_err-message.ensures.reads.end
+    c.in_err-message.ensures.reads.refused)
 
 pub returns-in_err-message-clause-failed : goal.returns-in_err-message-clause-failed
 returns-in_err-message-clause-failed g c =
@@ -39,7 +42,14 @@ returns-in_err-message-clause-failed g c =
 pub returns-in_err-push-in-Some-clause-all : goal.returns-in_err-push-in-Some-clause-all
 returns-in_err-push-in-Some-clause-all g c =
     let p = err_from_is_err_and c.from_residual-in_err-push-in-Some.result c.from_residual-in_err-push-in-Some.ensures.1 in
-    rw p.1 (fails_by_fault c.args.format c.args.options.traversal_limit_in_words _ p.0 _ (inr p.2))
+    let reads = rw c.in-Some.is at c.in_ok-message.ensures in
+    rw p.1 (fails_to_list c.args.format c.args.options.traversal_limit_in_words _ p.0 (map (λ reader. reader.segments) c.loop-count.messages.items)
+    c.in-Some.message.segments _ _ _ c.loop-count.invariant.texts reads.texts.found (inr p.2))
+
+pub returns-clause-all : goal.returns-clause-all
+returns-clause-all g c = fails_past_full c.args.format c.args.options.traversal_limit_in_words _ c.from_kind.result
+    (map (λ reader. reader.segments) c.loop-count.messages.items) _ _ c.loop-count.invariant.texts
+    (omega (arith, length-map (λ reader. reader.segments) c.loop-count.messages.items, c.loop-count.invariant.many, c.loop-count-test.false)) (inr c.from_kind.ensures)
 
 pub returns-in_err-push-in-Some-clause-failed : goal.returns-in_err-push-in-Some-clause-failed
 returns-in_err-push-in-Some-clause-failed g c =

@@ -2,7 +2,7 @@
 use Rattle.std.proofs.Common.{◌<◌, length, refl, ap, map, inl, inr, None, Some, arith}
 use Rattle.capnp.specs.Streams.{grammar_of}
 use Rattle.capnp.specs.Reading.{LacksMemory}
-use Rattle.capnp.proofs.StreamLemmas.{texts_within, next_texts, refused_ends, stopped, stands_at_bytes, lacks_kind}
+use Rattle.capnp.proofs.StreamLemmas.{texts_within, next_texts, refused_ends, stopped, moves_on, lacks_kind}
 use Rattle.capnp.proofs.streams.reading.every_message.Goals as goal
 
 pub overflow_sub-end : goal.overflow_sub-end
@@ -15,12 +15,12 @@ loop-count-preserved c = record {
   texts = next_texts c.args.padding c.args.format c.args.options.traversal_limit_in_words _ _ c.args.stream.now c.loop-count.rest.now c.add_next.new.rest.now
       c.loop-count.invariant.texts (c.in-Ok-true.ensures.added c.in-Ok-true.field-0-test);
   options = c.add_next.ensures.options c.loop-count.invariant.options;
-  some = λ more.
+  long =
       let (message, stands, same) = c.in-Ok-true.ensures.added c.in-Ok-true.field-0-test in
       omega (
         arith,
-        stands_at_bytes c.args.padding c.args.format c.args.options.traversal_limit_in_words message c.loop-count.rest.now c.add_next.new.rest.now stands,
-        texts_within (grammar_of c.args.padding c.args.format) c.args.options.traversal_limit_in_words _ c.args.stream.now c.loop-count.rest.now c.loop-count.invariant.texts,
+        moves_on c.args.padding c.args.format c.args.options.traversal_limit_in_words message c.loop-count.rest.now c.add_next.new.rest.now stands,
+        c.loop-count.invariant.long,
       );
   at = refl;
 }
@@ -36,7 +36,7 @@ pub returns-in-Err : goal.returns-in-Err
 returns-in-Err c =
     let stop = stopped c.args.padding c.args.format c.args.options.traversal_limit_in_words _ _ (Some c.in-Err.error) c.args.stream.now c.loop-count.rest.now c.loop-count.end
     (ap (map (λ reader. reader.segments)) c.in-Err.ensures.kept) c.loop-count.invariant.texts c.loop-count.invariant.at
-    (refused_ends c.in-Err.error _ c.in-Err.ensures.refused) in
+    (refused_ends c.in-Err.error _ _ _ c.in-Err.ensures.refused) in
     let some : LacksMemory (Some c.in-Err.error) → 0 < length c.args.stream.now = λ lacks. omega (
       arith,
       c.in-Err.ensures.some (lacks_kind c.in-Err.error lacks),
@@ -47,5 +47,6 @@ returns-in-Err c =
 pub returns : goal.returns
 returns c =
     let stop = stopped c.args.padding c.args.format c.args.options.traversal_limit_in_words _ _ (Some c.from_kind.result) c.args.stream.now c.loop-count.rest.now c.loop-count.end
-    refl c.loop-count.invariant.texts c.loop-count.invariant.at (inl (ap Some c.from_kind.ensures)) in
-    record { read = record { within = stop.0; texts = stop.1; ends = stop.2; some = λ lacks. c.loop-count.invariant.some (omega (arith, c.loop-count-test.false)); exact = stop.3 }; options = c.loop-count.invariant.options }
+    refl c.loop-count.invariant.texts c.loop-count.invariant.at
+    (inl (ap Some c.from_kind.ensures, λ few. absurd (omega (arith, few, c.loop-count.invariant.long, c.loop-count-test.false)))) in
+    record { read = record { within = stop.0; texts = stop.1; ends = stop.2; some = λ lacks. omega (arith, c.loop-count.invariant.long, c.loop-count-test.false); exact = stop.3 }; options = c.loop-count.invariant.options }
