@@ -1,4 +1,7 @@
 -- What is read of a log is its records.
+use Rattle.std.proofs.Common.{drop}
+use Rattle.capnp_frame.specs.declared.serialize.segment_table.Padding.TheVariants.{Zero}
+use Rattle.capnp.specs.declared.streams.Format.TheVariants.{Packed}
 use Rattle.capnp.proofs.LogLemmas.{log_is_read, cut_is_declared, cut_declared}
 use Rattle.capnp.proofs.StreamLemmas.{ends_or_lacks}
 use Rattle.capnp.proofs.record_log.read_log.Goals as goal
@@ -9,7 +12,7 @@ returns-clause-read c =
     let refusal = c.every_message.result.refusal in
     let end = c.every_message.result.end in
     let read = c.every_message.ensures.read in
-    let ends = ends_or_lacks _ _ limit refusal c.args.log.now _ read.ends in
+    let ends = ends_or_lacks Zero Packed limit refusal c.args.log.now (drop end c.args.log.now) read.ends in
     record {
       within = read.within;
       back = log_is_read limit _ refusal c.args.log.now end read.within ends read.exact;
