@@ -49,7 +49,7 @@ returns-in_err-push-in-Some-clause-all g c =
 pub returns-clause-all : goal.returns-clause-all
 returns-clause-all g c = fails_past_full c.args.format c.args.options.traversal_limit_in_words _ c.from_kind.result
     (map (λ reader. reader.segments) c.loop-count.messages.items) _ _ c.loop-count.invariant.texts
-    (omega (arith, length-map (λ reader. reader.segments) c.loop-count.messages.items, c.loop-count.invariant.many, c.loop-count-test.false)) (inr c.from_kind.ensures)
+    (omega (arith, length-map c.loop-count.messages.items (λ reader. reader.segments), c.loop-count.invariant.many, c.loop-count-test.false)) (inr c.from_kind.ensures)
 
 pub returns-in_err-push-in-Some-clause-failed : goal.returns-in_err-push-in-Some-clause-failed
 returns-in_err-push-in-Some-clause-failed g c =
