@@ -21,11 +21,12 @@ use Rattle.capnp_wire.specs.Reached.{root}
 use Rattle.capnp_wire.specs.Faults.{NoWord}
 use Rattle.capnp_wire.specs.Views.{Pointer, Struct, HasData, IsStruct, Reads, Refuses, DeclinesStruct}
 use Rattle.capnp.specs.declared.streams.Format.TheVariants.{Packed}
-use Rattle.capnp.specs.Streams.{BeginsPacked, RefusesNext}
+use Rattle.capnp_frame.specs.Refusals.{TakesMemory}
+use Rattle.capnp.specs.Streams.{gives_of, BeginsPacked, RefusesNext}
 use Rattle.capnp.specs.Written.{IsPackedEncodingOf}
 use Rattle.capnp_uses.specs.Reading.{ShowsPackedStruct}
 use Rattle.capnp_uses.specs.Roots.{HasPlainRoot, RefusesPackedStruct}
-use Rattle.capnp.proofs.StreamLemmas.{slice_refused, memory_at_bytes}
+use Rattle.capnp.proofs.StreamLemmas.{slice_refuses}
 use Rattle.capnp.proofs.WriterLemmas.{IsWithin-written}
 
 packed_read : (limit : Option ℕ) (read message : List (List ℕ)) (text left : List ℕ) → BeginsPacked Zero limit read text left → IsWritable message → IsPackedEncodingOf message text → read ≡ message
@@ -47,9 +48,13 @@ pub shown_text : (message : List (List ℕ)) (text shown : List ℕ) → shown �
 shown_text message text shown same packed = subst (λ l. IsPackedEncodingOf message l) (sym same) packed
 
 -- why a reader of a packed encoding stops
-pub packed_stops : (kind : ErrorKind) (old new : List ℕ) (T : Type 0) → (kind ≡ DeviceFailed → Fails 0 0) → (Some old ≡ Some [] → kind ≡ DeviceFailed)
-    → (kind ≡ DeviceFailed) ⊎ ((kind ≡ OutOfMemory) × T) ⊎ RefusesNext Zero Packed default_limit kind old new → RefusesPackedStruct old kind
-packed_stops kind old new T failed end refused = elim (slice_refused Zero Packed default_limit kind old new T failed refused) [ inl memory ↦ inl (memory, memory_at_bytes old kind end memory) | inr ends ↦ inr (inl ends) ]
+pub packed_stops : (kind : ErrorKind) (old new : List ℕ) → (kind ≡ DeviceFailed → Fails 0 0)
+    → (kind ≡ DeviceFailed) ⊎ ((kind ≡ OutOfMemory) × TakesMemory Zero (gives_of Packed) default_limit old new)
+    ⊎ RefusesNext Zero Packed default_limit kind old new → RefusesPackedStruct old kind
+packed_stops kind old new failed refused = elim (slice_refuses Zero Packed default_limit kind old new failed refused) [
+  | inl memory ↦ inl memory
+  | inr ends ↦ inr (inl ends)
+]
 
 -- why no struct is read from a text
 pub packed_refused : {X : Type 0} (A B C : ErrorKind → Type 0) (message : List (List ℕ)) (text : List ℕ) (r : Result X Error) → IsPackedEncodingOf message text

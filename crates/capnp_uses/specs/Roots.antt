@@ -1,5 +1,5 @@
 -- What is at the root of a message, and why a root is not set.
-use Rattle.std.specs.Prelude.{◌≡◌, ◌⊎◌, ◌<◌, ℕ, List, [], length, map, slice_set, Bool, false, Some}
+use Rattle.std.specs.Prelude.{◌≡◌, ◌⊎◌, ℕ, List, [], map, slice_set, Bool, false, Some}
 use Rattle.capnp_frame.specs.declared.error.ErrorKind.{ErrorKind}
 use Rattle.capnp_frame.specs.declared.error.ErrorKind.TheVariants.{OutOfMemory, PrematureEndOfFile}
 use Rattle.capnp_frame.specs.declared.serialize.segment_table.Padding.TheVariants.{Zero}
@@ -18,7 +18,7 @@ use Rattle.capnp_build.specs.Built.{Built, message, IsSet}
 use Rattle.capnp_build.specs.Placed.{FindsNoRoom, FoundNoRoom, InitWords, IsCleared, IsPut}
 use Rattle.capnp_build.specs.Outcomes.{LacksFirst, StopsFirst, RefusesCanonical}
 use Rattle.capnp.specs.declared.streams.Format.TheVariants.{Packed}
-use Rattle.capnp.specs.Streams.{StandsNext, EndsBy}
+use Rattle.capnp.specs.Streams.{StandsNext, TakesForNext, EndsBy}
 use Rattle.capnp.specs.Written.{output_of}
 use Rattle.capnp_build.specs.BuilderState.{used_of}
 
@@ -57,10 +57,10 @@ pub record StaysUnwritten {A S : Type 0} (alloc : Ghosts A S) (has_tree : Trees 
   -- it has too many segments, or memory is lacking
   pub refused : RefusesMany (output_of new) kind ⊎ (kind ≡ OutOfMemory)
 
--- No struct is read at the root of a packed message: memory is lacking at some bytes, no message is there, or its
--- root fails.
+-- No struct is read at the root of a packed message: memory is taken and lacking, no message is there, or its root
+-- fails.
 abbrev pub RefusesPackedStruct : List ℕ → ErrorKind → Type 0
-RefusesPackedStruct text kind = ((kind ≡ OutOfMemory) × (0 < length text)) ⊎ EndsBy Zero Packed default_limit (Some kind) text
+RefusesPackedStruct text kind = ((kind ≡ OutOfMemory) × TakesForNext Zero Packed default_limit text) ⊎ EndsBy Zero Packed default_limit (Some kind) text
     ⊎ ((text ≡ []) × (kind ≡ PrematureEndOfFile))
     ⊎ ((segments : List (List ℕ)) × (rest : List ℕ) × StandsNext Zero Packed default_limit segments text rest
     × (NoWord (message_of segments) root kind ⊎ Refuses (default_root segments) DeclinesStruct kind))

@@ -23,7 +23,7 @@ pub returns-in_err-message-clause-refused : goal.returns-in_err-message-clause-r
 returns-in_err-message-clause-refused c =
     let p = err_from_is_err_and c.from_residual.result c.from_residual.ensures.1 in
     rw (p.1, p.2) (elim (c.in_err-message.ensures.reads) [
-      | inl reads ↦ packed_stops c.in_err-message.field-0.0.kind _ _ _ reads.failed reads.end reads.refused
+      | inl reads ↦ packed_stops c.in_err-message.field-0.0.kind _ _ reads.failed reads.refused
       | inr (end, reads) ↦ inr (inr (inl (reads.none, end)))
     ])
 
