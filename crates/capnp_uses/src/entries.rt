@@ -15,8 +15,8 @@ use capnp_frame::message::ReaderSegments;
 /// The amount of an entry, where there is such an entry.
 pub fn amount_of<S: ReaderSegments>(entries: &struct_list::Reader<'_, S>, index: u32) -> Option<i32>
     ensures { let list = struct_list_of S.segments entries.now in MatchOption result
-        (length list.rows ≤ index)
-        (λ amount. amount ≡ cast_signed w32 (field (element_of list index).words 32 0)) }
+        (length list.rows ≤ index) (λ amount. (index < length list.rows)
+        × (amount ≡ cast_signed w32 (field (element_of list index).words 32 0))) }
 {
     if index >= entries.len() {
         return None;
