@@ -1,0 +1,875 @@
+//! Types of `eval.capnp`, made by `capnpc-rattle`: change that file, and make them again.
+ghost use Rattle.std.specs.Prelude.{◌≡◌, ◌≤◌, ◌<◌, ◌↔◌, ◌≢◌, IfOk, IsTrue, length, map, replicate, slice_index_or, slice_set};
+ghost use Rattle.std.specs.Int.{w32, cast_signed, cast_unsigned};
+ghost use Rattle.capnp_orphans.specs.Adding.{Adds, AddsRoot, Fails, Writes};
+ghost use Rattle.capnp_orphans.specs.Copied.{words_in, Copies};
+ghost use Rattle.capnp_orphans.specs.Held.{word_of, HoldsStruct, HoldsStructs, TakesStruct as StructWords, TakesStructs, ExceedsPointer, ManyStructs};
+ghost use Rattle.capnp_orphans.specs.Segments.{body_of};
+ghost use Rattle.capnp_values.specs.DataSections.{with_field};
+ghost use Rattle.capnp_wire.specs.Fields.{field};
+ghost use Rattle.capnp_wire.specs.ListViews.{element_of};
+ghost use Rattle.capnp_wire.specs.Lists.{FindsElement, IsIterator};
+ghost use Rattle.capnp_wire.specs.Object.{nothing};
+ghost use Rattle.capnp_wire.specs.Readers.{struct_of, pointer_of};
+ghost use Rattle.capnp_wire.specs.UpgradedReaders.{upgraded_structs_of};
+ghost use Rattle.capnp_wire.specs.UpgradedViews.{IsUpgradedStructs, TakesRows, DeclinesRows};
+ghost use Rattle.capnp_wire.specs.Views.{Struct, IsViewOf, IsStruct, Accepts, Refuses, Declines, Denotes, TakesStruct, DeclinesStruct, pointer_in};
+
+#[derive(Clone, Copy, PartialEq, Eq, Debug)]
+pub enum Operation {
+    Add,
+    Subtract,
+    Multiply,
+    Divide,
+    Modulus,
+    /// A number that the schema doesn't name.
+    NotInSchema(u16),
+}
+
+impl Operation {
+    /// The enumerant of this number.
+    pub fn from_number(number: u16) -> Operation
+        ensures { elim result [
+          | Operation.Add ↦ number ≡ 0
+          | Operation.Subtract ↦ number ≡ 1
+          | Operation.Multiply ↦ number ≡ 2
+          | Operation.Divide ↦ number ≡ 3
+          | Operation.Modulus ↦ number ≡ 4
+          | Operation.NotInSchema unknown ↦ (unknown ≡ number) × (5 ≤ number)
+        ] }
+    {
+        match number {
+            0 => Operation::Add,
+            1 => Operation::Subtract,
+            2 => Operation::Multiply,
+            3 => Operation::Divide,
+            4 => Operation::Modulus,
+            unknown => Operation::NotInSchema(unknown),
+        }
+    }
+}
+
+impl capnp_wire::upgraded::EnumElement for Operation {
+    fn from_number(number: u16) -> Operation {
+        Operation::from_number(number)
+    }
+}
+
+impl Operation {
+    /// Its number.
+    pub fn to_number(self) -> u16
+        ensures { elim self [
+          | Operation.Add ↦ result ≡ 0
+          | Operation.Subtract ↦ result ≡ 1
+          | Operation.Multiply ↦ result ≡ 2
+          | Operation.Divide ↦ result ≡ 3
+          | Operation.Modulus ↦ result ≡ 4
+          | Operation.NotInSchema unknown ↦ result ≡ unknown
+        ] }
+    {
+        match self {
+            Operation::Add => 0,
+            Operation::Subtract => 1,
+            Operation::Multiply => 2,
+            Operation::Divide => 3,
+            Operation::Modulus => 4,
+            Operation::NotInSchema(unknown) => unknown,
+        }
+    }
+}
+
+pub mod expression {
+    use super::Operation;
+    use capnp_frame::Result;
+    use capnp_frame::message::ReaderSegments;
+    use capnp_orphans::{Draft, Drafts, GrowingSegment, Orphan, Orphanage, StructDraft};
+    use capnp_wire::any_struct::StructReader;
+    use capnp_wire::traits::{self, FromPointerReader, IndexMove, ListIter};
+    use capnp_wire::{any_pointer, upgraded};
+
+    /// The type of the schema.
+    pub struct Owned;
+
+    impl<'a, S: ReaderSegments + 'a> traits::Owned<'a, S> for Owned {
+        type Reader = Reader<'a, S>;
+    }
+
+    /// A struct of this type in a message. What its writer left out reads as the default.
+    #[derive(Drop)]
+    pub struct Reader<'a, S: ReaderSegments> {
+        /// The struct whose fields these are.
+        pub fields: StructReader<'a, S>,
+    }
+
+    impl<'a, S: ReaderSegments> Reader<'a, S> {
+        /// The field `op`.
+        pub fn get_op(&self) -> Operation
+            ensures { let fields = struct_of S.segments self.now.fields in
+                let number = field fields.words 16 0 in
+                elim result [
+                  | Operation.Add ↦ number ≡ 0
+                  | Operation.Subtract ↦ number ≡ 1
+                  | Operation.Multiply ↦ number ≡ 2
+                  | Operation.Divide ↦ number ≡ 3
+                  | Operation.Modulus ↦ number ≡ 4
+                  | Operation.NotInSchema unknown ↦ (unknown ≡ number) × (5 ≤ number)
+                ] }
+        {
+            Operation::from_number(self.fields.get_data_field(0))
+        }
+
+        /// The field `left`.
+        pub fn get_left(&self) -> left::Reader<'_, 'a, S>
+            ensures { let fields = struct_of S.segments self.now.fields in
+                struct_of S.segments result.fields.now ≡ fields }
+        {
+            left::Reader {
+                fields: &self.fields,
+            }
+        }
+
+        /// The field `right`.
+        pub fn get_right(&self) -> right::Reader<'_, 'a, S>
+            ensures { let fields = struct_of S.segments self.now.fields in
+                struct_of S.segments result.fields.now ≡ fields }
+        {
+            right::Reader {
+                fields: &self.fields,
+            }
+        }
+    }
+
+    impl<'a, S: ReaderSegments> FromPointerReader<'a, S> for Reader<'a, S> {
+        ghost shows = { λ pointer view. IsStruct pointer (struct_of S.segments view.fields) };
+
+        ghost accepts = { λ pointer. Accepts pointer TakesStruct };
+
+        ghost refuses = { λ pointer kind. Refuses pointer DeclinesStruct kind };
+
+        ghost declines = { λ pointer kind. Declines pointer DeclinesStruct kind };
+
+        fn get_from_pointer(reader: any_pointer::Reader<'a, S>) -> Result<Self>
+            ensures { let pointer = pointer_of S.segments reader.entry in IsViewOf pointer
+                (λ view. IsStruct pointer (struct_of S.segments view.fields))
+                (Accepts pointer TakesStruct) (Refuses pointer DeclinesStruct)
+                (Declines pointer DeclinesStruct) result }
+        {
+            match StructReader::get_from_pointer(reader) {
+                Ok(fields) => Ok(Reader { fields }),
+                Err(error) => Err(error),
+            }
+        }
+    }
+
+    /// A list of such structs in a message; their first fields alone, where an older writer had these.
+    #[derive(Drop)]
+    pub struct ListReader<'a, S: ReaderSegments> {
+        /// The list whose elements these are.
+        pub elements: upgraded::StructList<'a, S>,
+    }
+
+    impl<'a, S: ReaderSegments> ListReader<'a, S> {
+        /// The number of elements.
+        pub fn len(&self) -> u32
+            ensures { result ≡ length (upgraded_structs_of S.segments self.now.elements).rows }
+        {
+            self.elements.len()
+        }
+
+        /// The element of this index.
+        pub fn get(&self, index: u32) -> Reader<'a, S>
+            requires { index < length (upgraded_structs_of S.segments self.now.elements).rows }
+            ensures { struct_of S.segments result.fields
+                ≡ element_of (upgraded_structs_of S.segments self.now.elements) index }
+        {
+            Reader {
+                fields: self.elements.get(index),
+            }
+        }
+
+        /// The element of this index, or `None` where there are no more elements than it.
+        pub fn try_get(&self, index: u32) -> Option<Reader<'a, S>>
+            ensures { let list = upgraded_structs_of S.segments self.now.elements in
+                FindsElement (length list.rows) index
+                (λ item. struct_of S.segments item.fields ≡ element_of list index) result }
+        {
+            self.try_index_move(index)
+        }
+
+        /// An iterator over the elements.
+        pub fn iter(&self) -> ListIter<'_, Self>
+            ensures { IsIterator self.now result }
+        {
+            ListIter::new(self)
+        }
+    }
+
+    impl<'a, S: ReaderSegments> IndexMove for ListReader<'a, S> {
+        type Item = Reader<'a, S>;
+
+        ghost Element = { Struct };
+
+        ghost seen = { λ item. struct_of S.segments item.fields };
+
+        ghost size = { λ list. length (upgraded_structs_of S.segments list.elements).rows };
+
+        ghost element = { λ list index.
+            element_of (upgraded_structs_of S.segments list.elements) index };
+
+        fn len(&self) -> u32 {
+            self.len()
+        }
+
+        fn index_move(&self, index: u32) -> Reader<'a, S> {
+            self.get(index)
+        }
+    }
+
+    impl<'a, S: ReaderSegments> FromPointerReader<'a, S> for ListReader<'a, S> {
+        ghost shows = { λ pointer view.
+            IsUpgradedStructs pointer (upgraded_structs_of S.segments view.elements) };
+
+        ghost accepts = { λ pointer. Accepts pointer TakesRows };
+
+        ghost refuses = { λ pointer kind. Refuses pointer DeclinesRows kind };
+
+        ghost declines = { λ pointer kind. Declines pointer DeclinesRows kind };
+
+        fn get_from_pointer(reader: any_pointer::Reader<'a, S>) -> Result<Self>
+            ensures { let pointer = pointer_of S.segments reader.entry in IsViewOf pointer
+                (λ view. IsUpgradedStructs pointer (upgraded_structs_of S.segments view.elements))
+                (Accepts pointer TakesRows) (Refuses pointer DeclinesRows)
+                (Declines pointer DeclinesRows) result }
+        {
+            match upgraded::StructList::get_from_pointer(reader) {
+                Ok(elements) => Ok(ListReader { elements }),
+                Err(error) => Err(error),
+            }
+        }
+    }
+
+    /// A list of such structs, as a type of the schema.
+    pub struct OwnedList;
+
+    impl<'a, S: ReaderSegments + 'a> traits::Owned<'a, S> for OwnedList {
+        type Reader = ListReader<'a, S>;
+    }
+
+    /// A struct of this type before it is written. What is not set has its default.
+    #[derive(Clone, Copy)]
+    pub struct Builder {
+        /// Its data words, and what its pointers lead to.
+        pub draft: StructDraft<Owned, 2, 2>,
+    }
+
+    impl Builder {
+        /// One in which nothing is set, so that each field has its default.
+        pub fn new() -> Builder
+            ensures words { result.draft.words ≡ replicate 2 0 }
+            ensures pointers { result.draft.pointers ≡ replicate 2 0 }
+        {
+            Builder {
+                draft: StructDraft::new(),
+            }
+        }
+
+        /// One of what a reader shows, to be changed and written again. What its pointers lead to is
+        /// copied, each object as an orphan, and null stays null. What a writer of another version of
+        /// the type left out is zero and null, and what it had beyond this one is left out.
+        ///
+        /// It fails as `Orphanage::set` of the first pointer does that can't be copied.
+        pub fn from_reader<R: ReaderSegments, S: GrowingSegment>(
+            read: &Reader<'_, R>,
+            objects: &mut Orphanage<S>,
+        ) -> Result<Builder>
+            ensures words { IfOk result (λ made. made.draft.words
+                ≡ words_in (struct_of R.segments read.now.fields) 2) }
+            ensures copies { Copies (struct_of R.segments read.now.fields) 2
+                objects.old objects.new (λ made. made.draft.pointers) result }
+        {
+            match StructDraft::from_reader(&read.fields, objects) {
+                Ok(draft) => Ok(Builder { draft }),
+                Err(error) => Err(error),
+            }
+        }
+
+        /// One of the numbers, bools and enums that a reader shows, as `from_reader` has them. Its
+        /// pointers are null.
+        pub fn from_data_section<R: ReaderSegments>(read: &Reader<'_, R>) -> Builder
+            ensures words { result.draft.words
+                ≡ words_in (struct_of R.segments read.now.fields) 2 }
+            ensures pointers { result.draft.pointers ≡ replicate 2 0 }
+        {
+            Builder {
+                draft: StructDraft::from_data_section(&read.fields),
+            }
+        }
+
+        /// Writes it, as an object that a pointer can lead to.
+        pub fn add<S: GrowingSegment>(&self, objects: &mut Orphanage<S>) -> Result<Orphan<Owned>>
+            ensures adds { Adds (HoldsStruct (body_of objects.old) self.now.draft.words
+                self.now.draft.pointers) objects.old objects.new word_of result }
+            ensures writes { Writes (StructWords 2 2) (ExceedsPointer 2 2)
+                objects.old objects.new result }
+        {
+            objects.add(&self.draft)
+        }
+
+        /// Writes it as the root of the message.
+        pub fn add_root<S: GrowingSegment>(&self, objects: &mut Orphanage<S>) -> Result<()>
+            ensures adds { AddsRoot (StructWords 2 2) (HoldsStruct (body_of objects.old)
+                self.now.draft.words self.now.draft.pointers) objects.old objects.new result }
+            ensures fails { Fails (StructWords 2 2) (ExceedsPointer 2 2)
+                objects.old result }
+        {
+            objects.add_root(&self.draft)
+        }
+
+        /// Writes a list of such structs.
+        pub fn add_list<S: GrowingSegment>(
+            elements: &[Builder],
+            objects: &mut Orphanage<S>,
+        ) -> Result<Orphan<OwnedList>>
+            ensures adds { Adds (HoldsStructs (body_of objects.old)
+                (map (λ element. element.draft) elements.now)) objects.old objects.new word_of result }
+            ensures writes { let count = length elements.now in
+                Writes (TakesStructs 2 2 count) (ManyStructs 2 2 count)
+                objects.old objects.new result }
+        {
+            let list = objects.lazy_struct_list(&Drafts::new(elements))?;
+            Ok(list.of_type())
+        }
+    }
+
+    impl Draft<Owned, 2, 2> for Builder {
+        ghost draft = { λ builder. builder.draft };
+
+        fn draft(&self) -> StructDraft<Owned, 2, 2> {
+            self.draft
+        }
+    }
+
+    impl Builder {
+        /// Sets the field `op`.
+        pub fn set_op(&mut self, value: Operation)
+            ensures words { let words = self.old.draft.words in
+                elim value [
+                  | Operation.Add ↦ self.new.draft.words ≡ with_field words 16 0 0
+                  | Operation.Subtract ↦ self.new.draft.words ≡ with_field words 16 0 1
+                  | Operation.Multiply ↦ self.new.draft.words ≡ with_field words 16 0 2
+                  | Operation.Divide ↦ self.new.draft.words ≡ with_field words 16 0 3
+                  | Operation.Modulus ↦ self.new.draft.words ≡ with_field words 16 0 4
+                  | Operation.NotInSchema unknown ↦ self.new.draft.words ≡ with_field words 16 0 unknown
+                ] }
+            ensures pointers { self.new.draft.pointers ≡ self.old.draft.pointers }
+        {
+            self.draft.set_data_field(0, value.to_number());
+        }
+
+        /// The field `op`, as it is set.
+        pub fn get_op(&self) -> Operation
+            ensures { let fields = self.now.draft in
+                let number = field fields.words 16 0 in
+                elim result [
+                  | Operation.Add ↦ number ≡ 0
+                  | Operation.Subtract ↦ number ≡ 1
+                  | Operation.Multiply ↦ number ≡ 2
+                  | Operation.Divide ↦ number ≡ 3
+                  | Operation.Modulus ↦ number ≡ 4
+                  | Operation.NotInSchema unknown ↦ (unknown ≡ number) × (5 ≤ number)
+                ] }
+        {
+            Operation::from_number(self.draft.get_data_field(0))
+        }
+    }
+
+    pub mod left {
+        use capnp_frame::Result;
+        use capnp_frame::message::ReaderSegments;
+        use capnp_orphans::Orphan;
+        use capnp_wire::any_struct::StructReader;
+        use capnp_wire::traits::FromPointerReader;
+
+        /// The group, in a struct in a message.
+        #[derive(Drop)]
+        pub struct Reader<'b, 'a, S: ReaderSegments> {
+            /// The struct whose fields these are.
+            pub fields: &'b StructReader<'a, S>,
+        }
+
+        impl<'b, 'a, S: ReaderSegments> Reader<'b, 'a, S> {
+            /// The field `value`.
+            pub fn get_value(&self) -> i32
+                ensures { let fields = struct_of S.segments self.now.fields.now in
+                    result ≡ cast_signed w32 (field fields.words 32 1) }
+            {
+                self.fields.get_data_field(1)
+            }
+
+            /// The field `expression`.
+            pub fn get_expression(&self) -> Result<super::super::expression::Reader<'a, S>>
+                ensures { let fields = struct_of S.segments self.now.fields.now in
+                    let pointer = pointer_in fields 0 in
+                    IsViewOf pointer
+                    (λ view. IsStruct pointer (struct_of S.segments view.fields))
+                    (Accepts pointer TakesStruct) (Refuses pointer DeclinesStruct)
+                    (Declines pointer DeclinesStruct) result }
+            {
+                FromPointerReader::get_from_pointer(self.fields.get_pointer(0))
+            }
+
+            /// Whether `expression` is there, and is not null.
+            pub fn has_expression(&self) -> bool
+                ensures { let fields = struct_of S.segments self.now.fields.now in
+                    IsTrue result ↔ (Denotes (pointer_in fields 0) nothing → ⊥) }
+            {
+                self.fields.has_pointer(0)
+            }
+
+            /// Which member of the union is there, and its value.
+            pub fn which(&self) -> Which<'a, S>
+                ensures { let fields = struct_of S.segments self.now.fields.now in
+                    let number = field fields.words 16 1 in
+                    elim result [
+                      | Which.Value value ↦ (number ≡ 0) × (value ≡ cast_signed w32 (field fields.words 32 1))
+                      | Which.Expression value ↦ (number ≡ 1) ×
+                          (let pointer = pointer_in fields 0 in
+                          IsViewOf pointer
+                          (λ view. IsStruct pointer (struct_of S.segments view.fields))
+                          (Accepts pointer TakesStruct) (Refuses pointer DeclinesStruct)
+                          (Declines pointer DeclinesStruct) value)
+                      | Which.NotInSchema unknown ↦ (unknown ≡ number) × (2 ≤ number)
+                    ] }
+            {
+                match self.fields.get_data_field::<u16>(1) {
+                    0 => Which::Value(self.get_value()),
+                    1 => Which::Expression(self.get_expression()),
+                    unknown => Which::NotInSchema(unknown),
+                }
+            }
+        }
+
+        /// The members of the union.
+        #[derive(Drop)]
+        pub enum Which<'a, S: ReaderSegments> {
+            Value(i32),
+            Expression(Result<super::super::expression::Reader<'a, S>>),
+            /// A number that the schema doesn't name.
+            NotInSchema(u16),
+        }
+
+        impl super::Builder {
+            /// Sets the field `value`.
+            pub fn set_left_value(&mut self, value: i32)
+                ensures words { self.new.draft.words
+                    ≡ with_field (with_field self.old.draft.words 16 1 0) 32 1 (cast_unsigned w32 value) }
+                ensures pointers { self.new.draft.pointers ≡ self.old.draft.pointers }
+            {
+                self.draft.set_data_field::<u16>(1, 0);
+                self.draft.set_data_field(1, value);
+            }
+
+            /// The field `value`, as it is set.
+            pub fn get_left_value(&self) -> i32
+                ensures { let fields = self.now.draft in
+                    result ≡ cast_signed w32 (field fields.words 32 1) }
+            {
+                self.draft.get_data_field(1)
+            }
+
+            /// Sets the field `expression`.
+            pub fn set_left_expression(&mut self, value: Orphan<super::super::expression::Owned>)
+                ensures words { self.new.draft.words
+                    ≡ (with_field self.old.draft.words 16 1 1) }
+                ensures pointers { self.new.draft.pointers
+                    ≡ slice_set self.old.draft.pointers 0 value.word }
+            {
+                self.draft.set_data_field::<u16>(1, 1);
+                self.draft.adopt(0, value);
+            }
+
+            /// Whether `expression` is set, and not to null.
+            pub fn has_left_expression(&self) -> bool
+                ensures { IsTrue result ↔ (slice_index_or self.now.draft.pointers 0 0 ≢ 0) }
+            {
+                self.draft.has_pointer(0)
+            }
+        }
+    }
+
+    pub mod right {
+        use capnp_frame::Result;
+        use capnp_frame::message::ReaderSegments;
+        use capnp_orphans::Orphan;
+        use capnp_wire::any_struct::StructReader;
+        use capnp_wire::traits::FromPointerReader;
+
+        /// The group, in a struct in a message.
+        #[derive(Drop)]
+        pub struct Reader<'b, 'a, S: ReaderSegments> {
+            /// The struct whose fields these are.
+            pub fields: &'b StructReader<'a, S>,
+        }
+
+        impl<'b, 'a, S: ReaderSegments> Reader<'b, 'a, S> {
+            /// The field `value`.
+            pub fn get_value(&self) -> i32
+                ensures { let fields = struct_of S.segments self.now.fields.now in
+                    result ≡ cast_signed w32 (field fields.words 32 2) }
+            {
+                self.fields.get_data_field(2)
+            }
+
+            /// The field `expression`.
+            pub fn get_expression(&self) -> Result<super::super::expression::Reader<'a, S>>
+                ensures { let fields = struct_of S.segments self.now.fields.now in
+                    let pointer = pointer_in fields 1 in
+                    IsViewOf pointer
+                    (λ view. IsStruct pointer (struct_of S.segments view.fields))
+                    (Accepts pointer TakesStruct) (Refuses pointer DeclinesStruct)
+                    (Declines pointer DeclinesStruct) result }
+            {
+                FromPointerReader::get_from_pointer(self.fields.get_pointer(1))
+            }
+
+            /// Whether `expression` is there, and is not null.
+            pub fn has_expression(&self) -> bool
+                ensures { let fields = struct_of S.segments self.now.fields.now in
+                    IsTrue result ↔ (Denotes (pointer_in fields 1) nothing → ⊥) }
+            {
+                self.fields.has_pointer(1)
+            }
+
+            /// Which member of the union is there, and its value.
+            pub fn which(&self) -> Which<'a, S>
+                ensures { let fields = struct_of S.segments self.now.fields.now in
+                    let number = field fields.words 16 6 in
+                    elim result [
+                      | Which.Value value ↦ (number ≡ 0) × (value ≡ cast_signed w32 (field fields.words 32 2))
+                      | Which.Expression value ↦ (number ≡ 1) ×
+                          (let pointer = pointer_in fields 1 in
+                          IsViewOf pointer
+                          (λ view. IsStruct pointer (struct_of S.segments view.fields))
+                          (Accepts pointer TakesStruct) (Refuses pointer DeclinesStruct)
+                          (Declines pointer DeclinesStruct) value)
+                      | Which.NotInSchema unknown ↦ (unknown ≡ number) × (2 ≤ number)
+                    ] }
+            {
+                match self.fields.get_data_field::<u16>(6) {
+                    0 => Which::Value(self.get_value()),
+                    1 => Which::Expression(self.get_expression()),
+                    unknown => Which::NotInSchema(unknown),
+                }
+            }
+        }
+
+        /// The members of the union.
+        #[derive(Drop)]
+        pub enum Which<'a, S: ReaderSegments> {
+            Value(i32),
+            Expression(Result<super::super::expression::Reader<'a, S>>),
+            /// A number that the schema doesn't name.
+            NotInSchema(u16),
+        }
+
+        impl super::Builder {
+            /// Sets the field `value`.
+            pub fn set_right_value(&mut self, value: i32)
+                ensures words { self.new.draft.words
+                    ≡ with_field (with_field self.old.draft.words 16 6 0) 32 2 (cast_unsigned w32 value) }
+                ensures pointers { self.new.draft.pointers ≡ self.old.draft.pointers }
+            {
+                self.draft.set_data_field::<u16>(6, 0);
+                self.draft.set_data_field(2, value);
+            }
+
+            /// The field `value`, as it is set.
+            pub fn get_right_value(&self) -> i32
+                ensures { let fields = self.now.draft in
+                    result ≡ cast_signed w32 (field fields.words 32 2) }
+            {
+                self.draft.get_data_field(2)
+            }
+
+            /// Sets the field `expression`.
+            pub fn set_right_expression(&mut self, value: Orphan<super::super::expression::Owned>)
+                ensures words { self.new.draft.words
+                    ≡ (with_field self.old.draft.words 16 6 1) }
+                ensures pointers { self.new.draft.pointers
+                    ≡ slice_set self.old.draft.pointers 1 value.word }
+            {
+                self.draft.set_data_field::<u16>(6, 1);
+                self.draft.adopt(1, value);
+            }
+
+            /// Whether `expression` is set, and not to null.
+            pub fn has_right_expression(&self) -> bool
+                ensures { IsTrue result ↔ (slice_index_or self.now.draft.pointers 1 0 ≢ 0) }
+            {
+                self.draft.has_pointer(1)
+            }
+        }
+    }
+}
+
+pub mod evaluation_result {
+    use capnp_frame::Result;
+    use capnp_frame::message::ReaderSegments;
+    use capnp_orphans::{Draft, Drafts, GrowingSegment, Orphan, Orphanage, StructDraft};
+    use capnp_wire::any_struct::StructReader;
+    use capnp_wire::traits::{self, FromPointerReader, IndexMove, ListIter};
+    use capnp_wire::{any_pointer, upgraded};
+
+    /// The type of the schema.
+    pub struct Owned;
+
+    impl<'a, S: ReaderSegments + 'a> traits::Owned<'a, S> for Owned {
+        type Reader = Reader<'a, S>;
+    }
+
+    /// A struct of this type in a message. What its writer left out reads as the default.
+    #[derive(Drop)]
+    pub struct Reader<'a, S: ReaderSegments> {
+        /// The struct whose fields these are.
+        pub fields: StructReader<'a, S>,
+    }
+
+    impl<'a, S: ReaderSegments> Reader<'a, S> {
+        /// The field `value`.
+        pub fn get_value(&self) -> i32
+            ensures { let fields = struct_of S.segments self.now.fields in
+                result ≡ cast_signed w32 (field fields.words 32 0) }
+        {
+            self.fields.get_data_field(0)
+        }
+    }
+
+    impl<'a, S: ReaderSegments> FromPointerReader<'a, S> for Reader<'a, S> {
+        ghost shows = { λ pointer view. IsStruct pointer (struct_of S.segments view.fields) };
+
+        ghost accepts = { λ pointer. Accepts pointer TakesStruct };
+
+        ghost refuses = { λ pointer kind. Refuses pointer DeclinesStruct kind };
+
+        ghost declines = { λ pointer kind. Declines pointer DeclinesStruct kind };
+
+        fn get_from_pointer(reader: any_pointer::Reader<'a, S>) -> Result<Self>
+            ensures { let pointer = pointer_of S.segments reader.entry in IsViewOf pointer
+                (λ view. IsStruct pointer (struct_of S.segments view.fields))
+                (Accepts pointer TakesStruct) (Refuses pointer DeclinesStruct)
+                (Declines pointer DeclinesStruct) result }
+        {
+            match StructReader::get_from_pointer(reader) {
+                Ok(fields) => Ok(Reader { fields }),
+                Err(error) => Err(error),
+            }
+        }
+    }
+
+    /// A list of such structs in a message; their first fields alone, where an older writer had these.
+    #[derive(Drop)]
+    pub struct ListReader<'a, S: ReaderSegments> {
+        /// The list whose elements these are.
+        pub elements: upgraded::StructList<'a, S>,
+    }
+
+    impl<'a, S: ReaderSegments> ListReader<'a, S> {
+        /// The number of elements.
+        pub fn len(&self) -> u32
+            ensures { result ≡ length (upgraded_structs_of S.segments self.now.elements).rows }
+        {
+            self.elements.len()
+        }
+
+        /// The element of this index.
+        pub fn get(&self, index: u32) -> Reader<'a, S>
+            requires { index < length (upgraded_structs_of S.segments self.now.elements).rows }
+            ensures { struct_of S.segments result.fields
+                ≡ element_of (upgraded_structs_of S.segments self.now.elements) index }
+        {
+            Reader {
+                fields: self.elements.get(index),
+            }
+        }
+
+        /// The element of this index, or `None` where there are no more elements than it.
+        pub fn try_get(&self, index: u32) -> Option<Reader<'a, S>>
+            ensures { let list = upgraded_structs_of S.segments self.now.elements in
+                FindsElement (length list.rows) index
+                (λ item. struct_of S.segments item.fields ≡ element_of list index) result }
+        {
+            self.try_index_move(index)
+        }
+
+        /// An iterator over the elements.
+        pub fn iter(&self) -> ListIter<'_, Self>
+            ensures { IsIterator self.now result }
+        {
+            ListIter::new(self)
+        }
+    }
+
+    impl<'a, S: ReaderSegments> IndexMove for ListReader<'a, S> {
+        type Item = Reader<'a, S>;
+
+        ghost Element = { Struct };
+
+        ghost seen = { λ item. struct_of S.segments item.fields };
+
+        ghost size = { λ list. length (upgraded_structs_of S.segments list.elements).rows };
+
+        ghost element = { λ list index.
+            element_of (upgraded_structs_of S.segments list.elements) index };
+
+        fn len(&self) -> u32 {
+            self.len()
+        }
+
+        fn index_move(&self, index: u32) -> Reader<'a, S> {
+            self.get(index)
+        }
+    }
+
+    impl<'a, S: ReaderSegments> FromPointerReader<'a, S> for ListReader<'a, S> {
+        ghost shows = { λ pointer view.
+            IsUpgradedStructs pointer (upgraded_structs_of S.segments view.elements) };
+
+        ghost accepts = { λ pointer. Accepts pointer TakesRows };
+
+        ghost refuses = { λ pointer kind. Refuses pointer DeclinesRows kind };
+
+        ghost declines = { λ pointer kind. Declines pointer DeclinesRows kind };
+
+        fn get_from_pointer(reader: any_pointer::Reader<'a, S>) -> Result<Self>
+            ensures { let pointer = pointer_of S.segments reader.entry in IsViewOf pointer
+                (λ view. IsUpgradedStructs pointer (upgraded_structs_of S.segments view.elements))
+                (Accepts pointer TakesRows) (Refuses pointer DeclinesRows)
+                (Declines pointer DeclinesRows) result }
+        {
+            match upgraded::StructList::get_from_pointer(reader) {
+                Ok(elements) => Ok(ListReader { elements }),
+                Err(error) => Err(error),
+            }
+        }
+    }
+
+    /// A list of such structs, as a type of the schema.
+    pub struct OwnedList;
+
+    impl<'a, S: ReaderSegments + 'a> traits::Owned<'a, S> for OwnedList {
+        type Reader = ListReader<'a, S>;
+    }
+
+    /// A struct of this type before it is written. What is not set has its default.
+    #[derive(Clone, Copy)]
+    pub struct Builder {
+        /// Its data words, and what its pointers lead to.
+        pub draft: StructDraft<Owned, 1, 0>,
+    }
+
+    impl Builder {
+        /// One in which nothing is set, so that each field has its default.
+        pub fn new() -> Builder
+            ensures words { result.draft.words ≡ replicate 1 0 }
+            ensures pointers { result.draft.pointers ≡ replicate 0 0 }
+        {
+            Builder {
+                draft: StructDraft::new(),
+            }
+        }
+
+        /// One of what a reader shows, to be changed and written again. What its pointers lead to is
+        /// copied, each object as an orphan, and null stays null. What a writer of another version of
+        /// the type left out is zero and null, and what it had beyond this one is left out.
+        ///
+        /// It fails as `Orphanage::set` of the first pointer does that can't be copied.
+        pub fn from_reader<R: ReaderSegments, S: GrowingSegment>(
+            read: &Reader<'_, R>,
+            objects: &mut Orphanage<S>,
+        ) -> Result<Builder>
+            ensures words { IfOk result (λ made. made.draft.words
+                ≡ words_in (struct_of R.segments read.now.fields) 1) }
+            ensures copies { Copies (struct_of R.segments read.now.fields) 0
+                objects.old objects.new (λ made. made.draft.pointers) result }
+        {
+            match StructDraft::from_reader(&read.fields, objects) {
+                Ok(draft) => Ok(Builder { draft }),
+                Err(error) => Err(error),
+            }
+        }
+
+        /// One of the numbers, bools and enums that a reader shows, as `from_reader` has them. Its
+        /// pointers are null.
+        pub fn from_data_section<R: ReaderSegments>(read: &Reader<'_, R>) -> Builder
+            ensures words { result.draft.words
+                ≡ words_in (struct_of R.segments read.now.fields) 1 }
+            ensures pointers { result.draft.pointers ≡ replicate 0 0 }
+        {
+            Builder {
+                draft: StructDraft::from_data_section(&read.fields),
+            }
+        }
+
+        /// Writes it, as an object that a pointer can lead to.
+        pub fn add<S: GrowingSegment>(&self, objects: &mut Orphanage<S>) -> Result<Orphan<Owned>>
+            ensures adds { Adds (HoldsStruct (body_of objects.old) self.now.draft.words
+                self.now.draft.pointers) objects.old objects.new word_of result }
+            ensures writes { Writes (StructWords 1 0) (ExceedsPointer 1 0)
+                objects.old objects.new result }
+        {
+            objects.add(&self.draft)
+        }
+
+        /// Writes it as the root of the message.
+        pub fn add_root<S: GrowingSegment>(&self, objects: &mut Orphanage<S>) -> Result<()>
+            ensures adds { AddsRoot (StructWords 1 0) (HoldsStruct (body_of objects.old)
+                self.now.draft.words self.now.draft.pointers) objects.old objects.new result }
+            ensures fails { Fails (StructWords 1 0) (ExceedsPointer 1 0)
+                objects.old result }
+        {
+            objects.add_root(&self.draft)
+        }
+
+        /// Writes a list of such structs.
+        pub fn add_list<S: GrowingSegment>(
+            elements: &[Builder],
+            objects: &mut Orphanage<S>,
+        ) -> Result<Orphan<OwnedList>>
+            ensures adds { Adds (HoldsStructs (body_of objects.old)
+                (map (λ element. element.draft) elements.now)) objects.old objects.new word_of result }
+            ensures writes { let count = length elements.now in
+                Writes (TakesStructs 1 0 count) (ManyStructs 1 0 count)
+                objects.old objects.new result }
+        {
+            let list = objects.lazy_struct_list(&Drafts::new(elements))?;
+            Ok(list.of_type())
+        }
+    }
+
+    impl Draft<Owned, 1, 0> for Builder {
+        ghost draft = { λ builder. builder.draft };
+
+        fn draft(&self) -> StructDraft<Owned, 1, 0> {
+            self.draft
+        }
+    }
+
+    impl Builder {
+        /// Sets the field `value`.
+        pub fn set_value(&mut self, value: i32)
+            ensures words { self.new.draft.words
+                ≡ with_field self.old.draft.words 32 0 (cast_unsigned w32 value) }
+            ensures pointers { self.new.draft.pointers ≡ self.old.draft.pointers }
+        {
+            self.draft.set_data_field(0, value);
+        }
+
+        /// The field `value`, as it is set.
+        pub fn get_value(&self) -> i32
+            ensures { let fields = self.now.draft in
+                result ≡ cast_signed w32 (field fields.words 32 0) }
+        {
+            self.draft.get_data_field(0)
+        }
+    }
+}
