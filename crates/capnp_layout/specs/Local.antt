@@ -1,5 +1,5 @@
--- Structs and lists of numbers or pointers as objects, and the pointer to a struct of no words
--- (src/number_list.rt, src/pointer_run.rt, src/fast_path.rt).
+-- Structs and lists as objects, and the pointer to a struct of no words (src/number_list.rt,
+-- src/pointer_run.rt, src/struct_list.rt, src/fast_path.rt).
 use Rattle.std.specs.Prelude.{◌≡◌, ◌⊎◌, ℕ, ◌+◌, ◌<◌, List, length}
 use Rattle.capnp_layout.specs.Pointer.{words_from}
 use Rattle.capnp_layout.specs.Trim.{cut_zeros}
@@ -8,7 +8,8 @@ use Rattle.capnp_layout.specs.Layout.{struct_pointer, minus_one}
 use Rattle.capnp_layout.specs.declared.number_list.NumberList.{NumberList}
 use Rattle.capnp_layout.specs.declared.fast_path.LocalStruct.{LocalStruct}
 use Rattle.capnp_layout.specs.declared.pointer_run.PointerRun.{PointerRun}
-use Rattle.capnp_layout.specs.declared.object.Body.TheVariants.{Struct, Numbers, Pointers}
+use Rattle.capnp_layout.specs.declared.struct_list.StructList.{StructList}
+use Rattle.capnp_layout.specs.declared.object.Body.TheVariants.{Struct, Numbers, Pointers, Structs}
 use Rattle.capnp_layout.specs.declared.object.Object.{Object}
 
 abbrev pub object_of : NumberList → Object
@@ -35,6 +36,15 @@ pointers_of list = record {
   start = list.first;
   body = Pointers list.count;
   traversed = list.count;
+}
+
+-- a list of structs as an object
+abbrev pub structs_of : StructList → Object
+structs_of list = record {
+  segment = list.segment;
+  start = list.start;
+  body = Structs list.elements list.words;
+  traversed = traversed_of (Structs list.elements list.words);
 }
 
 -- the pointer to a struct of no words that begins at the pointer itself

@@ -1,11 +1,11 @@
-//! Fast paths: to null, to a struct, and to a list of numbers or pointers in the segment of their
-//! pointer.
+//! Fast paths: to null, to a struct, and to a list of numbers, pointers or structs in the segment of
+//! their pointer.
 ghost use Rattle.std.specs.Prelude.{◌≡◌, ◌⊎◌, ◌↔◌, ℕ, List, ◌+◌, ◌/◌, ◌^◌, ◌<◌, ◌≤◌, length, Some, slice_get, IfSome, IsTrue};
 ghost use Rattle.capnp_layout.specs.Pointer.{words_of, pointer_kind, code};
 ghost use Rattle.capnp_layout.specs.Object.{places};
 ghost use Rattle.capnp_layout.specs.Landing.{IsObject};
 ghost use Rattle.capnp_layout.specs.Rows.{segment_of, places_in};
-ghost use Rattle.capnp_layout.specs.Local.{AreNull, IsNullOrEmptyStruct, object_of, local_struct_of, pointers_of};
+ghost use Rattle.capnp_layout.specs.Local.{AreNull, IsNullOrEmptyStruct, object_of, local_struct_of, pointers_of, structs_of};
 ghost use Rattle.capnp_layout.specs.Output.{output_body_of, IsNarrower};
 ghost use Rattle.capnp_layout.specs.declared.object.Body.{Body};
 
@@ -15,9 +15,10 @@ use crate::number_list::NumberList;
 use crate::object::{Body, Object, fits, words_fit};
 use crate::output_size::output_size;
 use crate::place::{Place, word};
-use crate::pointer::{LocalShape, PointerWord, StructSize};
+use crate::pointer::{Elements, LocalShape, PointerWord, StructSize};
 use crate::pointer_run::PointerRun;
 use crate::pointer_slots::PointerSlots;
+use crate::struct_list::StructList;
 
 // Speed: most pointers of most messages are null, or lead to structs, to lists of numbers, or to
 // lists of pointers. Code that goes over many pointers asks here first, for the segment in hand:
@@ -148,6 +149,42 @@ pub fn local_pointers(segment: &[u8], place: Place, nesting: u32) -> Option<Poin
             word: start,
         },
         count,
+    })
+}
+
+/// The list of structs that the pointer at a place of this segment leads to without a landing pad.
+#[inline(always)]
+pub fn local_structs(segment: &[u8], place: Place, nesting: u32) -> Option<StructList<'_>>
+    ensures { (m : List (List ℕ)) → slice_get m place.segment ≡ Some (words_of segment.now) →
+        IfSome result (λ list. IsObject m place (structs_of list) × (0 < nesting)) }
+{
+    let pointer = word(segment, place.word)?;
+    let PointerWord::Local(local) = PointerWord::read(pointer) else {
+        return None;
+    };
+    let LocalShape::Structs(words) = local.shape else {
+        return None;
+    };
+    let landing = resolve_local(segment, place, local, 0);
+    let start = landing.start?;
+    if nesting == 0 || !fits(segment, start, 1 + words as u64) {
+        return None;
+    }
+    let tag = word(segment, start)?;
+    let elements = Elements::read(tag)?;
+    if elements.words() > words as u64 {
+        return None;
+    }
+    // For the prover: each word is below 2^64, and so is the number of bytes.
+    words_fit(segment);
+    Some(StructList {
+        segment,
+        start: Place {
+            segment: place.segment,
+            word: start,
+        },
+        elements,
+        words,
     })
 }
 

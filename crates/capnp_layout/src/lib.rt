@@ -25,3 +25,4 @@ pub mod pointer;
 pub mod pointer_run;
 pub mod pointer_slots;
 pub mod pointer_word;
+pub mod struct_list;

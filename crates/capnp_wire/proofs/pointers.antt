@@ -1,5 +1,6 @@
 -- Pointers, where they lead, and when they are invalid.
 pub mod LocalLemmas
+pub mod OwnSegmentLemmas
 pub mod NullLemmas
 pub mod NullRunLemmas
 pub mod EmptyStructLemmas

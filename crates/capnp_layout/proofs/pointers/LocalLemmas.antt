@@ -1,20 +1,21 @@
--- Lists of numbers and structs in the segments of their pointers: they are where the pointers lead.
+-- Lists and structs in the segments of their pointers: they are where the pointers lead.
 use Rattle.std.proofs.Common.{◌≡◌, Bool, true, false, if◌then◌else◌, ℕ, ◌+◌, ◌*◌, ◌/◌, ◌^◌, ◌<◌, ◌≤◌, List, All, length, Some, slice_get, Bor, refl, ap, subst, arith}
 use Rattle.std.specs.Prelude.{⊤}
 use Rattle.capnp_layout.specs.Pointer.{words_of, offset, pointer_kind}
-use Rattle.capnp_layout.specs.PointerWord.{IsLocalShape}
+use Rattle.capnp_layout.specs.PointerWord.{IsLocalShape, IsElementsTag}
 use Rattle.capnp_layout.specs.Element.{code_of, width, words_for}
 use Rattle.capnp_layout.specs.Object.{word_at, local, following, Target, Lands, Shape, ShapeStands, PointsTo, is_object}
 use Rattle.capnp_layout.specs.Landing.{IsObject, shape_of, room_of, words_in, traversed_of}
-use Rattle.capnp_layout.specs.Local.{local_struct_of}
+use Rattle.capnp_layout.specs.Local.{local_struct_of, structs_of}
 use Rattle.capnp_layout.specs.Output.{least_size, output_body_of}
 use Rattle.capnp_layout.specs.declared.place.Place.{Place}
 use Rattle.capnp_layout.specs.declared.element_size.ElementSize.{ElementSize}
-use Rattle.capnp_layout.specs.declared.pointer.LocalShape.TheVariants.{Numbers as LocalNumbers, Pointers as LocalPointers, Struct as LocalStructShape}
+use Rattle.capnp_layout.specs.declared.pointer.LocalShape.TheVariants.{Numbers as LocalNumbers, Pointers as LocalPointers, Struct as LocalStructShape, Structs as LocalStructs}
 use Rattle.capnp_layout.specs.declared.object.Body.{Body}
+use Rattle.capnp_layout.specs.declared.pointer.Elements.{Elements}
 use Rattle.capnp_layout.specs.declared.pointer.StructSize.{StructSize}
 use Rattle.capnp_layout.specs.declared.object.Body.TheVariants.{Struct, Numbers, Pointers, Structs}
-use Rattle.capnp_layout.proofs.pointers.LandingLemmas.{struct_stands, numbers_stand, pointers_stand}
+use Rattle.capnp_layout.proofs.pointers.LandingLemmas.{struct_stands, numbers_stand, pointers_stand, structs_stand}
 use Rattle.capnp_layout.proofs.trees.RoomLemmas.{stands_room}
 
 -- an object is where a pointer within its segment leads, where there is room for it
@@ -81,6 +82,22 @@ struct_stands_local m place pointer segment start size word positive small conte
     let stands = struct_stands segment.now here pointer size.data_words size.pointers is.0 is.1 is.2 room in
     local_stands m place pointer segment start (Struct size) (size.data_words + size.pointers) word positive small (omega (arith, is.0)) content begins
     (stands, refl) (omega arith) words_fit room (omega arith)
+
+-- a list of structs
+pub struct_list_stands : (m : List (List ℕ)) (place : Place) (pointer tag : ℕ) (segment : Bor (List ℕ)) (start : ℕ) (elements : Elements) (words_after : ℕ)
+    → word_at m place ≡ Some pointer → pointer < 2 ^ 64 → slice_get m place.segment ≡ Some (words_of segment.now)
+    → start + 2 ^ 30 * (offset pointer / 2 ^ 29) ≡ place.word + 1 + offset pointer → IsLocalShape pointer (LocalStructs words_after)
+    → slice_get (words_of segment.now) start ≡ Some tag → IsElementsTag tag elements
+    → All (λ w. w < 2 ^ 64) (words_of segment.now) → start + (1 + words_after) ≤ length segment.now / 8
+    → elements.count * (elements.size.data_words + elements.size.pointers) ≤ words_after
+    → IsObject m place (structs_of (record { segment = segment; start = record { segment = place.segment; word = start }; elements = elements; words = words_after }))
+struct_list_stands m place pointer tag segment start elements words_after word small content begins list tag_there is words_fit room few =
+    let here : Place = record { segment = place.segment; word = start } in
+    let size = elements.size in
+    let stands = structs_stand segment.now here pointer tag size.data_words size.pointers elements.count words_after list.0 list.1 list.2
+    tag_there is.struct_kind is.count_is is.data_is is.pointers_are room few in
+    local_stands m place pointer segment start (Structs elements words_after) (traversed_of (Structs elements words_after)) word (omega (arith, list.0)) small (omega (arith, list.0))
+    content begins (stands, refl) (omega arith) words_fit room (omega (arith, few))
 
 -- a list without structs is the same in canonical form
 abbrev pub IsPlainList : Body → Type 0

@@ -2,7 +2,7 @@
 ghost use Rattle.std.specs.Prelude.{◌≡◌, ◌<◌, IfSome, Some};
 ghost use Rattle.capnp_layout.specs.Object.{message_of};
 ghost use Rattle.capnp_layout.specs.Landing.{IsObject};
-ghost use Rattle.capnp_layout.specs.Local.{object_of, local_struct_of};
+ghost use Rattle.capnp_layout.specs.Local.{object_of, local_struct_of, pointers_of, structs_of};
 ghost use Rattle.capnp_wire.specs.Readers.{pointer_of, IsEntered};
 ghost use Rattle.capnp_layout.specs.declared.place.Place.{Place};
 
@@ -10,14 +10,17 @@ use crate::any_pointer::Reader;
 use crate::read_limiter::traversed;
 use capnp_frame::message::ReaderSegments;
 use capnp_layout::element_size::ElementSize;
-use capnp_layout::fast_path::{LocalStruct, local_list, local_struct};
+use capnp_layout::fast_path::{
+    LocalStruct, local_list, local_pointers, local_struct, local_structs,
+};
 use capnp_layout::number_list::NumberList;
 use capnp_layout::object::{Body, Object};
 use capnp_layout::place::word;
 use capnp_layout::pointer::list_code;
+use capnp_layout::pointer_run::PointerRun;
+use capnp_layout::struct_list::StructList;
 
-// Views of numbers and of structs ask here first. `None` says nothing about what is there; then
-// `enter` finds it.
+// Views ask here first. `None` says nothing about what is there; then `enter` finds it.
 // Speed: from `get_as`, `get_pointer`, `get_data_field` and the `get` of lists down to the
 // pointer's word everything is inlined, since a reader or a result of more than two words would be
 // passed in memory, and the kind of an object is known where the code is inlined
@@ -65,6 +68,46 @@ impl<'a, S: ReaderSegments> Reader<'a, S> {
         }
     }
 
+    /// The list of pointers that the pointer leads to without a landing pad, counted against the
+    /// traversal limit: a fast path, as `enter_local_numbers`.
+    #[inline(always)]
+    pub(crate) fn enter_local_pointers(&self) -> Option<Object<'a>>
+        ensures { let pointer = pointer_of S.segments self.now in
+            IfSome result (λ object. IsEntered pointer object) }
+    {
+        let list = self.local_pointers()?;
+        let words = list.count as u64;
+        match traversed(self.limiter, words) {
+            Ok(()) => Some(Object {
+                segment: list.segment,
+                start: list.first,
+                body: Body::Pointers(list.count),
+                traversed: words,
+            }),
+            Err(_) => None,
+        }
+    }
+
+    /// The list of structs that the pointer leads to without a landing pad, counted against the
+    /// traversal limit: a fast path, as `enter_local_numbers`.
+    #[inline(always)]
+    pub(crate) fn enter_local_structs(&self) -> Option<Object<'a>>
+        ensures { let pointer = pointer_of S.segments self.now in
+            IfSome result (λ object. IsEntered pointer object) }
+    {
+        let list = self.local_structs()?;
+        let words = list.traversed();
+        match traversed(self.limiter, words) {
+            Ok(()) => Some(Object {
+                segment: list.segment,
+                start: list.start,
+                body: Body::Structs(list.elements, list.words),
+                traversed: words,
+            }),
+            Err(_) => None,
+        }
+    }
+
     // The list of numbers that the pointer leads to.
     // Speed: the size is looked at first, so the compiler knows it in the code after that
     // (`tools/time-reading`).
@@ -93,5 +136,29 @@ impl<'a, S: ReaderSegments> Reader<'a, S> {
         let place = self.place?;
         let segment = self.segments.get_segment(place.segment)?;
         local_struct(segment, place, self.nesting)
+    }
+
+    // The list of pointers that the pointer leads to.
+    #[inline(always)]
+    fn local_pointers(&self) -> Option<PointerRun<'a>>
+        ensures { IfSome result (λ list. (place : Place) × (self.now.place ≡ Some place)
+            × IsObject (message_of (S.segments self.now.segments.now)) place (pointers_of list)
+            × (0 < self.now.nesting)) }
+    {
+        let place = self.place?;
+        let segment = self.segments.get_segment(place.segment)?;
+        local_pointers(segment, place, self.nesting)
+    }
+
+    // The list of structs that the pointer leads to.
+    #[inline(always)]
+    fn local_structs(&self) -> Option<StructList<'a>>
+        ensures { IfSome result (λ list. (place : Place) × (self.now.place ≡ Some place)
+            × IsObject (message_of (S.segments self.now.segments.now)) place (structs_of list)
+            × (0 < self.now.nesting)) }
+    {
+        let place = self.place?;
+        let segment = self.segments.get_segment(place.segment)?;
+        local_structs(segment, place, self.nesting)
     }
 }

@@ -2,12 +2,12 @@
 ghost use Rattle.std.specs.Prelude.{◌≡◌, ◌+◌, ◌^◌, ◌<◌, length, MatchResult};
 
 use crate::any_pointer;
-use crate::object_content::wrong_kind;
+use crate::object_content::{by_value, wrong_kind};
 use crate::read_limiter::ReadLimiter;
 use crate::traits::{FromPointerReader, IndexMove, ListIter};
 use capnp_frame::Result;
 use capnp_frame::message::ReaderSegments;
-use capnp_layout::object::words_fit;
+use capnp_layout::object::{Object, words_fit};
 use capnp_layout::place::Place;
 
 /// A list of pointers in a message.
@@ -25,7 +25,7 @@ pub struct Reader<'a, S> {
 
 impl<'a, S: ReaderSegments> Reader<'a, S> {
     ghost use Rattle.capnp_wire.specs.Lists.{FindsElement, IsIterator};
-    ghost use Rattle.capnp_wire.specs.Readers.{pointer_of};
+    ghost use Rattle.capnp_wire.specs.Readers.{pointer_of, IsEntered};
     ghost use Rattle.capnp_wire.specs.Views.{Refuses};
     ghost use Rattle.capnp_wire.specs.ListViews.{pointer_list_of, pointer_at, IsPointerList, DeclinesPointers};
 
@@ -74,34 +74,62 @@ impl<'a, S: ReaderSegments> Reader<'a, S> {
     }
 
     // The list of pointers that a pointer leads to.
+    #[inline(always)]
     fn read(reader: &any_pointer::Reader<'a, S>) -> Result<Reader<'a, S>>
         ensures { let pointer = pointer_of S.segments reader.now in MatchResult result
             (λ view. IsPointerList pointer (pointer_list_of S.segments view))
             (λ error. Refuses pointer DeclinesPointers error.kind) }
     {
-        let segments = reader.segments;
-        let limiter = reader.limiter;
-        let nesting = reader.nesting.saturating_sub(1);
+        match reader.enter_local_pointers() {
+            Some(object) => Reader::in_object(reader, &object),
+            None => by_value(Reader::enter(&reader.copied())),
+        }
+    }
+
+    // The list of pointers that a pointer leads to, by any path.
+    // Speed: a function of its own, so `read` knows the kind of the fast path's object
+    // (`tools/time-reading`).
+    #[inline(never)]
+    fn enter(reader: &any_pointer::Reader<'a, S>) -> Result<Reader<'a, S>>
+        ensures { let pointer = pointer_of S.segments reader.now in MatchResult result
+            (λ view. IsPointerList pointer (pointer_list_of S.segments view))
+            (λ error. Refuses pointer DeclinesPointers error.kind) }
+    {
         let Some(object) = reader.enter()? else {
             return Ok(Reader {
-                segments,
-                limiter,
+                segments: reader.segments,
+                limiter: reader.limiter,
                 first: Place {
                     segment: 0,
                     word: 0,
                 },
                 count: 0,
-                nesting,
+                nesting: reader.nesting.saturating_sub(1),
             });
         };
+        Reader::in_object(reader, &object)
+    }
+
+    // The object as a list of pointers.
+    #[inline(always)]
+    fn in_object(
+        reader: &any_pointer::Reader<'a, S>,
+        object: &Object<'a>,
+    ) -> Result<Reader<'a, S>>
+        requires { IsEntered (pointer_of S.segments reader.now) object.now }
+        ensures { let pointer = pointer_of S.segments reader.now in MatchResult result
+            (λ view. IsPointerList pointer (pointer_list_of S.segments view))
+            (λ error. Refuses pointer DeclinesPointers error.kind) }
+    {
+        let nesting = reader.nesting.saturating_sub(1);
         let Some(count) = object.body.as_pointers() else {
             return Err(wrong_kind());
         };
         // For the prover: each word is below 2^64, and so is the number of bytes.
         words_fit(object.segment);
         Ok(Reader {
-            segments,
-            limiter,
+            segments: reader.segments,
+            limiter: reader.limiter,
             first: object.start,
             count,
             nesting,
@@ -147,6 +175,7 @@ impl<'a, S: ReaderSegments> FromPointerReader<'a, S> for Reader<'a, S> {
 
     ghost declines = { λ pointer kind. Declines pointer DeclinesPointers kind };
 
+    #[inline(always)]
     fn get_from_pointer(reader: any_pointer::Reader<'a, S>) -> Result<Self>
         ensures { let pointer = pointer_of S.segments reader.entry in IsViewOf pointer
             (λ view. IsPointerList pointer (pointer_list_of S.segments view))

@@ -78,6 +78,7 @@ impl<'a, S: ReaderSegments, T> FromPointerReader<'a, S> for Reader<'a, S, T> {
 
     ghost declines = { λ pointer kind. Declines pointer DeclinesPointers kind };
 
+    #[inline(always)]
     fn get_from_pointer(reader: any_pointer::Reader<'a, S>) -> Result<Self>
         ensures { let pointer = pointer_of S.segments reader.entry in IsViewOf pointer
             (λ view. IsPointerList pointer (pointer_list_of S.segments view.pointers))

@@ -6,7 +6,7 @@ ghost use Rattle.capnp_wire.specs.Values.{HoldsPointers};
 
 use crate::any_pointer;
 use crate::any_struct::StructReader;
-use crate::object_content::wrong_kind;
+use crate::object_content::{by_value, wrong_kind};
 use crate::read_limiter::ReadLimiter;
 use crate::traits::{FromPointerReader, IndexMove, ListIter};
 use capnp_frame::Result;
@@ -90,7 +90,23 @@ impl<'a, S: ReaderSegments> Reader<'a, S> {
     }
 
     // The list of structs that a pointer leads to.
+    #[inline(always)]
     fn read(reader: &any_pointer::Reader<'a, S>) -> Result<Reader<'a, S>>
+        ensures { let pointer = pointer_of S.segments reader.now in MatchResult result
+            (λ view. IsStructList pointer (struct_list_of S.segments view))
+            (λ error. Refuses pointer DeclinesStructs error.kind) }
+    {
+        match reader.enter_local_structs() {
+            Some(object) => Reader::in_object(reader, &object),
+            None => by_value(Reader::enter(&reader.copied())),
+        }
+    }
+
+    // The list of structs that a pointer leads to, by any path.
+    // Speed: a function of its own, so `read` knows the kind of the fast path's object
+    // (`tools/time-reading`).
+    #[inline(never)]
+    fn enter(reader: &any_pointer::Reader<'a, S>) -> Result<Reader<'a, S>>
         ensures { let pointer = pointer_of S.segments reader.now in MatchResult result
             (λ view. IsStructList pointer (struct_list_of S.segments view))
             (λ error. Refuses pointer DeclinesStructs error.kind) }
@@ -98,10 +114,24 @@ impl<'a, S: ReaderSegments> Reader<'a, S> {
         let Some(object) = reader.enter()? else {
             return Ok(Reader::empty(reader));
         };
+        Reader::in_object(reader, &object)
+    }
+
+    // The object as a list of structs.
+    #[inline(always)]
+    fn in_object(
+        reader: &any_pointer::Reader<'a, S>,
+        object: &Object<'a>,
+    ) -> Result<Reader<'a, S>>
+        requires { IsEntered (pointer_of S.segments reader.now) object.now }
+        ensures { let pointer = pointer_of S.segments reader.now in MatchResult result
+            (λ view. IsStructList pointer (struct_list_of S.segments view))
+            (λ error. Refuses pointer DeclinesStructs error.kind) }
+    {
         let Some(elements) = object.body.as_structs() else {
             return Err(wrong_kind());
         };
-        Ok(Reader::within(reader, &object, 1, elements))
+        Ok(Reader::within(reader, object, 1, elements))
     }
 
     /// The list that null is, which has no elements.
@@ -128,6 +158,7 @@ impl<'a, S: ReaderSegments> Reader<'a, S> {
     }
 
     /// The structs in an object, after this many of its words.
+    #[inline(always)]
     pub(crate) fn within(
         reader: &any_pointer::Reader<'a, S>,
         object: &Object<'a>,
@@ -198,6 +229,7 @@ impl<'a, S: ReaderSegments> FromPointerReader<'a, S> for Reader<'a, S> {
 
     ghost declines = { λ pointer kind. Declines pointer DeclinesStructs kind };
 
+    #[inline(always)]
     fn get_from_pointer(reader: any_pointer::Reader<'a, S>) -> Result<Self>
         ensures { let pointer = pointer_of S.segments reader.entry in IsViewOf pointer
             (λ view. IsStructList pointer (struct_list_of S.segments view))

@@ -104,6 +104,7 @@ impl<'a, S: ReaderSegments, E> FromPointerReader<'a, S> for EnumList<'a, E> {
 
     ghost declines = { λ pointer kind. Declines pointer (DeclinesFields 3) kind };
 
+    #[inline(always)]
     fn get_from_pointer(reader: any_pointer::Reader<'a, S>) -> Result<Self>
         ensures { let pointer = pointer_of S.segments reader.entry in IsViewOf pointer
             (λ view. Reads pointer (λ form.

@@ -84,6 +84,7 @@ impl<'a, S: ReaderSegments, T> FromPointerReader<'a, S> for ListList<'a, S, T> {
 
     ghost declines = { λ pointer kind. Declines pointer DeclinesFirstPointers kind };
 
+    #[inline(always)]
     fn get_from_pointer(reader: any_pointer::Reader<'a, S>) -> Result<Self>
         ensures { let pointer = pointer_of S.segments reader.entry in IsViewOf pointer
             (λ view. IsUpgradedPointers pointer (upgraded_pointers_of S.segments view.pointers))

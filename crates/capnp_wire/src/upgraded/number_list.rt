@@ -4,7 +4,7 @@ ghost use Rattle.capnp_layout.specs.Element.{code_of, width};
 ghost use Rattle.capnp_layout.specs.Landing.{room_of, words_in};
 ghost use Rattle.capnp_wire.specs.UpgradedViews.{IsFirstField};
 
-use crate::object_content::{object_numbers, wrong_kind};
+use crate::object_content::{by_value, object_numbers, wrong_kind};
 use crate::primitive_element::PrimitiveElement;
 use crate::traits::{FromPointerReader, IndexMove, ListIter};
 use crate::{any_pointer, primitive_list};
@@ -103,7 +103,24 @@ impl<'a, T: PrimitiveElement> NumberList<'a, T> {
     }
 
     // The list that a pointer leads to.
+    #[inline(always)]
     fn read<S: ReaderSegments>(reader: &any_pointer::Reader<'a, S>) -> Result<NumberList<'a, T>>
+        ensures { let pointer = pointer_of S.segments reader.now in MatchResult result
+            (λ view. Reads pointer (λ form.
+            ReadsAsNumbers T.code form (upgraded_numbers_of T.code view)))
+            (λ error. Refuses pointer (DeclinesFields T.code) error.kind) }
+    {
+        match reader.enter_local_numbers(T::size()) {
+            Some(object) => NumberList::of(&object),
+            None => by_value(NumberList::enter(&reader.copied())),
+        }
+    }
+
+    // The list that a pointer leads to, by any path.
+    // Speed: a function of its own, so `read` knows the kind of the fast path's object
+    // (`tools/time-reading`).
+    #[inline(never)]
+    fn enter<S: ReaderSegments>(reader: &any_pointer::Reader<'a, S>) -> Result<NumberList<'a, T>>
         ensures { let pointer = pointer_of S.segments reader.now in MatchResult result
             (λ view. Reads pointer (λ form.
             ReadsAsNumbers T.code form (upgraded_numbers_of T.code view)))
@@ -118,11 +135,11 @@ impl<'a, T: PrimitiveElement> NumberList<'a, T> {
                 }),
             });
         };
-        let list = NumberList::of(&object)?;
-        Ok(list)
+        NumberList::of(&object)
     }
 
     // The list of numbers that an object is read as.
+    #[inline(always)]
     fn of(object: &Object<'a>) -> Result<NumberList<'a, T>>
         requires room { object.now.start.word + room_of object.now.body
             ≤ length object.now.segment.now / 8 }
@@ -205,6 +222,7 @@ impl<'a, S: ReaderSegments, T: PrimitiveElement> FromPointerReader<'a, S> for Nu
 
     ghost declines = { λ pointer kind. Declines pointer (DeclinesFields T.code) kind };
 
+    #[inline(always)]
     fn get_from_pointer(reader: any_pointer::Reader<'a, S>) -> Result<Self>
         ensures { let pointer = pointer_of S.segments reader.entry in IsViewOf pointer
             (λ view. Reads pointer (λ form.

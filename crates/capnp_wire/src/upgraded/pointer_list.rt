@@ -2,7 +2,7 @@
 ghost use Rattle.std.specs.Prelude.{◌≡◌, ◌+◌, ◌*◌, ◌^◌, ◌<◌, length, MatchResult};
 
 use crate::any_pointer;
-use crate::object_content::wrong_kind;
+use crate::object_content::{by_value, wrong_kind};
 use crate::read_limiter::ReadLimiter;
 use crate::traits::{FromPointerReader, IndexMove, ListIter};
 use capnp_frame::Result;
@@ -78,7 +78,23 @@ impl<'a, S: ReaderSegments> PointerList<'a, S> {
     }
 
     // The list that a pointer leads to.
+    #[inline(always)]
     fn read(reader: &any_pointer::Reader<'a, S>) -> Result<PointerList<'a, S>>
+        ensures { let pointer = pointer_of S.segments reader.now in MatchResult result
+            (λ view. IsUpgradedPointers pointer (upgraded_pointers_of S.segments view))
+            (λ error. Refuses pointer DeclinesFirstPointers error.kind) }
+    {
+        match reader.enter_local_pointers() {
+            Some(object) => PointerList::of(reader, &object),
+            None => by_value(PointerList::enter(&reader.copied())),
+        }
+    }
+
+    // The list that a pointer leads to, by any path.
+    // Speed: a function of its own, so `read` knows the kind of the fast path's object
+    // (`tools/time-reading`).
+    #[inline(never)]
+    fn enter(reader: &any_pointer::Reader<'a, S>) -> Result<PointerList<'a, S>>
         ensures { let pointer = pointer_of S.segments reader.now in MatchResult result
             (λ view. IsUpgradedPointers pointer (upgraded_pointers_of S.segments view))
             (λ error. Refuses pointer DeclinesFirstPointers error.kind) }
@@ -94,6 +110,7 @@ impl<'a, S: ReaderSegments> PointerList<'a, S> {
     }
 
     // The list of pointers that an object is read as.
+    #[inline(always)]
     fn of(reader: &any_pointer::Reader<'a, S>, object: &Object<'a>) -> Result<PointerList<'a, S>>
         requires { IsEntered (pointer_of S.segments reader.now) object.now }
         ensures { let pointer = pointer_of S.segments reader.now in MatchResult result
@@ -120,6 +137,7 @@ impl<'a, S: ReaderSegments> PointerList<'a, S> {
     }
 
     // Pointers at this distance from one another.
+    #[inline(always)]
     fn new(
         reader: &any_pointer::Reader<'a, S>,
         first: Place,
@@ -183,6 +201,7 @@ impl<'a, S: ReaderSegments> FromPointerReader<'a, S> for PointerList<'a, S> {
 
     ghost declines = { λ pointer kind. Declines pointer DeclinesFirstPointers kind };
 
+    #[inline(always)]
     fn get_from_pointer(reader: any_pointer::Reader<'a, S>) -> Result<Self>
         ensures { let pointer = pointer_of S.segments reader.entry in IsViewOf pointer
             (λ view. IsUpgradedPointers pointer (upgraded_pointers_of S.segments view))

@@ -6,7 +6,7 @@ ghost use Rattle.capnp_wire.specs.UpgradedViews.{elements_without_data as elemen
 
 use crate::any_struct::StructReader;
 use crate::any_struct::part::WordPart;
-use crate::object_content::{words_at, wrong_kind};
+use crate::object_content::{by_value, words_at, wrong_kind};
 use crate::read_limiter::ReadLimiter;
 use crate::traits::{FromPointerReader, IndexMove, ListIter};
 use crate::{any_pointer, struct_list};
@@ -129,7 +129,23 @@ impl<'a, S: ReaderSegments> StructList<'a, S> {
     }
 
     // The list that a pointer leads to.
+    #[inline(always)]
     fn read(reader: &any_pointer::Reader<'a, S>) -> Result<StructList<'a, S>>
+        ensures { let pointer = pointer_of S.segments reader.now in MatchResult result
+            (λ view. IsUpgradedStructs pointer (upgraded_structs_of S.segments view))
+            (λ error. Refuses pointer DeclinesRows error.kind) }
+    {
+        match reader.enter_local_structs() {
+            Some(object) => StructList::of(reader, &object),
+            None => by_value(StructList::enter(&reader.copied())),
+        }
+    }
+
+    // The list that a pointer leads to, by any path.
+    // Speed: a function of its own, so `read` knows the kind of the fast path's object
+    // (`tools/time-reading`).
+    #[inline(never)]
+    fn enter(reader: &any_pointer::Reader<'a, S>) -> Result<StructList<'a, S>>
         ensures { let pointer = pointer_of S.segments reader.now in MatchResult result
             (λ view. IsUpgradedStructs pointer (upgraded_structs_of S.segments view))
             (λ error. Refuses pointer DeclinesRows error.kind) }
@@ -143,6 +159,7 @@ impl<'a, S: ReaderSegments> StructList<'a, S> {
     }
 
     // The object as a list.
+    #[inline(always)]
     fn of(reader: &any_pointer::Reader<'a, S>, object: &Object<'a>) -> Result<StructList<'a, S>>
         requires { IsEntered (pointer_of S.segments reader.now) object.now }
         ensures { let pointer = pointer_of S.segments reader.now in MatchResult result
@@ -160,6 +177,7 @@ impl<'a, S: ReaderSegments> StructList<'a, S> {
     }
 
     // A list of numbers as a list of structs.
+    #[inline(never)]
     fn of_numbers(
         reader: &any_pointer::Reader<'a, S>,
         object: &Object<'a>,
@@ -193,6 +211,7 @@ impl<'a, S: ReaderSegments> StructList<'a, S> {
     }
 
     // The structs of an object that has the layout of a list of structs.
+    #[inline(always)]
     fn in_place(
         reader: &any_pointer::Reader<'a, S>,
         object: &Object<'a>,
@@ -269,6 +288,7 @@ impl<'a, S: ReaderSegments> FromPointerReader<'a, S> for StructList<'a, S> {
 
     ghost declines = { λ pointer kind. Declines pointer DeclinesRows kind };
 
+    #[inline(always)]
     fn get_from_pointer(reader: any_pointer::Reader<'a, S>) -> Result<Self>
         ensures { let pointer = pointer_of S.segments reader.entry in IsViewOf pointer
             (λ view. IsUpgradedStructs pointer (upgraded_structs_of S.segments view))

@@ -1,0 +1,29 @@
+//! Lists of structs.
+ghost use Rattle.std.specs.Prelude.{◌≡◌};
+ghost use Rattle.capnp_layout.specs.Landing.{traversed_of};
+ghost use Rattle.capnp_layout.specs.declared.object.Body.{Body};
+
+use crate::object::Body;
+use crate::place::Place;
+use crate::pointer::Elements;
+
+/// A list of structs.
+#[derive(Drop)]
+pub struct StructList<'a> {
+    pub segment: &'a [u8],
+    /// The place of its tag.
+    pub start: Place,
+    pub elements: Elements,
+    /// How many words follow its tag.
+    pub words: u32,
+}
+
+impl StructList<'_> {
+    /// The number of words that a reader counts against the traversal limit for it.
+    #[inline(always)]
+    pub fn traversed(&self) -> u64
+        ensures { result ≡ traversed_of (Body.Structs self.now.elements self.now.words) }
+    {
+        Body::Structs(self.elements, self.words).traversed()
+    }
+}
