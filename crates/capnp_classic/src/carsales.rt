@@ -28,8 +28,10 @@ impl Benchmark for CarSales {
 
     fn request(&mut self, random: &mut Random, objects: &mut Orphanage) -> Result<u64> {
         self.cars.clear();
+        let count = random.below(200);
+        self.cars.reserve(count as usize)?;
         let mut value: u64 = 0;
-        for _ in 0..random.below(200) {
+        for _ in 0..count {
             let mut car = car::Builder::new();
             value = value.wrapping_add(fill_car(&mut car, random, objects)?);
             self.cars.push(car)?;

@@ -41,8 +41,10 @@ impl Benchmark for CatRank {
 
     fn request(&mut self, random: &mut Random, objects: &mut Orphanage) -> Result<u64> {
         self.results.clear();
+        let count = random.below(1000);
+        self.results.reserve(count as usize)?;
         let mut good: u64 = 0;
-        for index in 0..random.below(1000) {
+        for index in 0..count {
             let mut result = search_result::Builder::new();
             result.set_score(1000.0 - f64::from(index));
             fill_url(&mut self.text, random)?;
@@ -65,6 +67,7 @@ impl Benchmark for CatRank {
         let root: search_result_list::Reader<'_, S> = request.get_root()?;
         let results = root.get_results()?;
         self.scored.clear();
+        self.scored.reserve(results.len() as usize)?;
         for index in 0..results.len() {
             let score = score_of(&results.get(index))?;
             self.scored.push(Scored { score, index })?;
@@ -72,6 +75,7 @@ impl Benchmark for CatRank {
         self.scored
             .sort_unstable_by(|one, other| falling(one, other));
         self.results.clear();
+        self.results.reserve(results.len() as usize)?;
         for scored in &self.scored {
             if let Some(result) = results.try_get(scored.index) {
                 self.results.push(copy_of(&result, scored.score, objects)?)?;

@@ -8,6 +8,12 @@ use capnp_frame::{Error, ErrorKind, Result};
 use std::alloc::Global;
 use std::marker::Model;
 
+// How many bytes are asked for at first: as many as `HeapAllocator` asks for.
+//
+// Speed: most messages have fewer, and need no further request (`tools/time-classic`, in new
+// memory).
+const FIRST_BYTES: usize = 8192;
+
 /// A segment on the heap, of whose bytes the first ones are used.
 ///
 /// Speed: the bytes after these have been written or made zero before, so an object is written over
@@ -42,8 +48,7 @@ impl Heap {
             (λ heap. (heap.bytes ≡ replicate 8 0) × (heap.most ≡ None))
             (λ error. error.kind ≡ OutOfMemory) }
     {
-        let mut bytes = Vec::new(alloc);
-        bytes.reserve(8)?;
+        let mut bytes = Vec::with_capacity(alloc, FIRST_BYTES)?;
         bytes.resize(8, 0)?;
         Ok(Heap { bytes, used: 8 })
     }

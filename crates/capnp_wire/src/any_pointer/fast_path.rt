@@ -96,13 +96,13 @@ impl<'a, S: ReaderSegments> Reader<'a, S> {
             IfSome result (λ object. IsEntered pointer object) }
     {
         let list = self.local_structs()?;
-        let words = list.traversed();
-        match traversed(self.limiter, words) {
+        let counted = list.traversed();
+        match traversed(self.limiter, counted) {
             Ok(()) => Some(Object {
                 segment: list.segment,
                 start: list.start,
                 body: Body::Structs(list.elements, list.words),
-                traversed: words,
+                traversed: counted,
             }),
             Err(_) => None,
         }

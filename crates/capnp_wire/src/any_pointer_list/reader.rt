@@ -112,10 +112,7 @@ impl<'a, S: ReaderSegments> Reader<'a, S> {
 
     // The object as a list of pointers.
     #[inline(always)]
-    fn in_object(
-        reader: &any_pointer::Reader<'a, S>,
-        object: &Object<'a>,
-    ) -> Result<Reader<'a, S>>
+    fn in_object(reader: &any_pointer::Reader<'a, S>, object: &Object<'a>) -> Result<Reader<'a, S>>
         requires { IsEntered (pointer_of S.segments reader.now) object.now }
         ensures { let pointer = pointer_of S.segments reader.now in MatchResult result
             (λ view. IsPointerList pointer (pointer_list_of S.segments view))
