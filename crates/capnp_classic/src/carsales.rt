@@ -27,14 +27,13 @@ impl Benchmark for CarSales {
     }
 
     fn request(&mut self, random: &mut Random, objects: &mut Orphanage) -> Result<u64> {
+        // Speed: a car is filled where it stays until it is written, and not moved there.
         self.cars.clear();
-        let count = random.below(200);
-        self.cars.reserve(count as usize)?;
+        self.cars
+            .resize(random.below(200) as usize, car::Builder::new())?;
         let mut value: u64 = 0;
-        for _ in 0..count {
-            let mut car = car::Builder::new();
-            value = value.wrapping_add(fill_car(&mut car, random, objects)?);
-            self.cars.push(car)?;
+        for car in self.cars.iter_mut() {
+            value = value.wrapping_add(fill_car(car, random, objects)?);
         }
         let mut lot = parking_lot::Builder::new();
         lot.set_cars(car::Builder::add_list(self.cars.as_slice(), objects)?);
