@@ -68,6 +68,7 @@ pub mod parking_lot {
 
         ghost declines = { λ pointer kind. Declines pointer DeclinesStruct kind };
 
+        #[inline(always)]
         fn get_from_pointer(reader: any_pointer::Reader<'a, S>) -> Result<Self>
             ensures { let pointer = pointer_of S.segments reader.entry in IsViewOf pointer
                 (λ view. IsStruct pointer (struct_of S.segments view.fields))
@@ -329,6 +330,7 @@ pub mod total_value {
 
         ghost declines = { λ pointer kind. Declines pointer DeclinesStruct kind };
 
+        #[inline(always)]
         fn get_from_pointer(reader: any_pointer::Reader<'a, S>) -> Result<Self>
             ensures { let pointer = pointer_of S.segments reader.entry in IsViewOf pointer
                 (λ view. IsStruct pointer (struct_of S.segments view.fields))
@@ -788,6 +790,7 @@ pub mod car {
 
         ghost declines = { λ pointer kind. Declines pointer DeclinesStruct kind };
 
+        #[inline(always)]
         fn get_from_pointer(reader: any_pointer::Reader<'a, S>) -> Result<Self>
             ensures { let pointer = pointer_of S.segments reader.entry in IsViewOf pointer
                 (λ view. IsStruct pointer (struct_of S.segments view.fields))
@@ -1457,6 +1460,7 @@ pub mod wheel {
 
         ghost declines = { λ pointer kind. Declines pointer DeclinesStruct kind };
 
+        #[inline(always)]
         fn get_from_pointer(reader: any_pointer::Reader<'a, S>) -> Result<Self>
             ensures { let pointer = pointer_of S.segments reader.entry in IsViewOf pointer
                 (λ view. IsStruct pointer (struct_of S.segments view.fields))
@@ -1785,6 +1789,7 @@ pub mod engine {
 
         ghost declines = { λ pointer kind. Declines pointer DeclinesStruct kind };
 
+        #[inline(always)]
         fn get_from_pointer(reader: any_pointer::Reader<'a, S>) -> Result<Self>
             ensures { let pointer = pointer_of S.segments reader.entry in IsViewOf pointer
                 (λ view. IsStruct pointer (struct_of S.segments view.fields))

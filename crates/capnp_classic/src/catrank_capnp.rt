@@ -68,6 +68,7 @@ pub mod search_result_list {
 
         ghost declines = { λ pointer kind. Declines pointer DeclinesStruct kind };
 
+        #[inline(always)]
         fn get_from_pointer(reader: any_pointer::Reader<'a, S>) -> Result<Self>
             ensures { let pointer = pointer_of S.segments reader.entry in IsViewOf pointer
                 (λ view. IsStruct pointer (struct_of S.segments view.fields))
@@ -369,6 +370,7 @@ pub mod search_result {
 
         ghost declines = { λ pointer kind. Declines pointer DeclinesStruct kind };
 
+        #[inline(always)]
         fn get_from_pointer(reader: any_pointer::Reader<'a, S>) -> Result<Self>
             ensures { let pointer = pointer_of S.segments reader.entry in IsViewOf pointer
                 (λ view. IsStruct pointer (struct_of S.segments view.fields))

@@ -119,6 +119,7 @@ pub mod expression {
         }
 
         /// The field `left`.
+        #[inline(always)]
         pub fn get_left(&self) -> left::Reader<'_, 'a, S>
             ensures { let fields = struct_of S.segments self.now.fields in
                 struct_of S.segments result.fields.now ≡ fields }
@@ -129,6 +130,7 @@ pub mod expression {
         }
 
         /// The field `right`.
+        #[inline(always)]
         pub fn get_right(&self) -> right::Reader<'_, 'a, S>
             ensures { let fields = struct_of S.segments self.now.fields in
                 struct_of S.segments result.fields.now ≡ fields }
@@ -148,6 +150,7 @@ pub mod expression {
 
         ghost declines = { λ pointer kind. Declines pointer DeclinesStruct kind };
 
+        #[inline(always)]
         fn get_from_pointer(reader: any_pointer::Reader<'a, S>) -> Result<Self>
             ensures { let pointer = pointer_of S.segments reader.entry in IsViewOf pointer
                 (λ view. IsStruct pointer (struct_of S.segments view.fields))
@@ -427,6 +430,7 @@ pub mod expression {
             }
 
             /// Which member of the union is there, and its value.
+            #[inline(always)]
             pub fn which(&self) -> Which<'a, S>
                 ensures { let fields = struct_of S.segments self.now.fields.now in
                     let number = field fields.words 16 1 in
@@ -541,6 +545,7 @@ pub mod expression {
             }
 
             /// Which member of the union is there, and its value.
+            #[inline(always)]
             pub fn which(&self) -> Which<'a, S>
                 ensures { let fields = struct_of S.segments self.now.fields.now in
                     let number = field fields.words 16 6 in
@@ -653,6 +658,7 @@ pub mod evaluation_result {
 
         ghost declines = { λ pointer kind. Declines pointer DeclinesStruct kind };
 
+        #[inline(always)]
         fn get_from_pointer(reader: any_pointer::Reader<'a, S>) -> Result<Self>
             ensures { let pointer = pointer_of S.segments reader.entry in IsViewOf pointer
                 (λ view. IsStruct pointer (struct_of S.segments view.fields))

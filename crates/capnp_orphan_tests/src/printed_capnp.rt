@@ -165,6 +165,7 @@ pub mod printed {
         }
 
         /// The field `size`.
+        #[inline(always)]
         pub fn get_size(&self) -> size::Reader<'_, 'a, S>
             ensures { let fields = struct_of S.segments self.now.fields in
                 struct_of S.segments result.fields.now ≡ fields }
@@ -228,6 +229,7 @@ pub mod printed {
         }
 
         /// Which member of the union is there, and its value.
+        #[inline(always)]
         pub fn which(&self) -> Which<'a, S>
             ensures { let fields = struct_of S.segments self.now.fields in
                 let number = field fields.words 16 3 in
@@ -281,6 +283,7 @@ pub mod printed {
 
         ghost declines = { λ pointer kind. Declines pointer DeclinesStruct kind };
 
+        #[inline(always)]
         fn get_from_pointer(reader: any_pointer::Reader<'a, S>) -> Result<Self>
             ensures { let pointer = pointer_of S.segments reader.entry in IsViewOf pointer
                 (λ view. IsStruct pointer (struct_of S.segments view.fields))
@@ -505,6 +508,7 @@ pub mod printed {
 
             ghost declines = { λ pointer kind. Declines pointer DeclinesStruct kind };
 
+            #[inline(always)]
             fn get_from_pointer(reader: any_pointer::Reader<'a, S>) -> Result<Self>
                 ensures { let pointer = pointer_of S.segments reader.entry in IsViewOf pointer
                     (λ view. IsStruct pointer (struct_of S.segments view.fields))

@@ -5,7 +5,7 @@ use crate::names::snake;
 use crate::numbers::number_of;
 use crate::schema::{Base, Field, Place, Slot};
 use crate::signatures::signature;
-use crate::templates::{GETTER, HAS, LEFT_OUT, VOID};
+use crate::templates::{ALWAYS_INLINED, GETTER, HAS, LEFT_OUT, VOID};
 use std::alloc::{AllocError, Global};
 
 /// Adds the getter of a field, with what the schema says of it, and for a pointer the method that
@@ -28,6 +28,9 @@ pub fn push_field(
         return code.add_with(VOID, "name", name);
     };
     push_comment(code, field, comment)?;
+    if let Slot::Group(_) = &field.slot {
+        code.add_lines(ALWAYS_INLINED)?;
+    }
     let type_name = fill_with(alloc, shown.type_name.as_str(), "borrow", site.borrow())?;
     let signature = signature(alloc, code.depth, name, "&self", type_name.as_str());
     let holes = Holes::new(alloc)

@@ -129,6 +129,7 @@ pub mod node {
         pub fn get_file(&self) {}
 
         /// The field `struct`.
+        #[inline(always)]
         pub fn get_struct(&self) -> struct_::Reader<'_, 'a, S>
             ensures { let fields = struct_of S.segments self.now.fields in
                 struct_of S.segments result.fields.now ≡ fields }
@@ -139,6 +140,7 @@ pub mod node {
         }
 
         /// The field `enum`.
+        #[inline(always)]
         pub fn get_enum(&self) -> enum_::Reader<'_, 'a, S>
             ensures { let fields = struct_of S.segments self.now.fields in
                 struct_of S.segments result.fields.now ≡ fields }
@@ -149,6 +151,7 @@ pub mod node {
         }
 
         /// The field `interface`.
+        #[inline(always)]
         pub fn get_interface(&self) -> interface::Reader<'_, 'a, S>
             ensures { let fields = struct_of S.segments self.now.fields in
                 struct_of S.segments result.fields.now ≡ fields }
@@ -159,6 +162,7 @@ pub mod node {
         }
 
         /// The field `const`.
+        #[inline(always)]
         pub fn get_const(&self) -> const_::Reader<'_, 'a, S>
             ensures { let fields = struct_of S.segments self.now.fields in
                 struct_of S.segments result.fields.now ≡ fields }
@@ -169,6 +173,7 @@ pub mod node {
         }
 
         /// The field `annotation`.
+        #[inline(always)]
         pub fn get_annotation(&self) -> annotation::Reader<'_, 'a, S>
             ensures { let fields = struct_of S.segments self.now.fields in
                 struct_of S.segments result.fields.now ≡ fields }
@@ -208,6 +213,7 @@ pub mod node {
         }
 
         /// Which member of the union is there, and its value.
+        #[inline(always)]
         pub fn which(&self) -> Which<'_, 'a, S>
             ensures { let fields = struct_of S.segments self.now.fields in
                 let number = field fields.words 16 6 in
@@ -255,6 +261,7 @@ pub mod node {
 
         ghost declines = { λ pointer kind. Declines pointer DeclinesStruct kind };
 
+        #[inline(always)]
         fn get_from_pointer(reader: any_pointer::Reader<'a, S>) -> Result<Self>
             ensures { let pointer = pointer_of S.segments reader.entry in IsViewOf pointer
                 (λ view. IsStruct pointer (struct_of S.segments view.fields))
@@ -813,6 +820,7 @@ pub mod node {
 
             ghost declines = { λ pointer kind. Declines pointer DeclinesStruct kind };
 
+            #[inline(always)]
             fn get_from_pointer(reader: any_pointer::Reader<'a, S>) -> Result<Self>
                 ensures { let pointer = pointer_of S.segments reader.entry in IsViewOf pointer
                     (λ view. IsStruct pointer (struct_of S.segments view.fields))
@@ -977,6 +985,7 @@ pub mod node {
 
             ghost declines = { λ pointer kind. Declines pointer DeclinesStruct kind };
 
+            #[inline(always)]
             fn get_from_pointer(reader: any_pointer::Reader<'a, S>) -> Result<Self>
                 ensures { let pointer = pointer_of S.segments reader.entry in IsViewOf pointer
                     (λ view. IsStruct pointer (struct_of S.segments view.fields))
@@ -1166,6 +1175,7 @@ pub mod node {
 
             ghost declines = { λ pointer kind. Declines pointer DeclinesStruct kind };
 
+            #[inline(always)]
             fn get_from_pointer(reader: any_pointer::Reader<'a, S>) -> Result<Self>
                 ensures { let pointer = pointer_of S.segments reader.entry in IsViewOf pointer
                     (λ view. IsStruct pointer (struct_of S.segments view.fields))
@@ -1318,6 +1328,7 @@ pub mod node {
 
                 ghost declines = { λ pointer kind. Declines pointer DeclinesStruct kind };
 
+                #[inline(always)]
                 fn get_from_pointer(reader: any_pointer::Reader<'a, S>) -> Result<Self>
                     ensures { let pointer = pointer_of S.segments reader.entry in IsViewOf pointer
                         (λ view. IsStruct pointer (struct_of S.segments view.fields))
@@ -1507,6 +1518,7 @@ pub mod field {
         }
 
         /// A regular, non-group, non-fixed-list field.
+        #[inline(always)]
         pub fn get_slot(&self) -> slot::Reader<'_, 'a, S>
             ensures { let fields = struct_of S.segments self.now.fields in
                 struct_of S.segments result.fields.now ≡ fields }
@@ -1517,6 +1529,7 @@ pub mod field {
         }
 
         /// A group.
+        #[inline(always)]
         pub fn get_group(&self) -> group::Reader<'_, 'a, S>
             ensures { let fields = struct_of S.segments self.now.fields in
                 struct_of S.segments result.fields.now ≡ fields }
@@ -1527,6 +1540,7 @@ pub mod field {
         }
 
         /// The field `ordinal`.
+        #[inline(always)]
         pub fn get_ordinal(&self) -> ordinal::Reader<'_, 'a, S>
             ensures { let fields = struct_of S.segments self.now.fields in
                 struct_of S.segments result.fields.now ≡ fields }
@@ -1537,6 +1551,7 @@ pub mod field {
         }
 
         /// Which member of the union is there, and its value.
+        #[inline(always)]
         pub fn which(&self) -> Which<'_, 'a, S>
             ensures { let fields = struct_of S.segments self.now.fields in
                 let number = field fields.words 16 4 in
@@ -1572,6 +1587,7 @@ pub mod field {
 
         ghost declines = { λ pointer kind. Declines pointer DeclinesStruct kind };
 
+        #[inline(always)]
         fn get_from_pointer(reader: any_pointer::Reader<'a, S>) -> Result<Self>
             ensures { let pointer = pointer_of S.segments reader.entry in IsViewOf pointer
                 (λ view. IsStruct pointer (struct_of S.segments view.fields))
@@ -1802,6 +1818,7 @@ pub mod field {
             }
 
             /// Which member of the union is there, and its value.
+            #[inline(always)]
             pub fn which(&self) -> Which
                 ensures { let fields = struct_of S.segments self.now.fields.now in
                     let number = field fields.words 16 5 in
@@ -1912,6 +1929,7 @@ pub mod enumerant {
 
         ghost declines = { λ pointer kind. Declines pointer DeclinesStruct kind };
 
+        #[inline(always)]
         fn get_from_pointer(reader: any_pointer::Reader<'a, S>) -> Result<Self>
             ensures { let pointer = pointer_of S.segments reader.entry in IsViewOf pointer
                 (λ view. IsStruct pointer (struct_of S.segments view.fields))
@@ -2073,6 +2091,7 @@ pub mod superclass {
 
         ghost declines = { λ pointer kind. Declines pointer DeclinesStruct kind };
 
+        #[inline(always)]
         fn get_from_pointer(reader: any_pointer::Reader<'a, S>) -> Result<Self>
             ensures { let pointer = pointer_of S.segments reader.entry in IsViewOf pointer
                 (λ view. IsStruct pointer (struct_of S.segments view.fields))
@@ -2339,6 +2358,7 @@ pub mod method {
 
         ghost declines = { λ pointer kind. Declines pointer DeclinesStruct kind };
 
+        #[inline(always)]
         fn get_from_pointer(reader: any_pointer::Reader<'a, S>) -> Result<Self>
             ensures { let pointer = pointer_of S.segments reader.entry in IsViewOf pointer
                 (λ view. IsStruct pointer (struct_of S.segments view.fields))
@@ -2506,6 +2526,7 @@ pub mod type_ {
         pub fn get_data(&self) {}
 
         /// The field `list`.
+        #[inline(always)]
         pub fn get_list(&self) -> list::Reader<'_, 'a, S>
             ensures { let fields = struct_of S.segments self.now.fields in
                 struct_of S.segments result.fields.now ≡ fields }
@@ -2516,6 +2537,7 @@ pub mod type_ {
         }
 
         /// The field `enum`.
+        #[inline(always)]
         pub fn get_enum(&self) -> enum_::Reader<'_, 'a, S>
             ensures { let fields = struct_of S.segments self.now.fields in
                 struct_of S.segments result.fields.now ≡ fields }
@@ -2526,6 +2548,7 @@ pub mod type_ {
         }
 
         /// The field `struct`.
+        #[inline(always)]
         pub fn get_struct(&self) -> struct_::Reader<'_, 'a, S>
             ensures { let fields = struct_of S.segments self.now.fields in
                 struct_of S.segments result.fields.now ≡ fields }
@@ -2536,6 +2559,7 @@ pub mod type_ {
         }
 
         /// The field `interface`.
+        #[inline(always)]
         pub fn get_interface(&self) -> interface::Reader<'_, 'a, S>
             ensures { let fields = struct_of S.segments self.now.fields in
                 struct_of S.segments result.fields.now ≡ fields }
@@ -2546,6 +2570,7 @@ pub mod type_ {
         }
 
         /// The field `anyPointer`.
+        #[inline(always)]
         pub fn get_any_pointer(&self) -> any_pointer_::Reader<'_, 'a, S>
             ensures { let fields = struct_of S.segments self.now.fields in
                 struct_of S.segments result.fields.now ≡ fields }
@@ -2556,6 +2581,7 @@ pub mod type_ {
         }
 
         /// Which member of the union is there, and its value.
+        #[inline(always)]
         pub fn which(&self) -> Which<'_, 'a, S>
             ensures { let fields = struct_of S.segments self.now.fields in
                 let number = field fields.words 16 0 in
@@ -2642,6 +2668,7 @@ pub mod type_ {
 
         ghost declines = { λ pointer kind. Declines pointer DeclinesStruct kind };
 
+        #[inline(always)]
         fn get_from_pointer(reader: any_pointer::Reader<'a, S>) -> Result<Self>
             ensures { let pointer = pointer_of S.segments reader.entry in IsViewOf pointer
                 (λ view. IsStruct pointer (struct_of S.segments view.fields))
@@ -2927,6 +2954,7 @@ pub mod type_ {
             /// The name "unconstrained" means as opposed to constraining it to match a type parameter.
             /// In retrospect this name is probably a poor choice given that it may still be constrained
             /// to be a struct, list, or capability.
+            #[inline(always)]
             pub fn get_unconstrained(&self) -> unconstrained::Reader<'b, 'a, S>
                 ensures { let fields = struct_of S.segments self.now.fields.now in
                     struct_of S.segments result.fields.now ≡ fields }
@@ -2937,6 +2965,7 @@ pub mod type_ {
             }
 
             /// This is actually a reference to a type parameter defined within this scope.
+            #[inline(always)]
             pub fn get_parameter(&self) -> parameter::Reader<'b, 'a, S>
                 ensures { let fields = struct_of S.segments self.now.fields.now in
                     struct_of S.segments result.fields.now ≡ fields }
@@ -2948,6 +2977,7 @@ pub mod type_ {
 
             /// This is actually a reference to an implicit (generic) parameter of a method. The only
             /// legal context for this type to appear is inside Method.paramBrand or Method.resultBrand.
+            #[inline(always)]
             pub fn get_implicit_method_parameter(
                 &self,
             ) -> implicit_method_parameter::Reader<'b, 'a, S>
@@ -2960,6 +2990,7 @@ pub mod type_ {
             }
 
             /// Which member of the union is there, and its value.
+            #[inline(always)]
             pub fn which(&self) -> Which<'b, 'a, S>
                 ensures { let fields = struct_of S.segments self.now.fields.now in
                     let number = field fields.words 16 4 in
@@ -3019,6 +3050,7 @@ pub mod type_ {
                 pub fn get_capability(&self) {}
 
                 /// Which member of the union is there, and its value.
+                #[inline(always)]
                 pub fn which(&self) -> Which
                     ensures { let fields = struct_of S.segments self.now.fields.now in
                         let number = field fields.words 16 5 in
@@ -3166,6 +3198,7 @@ pub mod brand {
 
         ghost declines = { λ pointer kind. Declines pointer DeclinesStruct kind };
 
+        #[inline(always)]
         fn get_from_pointer(reader: any_pointer::Reader<'a, S>) -> Result<Self>
             ensures { let pointer = pointer_of S.segments reader.entry in IsViewOf pointer
                 (λ view. IsStruct pointer (struct_of S.segments view.fields))
@@ -3334,6 +3367,7 @@ pub mod brand {
             pub fn get_inherit(&self) {}
 
             /// Which member of the union is there, and its value.
+            #[inline(always)]
             pub fn which(&self) -> Which<'a, S>
                 ensures { let fields = struct_of S.segments self.now.fields in
                     let number = field fields.words 16 4 in
@@ -3374,6 +3408,7 @@ pub mod brand {
 
             ghost declines = { λ pointer kind. Declines pointer DeclinesStruct kind };
 
+            #[inline(always)]
             fn get_from_pointer(reader: any_pointer::Reader<'a, S>) -> Result<Self>
                 ensures { let pointer = pointer_of S.segments reader.entry in IsViewOf pointer
                     (λ view. IsStruct pointer (struct_of S.segments view.fields))
@@ -3521,6 +3556,7 @@ pub mod brand {
             }
 
             /// Which member of the union is there, and its value.
+            #[inline(always)]
             pub fn which(&self) -> Which<'a, S>
                 ensures { let fields = struct_of S.segments self.now.fields in
                     let number = field fields.words 16 0 in
@@ -3561,6 +3597,7 @@ pub mod brand {
 
             ghost declines = { λ pointer kind. Declines pointer DeclinesStruct kind };
 
+            #[inline(always)]
             fn get_from_pointer(reader: any_pointer::Reader<'a, S>) -> Result<Self>
                 ensures { let pointer = pointer_of S.segments reader.entry in IsViewOf pointer
                     (λ view. IsStruct pointer (struct_of S.segments view.fields))
@@ -3878,6 +3915,7 @@ pub mod value {
         }
 
         /// Which member of the union is there, and its value.
+        #[inline(always)]
         pub fn which(&self) -> Which<'a, S>
             ensures { let fields = struct_of S.segments self.now.fields in
                 let number = field fields.words 16 0 in
@@ -3974,6 +4012,7 @@ pub mod value {
 
         ghost declines = { λ pointer kind. Declines pointer DeclinesStruct kind };
 
+        #[inline(always)]
         fn get_from_pointer(reader: any_pointer::Reader<'a, S>) -> Result<Self>
             ensures { let pointer = pointer_of S.segments reader.entry in IsViewOf pointer
                 (λ view. IsStruct pointer (struct_of S.segments view.fields))
@@ -4159,6 +4198,7 @@ pub mod annotation {
 
         ghost declines = { λ pointer kind. Declines pointer DeclinesStruct kind };
 
+        #[inline(always)]
         fn get_from_pointer(reader: any_pointer::Reader<'a, S>) -> Result<Self>
             ensures { let pointer = pointer_of S.segments reader.entry in IsViewOf pointer
                 (λ view. IsStruct pointer (struct_of S.segments view.fields))
@@ -4368,6 +4408,7 @@ pub mod capnp_version {
 
         ghost declines = { λ pointer kind. Declines pointer DeclinesStruct kind };
 
+        #[inline(always)]
         fn get_from_pointer(reader: any_pointer::Reader<'a, S>) -> Result<Self>
             ensures { let pointer = pointer_of S.segments reader.entry in IsViewOf pointer
                 (λ view. IsStruct pointer (struct_of S.segments view.fields))
@@ -4588,6 +4629,7 @@ pub mod code_generator_request {
 
         ghost declines = { λ pointer kind. Declines pointer DeclinesStruct kind };
 
+        #[inline(always)]
         fn get_from_pointer(reader: any_pointer::Reader<'a, S>) -> Result<Self>
             ensures { let pointer = pointer_of S.segments reader.entry in IsViewOf pointer
                 (λ view. IsStruct pointer (struct_of S.segments view.fields))
@@ -4769,6 +4811,7 @@ pub mod code_generator_request {
 
             ghost declines = { λ pointer kind. Declines pointer DeclinesStruct kind };
 
+            #[inline(always)]
             fn get_from_pointer(reader: any_pointer::Reader<'a, S>) -> Result<Self>
                 ensures { let pointer = pointer_of S.segments reader.entry in IsViewOf pointer
                     (λ view. IsStruct pointer (struct_of S.segments view.fields))
@@ -4934,6 +4977,7 @@ pub mod code_generator_request {
 
                 ghost declines = { λ pointer kind. Declines pointer DeclinesStruct kind };
 
+                #[inline(always)]
                 fn get_from_pointer(reader: any_pointer::Reader<'a, S>) -> Result<Self>
                     ensures { let pointer = pointer_of S.segments reader.entry in IsViewOf pointer
                         (λ view. IsStruct pointer (struct_of S.segments view.fields))

@@ -106,6 +106,7 @@ pub mod person {
         }
 
         /// The field `employment`.
+        #[inline(always)]
         pub fn get_employment(&self) -> employment::Reader<'_, 'a, S>
             ensures { let fields = struct_of S.segments self.now.fields in
                 struct_of S.segments result.fields.now ≡ fields }
@@ -125,6 +126,7 @@ pub mod person {
 
         ghost declines = { λ pointer kind. Declines pointer DeclinesStruct kind };
 
+        #[inline(always)]
         fn get_from_pointer(reader: any_pointer::Reader<'a, S>) -> Result<Self>
             ensures { let pointer = pointer_of S.segments reader.entry in IsViewOf pointer
                 (λ view. IsStruct pointer (struct_of S.segments view.fields))
@@ -456,6 +458,7 @@ pub mod person {
             pub fn get_self_employed(&self) {}
 
             /// Which member of the union is there, and its value.
+            #[inline(always)]
             pub fn which(&self) -> Which<'a>
                 ensures { let fields = struct_of S.segments self.now.fields.now in
                     let number = field fields.words 16 2 in
@@ -623,6 +626,7 @@ pub mod person {
 
             ghost declines = { λ pointer kind. Declines pointer DeclinesStruct kind };
 
+            #[inline(always)]
             fn get_from_pointer(reader: any_pointer::Reader<'a, S>) -> Result<Self>
                 ensures { let pointer = pointer_of S.segments reader.entry in IsViewOf pointer
                     (λ view. IsStruct pointer (struct_of S.segments view.fields))
@@ -981,6 +985,7 @@ pub mod address_book {
 
         ghost declines = { λ pointer kind. Declines pointer DeclinesStruct kind };
 
+        #[inline(always)]
         fn get_from_pointer(reader: any_pointer::Reader<'a, S>) -> Result<Self>
             ensures { let pointer = pointer_of S.segments reader.entry in IsViewOf pointer
                 (λ view. IsStruct pointer (struct_of S.segments view.fields))

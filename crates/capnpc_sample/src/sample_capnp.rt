@@ -98,6 +98,7 @@ pub mod point {
 
         ghost declines = { λ pointer kind. Declines pointer DeclinesStruct kind };
 
+        #[inline(always)]
         fn get_from_pointer(reader: any_pointer::Reader<'a, S>) -> Result<Self>
             ensures { let pointer = pointer_of S.segments reader.entry in IsViewOf pointer
                 (λ view. IsStruct pointer (struct_of S.segments view.fields))
@@ -418,6 +419,7 @@ pub mod tree {
 
         ghost declines = { λ pointer kind. Declines pointer DeclinesStruct kind };
 
+        #[inline(always)]
         fn get_from_pointer(reader: any_pointer::Reader<'a, S>) -> Result<Self>
             ensures { let pointer = pointer_of S.segments reader.entry in IsViewOf pointer
                 (λ view. IsStruct pointer (struct_of S.segments view.fields))
@@ -891,6 +893,7 @@ pub mod sample {
         }
 
         /// What is seen of it.
+        #[inline(always)]
         pub fn get_window(&self) -> window::Reader<'_, 'a, S>
             ensures { let fields = struct_of S.segments self.now.fields in
                 struct_of S.segments result.fields.now ≡ fields }
@@ -1020,6 +1023,7 @@ pub mod sample {
         }
 
         /// Which member of the union is there, and its value.
+        #[inline(always)]
         pub fn which(&self) -> Which<'a>
             ensures { let fields = struct_of S.segments self.now.fields in
                 let number = field fields.words 16 7 in
@@ -1063,6 +1067,7 @@ pub mod sample {
 
         ghost declines = { λ pointer kind. Declines pointer DeclinesStruct kind };
 
+        #[inline(always)]
         fn get_from_pointer(reader: any_pointer::Reader<'a, S>) -> Result<Self>
             ensures { let pointer = pointer_of S.segments reader.entry in IsViewOf pointer
                 (λ view. IsStruct pointer (struct_of S.segments view.fields))
@@ -1686,6 +1691,7 @@ pub mod shape {
         }
 
         /// Its sides, and what stands in it.
+        #[inline(always)]
         pub fn get_rectangle(&self) -> rectangle::Reader<'_, 'a, S>
             ensures { let fields = struct_of S.segments self.now.fields in
                 struct_of S.segments result.fields.now ≡ fields }
@@ -1696,6 +1702,7 @@ pub mod shape {
         }
 
         /// Which member of the union is there, and its value.
+        #[inline(always)]
         pub fn which(&self) -> Which<'_, 'a, S>
             ensures { let fields = struct_of S.segments self.now.fields in
                 let number = field fields.words 16 4 in
@@ -1731,6 +1738,7 @@ pub mod shape {
 
         ghost declines = { λ pointer kind. Declines pointer DeclinesStruct kind };
 
+        #[inline(always)]
         fn get_from_pointer(reader: any_pointer::Reader<'a, S>) -> Result<Self>
             ensures { let pointer = pointer_of S.segments reader.entry in IsViewOf pointer
                 (λ view. IsStruct pointer (struct_of S.segments view.fields))
@@ -2203,6 +2211,7 @@ pub mod palette {
 
         ghost declines = { λ pointer kind. Declines pointer DeclinesStruct kind };
 
+        #[inline(always)]
         fn get_from_pointer(reader: any_pointer::Reader<'a, S>) -> Result<Self>
             ensures { let pointer = pointer_of S.segments reader.entry in IsViewOf pointer
                 (λ view. IsStruct pointer (struct_of S.segments view.fields))
