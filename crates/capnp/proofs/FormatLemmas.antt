@@ -38,7 +38,7 @@ TakesForLengths-map kept given raw left (count, more) = (CountStands-map given r
 TakesMemory-map : (rule : Padding) {gives others : Giving}
     (given : (raw : List ℕ) (n : ℕ) (bytes rest : List ℕ) → gives raw n bytes rest → others raw n bytes rest)
     (limit : Option ℕ) (raw left : List ℕ) → TakesMemory rule gives limit raw left → TakesMemory rule others limit raw left
-TakesMemory-map rule given limit raw left (inl count) = inl (CountStands-map given raw left count)
+TakesMemory-map rule given limit raw left (inl several) = inl (TakesForLengths-map 1 given raw left several)
 TakesMemory-map rule given limit raw left (inr (lengths, table, within)) = inr (
   lengths,
   record {
@@ -173,7 +173,7 @@ pub reading_fault : (rule : Padding) (format : Format) (limit : Option ℕ) (kin
     → (kind ≡ DeviceFailed) ⊎ ((kind ≡ OutOfMemory) × IfKnown old new ((rules_of rule format).takes_memory limit))
     ⊎ IfKnown old new ((rules_of rule format).refuses limit None kind) → IsReadingFault rule format limit kind old new
 reading_fault rule format limit kind old new (inl device) = inl device
-reading_fault rule format limit kind old new (inr (inl memory)) = inr (inl memory)
+reading_fault rule format limit kind old new (inr (inl memory)) = inr (inl (memory.0, IfKnown-weaker old new (λ raw left takes. inr takes) memory.1))
 reading_fault rule format limit kind old new (inr (inr line)) = inr (inr line)
 
 -- as is a failure of a call that skips a message, which takes memory for the lengths alone

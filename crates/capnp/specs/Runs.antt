@@ -6,7 +6,7 @@ use Rattle.capnp_frame.specs.declared.error.ErrorKind.TheVariants.{DeviceFailed,
 use Rattle.capnp_frame.specs.declared.serialize.segment_table.Padding.{Padding}
 use Rattle.capnp_frame.specs.declared.io.Read.{Ghosts}
 use Rattle.capnp_frame.specs.declared.io.Write.{Ghosts as SinkGhosts}
-use Rattle.capnp_frame.specs.Refusals.{IsReaderKind}
+use Rattle.capnp_frame.specs.Refusals.{CountStands, TakesMemory, IsReaderKind}
 use Rattle.capnp_frame.specs.Source.{IfKnown, Advances, Fails}
 use Rattle.capnp_frame.specs.Sink.{Adds, Grows}
 use Rattle.capnp_frame.specs.Texts.{AreEncodings}
@@ -14,7 +14,7 @@ use Rattle.capnp_frame.specs.Writing.{IsWritable}
 use Rattle.capnp.specs.declared.streams.Format.{Format}
 use Rattle.capnp.specs.declared.streams.StoppedAt.{StoppedAt}
 use Rattle.capnp.specs.Headline.{IsFault}
-use Rattle.capnp.specs.Streams.{grammar_of, refuses_of, rules_of, StandsNext, RefusesNext, IsStream}
+use Rattle.capnp.specs.Streams.{grammar_of, gives_of, refuses_of, StandsNext, RefusesNext, IsStream}
 
 -- What is written for a message, by its index, as a relation: `Writes index message text`.
 abbrev pub Writing : Type 1
@@ -52,11 +52,16 @@ pub record HasWritten (rule : Padding) (format : Format) (limit : Option ℕ) (W
   pub texts : AreEncodings (grammar_of rule format) limit messages raw rest
   pub written : IfKnown before after (Adds (WritesAll Writes messages))
 
+-- where memory is taken for the next message, as its reader takes it, or as a call that skips it takes it for the lengths of any number
+-- of segments
+abbrev pub TakesInRun : Padding → Format → Option ℕ → List ℕ → List ℕ → Type 0
+TakesInRun rule format limit raw left = CountStands (gives_of format) raw left ⊎ TakesMemory rule (gives_of format) limit raw left
+
 -- why the next message was not read: the device's fault; want of memory where memory is taken, with
 -- no more consumed than was asked for until then; or an error of the unread bytes
 abbrev pub IsReadingFault : Padding → Format → Option ℕ → ErrorKind → Option (List ℕ) → Option (List ℕ) → Type 0
 IsReadingFault rule format limit kind old new = (kind ≡ DeviceFailed)
-    ⊎ ((kind ≡ OutOfMemory) × IfKnown old new ((rules_of rule format).takes_memory limit))
+    ⊎ ((kind ≡ OutOfMemory) × IfKnown old new (TakesInRun rule format limit))
     ⊎ IfKnown old new (RefusesNext rule format limit kind)
 
 -- a message is not written because of what it is, or because its sink fails

@@ -61,7 +61,7 @@ StandsNext rule format limit message raw rest = BeginsWith (grammar_of rule form
 abbrev pub RefusesNext : Padding → Format → Option ℕ → ErrorKind → List ℕ → List ℕ → Type 0
 RefusesNext rule format limit kind rest left = RefusesStream rule (gives_of format) (refuses_of format) limit None kind rest left
 
--- the reader of this format takes memory for the next message of these bytes: for the lengths of its segments, or for them
+-- the reader of this format takes memory for the next message of these bytes: for the lengths of more than one segment, or for the segments
 abbrev pub TakesForNext : Padding → Format → Option ℕ → List ℕ → Type 0
 TakesForNext rule format limit rest = (left : List ℕ) × TakesMemory rule (gives_of format) limit rest left
 

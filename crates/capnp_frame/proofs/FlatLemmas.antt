@@ -12,9 +12,9 @@ use Rattle.capnp_frame.specs.SegmentTable.{field, table_size, KeepsPadding, IsTa
 use Rattle.capnp_frame.specs.Limits.{KeepsLimit, IsWithin}
 use Rattle.capnp_frame.specs.Source.{Splits, RunsShort}
 use Rattle.capnp_frame.specs.Requests.{TableStands}
-use Rattle.capnp_frame.specs.Refusals.{Unless, Tells, CountStands, StopsBy, LacksRoom, RefusesAtLimit, RefusesRest, IsOutOfRange, IsTooLarge, BreaksPadding, RefusesTable}
+use Rattle.capnp_frame.specs.Refusals.{Unless, Tells, TakesForLengths, StopsBy, LacksRoom, RefusesAtLimit, RefusesRest, IsOutOfRange, IsTooLarge, BreaksPadding, RefusesTable}
 use Rattle.capnp_frame.specs.Front.{HasFrame, number, declared_lengths, declared_padding}
-use Rattle.capnp_frame.specs.FlatRefusals.{FlatForm, by_words, by_fields, cut_kind, count_end, count_of, AcceptsCount, lengths_end, CutsSegments, RefusesLengths, RefusesCount, RefusesFlat}
+use Rattle.capnp_frame.specs.FlatRefusals.{FlatForm, by_words, by_fields, cut_kind, count_end, count_of, AcceptsSeveral, lengths_end, CutsSegments, RefusesLengths, RefusesCount, RefusesFlat}
 use Rattle.capnp_frame.proofs.TableLemmas.{count_declared}
 use Rattle.capnp_frame.proofs.FrameLemmas.{length-table}
 use Rattle.capnp_frame.proofs.DeclaredTables.{number-field, table_is, Declared, declared_from_table}
@@ -83,7 +83,18 @@ cut_segments form rule limit bytes count total keeps kept room is short =
       ),
     )
 
--- where an accepted message is at the front, no line holds
+-- the number of segments that is declared where an accepted message is at the front
+counted : (form : FlatForm) (last count : ℕ) → last + 1 ≡ count → count < 512 → count_of form last ≡ count
+counted (by_words empty) last count declared few = omega arith
+counted by_fields last count declared few = declared
+
+pub frame_counted : (form : FlatForm) (rule : Padding) (limit : Option ℕ) (bytes : List ℕ) (segments : List (List ℕ)) (rest : List ℕ)
+    → HasFrame rule bytes segments rest → IsWithin segments limit → count_of form (number bytes) ≡ length segments
+frame_counted form rule limit bytes segments rest begins within =
+    let held = held_from_begins rule bytes segments rest limit begins within in
+    counted form (number bytes) (length segments) held.count held.holds.table.few
+
+-- and there no line holds
 pub RefusesFlat-apart : (form : FlatForm) (rule : Padding) (limit : Option ℕ) (kind : ErrorKind) (bytes : List ℕ)
     (segments : List (List ℕ)) (rest : List ℕ) → HasFrame rule bytes segments rest → IsWithin segments limit
     → RefusesFlat form rule limit kind bytes → ⊥
@@ -107,10 +118,6 @@ RefusesFlat-apart form rule limit kind bytes segments rest begins within =
     (λ cuts. let short = cuts.0 in absurd (omega arith))))))
     counted_so))
   where
-    counted : (form : FlatForm) (last count : ℕ) → last + 1 ≡ count → count < 512 → count_of form last ≡ count
-    counted (by_words empty) last count declared few = omega arith
-    counted by_fields last count declared few = declared
-
     first_end : (form : FlatForm) (count : ℕ) → 0 < count → count_end form ≤ table_size count
     first_end (by_words empty) count some = omega arith
     first_end by_fields count some = omega arith
@@ -152,11 +159,11 @@ first_tells empty bytes word left count (split, long) (last, fits, read, is) =
     let front : field last ≡ take 4 bytes = read ∙ sym (take-append-le 4 word left (omega arith)) ∙ ap (take 4) (sym split) in
     (ap length split ∙ length-append word left ∙ ap (λ k. k + length left) long, ap (λ k. (k + 1) % 2 ^ 32) (number-field last bytes fits front) ∙ sym is)
 
-pub count_accepted : (empty : ErrorKind) (bytes left : List ℕ) → CountStands Splits bytes left → AcceptsCount (by_words empty) bytes
-count_accepted empty bytes left stands =
+pub several_accepted : (empty : ErrorKind) (bytes left : List ℕ) → TakesForLengths 1 Splits bytes left → AcceptsSeveral (by_words empty) bytes
+several_accepted empty bytes left (stands, more) =
     let declared = first_tells empty bytes stands.word left stands.count stands.given stands.declared in
     let long = declared.0 in
-    (omega arith, subst (λ k. IsOutOfRange k → ⊥) (sym declared.1) stands.accepted)
+    (omega arith, subst (λ k. IsOutOfRange k → ⊥) (sym declared.1) stands.accepted, subst (λ k. 1 < k) (sym declared.1) more)
 
 pub words_refused : (empty : ErrorKind) (rule : Padding) (limit : Option ℕ) (kind : ErrorKind) (bytes left : List ℕ)
     → RefusesTable rule Splits RunsShort limit None kind bytes left → RefusesFlat (by_words empty) rule limit kind bytes

@@ -1,5 +1,5 @@
 -- What readers of slices and buffers hold, as the frame at the front.
-use Rattle.std.proofs.Common.{◌≡◌, ℕ, ◌+◌, ◌-◌, ◌*◌, ◌/◌, ◌%◌, ◌<◌, ◌≤◌, ◌^◌, Option, Some, None, ◌⊎◌, inl, inr, ◌↔◌, List, length, map, take, drop, sym, ap, ◌∙◌, subst, arith}
+use Rattle.std.proofs.Common.{◌≡◌, ℕ, ◌+◌, ◌-◌, ◌*◌, ◌/◌, ◌%◌, ◌<◌, ◌≤◌, ◌^◌, Option, Some, None, ◌⊎◌, inl, inr, ◌↔◌, List, length, take, drop, sym, ap, ◌∙◌, subst, arith}
 use Rattle.std.proofs.lemmas.List.{take_rest}
 use Rattle.std.proofs.lemmas.Bool.{false≢true}
 use Rattle.std.specs.Prelude.{sum, Bool, false, IsTrue}
@@ -10,17 +10,16 @@ use Rattle.capnp_frame.specs.Message.{size_in_words}
 use Rattle.capnp_frame.specs.declared.serialize.segment_table.Padding.{Padding}
 use Rattle.capnp_frame.specs.declared.serialize.segment_table.Padding.TheVariants.{Any}
 use Rattle.capnp_frame.specs.SegmentTable.{table_size, KeepsPadding}
-use Rattle.capnp_frame.specs.SegmentLengths.{ranges, range_len, cut}
+use Rattle.capnp_frame.specs.SegmentLengths.{cut}
 use Rattle.capnp_frame.specs.Limits.{KeepsLimit, AreWithin, IsWithin}
 use Rattle.capnp_frame.specs.Source.{Splits, RunsShort, IfKnown, Fails}
 use Rattle.capnp_frame.specs.Requests.{TableStands}
 use Rattle.capnp_frame.specs.Refusals.{TakesForLengths, RefusesTable}
 use Rattle.capnp_frame.specs.Front.{HasFrame, IsDescribed, HaveSameNumbers, number, declared_lengths, declared_padding, declared_segments, HoldsMessage}
-use Rattle.capnp_frame.specs.FlatRefusals.{by_words, by_fields, AcceptsCount, RefusesFlat}
+use Rattle.capnp_frame.specs.FlatRefusals.{by_words, by_fields, AcceptsSeveral, RefusesFlat}
 use Rattle.capnp_frame.proofs.AskLemmas.{never_fails}
-use Rattle.capnp_frame.proofs.Ranges.{widths}
 use Rattle.capnp_frame.proofs.FrontMessages.{found_from_held, held_from_begins, within_declared, length-declared_segments}
-use Rattle.capnp_frame.proofs.FlatLemmas.{RefusesFlat-apart, declared_by_requests, count_accepted, words_refused, past_lengths, cut_segments}
+use Rattle.capnp_frame.proofs.FlatLemmas.{RefusesFlat-apart, declared_by_requests, several_accepted, words_refused, past_lengths, cut_segments}
 
 -- the frame at the front
 
@@ -43,31 +42,23 @@ within_held bytes count segments limit holds are keeps = subst (λ l. IsWithin l
 
 -- parts after a table
 
-pub parts_are : (bytes : List ℕ) (indices : List (ℕ × ℕ)) (ns : List ℕ) (size : ℕ) (segments : List (List ℕ))
-    → indices ≡ ranges ns → declared_lengths (length ns) bytes ≡ ns → size ≡ table_size (length ns)
-    → segments ≡ cut (map range_len indices) (drop size bytes) → segments ≡ declared_segments (length ns) bytes
-parts_are bytes indices ns size segments running declared table_is are =
-    are ∙ ap (λ l. cut (map range_len l) (drop size bytes)) running
-    ∙ ap (λ l. cut l (drop size bytes)) (widths 0 ns ∙ sym declared)
-    ∙ ap (λ k. cut (declared_lengths (length ns) bytes) (drop k bytes)) table_is
-
-pub slice_parts_are : (bytes ns : List ℕ) (size : ℕ) (segments : List (List ℕ)) → declared_lengths (length ns) bytes ≡ ns
+pub parts_are : (bytes ns : List ℕ) (size : ℕ) (segments : List (List ℕ)) → declared_lengths (length ns) bytes ≡ ns
     → size ≡ table_size (length ns) → segments ≡ cut ns (drop size bytes) → segments ≡ declared_segments (length ns) bytes
-slice_parts_are bytes ns size segments declared table_is are = are ∙ ap (λ l. cut l (drop size bytes)) (sym declared) ∙ ap (λ k. cut (declared_lengths (length ns) bytes) (drop k bytes)) table_is
+parts_are bytes ns size segments declared table_is are = are ∙ ap (λ l. cut l (drop size bytes)) (sym declared) ∙ ap (λ k. cut (declared_lengths (length ns) bytes) (drop k bytes)) table_is
 
 pub keeps_declared : (bytes ns : List ℕ) (limit : Option ℕ) → declared_lengths (length ns) bytes ≡ ns → AreWithin ns limit → KeepsLimit (declared_lengths (length ns) bytes) limit
 keeps_declared bytes ns limit declared within = subst (λ l. KeepsLimit l limit) (sym declared) within.size
 
 -- the stream reader's table over a slice
 
-pub slice_refused : (empty : ErrorKind) (rule : Padding) (kept : ℕ) (limit : Option ℕ) (kind : ErrorKind) (bytes left : List ℕ)
+pub slice_refused : (empty : ErrorKind) (rule : Padding) (limit : Option ℕ) (kind : ErrorKind) (bytes left : List ℕ)
     → (kind ≡ DeviceFailed → Fails 0 0) → (kind ≡ DeviceFailed)
-    ⊎ ((kind ≡ OutOfMemory) × IfKnown (Some bytes) (Some left) (TakesForLengths kept Splits))
+    ⊎ ((kind ≡ OutOfMemory) × IfKnown (Some bytes) (Some left) (TakesForLengths 1 Splits))
     ⊎ IfKnown (Some bytes) (Some left) (RefusesTable rule Splits RunsShort limit None kind)
-    → ((kind ≡ OutOfMemory) × AcceptsCount (by_words empty) bytes) ⊎ RefusesFlat (by_words empty) rule limit kind bytes
-slice_refused empty rule kept limit kind bytes left failed (inl device) = absurd (never_fails kind failed device)
-slice_refused empty rule kept limit kind bytes left failed (inr (inl memory)) = inl (memory.0, count_accepted empty bytes left memory.1.0)
-slice_refused empty rule kept limit kind bytes left failed (inr (inr met)) = inr (words_refused empty rule limit kind bytes left met)
+    → ((kind ≡ OutOfMemory) × AcceptsSeveral (by_words empty) bytes) ⊎ RefusesFlat (by_words empty) rule limit kind bytes
+slice_refused empty rule limit kind bytes left failed (inl device) = absurd (never_fails kind failed device)
+slice_refused empty rule limit kind bytes left failed (inr (inl memory)) = inl (memory.0, several_accepted empty bytes left memory.1)
+slice_refused empty rule limit kind bytes left failed (inr (inr met)) = inr (words_refused empty rule limit kind bytes left met)
 
 pub slice_holds : (rule : Padding) (bytes ns left : List ℕ) (limit : Option ℕ) (total : ℕ) → TableStands rule Splits ns bytes left
     → AreWithin ns limit → total ≡ sum ns → 8 * total ≤ length left → HoldsMessage bytes (length ns)

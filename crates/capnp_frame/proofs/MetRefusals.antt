@@ -181,10 +181,10 @@ table_met_skipping rule F M gives refuses limit kind old new (inl p) = inl p
 table_met_skipping rule F M gives refuses limit kind old new (inr (inl p)) = inr (inl p)
 table_met_skipping rule F M gives refuses limit kind old new (inr (inr p)) = or_memory (table_met rule F gives refuses limit None kind old new (inr p))
 
-pub table_met_growing : (rule : Padding) (kept : ℕ) (F M : Type 0) (gives : Giving) (refuses : Refusing) (limit : Option ℕ) (kind : ErrorKind)
-    (old new : Option (List ℕ)) → F ⊎ (M × IfKnown old new (TakesForLengths kept gives))
+pub table_met_growing : (rule : Padding) (F M : Type 0) (gives : Giving) (refuses : Refusing) (limit : Option ℕ) (kind : ErrorKind)
+    (old new : Option (List ℕ)) → F ⊎ (M × IfKnown old new (TakesForLengths 1 gives))
     ⊎ IfKnown old new (RefusesTable rule gives refuses limit None kind) → F
     ⊎ (M × IfKnown old new (TakesMemory rule gives limit)) ⊎ IfKnown old new (RefusesStream rule gives refuses limit None kind)
-table_met_growing rule kept F M gives refuses limit kind old new (inl p) = inl p
-table_met_growing rule kept F M gives refuses limit kind old new (inr (inl p)) = inr (inl (p.0, IfKnown-weaker old new (λ raw left takes. inl takes.0) p.1))
-table_met_growing rule kept F M gives refuses limit kind old new (inr (inr p)) = or_memory (table_met rule F gives refuses limit None kind old new (inr p))
+table_met_growing rule F M gives refuses limit kind old new (inl p) = inl p
+table_met_growing rule F M gives refuses limit kind old new (inr (inl p)) = inr (inl (p.0, IfKnown-weaker old new (λ raw left takes. inl takes) p.1))
+table_met_growing rule F M gives refuses limit kind old new (inr (inr p)) = or_memory (table_met rule F gives refuses limit None kind old new (inr p))

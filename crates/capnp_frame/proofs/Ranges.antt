@@ -91,5 +91,8 @@ AreRanges-pushed indices more total n end are at pushed = rw (pushed, at) (AreRa
 pub length-ranges : (ns : List ℕ) → length (ranges ns) ≡ length ns
 length-ranges ns = sym (length-map (ranges ns) range_len) ∙ ap length (widths 0 ns)
 
-pub length-shown : (indices : List (ℕ × ℕ)) (bytes : List ℕ) (segments : List (List ℕ)) → cut (map range_len indices) bytes ≡ segments → length indices ≡ length segments
-length-shown indices bytes segments view = omega (arith, length-map indices range_len, length-cut (map range_len indices) bytes, ap length view)
+-- one range alone has all the length
+pub width_alone : (indices : List (ℕ × ℕ)) (total : ℕ) → AreRanges indices total → length indices ≡ 1 → map range_len indices ≡ total ∷ []
+width_alone [] total are one = absurd (omega (arith, one))
+width_alone (range ∷ []) total are one = let sums : total ≡ range_len range = omega (arith, are.total_is, sum-cons (range_len range) []) in ap (λ n. n ∷ []) (sym sums)
+width_alone (range ∷ more ∷ indices) total are one = absurd (omega (arith, one))

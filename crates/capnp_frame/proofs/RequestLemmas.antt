@@ -75,14 +75,21 @@ MessageStands-once gives raw rest left segments others unique all p q =
     (subst (λ l. gives l (8 * size_in_words segments) (concat segments) rest) table.1 p.given)) q.given in
     (parts_once segments others p.whole q.whole table.0 rests.0, rests.1)
 
+pub word_not_empty : (gives : Giving) (old mid : Option (List ℕ)) (word : List ℕ) → ((k : ℕ) (bytes rest : List ℕ) → gives [] k bytes rest → k ≡ 0)
+    → IfKnown old mid (λ raw rest. gives raw 8 word rest) → old ≡ Some [] → ⊥
+word_not_empty gives None mid word empty given e = absurd (none-some [] e)
+word_not_empty gives (Some raw) None word empty given e = absurd given
+word_not_empty gives (Some raw) (Some left) word empty given e =
+    let eight : ◌≡◌ {A = ℕ} 8 0 = empty 8 word left (subst (λ l. gives l 8 word left) (same_Some raw [] e) given) in
+    absurd (omega arith)
+
 pub table_not_empty : (rule : Padding) (gives : Giving) (old mid : Option (List ℕ)) (ns : List ℕ)
     → ((k : ℕ) (bytes rest : List ℕ) → gives [] k bytes rest → k ≡ 0) → IfKnown old mid (TableStands rule gives ns)
     → old ≡ Some [] → ⊥
 table_not_empty rule gives None mid ns empty table e = absurd (none-some [] e)
 table_not_empty rule gives (Some raw) None ns empty table e = absurd table
 table_not_empty rule gives (Some raw) (Some left) ns empty table e =
-    let eight : ◌≡◌ {A = ℕ} 8 0 = empty 8 table.first table.between (subst (λ l. gives l 8 table.first table.between) (same_Some raw [] e) table.first_given) in
-    absurd (omega arith)
+    word_not_empty gives (Some raw) (Some table.between) table.first empty table.first_given e
 
 -- the parts of bytes that are overwritten
 pub overwritten_parts : (ns items : List ℕ) (segments : List (List ℕ)) (len : ℕ) (w : List ℕ)

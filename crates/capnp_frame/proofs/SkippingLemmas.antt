@@ -6,18 +6,18 @@ use Rattle.std.specs.List.{AllByRecursion}
 use Rattle.capnp_frame.specs.Asking.{FailsOr}
 use Rattle.capnp_frame.specs.declared.error.Error.{Error}
 use Rattle.capnp_frame.specs.declared.error.ErrorKind.{ErrorKind}
-use Rattle.capnp_frame.specs.declared.error.ErrorKind.TheVariants.{DeviceFailed, OutOfMemory, FailedToFillTheWholeBuffer}
+use Rattle.capnp_frame.specs.declared.error.ErrorKind.TheVariants.{DeviceFailed, FailedToFillTheWholeBuffer}
 use Rattle.capnp_frame.specs.declared.io.Read.{Ghosts}
 use Rattle.capnp_frame.specs.declared.serialize.segment_table.Padding.{Padding}
 use Rattle.capnp_frame.specs.Limits.{AreWithin}
 use Rattle.capnp_frame.specs.Message.{IsWholeWords, lengths}
-use Rattle.capnp_frame.specs.Refusals.{RefusesStream, TakesMemory, TakesForLengths}
+use Rattle.capnp_frame.specs.Refusals.{RefusesStream, TakesForLengths}
 use Rattle.capnp_frame.specs.Requests.{TableStands, MessageStands}
 use Rattle.capnp_frame.specs.SegmentLengths.{cut}
 use Rattle.capnp_frame.specs.Skipping.{SkipsMessage, LengthsStand, Drops}
 use Rattle.capnp_frame.specs.Source.{Giving, Refusing, Splits, RunsShort, IsSource, IfKnown, IsRefused}
 use Rattle.capnp_frame.specs.Steps.{AsksNext}
-use Rattle.capnp_frame.specs.Streams.{StreamRules, framed_rules, skipping_rules, ReadsStream}
+use Rattle.capnp_frame.specs.Streams.{skipping_rules, ReadsStream}
 use Rattle.capnp_frame.proofs.SourceLemmas.{IfKnown-join, IfKnown-refl, IfKnown-weaker}
 use Rattle.capnp_frame.proofs.RequestLemmas.{lengths-cut, MessageStands-cut}
 use Rattle.capnp_frame.proofs.ResultLemmas.{reads_taking}
@@ -140,51 +140,3 @@ skips_stream rule source laws old new kept limit (Ok (Some ns)) found within ask
         asked = record { failed = tt; advances = asks.asked.advances };
       }),
     )
-
--- Memory
-
--- where memory is taken for the lengths alone, a reader takes it, too
-pub for_lengths_taken : (rule : Padding) (gives : Giving) (kept : ℕ) (limit : Option ℕ) (raw left : List ℕ) → TakesForLengths kept gives raw left → TakesMemory rule gives limit raw left
-for_lengths_taken rule gives kept limit raw left takes = inl takes.0
-
--- want of memory where less is taken is that where more is
-memory_wider : {X : Type 0} (takes also : List ℕ → List ℕ → Type 0) (lines : ErrorKind → Type 0) (old new : Option (List ℕ)) (r : Result X Error)
-    → ((raw left : List ℕ) → takes raw left → also raw left) → FailsOr r (λ kind. ((kind ≡ OutOfMemory) × IfKnown old new takes) ⊎ lines kind)
-    → FailsOr r (λ kind. ((kind ≡ OutOfMemory) × IfKnown old new also) ⊎ lines kind)
-memory_wider takes also lines old new (Ok x) wider refused = tt
-memory_wider takes also lines old new (Err e) wider (inl device) = inl device
-memory_wider takes also lines old new (Err e) wider (inr (inl memory)) = inr (inl (memory.0, IfKnown-weaker old new wider memory.1))
-memory_wider takes also lines old new (Err e) wider (inr (inr line)) = inr (inr line)
-
--- so a reader that takes less memory keeps what one keeps that takes more
-pub reads_wider : {S : Type 0} (source : Ghosts S) (old new : S) (rules : StreamRules) (takes : Option ℕ → List ℕ → List ℕ → Type 0) (limit : Option ℕ)
-    (r : Result (Option (List (List ℕ))) Error) → ((raw left : List ℕ) → rules.takes_memory limit raw left → takes limit raw left)
-    → ReadsStream source old new rules limit r → ReadsStream source old new (record rules { takes_memory = takes }) limit r
-reads_wider source old new rules takes limit r wider reads = record {
-  found = reads.found;
-  within = reads.within;
-  whole = reads.whole;
-  none = reads.none;
-  accepted = reads.accepted;
-  end = reads.end;
-  refused = memory_wider (rules.takes_memory limit) (takes limit) (λ kind. IfKnown (source.unread old) (source.unread new) (rules.refuses limit None kind)) _ _ r wider reads.refused;
-  exact = reads.exact;
-  kinds = reads.kinds;
-  failed = reads.failed;
-  advances = reads.advances;
-}
-
--- and a call that skips a message keeps what a reader of it keeps
-pub skips_as_read : {S : Type 0} (rule : Padding) (source : Ghosts S) (old new : S) (kept : ℕ) (limit : Option ℕ) (r : Result (Option (List ℕ)) Error)
-    → SkipsMessage (ReadsStream source old new (skipping_rules rule source.gives source.refuses kept) limit) r
-    → SkipsMessage (ReadsStream source old new (framed_rules rule source.gives source.refuses) limit) r
-skips_as_read rule source old new kept limit (Ok (Some ns)) (message, same, reads) = (
-  message,
-  same,
-  reads_wider source old new (skipping_rules rule source.gives source.refuses kept) (TakesMemory rule source.gives) limit
-      (Ok (Some message)) (for_lengths_taken rule source.gives kept limit) reads,
-)
-skips_as_read rule source old new kept limit (Ok None) reads = reads_wider source old new (skipping_rules rule source.gives source.refuses kept)
-    (TakesMemory rule source.gives) limit (Ok None) (for_lengths_taken rule source.gives kept limit) reads
-skips_as_read rule source old new kept limit (Err error) reads = reads_wider source old new (skipping_rules rule source.gives source.refuses kept)
-    (TakesMemory rule source.gives) limit (Err error) (for_lengths_taken rule source.gives kept limit) reads

@@ -1,5 +1,5 @@
 -- What the readers of a slice or of a buffer keep (src/serialize/buffer_segments.rt, src/serialize/no_alloc_buffer_segments.rt).
-use Rattle.std.specs.Prelude.{◌≡◌, ℕ, ◌⊎◌, List, Option, Some, None, Result, IsOk, IfOk, IfErr, OnErr, IfSome}
+use Rattle.std.specs.Prelude.{◌≡◌, ℕ, ◌<◌, ◌⊎◌, List, length, Option, Some, None, Result, IsOk, IfOk, IfErr, OnErr, IfSome}
 use Rattle.std.specs.Result.{IsErrAnd}
 use Rattle.capnp_frame.specs.declared.error.Error.{Error}
 use Rattle.capnp_frame.specs.declared.error.ErrorKind.{ErrorKind}
@@ -7,7 +7,7 @@ use Rattle.capnp_frame.specs.declared.error.ErrorKind.TheVariants.{EmptySlice, E
 use Rattle.capnp_frame.specs.declared.serialize.segment_table.Padding.{Padding}
 use Rattle.capnp_frame.specs.Frame.{IsFrame}
 use Rattle.capnp_frame.specs.Texts.{BeginsWith}
-use Rattle.capnp_frame.specs.FlatRefusals.{FlatForm, by_words, by_fields, AcceptsCount, RefusesFlat}
+use Rattle.capnp_frame.specs.FlatRefusals.{FlatForm, by_words, by_fields, AcceptsSeveral, RefusesFlat}
 
 -- The rules by which a message is read: how its table is taken, the rule of padding, and the limit of words.
 pub record FlatRules : Type 0 where
@@ -15,7 +15,7 @@ pub record FlatRules : Type 0 where
   pub padding : Padding
   pub limit : Option ℕ
 
--- the rules of readers that take memory for the lengths, from a slice and from a buffer
+-- the rules of readers that take memory for the lengths of more than one segment, from a slice and from a buffer
 abbrev pub slice_rules : Padding → Option ℕ → FlatRules
 slice_rules rule limit = record { form = by_words EmptySlice; padding = rule; limit = limit }
 
@@ -45,10 +45,10 @@ abbrev pub OrLacksMemory : FlatForm → Type 0 → Type 0 → Type 0
 OrLacksMemory (by_words empty) lacks other = lacks ⊎ other
 OrLacksMemory by_fields lacks other = other
 
--- where a message is, only a reader that takes memory may fail, and only for want of it
-abbrev pub AcceptsFlat : {X : Type 0} → FlatForm → Result X Error → Type 0
-AcceptsFlat (by_words empty) result = IfErr result (λ error. error.kind ≡ OutOfMemory)
-AcceptsFlat by_fields result = IsOk result
+-- where a message is, only a reader that takes memory may fail, and only for want of it, for more than one segment
+abbrev pub AcceptsFlat : {X : Type 0} → FlatForm → List (List ℕ) → Result X Error → Type 0
+AcceptsFlat (by_words empty) message result = IfErr result (λ error. (error.kind ≡ OutOfMemory) × (1 < length message))
+AcceptsFlat by_fields message result = IsOk result
 
 -- What each reader of bytes in memory keeps, by its rules. `left` is what a slice has after the
 -- call, or none for a buffer, and `segments` is how the segments of what is returned are seen.
@@ -56,13 +56,13 @@ pub record ReadsFlat {X : Type 0} (rules : FlatRules) (bytes : List ℕ) (left :
     (segments : X → List (List ℕ)) (result : Result X Error) : Type 0 where
   -- the message that is returned is at the front, within the limit, and a slice moves just past it
   pub found : IfOk result (λ found. Leaves left (StandsBy rules (segments found) bytes))
-  -- a message that is there is returned, unless memory is lacking
-  pub accepted : (message : List (List ℕ)) (rest : List ℕ) → StandsBy rules message bytes rest → AcceptsFlat rules.form result
+  -- a message that is there is returned, unless it has more than one segment and memory is lacking
+  pub accepted : (message : List (List ℕ)) (rest : List ℕ) → StandsBy rules message bytes rest → AcceptsFlat rules.form message result
   -- a failure leaves a slice as it was
   pub unchanged : OnErr result (IfSome left (λ left. left ≡ bytes))
-  -- a reader fails for want of memory once the number of segments is accepted, or with a line of the table
+  -- a reader fails for want of memory once a number of more than one segment is accepted, or with a line of the table
   pub refused : IfErr result (λ error. OrLacksMemory rules.form
-      ((error.kind ≡ OutOfMemory) × AcceptsCount rules.form bytes) (RefusesBy rules error.kind bytes))
+      ((error.kind ≡ OutOfMemory) × AcceptsSeveral rules.form bytes) (RefusesBy rules error.kind bytes))
   -- where a line is the first to hold, the call fails with that line's kind, unless memory is
   -- lacking
   pub exact : (kind : ErrorKind) → RefusesBy rules kind bytes

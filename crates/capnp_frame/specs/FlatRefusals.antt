@@ -36,9 +36,9 @@ abbrev pub count_of : FlatForm → ℕ → ℕ
 count_of (by_words empty) last = (last + 1) % 2 ^ 32
 count_of by_fields last = last + 1
 
--- The number of segments is there and accepted. Here a reader takes memory for their lengths.
-abbrev pub AcceptsCount : FlatForm → List ℕ → Type 0
-AcceptsCount form bytes = (count_end form ≤ length bytes) × (IsOutOfRange (count_of form (number bytes)) → ⊥)
+-- The number of segments is there and accepted, and there is more than one. Here a reader takes memory for their lengths.
+abbrev pub AcceptsSeveral : FlatForm → List ℕ → Type 0
+AcceptsSeveral form bytes = (count_end form ≤ length bytes) × (IsOutOfRange (count_of form (number bytes)) → ⊥) × (1 < count_of form (number bytes))
 
 -- how many bytes are taken before the limit is tested
 abbrev pub lengths_end : FlatForm → ℕ → ℕ

@@ -95,17 +95,16 @@ pub record CountStands (gives : Giving) (raw rest : List ℕ) : Type 0 where
   pub declared : Tells word count
   pub accepted : IsOutOfRange count → ⊥
 
--- Where a reader that allocates takes memory: for the lengths once their number is accepted, and
--- for the segments once their table is, with the limit and the padding. Only what it has asked for
--- until then is consumed.
-abbrev pub TakesMemory : Padding → Giving → Option ℕ → List ℕ → List ℕ → Type 0
-TakesMemory rule gives limit raw left = CountStands gives raw left
-    ⊎ ((lengths : List ℕ) × TableStands rule gives lengths raw left × AreWithin lengths limit)
-
--- Where memory is taken for the lengths alone, and never for segments: their number is accepted, and is more than `kept`, so
--- many are in the memory that is handed in. The first word of the table is consumed, and no more.
+-- Where memory is taken for the lengths: their number is accepted, and is more than `kept`, the number of lengths that take none.
+-- The first word of the table is consumed, and no more.
 abbrev pub TakesForLengths : ℕ → Giving → List ℕ → List ℕ → Type 0
 TakesForLengths kept gives raw left = (stands : CountStands gives raw left) × (kept < stands.count)
+
+-- Where a reader that allocates takes memory: for the lengths of more than one segment once their number is accepted, and for the
+-- segments once their table is, with the limit and the padding. Only what it has asked for until then is consumed.
+abbrev pub TakesMemory : Padding → Giving → Option ℕ → List ℕ → List ℕ → Type 0
+TakesMemory rule gives limit raw left = TakesForLengths 1 gives raw left
+    ⊎ ((lengths : List ℕ) × TableStands rule gives lengths raw left × AreWithin lengths limit)
 
 -- the kind of a padding that the rule does not accept
 abbrev pub IsPaddingKind : Padding → ErrorKind → Type 0

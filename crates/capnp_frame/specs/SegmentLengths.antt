@@ -1,5 +1,5 @@
 -- Segments after one another in one list of bytes (SegmentLengthsBuilder and OwnedSegments).
-use Rattle.std.specs.Prelude.{◌≡◌, ℕ, ◌+◌, ◌-◌, ◌*◌, List, [], ◌∷◌, map, take, drop, sum}
+use Rattle.std.specs.Prelude.{◌≡◌, ℕ, Bool, true, false, ◌+◌, ◌-◌, ◌*◌, List, [], ◌∷◌, map, take, drop, sum}
 
 -- where each part begins and ends: parts of these lengths follow one another from `start` on
 abbrev pub ranges_from : ℕ → List ℕ → List (ℕ × ℕ)
@@ -24,3 +24,8 @@ cut (n ∷ ns) bytes = take (8 * n) bytes ∷ cut ns (drop (8 * n) bytes)
 pub record AreRanges (indices : List (ℕ × ℕ)) (total : ℕ) : Type 0 where
   pub running : indices ≡ ranges (map range_len indices)
   pub total_is : total ≡ sum (map range_len indices)
+
+-- the ranges of one segment alone, or of any other number
+abbrev pub held_ranges : Bool → ℕ × ℕ → List (ℕ × ℕ) → List (ℕ × ℕ)
+held_ranges true only several = only ∷ []
+held_ranges false only several = several

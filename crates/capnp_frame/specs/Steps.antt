@@ -1,4 +1,4 @@
--- What the private steps of the readers of streams keep (src/serialize/stream.rt, src/serialize/provided_stream.rt).
+-- What the private steps of the readers of streams keep (src/serialize/stream.rt, src/serialize/stream_table.rt, src/serialize/provided_stream.rt).
 use Rattle.std.specs.Prelude.{◌≡◌, ◌⊎◌, ℕ, ◌*◌, ◌^◌, ◌<◌, ◌≤◌, List, [], length, map, take, drop, sum, Option, Some, Result, IfOk, IfErr, OnOk, IfSome, IfNone}
 use Rattle.std.specs.List.{AllByRecursion}
 use Rattle.capnp_frame.specs.declared.error.Error.{Error}

@@ -23,10 +23,11 @@
 //! `MessageEndsPrematurely` for whatever is cut.
 //!
 //! `DeviceFailed` comes only where a source's device failed in the call. A reader that takes memory
-//! fails with `OutOfMemory` where there is none, after the number of segments is accepted. One into
-//! a caller-provided buffer fails with `BufferNotLargeEnough` instead: first of all where the
-//! buffer is shorter than 8 bytes; where it is shorter than the table, once the number of segments
-//! is accepted; and where it is shorter than table and segments, once the padding is accepted.
+//! fails with `OutOfMemory` where there is none, after the number of segments is accepted; over a
+//! slice or a buffer it takes none for one segment. One into a caller-provided buffer fails with
+//! `BufferNotLargeEnough` instead: first of all where the buffer is shorter than 8 bytes; where it
+//! is shorter than the table, once the number of segments is accepted; and where it is shorter than
+//! table and segments, once the padding is accepted.
 //!
 //! [standard stream framing]: https://capnproto.org/encoding.html#serialization-over-a-stream
 mod buffer_segments;
@@ -34,11 +35,13 @@ mod framed;
 mod no_alloc_buffer_segments;
 mod owned_segments;
 mod provided_stream;
+mod segment_indices;
 mod segment_lengths;
 mod segment_table;
 mod segment_table_info;
 mod skipping;
 mod stream;
+mod stream_table;
 mod writable;
 mod writing;
 

@@ -5,8 +5,8 @@ use crate::messages::has_segments;
 use crate::packing::{pack, unpack, unpack_some};
 use capnp_frame::message::{DEFAULT_READER_OPTIONS, ReaderSegments, SegmentArray};
 use capnp_frame::serialize::{
-    NoAllocBufferSegments, NoAllocSliceSegments, is_writable, serialized_size_in_words,
-    try_read_framed_into,
+    BufferSegments, NoAllocBufferSegments, NoAllocSliceSegments, is_writable,
+    serialized_size_in_words, take_segments, try_read_framed_into,
 };
 use capnp_frame::{ErrorKind, Result};
 use capnp_pack::PackedRead;
@@ -207,5 +207,22 @@ fn a_packed_text_in_a_buffer(rt: HostRuntime) -> Result<()> {
     assert_count(&rt, info.total_segments_length_bytes, 8, at);
     assert_bytes(&rt, &room, &NINES_AND_ROOM, at);
     assert_bytes(&rt, source, &[7], at);
+    Ok(())
+}
+
+// Where one segment begins and ends takes none.
+#[test]
+fn a_single_segment_is_found(rt: HostRuntime) -> Result<()> {
+    let wanted: [&[u8]; 1] = [&[9; 8]];
+    let mut slice = NINES_AND_ROOM.as_slice();
+    let found = take_segments(rt.alloc(), &mut slice, DEFAULT_READER_OPTIONS)?;
+    assert!(rt; has_segments(&found, &wanted) && found.len() == 1);
+    assert_bytes(&rt, slice, &[1], At::row("a byte after it"));
+    let found = BufferSegments::new(
+        rt.alloc(),
+        NINES_AND_ROOM.as_slice(),
+        DEFAULT_READER_OPTIONS,
+    )?;
+    assert!(rt; has_segments(&found, &wanted) && found.len() == 1);
     Ok(())
 }

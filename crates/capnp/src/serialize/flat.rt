@@ -13,8 +13,8 @@ use std::alloc::Global;
 
 /// Reads the message at the front of a slice, and moves the slice after it.
 ///
-/// No segment is copied, and memory is taken for the lengths of the segments alone. Fails as
-/// `take_segments` of `capnp_frame` does, and the slice is then as it was.
+/// No segment is copied, and memory is taken for the lengths of more than one segment alone. Fails
+/// as `take_segments` of `capnp_frame` does, and the slice is then as it was.
 pub fn read_message_from_flat_slice<'a>(
     alloc: Global,
     slice: &mut &'a [u8],

@@ -16,8 +16,8 @@ use std::alloc::Global;
 /// Reads the next message of a source, or returns `None` where nothing is unread.
 ///
 /// The message is returned exactly where the unread bytes begin with a framed encoding of it, and
-/// only that encoding is consumed. Memory is taken for the lengths of the segments, and for the
-/// segments once the limit of words is tested.
+/// only that encoding is consumed. Memory is taken for the lengths of more than one segment, and
+/// for the segments once the limit of words is tested.
 ///
 /// Fails as `try_read_segments` of `capnp_frame` does: with `InvalidNumberOfSegments`,
 /// `MessageTooLarge` or `NonZeroPadding` for the table, as the source does where bytes are missing,

@@ -1,18 +1,19 @@
 //! Segments that stay in the buffer that holds their message.
-ghost use Rattle.std.specs.Prelude.{◌≡◌, ◌+◌, ◌*◌, ◌≤◌, length, map, drop, sum, ◌⊎◌, IfOk, IfErr, Some, None};
-ghost use Rattle.capnp_frame.specs.SegmentLengths.{ranges, range_len, cut};
+ghost use Rattle.std.specs.Prelude.{◌≡◌, ◌+◌, ◌*◌, ◌≤◌, length, drop, sum, ◌⊎◌, IfOk, IfErr, Some, None};
+ghost use Rattle.capnp_frame.specs.SegmentLengths.{cut};
 ghost use Rattle.capnp_frame.specs.Limits.{AreWithin};
 ghost use Rattle.capnp_frame.specs.SegmentTable.{table_size, KeepsPadding};
 ghost use Rattle.capnp_frame.specs.Front.{HoldsMessage, declared_lengths, declared_padding};
-ghost use Rattle.capnp_frame.specs.FlatRefusals.{by_words, AcceptsCount, RefusesFlat};
+ghost use Rattle.capnp_frame.specs.FlatRefusals.{by_words, AcceptsSeveral, RefusesFlat};
 ghost use Rattle.capnp_frame.specs.FlatReaders.{buffer_rules, slice_rules, ReadsFlat};
 ghost use Rattle.capnp_frame.specs.declared.error.ErrorKind.{ErrorKind};
 
 use crate::error::{Error, ErrorKind, Result};
 use crate::message::{AsBytes, ReaderOptions, ReaderSegments};
-use crate::serialize::segment_lengths::{SegmentLengthsBuilder, part};
+use crate::serialize::segment_indices::SegmentIndices;
+use crate::serialize::segment_lengths::part;
 use crate::serialize::segment_table::Padding;
-use crate::serialize::stream::read_table;
+use crate::serialize::stream_table::read_indices;
 use std::alloc::Global;
 use std::marker::Model;
 
@@ -23,25 +24,24 @@ use std::marker::Model;
 pub struct BufferSegments<T: AsBytes> {
     buffer: T,
     table_len: usize,
-    segment_indices: Vec<(usize, usize)>,
+    segment_indices: SegmentIndices,
 }
 
 // Clauses see the buffer and the segments.
 impl<T: AsBytes> Model for BufferSegments<T> {
-    ghost use Rattle.std.specs.Prelude.{◌≡◌, ◌+◌, ◌*◌, ◌≤◌, length, map, drop, sum};
-    ghost use Rattle.capnp_frame.specs.SegmentLengths.{ranges, range_len, cut};
+    ghost use Rattle.std.specs.Prelude.{◌+◌, ◌*◌, ◌≤◌, length, drop, sum};
+    ghost use Rattle.capnp_frame.specs.SegmentLengths.{cut};
     ghost use Rattle.capnp_frame.specs.Views.{SeenBuffer};
 
     ghost Value = { SeenBuffer T };
 
     ghost view = { λ held. record {
       buffer = held.buffer;
-      segments = cut (map range_len held.segment_indices.items) (drop held.table_len (T.bytes held.buffer));
+      segments = cut held.segment_indices (drop held.table_len (T.bytes held.buffer));
     } };
 
     ghost invariant = { λ held.
-        (held.segment_indices.items ≡ ranges (map range_len held.segment_indices.items))
-        × (held.table_len + 8 * sum (map range_len held.segment_indices.items) ≤ length (T.bytes held.buffer)) };
+        held.table_len + 8 * sum held.segment_indices ≤ length (T.bytes held.buffer) };
 }
 
 impl<T: AsBytes> BufferSegments<T> {
@@ -50,14 +50,12 @@ impl<T: AsBytes> BufferSegments<T> {
     pub(crate) fn from_parts(
         buffer: T,
         table_len: usize,
-        segment_indices: Vec<(usize, usize)>,
+        segment_indices: SegmentIndices,
     ) -> BufferSegments<T>
-        requires running { segment_indices.items ≡ ranges (map range_len segment_indices.items) }
-        requires room { table_len + 8 * sum (map range_len segment_indices.items)
-            ≤ length (T.bytes buffer) }
+        requires { table_len + 8 * sum segment_indices ≤ length (T.bytes buffer) }
         ensures { result ≡ record {
           buffer = buffer;
-          segments = cut (map range_len segment_indices.items) (drop table_len (T.bytes buffer));
+          segments = cut segment_indices (drop table_len (T.bytes buffer));
         } }
     {
         BufferSegments {
@@ -78,8 +76,8 @@ impl<T: AsBytes> BufferSegments<T> {
 impl<T: AsBytes + Drop> BufferSegments<T> {
     /// Finds the message at the front of a buffer. Any bytes may follow it.
     ///
-    /// Memory is taken for the lengths of the segments alone. Fails as the module `serialize`
-    /// lists: with `EmptyBuffer` for no bytes, with `NonZeroPadding` where the padding isn't zero.
+    /// Memory is taken for the lengths of more than one segment alone. Fails as the module
+    /// `serialize` lists: with `EmptyBuffer` for no bytes, with `NonZeroPadding` where the padding isn't zero.
     pub fn new(alloc: Global, buffer: T, options: ReaderOptions) -> Result<BufferSegments<T>>
         ensures buffer { IfOk result (λ found. found.buffer ≡ buffer) }
         ensures reads { ReadsFlat (buffer_rules Padding.Zero options.traversal_limit_in_words)
@@ -116,14 +114,14 @@ impl<T: AsBytes + Drop> BufferSegments<T> {
         ensures reads { ReadsFlat (buffer_rules padding options.traversal_limit_in_words)
             (T.bytes buffer) None (λ found. found.segments) result }
     {
-        let (lengths, table_len) = find_message(
+        let (segment_indices, table_len) = find_message(
             alloc,
             buffer.as_bytes(),
             options.traversal_limit_in_words,
             padding,
             ErrorKind::EmptyBuffer,
         )?;
-        Ok(BufferSegments::from_parts(buffer, table_len, lengths.to_segment_indices()))
+        Ok(BufferSegments::from_parts(buffer, table_len, segment_indices))
     }
 }
 
@@ -133,7 +131,7 @@ impl<T: AsBytes> ReaderSegments for BufferSegments<T> {
     fn get_segment(&self, id: u32) -> Option<&[u8]> {
         part(
             &self.buffer.as_bytes()[self.table_len..],
-            &self.segment_indices,
+            self.segment_indices.as_slice(),
             id,
         )
     }
@@ -147,8 +145,8 @@ impl<T: AsBytes> ReaderSegments for BufferSegments<T> {
 
 /// Finds the message at the front of a slice, and moves the slice after it.
 ///
-/// No segment is copied, and memory is taken for the lengths of the segments alone. Fails as the
-/// module `serialize` lists: with `EmptySlice` for no bytes, with `NonZeroPadding` where the
+/// No segment is copied, and memory is taken for the lengths of more than one segment alone. Fails
+/// as the module `serialize` lists: with `EmptySlice` for no bytes, with `NonZeroPadding` where the
 /// padding isn't zero. The slice is then as it was.
 pub fn take_segments<'a>(
     alloc: Global,
@@ -192,20 +190,26 @@ pub fn take_segments_with_padding<'a>(
 {
     let all: &'a [u8] = *slice;
     let limit = options.traversal_limit_in_words;
-    let (lengths, table_len) = find_message(alloc, all, limit, padding, ErrorKind::EmptySlice)?;
-    *slice = &all[table_len + 8 * lengths.total_words()..];
-    Ok(lengths.into_slice_segments(all, table_len))
+    let (segment_indices, table_len) = find_message(
+        alloc,
+        all,
+        limit,
+        padding,
+        ErrorKind::EmptySlice,
+    )?;
+    *slice = &all[table_len + 8 * segment_indices.total_words()..];
+    Ok(BufferSegments::from_parts(all, table_len, segment_indices))
 }
 
-// The lengths of the segments of the message at the front of these bytes, in words, and the length
-// of its table, in bytes. No bytes fail with `empty`.
+// Where the segments of the message at the front of these bytes begin and end, and the length of
+// its table, in bytes. No bytes fail with `empty`.
 fn find_message(
     alloc: Global,
     bytes: &[u8],
     limit: Option<usize>,
     rule: Padding,
     empty: ErrorKind,
-) -> Result<(SegmentLengthsBuilder, usize)>
+) -> Result<(SegmentIndices, usize)>
     ensures holds { IfOk result (λ found. HoldsMessage bytes.now (length found.0)) }
     ensures lengths { IfOk result (λ found. declared_lengths (length found.0) bytes.now ≡ found.0) }
     ensures table { IfOk result (λ found. found.1 ≡ table_size (length found.0)) }
@@ -213,16 +217,17 @@ fn find_message(
     ensures padding { IfOk result (λ found.
         KeepsPadding rule (declared_padding (length found.0) bytes.now)) }
     ensures refused { IfErr result (λ error. ((error.kind ≡ ErrorKind.OutOfMemory)
-        × AcceptsCount (by_words empty) bytes.now)
+        × AcceptsSeveral (by_words empty) bytes.now)
         ⊎ RefusesFlat (by_words empty) rule limit error.kind bytes.now) }
 {
     let mut rest = bytes;
-    let Some(lengths) = read_table(Vec::new(alloc), &mut rest, limit, rule)? else {
+    let spare = SegmentIndices::empty(alloc);
+    let Some(indices) = read_indices(spare, &mut rest, limit, rule)? else {
         return Err(Error::from_kind(empty));
     };
-    let total = lengths.total_words();
+    let total = indices.total_words();
     if rest.len() < 8 * total {
         return Err(Error::from_kind(ErrorKind::MessageEndsPrematurely(total, rest.len() / 8)));
     }
-    Ok((lengths, bytes.len() - rest.len()))
+    Ok((indices, bytes.len() - rest.len()))
 }

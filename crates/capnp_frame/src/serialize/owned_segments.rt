@@ -1,9 +1,10 @@
 //! Segments that own their bytes.
-ghost use Rattle.std.specs.Prelude.{◌≡◌, ℕ, ◌*◌, List, [], length, map, sum, vec_len};
+ghost use Rattle.std.specs.Prelude.{◌≡◌, ℕ, ◌*◌, List, [], length, sum, vec_len};
 ghost use Rattle.std.specs.List.{concat};
-ghost use Rattle.capnp_frame.specs.SegmentLengths.{ranges, range_len, cut};
+ghost use Rattle.capnp_frame.specs.SegmentLengths.{cut};
 
 use crate::message::ReaderSegments;
+use crate::serialize::segment_indices::SegmentIndices;
 use crate::serialize::segment_lengths::part;
 use std::alloc::Global;
 use std::marker::Model;
@@ -11,7 +12,7 @@ use std::marker::Model;
 /// The segments of a message in one chunk of memory.
 #[derive(Drop)]
 pub struct OwnedSegments {
-    segment_indices: Vec<(usize, usize)>,
+    segment_indices: SegmentIndices,
     bytes: Vec<u8>,
 }
 
@@ -19,19 +20,16 @@ pub struct OwnedSegments {
 impl Model for OwnedSegments {
     ghost Value = { List (List ℕ) };
 
-    ghost view = { λ segments. cut (map range_len segments.segment_indices.items) segments.bytes.items };
+    ghost view = { λ segments. cut segments.segment_indices segments.bytes.items };
 
-    ghost invariant = { λ segments.
-        (segments.segment_indices.items ≡ ranges (map range_len segments.segment_indices.items))
-        × (length segments.bytes.items ≡ 8 * sum (map range_len segments.segment_indices.items)) };
+    ghost invariant = { λ segments. length segments.bytes.items ≡ 8 * sum segments.segment_indices };
 }
 
 impl OwnedSegments {
     /// The parts of `bytes` that lie between these indices, in words.
-    pub(crate) fn from_parts(segment_indices: Vec<(usize, usize)>, bytes: Vec<u8>) -> OwnedSegments
-        requires running { segment_indices.items ≡ ranges (map range_len segment_indices.items) }
-        requires room { vec_len bytes ≡ 8 * sum (map range_len segment_indices.items) }
-        ensures { result ≡ cut (map range_len segment_indices.items) bytes.items }
+    pub(crate) fn from_parts(segment_indices: SegmentIndices, bytes: Vec<u8>) -> OwnedSegments
+        requires { vec_len bytes ≡ 8 * sum segment_indices }
+        ensures { result ≡ cut segment_indices bytes.items }
     {
         OwnedSegments {
             segment_indices,
@@ -44,14 +42,14 @@ impl OwnedSegments {
         ensures { result ≡ [] }
     {
         OwnedSegments {
-            segment_indices: Vec::new(alloc),
+            segment_indices: SegmentIndices::empty(alloc),
             bytes: Vec::new(alloc),
         }
     }
 
     /// The memory of the segments: where each begins and ends, in words, and their bytes.
-    pub(crate) fn into_parts(self) -> (Vec<(usize, usize)>, Vec<u8>)
-        ensures { self ≡ cut (map range_len result.0.items) result.1.items }
+    pub(crate) fn into_parts(self) -> (SegmentIndices, Vec<u8>)
+        ensures { self ≡ cut result.0 result.1.items }
     {
         (self.segment_indices, self.bytes)
     }
@@ -83,7 +81,7 @@ impl ReaderSegments for OwnedSegments {
     ghost segments = { λ segments. segments };
 
     fn get_segment(&self, id: u32) -> Option<&[u8]> {
-        part(&self.bytes, &self.segment_indices, id)
+        part(&self.bytes, self.segment_indices.as_slice(), id)
     }
 
     fn len(&self) -> usize

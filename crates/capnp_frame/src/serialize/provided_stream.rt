@@ -20,7 +20,7 @@ use crate::serialize::segment_table::{
     Padding, accepted_count, check_limit, check_padding, lengths_total, table_len,
 };
 use crate::serialize::segment_table_info::NoAllocSegmentTableInfo;
-use crate::serialize::stream::{complete_table, read_chunk, read_first};
+use crate::serialize::stream_table::{complete_table, read_chunk, read_first};
 
 /// Reads the next message of a source into a caller-provided buffer, or returns `None` where
 /// nothing is unread.

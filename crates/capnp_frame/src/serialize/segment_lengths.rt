@@ -6,6 +6,7 @@ ghost use Rattle.capnp_frame.specs.Errors.{MayOverflow};
 use crate::error::{Error, ErrorKind, Result};
 use crate::serialize::buffer_segments::BufferSegments;
 use crate::serialize::owned_segments::OwnedSegments;
+use crate::serialize::segment_indices::SegmentIndices;
 use std::alloc::Global;
 use std::marker::Model;
 
@@ -104,6 +105,13 @@ impl SegmentLengthsBuilder {
         self.segment_indices
     }
 
+    /// Where the segments of these lengths begin and end. No memory is taken.
+    pub(crate) fn into_indices(self) -> SegmentIndices
+        ensures { result ≡ self }
+    {
+        SegmentIndices::from_several(self.segment_indices, self.total_words)
+    }
+
     /// Segments of these lengths, all zeros.
     ///
     /// Fails with `MessageSizeOverflow` exactly where the number of their bytes passes `usize`, and
@@ -116,7 +124,7 @@ impl SegmentLengthsBuilder {
             return Err(Error::from_kind(ErrorKind::MessageSizeOverflow));
         };
         let bytes = vec![in *self.segment_indices.allocator(); 0; length]?;
-        Ok(OwnedSegments::from_parts(self.to_segment_indices(), bytes))
+        Ok(OwnedSegments::from_parts(self.into_indices(), bytes))
     }
 
     /// The segments of these lengths that follow the first `table_len` bytes of `slice`.
@@ -125,7 +133,7 @@ impl SegmentLengthsBuilder {
         ensures buffer { result.buffer.now ≡ slice.now }
         ensures segments { result.segments ≡ cut self (drop table_len slice.now) }
     {
-        BufferSegments::from_parts(slice, table_len, self.to_segment_indices())
+        BufferSegments::from_parts(slice, table_len, self.into_indices())
     }
 }
 

@@ -14,7 +14,7 @@ use crate::io::BufRead;
 use crate::message::ReaderOptions;
 use crate::serialize::segment_lengths::SegmentLengthsBuilder;
 use crate::serialize::segment_table::Padding;
-use crate::serialize::stream::read_table;
+use crate::serialize::stream_table::read_table;
 
 // Segments of this many bytes or more are read in chunks of this length, not through a source's own
 // buffer.

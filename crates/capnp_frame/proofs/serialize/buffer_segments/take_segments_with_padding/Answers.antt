@@ -1,20 +1,20 @@
 -- The message at the front is the one that is found.
 use Rattle.std.proofs.Common.{◌*◌, ◌∙◌, length, refl, sym, ap}
 use Rattle.std.specs.Prelude.{sum}
-use Rattle.capnp_frame.proofs.HeldLemmas.{moved, slice_parts_are, keeps_declared}
+use Rattle.capnp_frame.proofs.HeldLemmas.{moved, parts_are, keeps_declared}
 use Rattle.capnp_frame.proofs.FlatReaderLemmas.{reads_none, reads_held}
 use Rattle.capnp_frame.proofs.serialize.buffer_segments.take_segments_with_padding.Goals as goal
 
-pub returns-in_err-lengths-clause-reads : goal.returns-in_err-lengths-clause-reads
-returns-in_err-lengths-clause-reads c = reads_none _ _ _ _ _ _ c.from_residual.ensures.1 refl c.in_err-lengths.ensures.refused
+pub returns-in_err-segment_indices-clause-reads : goal.returns-in_err-segment_indices-clause-reads
+returns-in_err-segment_indices-clause-reads c = reads_none _ _ _ _ _ _ c.from_residual.ensures.1 refl c.in_err-segment_indices.ensures.refused
 
 pub returns-clause-reads : goal.returns-clause-reads
 returns-clause-reads c =
     let bytes = c.args.slice.now.now in
-    let ns = c.in_ok-lengths.lengths in
-    let size = c.in_ok-lengths.table_len in
-    let found = c.in_ok-lengths.ensures in
+    let ns = c.in_ok-segment_indices.segment_indices in
+    let size = c.in_ok-segment_indices.table_len in
+    let found = c.in_ok-segment_indices.ensures in
     reads_held _ _ _ _ _ (length ns) found.holds
-    (slice_parts_are bytes ns size c.into_slice_segments.result.segments found.lengths found.table c.into_slice_segments.ensures.segments)
+    (parts_are bytes ns size c.from_parts.result.segments found.lengths found.table (ap (λ message. message.segments) c.from_parts.ensures))
     (keeps_declared bytes ns c.args.options.traversal_limit_in_words found.lengths found.within) found.padding
     (moved bytes (length ns) size (8 * c.total_words.result) found.table (ap (λ k. 8 * k) (c.total_words.ensures ∙ ap sum (sym found.lengths))))

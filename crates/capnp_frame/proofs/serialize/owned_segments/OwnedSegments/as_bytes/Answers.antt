@@ -1,9 +1,8 @@
 -- The parts cover all bytes.
-use Rattle.std.proofs.Common.{ap, sym, ◌∙◌, map}
+use Rattle.std.proofs.Common.{ap, sym, ◌∙◌}
 use Rattle.std.specs.List.{concat}
-use Rattle.capnp_frame.specs.SegmentLengths.{range_len}
 use Rattle.capnp_frame.proofs.Ranges.{concat-cut}
 use Rattle.capnp_frame.proofs.serialize.owned_segments.OwnedSegments.as_bytes.Goals as goal
 
 pub returns : goal.returns
-returns c = c.deref.ensures.value ∙ sym (concat-cut (map range_len c.self.inside.segment_indices.items) c.self.inside.bytes.items c.self.invariant.1) ∙ ap concat c.self.view_is
+returns c = c.deref.ensures.value ∙ sym (concat-cut c.self.inside.segment_indices c.self.inside.bytes.items c.self.invariant) ∙ ap concat c.self.view_is

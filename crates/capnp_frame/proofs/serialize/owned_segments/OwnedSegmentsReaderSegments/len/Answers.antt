@@ -1,9 +1,7 @@
--- There is a range for each segment.
-use Rattle.std.proofs.Common.{rules}
-use Rattle.capnp_frame.proofs.Ranges.{length-shown}
+-- There is a length for each segment.
+use Rattle.std.proofs.Common.{sym, ap, ◌∙◌, length}
+use Rattle.capnp_frame.proofs.Ranges.{length-cut}
 use Rattle.capnp_frame.proofs.serialize.owned_segments.OwnedSegmentsReaderSegments.len.Goals as goal
 
 pub returns : goal.returns
-returns c =
-    let long = length-shown c.self.inside.segment_indices.items c.self.inside.bytes.items c.args.self.now c.self.view_is in
-    search rules
+returns c = c.len.ensures ∙ sym (length-cut c.self.inside.segment_indices c.self.inside.bytes.items) ∙ ap length c.self.view_is

@@ -4,7 +4,7 @@ use Rattle.capnp_frame.specs.SegmentTable.{table_size}
 use Rattle.capnp_frame.proofs.AskLemmas.{passed_on}
 use Rattle.capnp_frame.proofs.MetRefusals.{limit_refuses, padding_refuses}
 use Rattle.capnp_frame.proofs.TableReading.{tells_complete}
-use Rattle.capnp_frame.proofs.serialize.stream.fill_lengths.Goals as goal
+use Rattle.capnp_frame.proofs.serialize.stream_table.fill_lengths.Goals as goal
 
 pub returns-in_err-check_limit-clause-refused : goal.returns-in_err-check_limit-clause-refused
 returns-in_err-check_limit-clause-refused c =

@@ -5,7 +5,7 @@ use Rattle.capnp_frame.specs.SegmentTable.{table_size}
 use Rattle.capnp_frame.proofs.AskLemmas.{passed_on}
 use Rattle.capnp_frame.proofs.MetRefusals.{others_stop, complete_stops, complete_kind, source_kind}
 use Rattle.capnp_frame.proofs.TableReading.{rest_stands}
-use Rattle.capnp_frame.proofs.serialize.stream.read_lengths_by.Goals as goal
+use Rattle.capnp_frame.proofs.serialize.stream_table.read_lengths_by.Goals as goal
 
 pub returns-in_err-complete_table : goal.returns-in_err-complete_table
 returns-in_err-complete_table g c =

@@ -7,7 +7,7 @@ use Rattle.capnp_frame.specs.Source.{Giving, Refusing, IsSource, IsTail, IfKnown
 use Rattle.capnp_frame.proofs.SourceLemmas.{IfKnown-refl}
 use Rattle.capnp_frame.proofs.MetRefusals.{complete_stops, complete_kind}
 use Rattle.capnp_frame.proofs.TableReading.{rest_stands}
-use Rattle.capnp_frame.proofs.serialize.stream.read_lengths.Goals as goal
+use Rattle.capnp_frame.proofs.serialize.stream_table.read_lengths.Goals as goal
 
 no_more : {gives : Giving} {refuses : Refusing} → IsSource gives refuses → (word : List ℕ) → length word ≡ 8
     → (unread : Option (List ℕ)) → IfKnown unread unread (λ raw rest. gives raw (length word - 8) (drop 8 word) rest)
