@@ -24,7 +24,7 @@ STREAMS = {
 # How often the bytes of the largest message are held: by a reader into new memory once, into kept memory, which
 # grows to more than is asked for, twice, and by one that skips never.
 FACTORS = {"framed": 1, "packed": 1, "framed-one-by-one": 1, "packed-one-by-one": 1, "framed-into-kept": 2,
-           "packed-into-kept": 2, "skipped": 0}
+           "packed-into-kept": 2, "framed-skipped": 0, "packed-skipped": 0}
 
 
 def table(words, count):

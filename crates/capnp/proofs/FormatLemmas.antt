@@ -128,13 +128,13 @@ module _ {S : Type 0} (rule : Padding) (source : Ghosts S) (plain : IsPlainSourc
 
   plain_skips_each : (kept : ℕ) (old new : S) (r : Result (Option (List (List ℕ))) Error)
       → ReadsStream source old new (skipping_rules rule source.gives source.refuses kept) limit r
-      → ReadsStream source old new (skipping_rules_of rule kept) limit r
+      → ReadsStream source old new (skipping_rules_of rule Framed kept) limit r
   plain_skips_each kept old new r reads = plain_reads_taking (λ most. TakesForLengths kept source.gives) (λ most. TakesForLengths kept Splits)
       (TakesForLengths-map kept (λ w n b t. (plain.given w n b t).1)) old new r reads
 
   pub plain_skips : (kept : ℕ) (old new : S) (r : Result (Option (List ℕ)) Error)
       → SkipsMessage (ReadsStream source old new (skipping_rules rule source.gives source.refuses kept) limit) r
-      → SkipsMessage (ReadsStream source old new (skipping_rules_of rule kept) limit) r
+      → SkipsMessage (ReadsStream source old new (skipping_rules_of rule Framed kept) limit) r
   plain_skips kept old new (Ok (Some ns)) (message, same, reads) = (message, same, plain_skips_each kept old new (Ok (Some message)) reads)
   plain_skips kept old new (Ok None) reads = plain_skips_each kept old new (Ok None) reads
   plain_skips kept old new (Err error) reads = plain_skips_each kept old new (Err error) reads
@@ -177,9 +177,9 @@ reading_fault rule format limit kind old new (inr (inl memory)) = inr (inl (memo
 reading_fault rule format limit kind old new (inr (inr line)) = inr (inr line)
 
 -- as is a failure of a call that skips a message, which takes memory for the lengths alone
-pub skipping_fault : (rule : Padding) (kept : ℕ) (limit : Option ℕ) (kind : ErrorKind) (old new : Option (List ℕ))
-    → (kind ≡ DeviceFailed) ⊎ ((kind ≡ OutOfMemory) × IfKnown old new ((skipping_rules_of rule kept).takes_memory limit))
-    ⊎ IfKnown old new ((skipping_rules_of rule kept).refuses limit None kind) → IsReadingFault rule Framed limit kind old new
-skipping_fault rule kept limit kind old new (inl device) = inl device
-skipping_fault rule kept limit kind old new (inr (inl memory)) = inr (inl (memory.0, IfKnown-weaker old new (λ raw left takes. inl takes.0) memory.1))
-skipping_fault rule kept limit kind old new (inr (inr line)) = inr (inr line)
+pub skipping_fault : (rule : Padding) (format : Format) (kept : ℕ) (limit : Option ℕ) (kind : ErrorKind) (old new : Option (List ℕ))
+    → (kind ≡ DeviceFailed) ⊎ ((kind ≡ OutOfMemory) × IfKnown old new ((skipping_rules_of rule format kept).takes_memory limit))
+    ⊎ IfKnown old new ((skipping_rules_of rule format kept).refuses limit None kind) → IsReadingFault rule format limit kind old new
+skipping_fault rule format kept limit kind old new (inl device) = inl device
+skipping_fault rule format kept limit kind old new (inr (inl memory)) = inr (inl (memory.0, IfKnown-weaker old new (λ raw left takes. inl takes.0) memory.1))
+skipping_fault rule format kept limit kind old new (inr (inr line)) = inr (inr line)

@@ -49,9 +49,9 @@ rules_of rule format = record {
   provided_kinds = IsProvidedReaderKind rule (refuses_of format);
 }
 
--- framed messages whose segments are skipped: memory is taken for the lengths alone, where they are more than `kept`
-abbrev pub skipping_rules_of : Padding → ℕ → StreamRules
-skipping_rules_of rule kept = record (rules_of rule Framed) { takes_memory = λ limit. TakesForLengths kept Splits }
+-- those of calls that skip the segments: memory is taken for the lengths alone, where they are more than `kept`
+abbrev pub skipping_rules_of : Padding → Format → ℕ → StreamRules
+skipping_rules_of rule format kept = record (rules_of rule format) { takes_memory = λ limit. TakesForLengths kept (gives_of format) }
 
 -- an encoding of the message in this format is at the front, and the message is within the limit
 abbrev pub StandsNext : Padding → Format → Option ℕ → List (List ℕ) → List ℕ → List ℕ → Type 0

@@ -63,5 +63,6 @@ pub use stream::{
     try_read_segments_reusing_lenient, try_read_segments_reusing_with_padding,
     try_read_segments_with_padding,
 };
+pub use stream_table::read_table;
 pub use writable::is_writable;
 pub use writing::{segments_to_words, serialized_size_in_words, write_segments};

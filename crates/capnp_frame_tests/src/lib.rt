@@ -39,6 +39,8 @@ pub mod refusals;
 #[cfg(test)]
 mod sink_faults;
 pub mod sinks;
+#[cfg(test)]
+mod skipping;
 pub mod sources;
 #[cfg(test)]
 mod tables;

@@ -1,75 +1,16 @@
--- The line of a message, segment by segment.
+-- The line of a message, length by length.
 use Rattle.std.proofs.Common.{◌≡◌, ◌⊎◌, ℕ, ◌+◌, ◌≤◌, ◌<◌, Option, Some, None, Result, Ok, Err, OnErr, List, [], ◌∷◌, ◌++◌, length, take, get_or, map, inl, inr, refl, sym, ap, ◌∙◌, arith, append_assoc}
 use Rattle.std.proofs.lemmas.List.{take_all, take_more, append-nil, length-map}
 use Rattle.std.proofs.lemmas.List.Concat.{flat_map-append}
-use Rattle.std.proofs.lemmas.List.Sums.{sum_by-take-le, sum-map}
 use Rattle.std.proofs.lemmas.Option.{slice_get_within, slice_get_cases, get_or_from_slice_get, none-some}
 use Rattle.std.specs.Prelude.{slice_get, sum, decimal}
 use Rattle.std.specs.List.{flat_map}
 use Rattle.capnp.specs.Passed.{word_count, lengths, size_in_words, Leaving, IfKnown, Adds, Error}
-use Rattle.capnp.proofs.Passed.{lengths-next, size-next}
 use Rattle.capnp_ls.specs.Output.{spaced, line, line_of}
-
--- the first segments are listed: their words, each after a space, and the words of all
-pub record IsListed (segments : List (List ℕ)) (count : ℕ) (text : List ℕ) (total : ℕ) : Type 0 where
-  pub within : count ≤ length segments
-  pub spelled : text ≡ flat_map spaced (lengths (take count segments))
-  pub total_is : total ≡ size_in_words (take count segments)
-
-pub IsListed-next : (segments : List (List ℕ)) (count total : ℕ) (text more segment : List ℕ)
-    → IsListed segments count text total → Some segment ≡ slice_get segments count
-    → more ≡ text ++ spaced (word_count segment) → IsListed segments (count + 1) more (total + word_count segment)
-IsListed-next segments count total text more segment listed here longer =
-    let at : slice_get segments count ≡ Some segment = sym here in
-    record {
-      within = omega (arith, slice_get_within segments count segment at);
-      spelled =
-          longer
-          ∙ ap (λ l. l ++ spaced (word_count segment)) listed.spelled
-          ∙ ap (λ l. flat_map spaced (lengths (take count segments)) ++ l) (sym (append-nil (spaced (word_count segment))))
-          ∙ sym (flat_map-append spaced (lengths (take count segments)) (word_count segment ∷ []))
-          ∙ ap (flat_map spaced) (sym (lengths-next segments count segment at));
-      total_is = ap (λ n. n + word_count segment) listed.total_is ∙ sym (size-next segments count segment at);
-    }
-
--- no more than all words
-pub IsListed-bound : (segments : List (List ℕ)) (count total : ℕ) (text segment : List ℕ)
-    → IsListed segments count text total → Some segment ≡ slice_get segments count
-    → (total + word_count segment ≤ size_in_words segments) × (count < length segments)
-IsListed-bound segments count total text segment listed here =
-    let next = IsListed-next segments count total text (text ++ spaced (word_count segment)) segment listed here refl in
-    let part : size_in_words (take (count + 1) segments) ≤ size_in_words segments =
-    omega (arith, sum-map word_count (take (count + 1) segments), sum-map word_count segments, sum_by-take-le word_count segments (count + 1)) in
-    let total_is = next.total_is in
-    (omega arith, slice_get_within segments count segment (sym here))
 
 -- there is no item past the last
 past_end : {X : Type 0} (xs : List X) (i : ℕ) → None ≡ slice_get xs i → length xs ≤ i
 past_end xs i none = elim ((slice_get_cases xs i).1) [ inl there ↦ absurd (none-some there.0 (none ∙ there.2)) | inr past ↦ past.0 ]
-
--- all segments are listed where there is no next one
-all_listed : (segments : List (List ℕ)) (count total : ℕ) (text : List ℕ) → IsListed segments count text total → None ≡ slice_get segments count → take count segments ≡ segments
-all_listed segments count total text listed none = take_all count segments (past_end segments count none)
-
-pub IsListed-total : (segments : List (List ℕ)) (count total : ℕ) (text : List ℕ) → IsListed segments count text total → None ≡ slice_get segments count → total ≡ size_in_words segments
-IsListed-total segments count total text listed none = listed.total_is ∙ ap size_in_words (all_listed segments count total text listed none)
-
-pub IsListed-whole : (segments : List (List ℕ)) (count total : ℕ) (text : List ℕ) → IsListed segments count text total → None ≡ slice_get segments count → text ≡ flat_map spaced (lengths segments)
-IsListed-whole segments count total text listed none = listed.spelled ∙ ap (λ l. flat_map spaced (lengths l)) (all_listed segments count total text listed none)
-
--- the parts of a line
-pub line_parts : (index : ℕ) (segments : List (List ℕ)) (first second third fourth last listed : List ℕ)
-    → first ≡ [] ++ decimal index → second ≡ first ++ spaced (length segments)
-    → third ≡ second ++ spaced (size_in_words segments) → fourth ≡ third ++ listed
-    → listed ≡ flat_map spaced (lengths segments) → last ≡ fourth ++ 10 ∷ [] → last ≡ line index segments
-line_parts index segments first second third fourth last listed a b c d e f =
-    f
-    ∙ ap (λ l. l ++ 10 ∷ []) (d ∙ ap (λ l. third ++ l) e
-    ∙ ap (λ l. l ++ flat_map spaced (lengths segments))
-    (c ∙ ap (λ l. l ++ spaced (size_in_words segments)) (b ∙ ap (λ l. l ++ spaced (length segments)) a)))
-    ∙ simp append_assoc
-
--- The line of these lengths.
 
 -- the first lengths are listed, each after a space
 pub record ListsLengths (ns : List ℕ) (count : ℕ) (text : List ℕ) : Type 0 where

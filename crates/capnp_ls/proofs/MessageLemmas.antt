@@ -1,19 +1,11 @@
 -- A message that a reader accepts has a line.
-use Rattle.std.proofs.Common.{◌≡◌, ◌⊎◌, inl, inr, ℕ, ◌^◌, ◌<◌, Option, None, List, [], length, ap, subst, arith}
-use Rattle.std.proofs.lemmas.List.{length-map}
-use Rattle.capnp.specs.Passed.{Appending, Leaving, Declining, Adds, ErrorKind, DeviceFailed, OutOfMemory, Padding, IfKnown, IsWithin, lengths, word_count, size_in_words}
-use Rattle.capnp.specs.declared.streams.Format.TheVariants.{Framed}
+use Rattle.std.proofs.Common.{◌≡◌, ◌⊎◌, inl, inr, ℕ, ◌^◌, ◌<◌, Option, List, [], length, ap, subst, arith}
+use Rattle.capnp.specs.Passed.{Appending, Leaving, Declining, Adds, ErrorKind, DeviceFailed, OutOfMemory, Padding, IfKnown, IsWithin, lengths}
+use Rattle.capnp.specs.declared.streams.Format.{Format}
 use Rattle.capnp.specs.Runs.{IsWritingFault, BreaksOffOr}
 use Rattle.capnp_ls.specs.declared.command.Command.TheVariants.{Listing}
 use Rattle.capnp_ls.specs.Output.{line, line_of, DeclinesPrinted}
 use Rattle.capnp_ls.proofs.LineLemmas.{line_declared}
-use Rattle.capnp.proofs.Passed.{sum_below}
-
-pub small_message : (segments : List (List ℕ)) → IsWithin segments None → (length segments < 2 ^ 32) × (size_in_words segments < 2 ^ 64)
-small_message segments within =
-    let few = within.few in
-    let size = sum_below (lengths segments) within.each in
-    (omega (arith, length-map segments word_count), omega arith)
 
 pub few_lengths : (message : List (List ℕ)) (ns : List ℕ) (limit : Option ℕ) → lengths message ≡ ns → IsWithin message limit → length ns < 2 ^ 32
 few_lengths message ns limit same within = let few = within.few in omega (arith, few, ap length same)
@@ -28,16 +20,16 @@ pub line_left : (leaves : Leaving) (index : ℕ) (message : List (List ℕ)) (ns
     → IfKnown a b (Adds (λ part. (part ≡ []) ⊎ leaves (line_of index ns) part)) → IfKnown a b (Adds (λ part. (part ≡ []) ⊎ leaves (line index message) part))
 line_left leaves index message ns a b same left = subst (λ l. IfKnown a b (Adds (λ part. (part ≡ []) ⊎ leaves l part))) (line_declared index message ns same) left
 
-pub line_refused : (appends : Appending) (leaves : Leaving) (refuses : Declining) (padding : Padding) (index : ℕ) (message : List (List ℕ)) (ns : List ℕ) (kind : ErrorKind)
+pub line_refused : (appends : Appending) (leaves : Leaving) (refuses : Declining) (format : Format) (padding : Padding) (index : ℕ) (message : List (List ℕ)) (ns : List ℕ) (kind : ErrorKind)
     → lengths message ≡ ns → (kind ≡ DeviceFailed) ⊎ (kind ≡ OutOfMemory) ⊎ refuses (line_of index ns) kind
-    → IsWritingFault (DeclinesPrinted (Listing Framed padding) appends leaves refuses) index message kind
-line_refused appends leaves refuses padding index message ns kind same (inl device) = inl device
-line_refused appends leaves refuses padding index message ns kind same (inr (inl memory)) = inr (inl (memory, tt))
-line_refused appends leaves refuses padding index message ns kind same (inr (inr refused)) = inr (inr (inr (subst (λ l. refuses l kind) (line_declared index message ns same) refused)))
+    → IsWritingFault (DeclinesPrinted (Listing format padding) appends leaves refuses) index message kind
+line_refused appends leaves refuses format padding index message ns kind same (inl device) = inl device
+line_refused appends leaves refuses format padding index message ns kind same (inr (inl memory)) = inr (inl (memory, tt))
+line_refused appends leaves refuses format padding index message ns kind same (inr (inr refused)) = inr (inr (inr (subst (λ l. refuses l kind) (line_declared index message ns same) refused)))
 
-pub line_untouched : (appends : Appending) (leaves : Leaving) (refuses : Declining) (padding : Padding) (index : ℕ) (message : List (List ℕ)) (ns : List ℕ) (kind : ErrorKind) (Same : Type 0)
+pub line_untouched : (appends : Appending) (leaves : Leaving) (refuses : Declining) (format : Format) (padding : Padding) (index : ℕ) (message : List (List ℕ)) (ns : List ℕ) (kind : ErrorKind) (Same : Type 0)
     → lengths message ≡ ns → (kind ≡ DeviceFailed) ⊎ refuses (line_of index ns) kind ⊎ Same
-    → BreaksOffOr (DeclinesPrinted (Listing Framed padding) appends leaves refuses) index message Same kind
-line_untouched appends leaves refuses padding index message ns kind Same same (inl device) = inl device
-line_untouched appends leaves refuses padding index message ns kind Same same (inr (inl refused)) = inr (inl (subst (λ l. refuses l kind) (line_declared index message ns same) refused))
-line_untouched appends leaves refuses padding index message ns kind Same same (inr (inr kept)) = inr (inr kept)
+    → BreaksOffOr (DeclinesPrinted (Listing format padding) appends leaves refuses) index message Same kind
+line_untouched appends leaves refuses format padding index message ns kind Same same (inl device) = inl device
+line_untouched appends leaves refuses format padding index message ns kind Same same (inr (inl refused)) = inr (inl (subst (λ l. refuses l kind) (line_declared index message ns same) refused))
+line_untouched appends leaves refuses format padding index message ns kind Same same (inr (inr kept)) = inr (inr kept)

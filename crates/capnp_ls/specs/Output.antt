@@ -22,12 +22,25 @@ line index segments = decimal index ++ spaced (length segments) ++ spaced (size_
 abbrev pub line_of : ℕ → List ℕ → List ℕ
 line_of index ns = decimal index ++ spaced (length ns) ++ spaced (sum ns) ++ flat_map spaced ns ++ 10 ∷ []
 
+-- the chunks of a message's canonical form
+abbrev pub PrintsForm : Appending → Writing
+PrintsForm appends index segments text = AppendsForm (default_root segments) appends text
+
 -- What a sink adds for the message of this index: its line; its chunks, packed or as they are; or
 -- the chunks of its canonical form.
 abbrev pub Prints : Command → Appending → Writing
 Prints (Listing format padding) appends index segments text = appends (line index segments) text
 Prints (Transcoding way padding) appends index segments text = Transcodes way appends index segments text
-Prints (Canonical format) appends index segments text = AppendsForm (default_root segments) appends text
+Prints (Canonical format) appends index segments text = PrintsForm appends index segments text
+
+-- how writing a message's canonical form may fail: it has none, or the sink fails for a chunk of it
+abbrev pub DeclinesForm : Appending → Leaving → Declining → DecliningWriting
+DeclinesForm appends leaves refuses = record {
+  lacks = λ index segments. LacksForm (default_root segments);
+  breaks = λ index segments. BreaksForm (default_root segments) refuses;
+  takes_memory = λ index segments. ⊤;
+  leaves = λ index segments. LeavesForm (default_root segments) appends leaves;
+}
 
 -- and how printing for this message may fail: it has no canonical form, or the sink fails for a
 -- chunk of what is printed. Memory is taken for a line and for a form; of these the sink is left
@@ -40,9 +53,4 @@ DeclinesPrinted (Listing format padding) appends leaves refuses = record {
   leaves = λ index segments text. (text ≡ []) ⊎ leaves (line index segments) text;
 }
 DeclinesPrinted (Transcoding way padding) appends leaves refuses = DeclinesTranscoded way appends leaves refuses
-DeclinesPrinted (Canonical format) appends leaves refuses = record {
-  lacks = λ index segments. LacksForm (default_root segments);
-  breaks = λ index segments. BreaksForm (default_root segments) refuses;
-  takes_memory = λ index segments. ⊤;
-  leaves = λ index segments. LeavesForm (default_root segments) appends leaves;
-}
+DeclinesPrinted (Canonical format) appends leaves refuses = DeclinesForm appends leaves refuses

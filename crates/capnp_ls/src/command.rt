@@ -3,15 +3,11 @@ ghost use Rattle.std.specs.Prelude.{◌≡◌, map, string_bytes, IfSome, IfNone
 ghost use Rattle.capnp.specs.Passed.{Padding};
 ghost use Rattle.capnp.specs.declared.streams.Format.{Format};
 ghost use Rattle.capnp_ls.specs.declared.command.Command.{Command};
-ghost use Rattle.capnp_ls.specs.Commands.{command_words, option_words, command_input, padding_of};
+ghost use Rattle.capnp_ls.specs.Commands.{command_words, option_words};
 
-use crate::listing::write_line;
-use capnp::io::Write;
-use capnp::message::{DEFAULT_READER_OPTIONS, Reader};
-use capnp::serialize::{OwnedSegments, Padding};
-use capnp::streams::{Format, MessageWriter};
-use capnp::{Result, Way, serialize};
-use std::alloc::Global;
+use capnp::Way;
+use capnp::serialize::Padding;
+use capnp::streams::Format;
 
 /// What the program is to do.
 #[derive(Clone, Copy, Debug, PartialEq, Eq)]
@@ -44,28 +40,6 @@ impl Command {
             _ => None,
         }
     }
-
-    /// The format of the messages that the command reads.
-    pub fn input(self) -> Format
-        ensures { result ≡ command_input self }
-    {
-        match self {
-            Command::Listing(format, _) => format,
-            Command::Transcoding(way, _) => way.input(),
-            Command::Canonical(format) => format,
-        }
-    }
-
-    /// The rule of padding by which it reads them.
-    pub fn padding(self) -> Padding
-        ensures { result ≡ padding_of self }
-    {
-        match self {
-            Command::Listing(_, padding) => padding,
-            Command::Transcoding(_, padding) => padding,
-            Command::Canonical(_) => Padding::Zero,
-        }
-    }
 }
 
 // The format and the rule of padding that options stand for.
@@ -86,35 +60,5 @@ fn options_of(words: &[String]) -> Option<(Format, Padding)>
             Some((Format::Packed, Padding::Any))
         }
         _ => None,
-    }
-}
-
-impl MessageWriter for Command {
-    ghost use Rattle.capnp_ls.specs.Output.{Prints, DeclinesPrinted};
-
-    ghost writes = { Prints };
-
-    ghost declines = { DeclinesPrinted };
-
-    // Writes what the command prints for a message.
-    fn write_message<W: Write>(
-        &self,
-        alloc: Global,
-        index: u64,
-        message: &OwnedSegments,
-        memory: &mut Vec<u8>,
-        sink: &mut W,
-    ) -> Result<()> {
-        match self {
-            Command::Listing(_, _) => {
-                write_line(memory, index, message)?;
-                sink.write_all(memory)
-            }
-            Command::Transcoding(way, _) => way.write_message(alloc, index, message, memory, sink),
-            Command::Canonical(_) => {
-                let reader = Reader::new(message, DEFAULT_READER_OPTIONS);
-                serialize::write_canonical_message(alloc, sink, &reader)
-            }
-        }
     }
 }

@@ -9,6 +9,7 @@ ghost use Rattle.capnp.specs.Devices.{pending, taken_so_far, IsOutOfMemory};
 ghost use Rattle.capnp_ls.specs.declared.stop.Stop.TheVariants.{Usage, Refused};
 ghost use Rattle.capnp_ls.specs.Stop.{IsAtStart, status_of};
 
+mod canonical;
 mod command;
 mod flags;
 mod lines;

@@ -7,13 +7,14 @@ ghost use Rattle.capnp.specs.Passed.{default_limit};
 ghost use Rattle.capnp_ls.specs.Output.{Prints, DeclinesPrinted};
 ghost use Rattle.capnp_ls.specs.Runs.{ForCommand};
 
+use crate::canonical::CanonicalForm;
 use crate::command::Command;
 use crate::lines::list_each;
 use crate::stop::Stop;
 use capnp::io::{BufRead, Write};
 use capnp::message::DEFAULT_READER_OPTIONS;
 use capnp::serialize::Padding;
-use capnp::streams::{Format, StoppedAt, write_each_message};
+use capnp::streams::{StoppedAt, write_each_message};
 use std::alloc::Global;
 
 /// Runs the command that these words stand for: reads the messages of `source`, and writes what the
@@ -77,46 +78,16 @@ fn print_each<R: BufRead, W: Write>(
         (padding_of command) (command_input command) default_limit (Prints command W.appends)
         (DeclinesPrinted command W.appends W.leaves W.refuses) result }
 {
-    if let Command::Listing(format, padding) = command {
-        return print_lines(alloc, format, padding, source, sink);
-    }
-    let format = command.input();
-    let padding = command.padding();
-    write_each_message(
-        alloc,
-        format,
-        padding,
-        DEFAULT_READER_OPTIONS,
-        &command,
-        source,
-        sink,
-    )
-}
-
-// Prints a line for each message of a format. A line needs only the lengths of the segments, so
-// framed messages are skipped.
-fn print_lines<R: BufRead, W: Write>(
-    alloc: Global,
-    format: Format,
-    padding: Padding,
-    source: &mut R,
-    sink: &mut W,
-) -> std::result::Result<(), StoppedAt>
-    ensures { WritesEach R.Read source.old source.new W.Write sink.old sink.new padding format
-        default_limit (Prints (Command.Listing format padding) W.appends)
-        (DeclinesPrinted (Command.Listing format padding) W.appends W.leaves W.refuses) result }
-{
-    match format {
-        Format::Framed => list_each(alloc, padding, source, sink),
-        Format::Packed => write_each_message(
-            alloc,
-            Format::Packed,
-            padding,
-            DEFAULT_READER_OPTIONS,
-            &Command::Listing(Format::Packed, padding),
-            source,
-            sink,
-        ),
+    let options = DEFAULT_READER_OPTIONS;
+    match command {
+        Command::Listing(format, padding) => list_each(alloc, format, padding, source, sink),
+        Command::Transcoding(way, padding) => {
+            write_each_message(alloc, way.input(), padding, options, &way, source, sink)
+        }
+        Command::Canonical(format) => {
+            let writer = CanonicalForm;
+            write_each_message(alloc, format, Padding::Zero, options, &writer, source, sink)
+        }
     }
 }
 

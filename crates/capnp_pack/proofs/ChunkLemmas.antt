@@ -10,14 +10,15 @@ use Rattle.capnp_pack.specs.Group.{zeros}
 use Rattle.capnp_pack.specs.PackedSource.{Unpacks, IsGroupFault, MeetsFault, RefusesChunk}
 use Rattle.capnp_pack.specs.UnpackingLaws.{takes_no_group, unpack_nothing, unpack_once}
 use Rattle.capnp_pack.specs.RefusingLaws.{packed_apart}
-use Rattle.capnp_pack.proofs.FaultLemmas.{fault_here, no_count, long_run}
+use Rattle.capnp_pack.specs.Steps.{FirstGroupFails}
+use Rattle.capnp_pack.proofs.FaultLemmas.{meets_first, no_count, long_run}
 
 -- a later group is missing
-end_refused : (n : ℕ) (old : Option (List ℕ)) → 0 < n → IfSome old (λ raw. raw ≡ []) → IsRefused MeetsFault n old PrematureEndOfPackedInput
-end_refused n None some end = (0 ∷ [], n, no_count n some)
+pub end_refused : (n : ℕ) (old : Option (List ℕ)) → 0 < n → IfSome old (λ raw. raw ≡ []) → IsRefused MeetsFault n old PrematureEndOfPackedInput
+end_refused n None some end = (0 ∷ [], n, meets_first (0 ∷ []) n _ (no_count n some))
 end_refused n (Some x) some end =
     subst (λ l. MeetsFault l n PrematureEndOfPackedInput) (sym end)
-    (fault_here [] n _ some (inl (record { group = zeros 0; is = lit< tt; missing = 0 ∷ 0 ∷ []; some = lit< tt; spelled = refl }, refl)))
+    (meets_first [] n _ (some, inl (record { group = zeros 0; is = lit< tt; missing = 0 ∷ 0 ∷ []; some = lit< tt; spelled = refl }, refl)))
 
 -- the table of a chunk
 
@@ -28,7 +29,7 @@ part_refused n (Some raw) kind part is = inl (part, is)
 start_refused : (raw : List ℕ) (n : ℕ) → 0 < n → n % 8 ≡ 0 → raw ≡ [] → RefusesChunk raw n FailedToFillTheWholeBuffer
 start_refused raw n some whole none = inr (λ part. part whole, inl (none, (some, refl)))
 
-none_refused : (n : ℕ) (old : Option (List ℕ)) → 0 < n → n % 8 ≡ 0 → IfSome old (λ raw. raw ≡ []) → IsRefused RefusesChunk n old FailedToFillTheWholeBuffer
+pub none_refused : (n : ℕ) (old : Option (List ℕ)) → 0 < n → n % 8 ≡ 0 → IfSome old (λ raw. raw ≡ []) → IsRefused RefusesChunk n old FailedToFillTheWholeBuffer
 none_refused n None some whole end = ([], n, start_refused [] n some whole refl)
 none_refused n (Some raw) some whole end = start_refused raw n some whole end
 
@@ -37,15 +38,15 @@ later_refused raw n kind whole more fault = inr (λ part. part whole, inr (more,
 
 -- each kind of a fault is one of a chunk
 some_chunk : (left : List ℕ) (n : ℕ) (kind : ErrorKind) → IsGroupFault left n kind → (raw : List ℕ) × (m : ℕ) × RefusesChunk raw m kind
-some_chunk left n kind (inl p) = (0 ∷ [], 8, subst (RefusesChunk (0 ∷ []) 8) (sym p.1) (later_refused (0 ∷ []) 8 _ refl (λ e. cc) (no_count 8 (lit< tt))))
-some_chunk left n kind (inr (inl p)) = (0 ∷ 1 ∷ [], 8, subst (RefusesChunk (0 ∷ 1 ∷ []) 8) (sym p.1) (later_refused (0 ∷ 1 ∷ []) 8 _ refl (λ e. cc) (long_run 1 8 [] (lit< tt) (lit< tt) (lit< tt))))
+some_chunk left n kind (inl p) = (0 ∷ [], 8, subst (RefusesChunk (0 ∷ []) 8) (sym p.1) (later_refused (0 ∷ []) 8 _ refl (λ e. cc) (meets_first (0 ∷ []) 8 _ (no_count 8 (lit< tt)))))
+some_chunk left n kind (inr (inl p)) = (0 ∷ 1 ∷ [], 8, subst (RefusesChunk (0 ∷ 1 ∷ []) 8) (sym p.1) (later_refused (0 ∷ 1 ∷ []) 8 _ refl (λ e. cc) (meets_first (0 ∷ 1 ∷ []) 8 _ (long_run 1 8 [] (lit< tt) (lit< tt) (lit< tt)))))
 some_chunk left n kind (inr (inr p)) = ([], 8, subst (RefusesChunk [] 8) (sym p.1) (start_refused [] 8 (lit< tt) refl refl))
 
-chunk_refused : (n : ℕ) (old : Option (List ℕ)) (kind : ErrorKind) → n % 8 ≡ 0 → IfSome old (λ raw. raw ≡ [] → ⊥) → IsRefused MeetsFault n old kind → IsRefused RefusesChunk n old kind
+pub chunk_refused : (n : ℕ) (old : Option (List ℕ)) (kind : ErrorKind) → n % 8 ≡ 0 → IfSome old (λ raw. raw ≡ [] → ⊥) → IsRefused MeetsFault n old kind → IsRefused RefusesChunk n old kind
 chunk_refused n None kind whole more p = some_chunk p.2.left _ kind p.2.fault
 chunk_refused n (Some raw) kind whole more p = later_refused raw n kind whole more p
 
-group_error : (n filled : ℕ) (old mid : Option (List ℕ)) (kind : ErrorKind) → n % 8 ≡ 0 → (0 < filled → IfSome old (λ raw. raw ≡ [] → ⊥)) →
+pub group_error : (n filled : ℕ) (old mid : Option (List ℕ)) (kind : ErrorKind) → n % 8 ≡ 0 → (0 < filled → IfSome old (λ raw. raw ≡ [] → ⊥)) →
     (filled ≡ 0 → mid ≡ old) → (mid ≡ Some [] → kind ≡ DeviceFailed) → (kind ≡ DeviceFailed) ⊎ IsRefused MeetsFault n old kind →
     (kind ≡ DeviceFailed) ⊎ IsRefused RefusesChunk n old kind
 group_error n filled old mid kind whole more same end (inl p) = inl p
@@ -79,15 +80,21 @@ whole_fill : (filled n : ℕ) (buffer part : List ℕ) → filled ≤ length buf
     n % 8 ≡ 0 → length (put_mid filled (length buffer - filled) buffer part) % 8 ≡ 0
 whole_fill filled n buffer part within fits same whole = ap (λ k. k % 8) (length-put_mid filled buffer part within fits ∙ same) ∙ whole
 
+-- a first group that can't be taken is the first fault
+pub group_meets : (F : Type 0) (n : ℕ) (old : Option (List ℕ)) (kind : ErrorKind) → F ⊎ IsRefused FirstGroupFails n old kind → F ⊎ IsRefused MeetsFault n old kind
+group_meets F n old kind (inl failed) = inl failed
+group_meets F n None kind (inr (raw, m, fails)) = inr (raw, m, meets_first raw m kind fails)
+group_meets F n (Some raw) kind (inr fails) = inr (meets_first raw n kind fails)
+
 -- a group fails after the front of the buffer
 pub group_failed : (filled n : ℕ) (buffer part : List ℕ) (old mid : Option (List ℕ)) (kind : ErrorKind) → filled ≤ length buffer
     → length part ≡ length buffer - filled → length buffer ≡ n → n % 8 ≡ 0 → (0 < filled → IfSome old (λ raw. raw ≡ [] → ⊥))
     → (filled ≡ 0 → mid ≡ old) → IfKnown old mid (ReturnsPart Unpacks MeetsFault (length buffer) (take filled buffer))
-    → (mid ≡ Some [] → kind ≡ DeviceFailed) → (kind ≡ DeviceFailed) ⊎ IsRefused MeetsFault (length part) mid kind
+    → (mid ≡ Some [] → kind ≡ DeviceFailed) → (kind ≡ DeviceFailed) ⊎ IsRefused FirstGroupFails (length part) mid kind
     → (kind ≡ DeviceFailed) ⊎ IsRefused RefusesChunk (length (put_mid filled (length buffer - filled) buffer part)) old kind
 group_failed filled n buffer part old mid kind within fits same whole more start taken end refused =
     group_error _ filled old mid kind (whole_fill filled n buffer part within fits same whole) more start end
-    (refused_fill _ Unpacks MeetsFault filled buffer part old mid kind within fits taken refused)
+    (refused_fill _ Unpacks MeetsFault filled buffer part old mid kind within fits taken (group_meets _ (length part) mid kind refused))
 
 -- or is missing there
 pub group_missing : (filled n : ℕ) (buffer part : List ℕ) (old mid : Option (List ℕ)) → filled ≤ length buffer → length part ≡ length buffer - filled

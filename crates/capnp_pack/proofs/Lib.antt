@@ -17,6 +17,8 @@ pub mod RunFaults
 pub mod StoredLemmas
 pub mod LaneLemmas
 pub mod ProgressLemmas
+pub mod PassingLemmas
+pub mod SkippedLemmas
 pub mod OverrunLemmas
 pub mod LeavingLemmas
 pub mod GrantingLemmas

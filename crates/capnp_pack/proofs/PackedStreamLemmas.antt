@@ -1,14 +1,24 @@
 -- The readers of `capnp_frame` over a packed source, in packed encodings.
-use Rattle.std.proofs.Common.{◌≡◌, ◌⊎◌, ℕ, ◌+◌, ◌*◌, ◌≤◌, ap, Option, Result, IfErr, List, length}
+use Rattle.std.proofs.Common.{◌≡◌, ◌⊎◌, ℕ, ◌+◌, ◌*◌, ◌≤◌, ap, sym, subst, ◌∙◌, Option, Some, None, Result, Ok, Err, IfErr, List, length}
+use Rattle.std.specs.Prelude.{sum}
 use Rattle.capnp_frame.specs.declared.error.Error.{Error}
+use Rattle.capnp_frame.specs.declared.error.ErrorKind.{ErrorKind}
 use Rattle.capnp_frame.specs.declared.error.ErrorKind.TheVariants.{DeviceFailed, OutOfMemory}
 use Rattle.capnp_frame.specs.declared.serialize.segment_table.Padding.{Padding}
 use Rattle.capnp_frame.specs.declared.io.Read.{Ghosts}
 use Rattle.capnp_frame.specs.Message.{size_in_words}
+use Rattle.capnp_frame.specs.Refusals.{TakesMemory, TakesForLengths}
+use Rattle.capnp_frame.specs.Requests.{TableStands}
+use Rattle.capnp_frame.specs.SegmentLengths.{cut}
+use Rattle.capnp_frame.specs.Skipping.{SkipsMessage, LengthsStand}
+use Rattle.capnp_frame.specs.Source.{IfKnown}
+use Rattle.capnp_frame.proofs.RequestLemmas.{lengths-cut, MessageStands-cut}
+use Rattle.capnp_frame.proofs.SourceLemmas.{IfKnown-join}
+use Rattle.capnp_frame.specs.Steps.{AsksNext}
 use Rattle.capnp_frame.specs.SegmentTable.{table_size}
-use Rattle.capnp_frame.specs.Streams.{framed_rules, ReadsStream, ReadsStreamInto}
+use Rattle.capnp_frame.specs.Streams.{framed_rules, skipping_rules, ReadsStream, ReadsStreamInto}
 use Rattle.capnp_pack.specs.PackedSource.{Unpacks, RefusesChunk}
-use Rattle.capnp_pack.specs.PackedStreams.{packed_rules}
+use Rattle.capnp_pack.specs.PackedStreams.{packed_rules, packed_skipping_rules, packed_source}
 use Rattle.capnp_pack.proofs.MessageLemmas.{found_packed, accepted_packed}
 
 -- what unpacks a source: what is seen of it is what is seen of that source
@@ -21,11 +31,12 @@ unpacked following source same = record {
   same = same;
 }
 
-pub packed_reads : {S T : Type 0} (rule : Padding) (following : T → S) (source : Ghosts S) (same : T → T → Type 0) (old new : T)
-    (limit : Option ℕ) (r : Result (Option (List (List ℕ))) Error) → source.same (following old) (following new)
-    → ReadsStream (unpacked following source same) old new (framed_rules rule Unpacks RefusesChunk) limit r
-    → ReadsStream source (following old) (following new) (packed_rules rule) limit r
-packed_reads rule following source same old new limit r same_source declared = record {
+-- Whatever takes memory, a reader over what unpacks a source is one of packed messages.
+packed_reads_taking : {S T : Type 0} (rule : Padding) (takes : Option ℕ → List ℕ → List ℕ → Type 0) (following : T → S) (source : Ghosts S) (same : T → T → Type 0)
+    (old new : T) (limit : Option ℕ) (r : Result (Option (List (List ℕ))) Error) → source.same (following old) (following new)
+    → ReadsStream (unpacked following source same) old new (record (framed_rules rule Unpacks RefusesChunk) { takes_memory = takes }) limit r
+    → ReadsStream source (following old) (following new) (record (packed_rules rule) { takes_memory = takes }) limit r
+packed_reads_taking rule takes following source same old new limit r same_source declared = record {
   found = found_packed rule r _ _ declared.found;
   within = declared.within;
   whole = declared.whole;
@@ -38,6 +49,13 @@ packed_reads rule following source same old new limit r same_source declared = r
   failed = declared.failed;
   advances = record { tail = declared.advances.tail; counted = declared.advances.counted; same_source = same_source };
 }
+
+pub packed_reads : {S T : Type 0} (rule : Padding) (following : T → S) (source : Ghosts S) (same : T → T → Type 0) (old new : T)
+    (limit : Option ℕ) (r : Result (Option (List (List ℕ))) Error) → source.same (following old) (following new)
+    → ReadsStream (unpacked following source same) old new (framed_rules rule Unpacks RefusesChunk) limit r
+    → ReadsStream source (following old) (following new) (packed_rules rule) limit r
+packed_reads rule following source same old new limit r same_source declared =
+    packed_reads_taking rule (TakesMemory rule Unpacks) following source same old new limit r same_source declared
 
 pub packed_reads_into : {S T : Type 0} (rule : Padding) (following : T → S) (source : Ghosts S) (same : T → T → Type 0) (old new : T)
     (limit : Option ℕ) (room : ℕ) (r : Result (Option (List (List ℕ))) Error) → source.same (following old) (following new)
@@ -58,3 +76,43 @@ packed_reads_into rule following source same old new limit room r same_source de
   failed = declared.failed;
   advances = record { tail = declared.advances.tail; counted = declared.advances.counted; same_source = same_source };
 }
+
+-- Skipping
+
+-- a step over what unpacks a source is one of the source's packed requests
+pub packed_asks : {S T X : Type 0} (following : T → S) (source : Ghosts S) (same : T → T → Type 0) (old new : T) (rule : Padding)
+    (takes : List ℕ → List ℕ → Type 0) (lines : ErrorKind → List ℕ → List ℕ → Type 0) (r : Result (Option X) Error)
+    → source.same (following old) (following new) → AsksNext (unpacked following source same) old new rule takes lines r
+    → AsksNext (packed_source source) (following old) (following new) rule takes lines r
+packed_asks following source same old new rule takes lines r same_source declared = record {
+  none = declared.none;
+  refused = declared.refused;
+  kinds = declared.kinds;
+  end = declared.end;
+  asked = record {
+    failed = declared.asked.failed;
+    advances = record { tail = declared.asked.advances.tail; counted = declared.asked.advances.counted; same_source = same_source };
+  };
+}
+
+-- what skips a message by packed requests skips a packed message
+pub packed_skips : {S : Type 0} (rule : Padding) (source : Ghosts S) (old new : S) (kept : ℕ) (limit : Option ℕ) (r : Result (Option (List ℕ)) Error)
+    → source.same old new → SkipsMessage (ReadsStream (packed_source source) old new (skipping_rules rule Unpacks RefusesChunk kept) limit) r
+    → SkipsMessage (ReadsStream source old new (packed_skipping_rules rule kept) limit) r
+packed_skips rule source old new kept limit (Ok (Some ns)) same (message, lens, reads) =
+    (message, lens, packed_reads_taking rule (λ most. TakesForLengths kept Unpacks) (λ s. s) source source.same old new limit (Ok (Some message)) same reads)
+packed_skips rule source old new kept limit (Ok None) same reads =
+    packed_reads_taking rule (λ most. TakesForLengths kept Unpacks) (λ s. s) source source.same old new limit (Ok None) same reads
+packed_skips rule source old new kept limit (Err error) same reads =
+    packed_reads_taking rule (λ most. TakesForLengths kept Unpacks) (λ s. s) source source.same old new limit (Err error) same reads
+
+-- the segments that are skipped after a table
+pub lengths_skipped : (rule : Padding) (ns : List ℕ) (n : ℕ) (a b c : Option (List ℕ)) → n ≡ 8 * sum ns → IfKnown a b (TableStands rule Unpacks ns)
+    → IfKnown b c (λ raw rest. (words : List ℕ) × Unpacks raw n words rest) → IfKnown a c (LengthsStand rule Unpacks ns)
+lengths_skipped rule ns n a b c all = IfKnown-join a b c (λ x y z table (words, given).
+    let long : length words ≡ n = given.3 in
+    let whole : length words ≡ 8 * sum ns = long ∙ all in (
+      cut ns words,
+      (lengths-cut ns words whole).0,
+      MessageStands-cut rule Unpacks ns words (Some x) (Some y) (Some z) whole table (subst (λ k. Unpacks y k words z) (sym long) given),
+    ))

@@ -1,5 +1,8 @@
 -- Streams of packed messages (src/stream.rt).
+use Rattle.std.specs.Prelude.{ℕ}
+use Rattle.capnp_frame.specs.declared.io.Read.{Ghosts}
 use Rattle.capnp_frame.specs.declared.serialize.segment_table.Padding.{Padding}
+use Rattle.capnp_frame.specs.Refusals.{TakesForLengths}
 use Rattle.capnp_frame.specs.Streams.{StreamRules, framed_rules}
 use Rattle.capnp_pack.specs.PackedFrame.{PackedStands}
 use Rattle.capnp_pack.specs.PackedSource.{Unpacks, RefusesChunk}
@@ -7,3 +10,17 @@ use Rattle.capnp_pack.specs.PackedSource.{Unpacks, RefusesChunk}
 -- Packed messages, whose padding the rule accepts: each request is a packed chunk.
 abbrev pub packed_rules : Padding → StreamRules
 packed_rules rule = record (framed_rules rule Unpacks RefusesChunk) { stands = PackedStands rule }
+
+-- Packed messages whose segments are skipped: memory is taken for the lengths alone, where they are more than `kept`.
+abbrev pub packed_skipping_rules : Padding → ℕ → StreamRules
+packed_skipping_rules rule kept = record (packed_rules rule) { takes_memory = λ limit. TakesForLengths kept Unpacks }
+
+-- what is seen of a source where each request is a packed chunk
+abbrev pub packed_source : {S : Type 0} → Ghosts S → Ghosts S
+packed_source source = record {
+  unread = source.unread;
+  failures = source.failures;
+  gives = Unpacks;
+  refuses = RefusesChunk;
+  same = source.same;
+}

@@ -8,7 +8,7 @@ use Rattle.capnp_frame.specs.Source.{Refusing, RunsShort, IfKnown, ReturnsPart}
 use Rattle.capnp_pack.specs.Group.{Group, IsGroup, AreZero, group_encoding, group_words, marked, unmarked, zero_bytes, zero_word}
 use Rattle.capnp_pack.specs.Chunk.{IsChunk, text_of, words_of_groups}
 use Rattle.capnp_pack.specs.Packed.{IfFirst, IsLongest}
-use Rattle.capnp_pack.specs.PackedSource.{Unpacks, MeetsFault, head_encoding, group_size}
+use Rattle.capnp_pack.specs.PackedSource.{Unpacks, IsGroupFault, MeetsFault, head_encoding, group_size}
 
 -- Reading
 
@@ -16,9 +16,13 @@ use Rattle.capnp_pack.specs.PackedSource.{Unpacks, MeetsFault, head_encoding, gr
 abbrev pub GroupAt : ℕ → List ℕ → List ℕ → List ℕ → Type 0
 GroupAt tag bytes raw left = (group : Group) × IsGroup group × (bytes ≡ concat (group_words group)) × (tag ∷ raw ≡ group_encoding group ++ left)
 
--- the first fault, where the tag of the first group has been read
+-- the first group can't be taken, where n bytes are asked for
+abbrev pub FirstGroupFails : Refusing
+FirstGroupFails raw n kind = (0 < n) × IsGroupFault raw n kind
+
+-- the same, where its tag has been read
 abbrev pub FaultAfter : ℕ → Refusing
-FaultAfter tag raw n kind = MeetsFault (tag ∷ raw) n kind
+FaultAfter tag raw n kind = FirstGroupFails (tag ∷ raw) n kind
 
 -- the bytes of a word that a tag marks are at the front, and its others are zero
 abbrev pub MarkedAt : ℕ → List ℕ → List ℕ → List ℕ → Type 0
@@ -83,6 +87,20 @@ TakesGroups old new buffer count = (0 < count) × (count ≤ length buffer) × (
     × IfSome old (λ raw. raw ≡ [] → ⊥)
     × IfKnown old new (HasProgress count)
     × IfKnown old new (ReturnsPart Unpacks MeetsFault (length buffer) (take count buffer))
+
+-- The first `used` bytes are groups, whose words have `filled` bytes, at most a given number.
+pub record Passes (text : List ℕ) (most used filled : ℕ) : Type 0 where
+  pub used_within : used ≤ length text
+  pub some : 0 < filled → 0 < used
+  pub filled_within : filled ≤ most
+  pub whole : filled % 8 ≡ 0
+  pub groups : HasProgress filled text (drop used text)
+
+-- Groups are passed over whose words have `count` bytes, at most a given number, and something was
+-- unread before them.
+abbrev pub PassesGroups : Option (List ℕ) → Option (List ℕ) → ℕ → ℕ → Type 0
+PassesGroups old new most count = (0 < count) × (count ≤ most) × (count % 8 ≡ 0)
+    × IfSome old (λ raw. raw ≡ [] → ⊥) × IfKnown old new (HasProgress count)
 
 -- Packing
 

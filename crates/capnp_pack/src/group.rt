@@ -8,8 +8,8 @@ ghost use Rattle.capnp_frame.specs.Message.{IsWholeWords};
 ghost use Rattle.capnp_frame.specs.Source.{IfKnown, IsRefused, ReturnsPart, RunsShort};
 ghost use Rattle.capnp_frame.specs.Asking.{Asked, FailsOr};
 ghost use Rattle.capnp_pack.specs.Calls.{TakesFrom, TakesNext};
-ghost use Rattle.capnp_pack.specs.PackedSource.{Unpacks, MeetsFault, RefusesChunk, LeavesOverrun, Overran};
-ghost use Rattle.capnp_pack.specs.Steps.{TakesGroups, HeadOver, CountOver, GroupAt, FaultAfter, MarkedAt, marked_count, Lacks, RunAt, RefusesRun};
+ghost use Rattle.capnp_pack.specs.PackedSource.{Unpacks, RefusesChunk, LeavesOverrun, Overran};
+ghost use Rattle.capnp_pack.specs.Steps.{TakesGroups, HeadOver, CountOver, GroupAt, FirstGroupFails, FaultAfter, MarkedAt, marked_count, Lacks, RunAt, RefusesRun};
 
 use crate::copies::copy_front;
 use crate::lanes::unpack_word;
@@ -53,7 +53,7 @@ fn read_groups<R: BufRead>(source: &mut R, buffer: &mut [u8]) -> Result<Option<u
     requires { 8 ≤ length buffer.old }
     ensures takes { TakesNext R.Read source.old source.new
         (TakesGroups (R.unread source.old) (R.unread source.new) buffer.new)
-        (IsRefused MeetsFault (length buffer.new) (R.unread source.old)) result }
+        (IsRefused FirstGroupFails (length buffer.new) (R.unread source.old)) result }
     ensures overrun { Overran result (R.unread source.old) (R.unread source.new)
         (LeavesOverrun (length buffer.new)) }
 {
@@ -67,11 +67,11 @@ fn read_groups<R: BufRead>(source: &mut R, buffer: &mut [u8]) -> Result<Option<u
 
 // Unpacks the next group into the front of the buffer, looking at one byte at a time, and returns
 // how many bytes it has; `None` at the end.
-fn read_group<R: BufRead>(source: &mut R, buffer: &mut [u8]) -> Result<Option<usize>>
+pub(crate) fn read_group<R: BufRead>(source: &mut R, buffer: &mut [u8]) -> Result<Option<usize>>
     requires { 8 ≤ length buffer.old }
     ensures takes { TakesNext R.Read source.old source.new
         (TakesGroups (R.unread source.old) (R.unread source.new) buffer.new)
-        (IsRefused MeetsFault (length buffer.new) (R.unread source.old)) result }
+        (IsRefused FirstGroupFails (length buffer.new) (R.unread source.old)) result }
     ensures overrun { Overran result (R.unread source.old) (R.unread source.new)
         (LeavesOverrun (length buffer.new)) }
 {

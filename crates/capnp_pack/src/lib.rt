@@ -19,6 +19,7 @@ mod packed_write;
 mod runs;
 mod single_word;
 mod sizes;
+mod skip;
 pub mod stream;
 mod unpack;
 

@@ -4,6 +4,7 @@ ghost use Rattle.capnp_pack.specs.PackedStreams.{packed_rules};
 
 mod framed;
 mod provided;
+mod skipping;
 
 use crate::packed_read::PackedRead;
 use capnp_frame::Result;
@@ -16,6 +17,10 @@ pub use framed::try_read_packed_framed_into;
 pub use provided::{
     try_read_packed_segments_into, try_read_packed_segments_into_lenient,
     try_read_packed_segments_into_with_padding,
+};
+pub use skipping::{
+    try_skip_packed_segments, try_skip_packed_segments_lenient,
+    try_skip_packed_segments_with_padding,
 };
 use std::alloc::Global;
 

@@ -2,12 +2,12 @@
 use capnp::message::Reader;
 use capnp::serialize;
 use capnp_frame::Result;
-use capnp_frame::io::Read;
+use capnp_frame::io::{BufRead, Read};
 use capnp_frame::message::ReaderOptions;
 use capnp_frame::serialize::{
-    NoAllocSliceSegments, OwnedSegments, Padding, try_read_segments, try_read_segments_into,
-    try_read_segments_into_lenient, try_read_segments_lenient, try_read_segments_reusing,
-    try_read_segments_reusing_lenient,
+    NoAllocSliceSegments, OwnedSegments, Padding, SegmentLengthsBuilder, try_read_segments,
+    try_read_segments_into, try_read_segments_into_lenient, try_read_segments_lenient,
+    try_read_segments_reusing, try_read_segments_reusing_lenient,
 };
 use std::alloc::Global;
 
@@ -93,5 +93,18 @@ pub fn needed_message_into<'b, R: Read>(
     match padding {
         Padding::Zero => serialize::read_message_no_alloc(source, buffer, options),
         Padding::Any => serialize::read_message_no_alloc_lenient(source, buffer, options),
+    }
+}
+
+// The lengths of the segments alone.
+pub fn skip_message<R: BufRead>(
+    padding: Padding,
+    source: &mut R,
+    options: ReaderOptions,
+    spare: SegmentLengthsBuilder,
+) -> Result<Option<SegmentLengthsBuilder>> {
+    match padding {
+        Padding::Zero => serialize::try_skip_message(source, options, spare),
+        Padding::Any => serialize::try_skip_message_lenient(source, options, spare),
     }
 }

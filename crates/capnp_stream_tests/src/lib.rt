@@ -59,6 +59,8 @@ mod segment_counts;
 #[cfg(test)]
 mod segment_ends;
 #[cfg(test)]
+mod skipping;
+#[cfg(test)]
 mod streams;
 #[cfg(test)]
 mod transcodings;

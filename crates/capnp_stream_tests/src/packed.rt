@@ -4,7 +4,7 @@ use capnp::serialize_packed;
 use capnp_frame::Result;
 use capnp_frame::io::BufRead;
 use capnp_frame::message::ReaderOptions;
-use capnp_frame::serialize::{NoAllocSliceSegments, OwnedSegments, Padding};
+use capnp_frame::serialize::{NoAllocSliceSegments, OwnedSegments, Padding, SegmentLengthsBuilder};
 use capnp_pack::stream::{
     try_read_packed_segments, try_read_packed_segments_into, try_read_packed_segments_into_lenient,
     try_read_packed_segments_lenient, try_read_packed_segments_reusing,
@@ -96,5 +96,18 @@ pub fn needed_message_into<'b, R: BufRead>(
     match padding {
         Padding::Zero => serialize_packed::read_message_no_alloc(source, buffer, options),
         Padding::Any => serialize_packed::read_message_no_alloc_lenient(source, buffer, options),
+    }
+}
+
+// The lengths of the segments alone.
+pub fn skip_message<R: BufRead>(
+    padding: Padding,
+    source: &mut R,
+    options: ReaderOptions,
+    spare: SegmentLengthsBuilder,
+) -> Result<Option<SegmentLengthsBuilder>> {
+    match padding {
+        Padding::Zero => serialize_packed::try_skip_message(source, options, spare),
+        Padding::Any => serialize_packed::try_skip_message_lenient(source, options, spare),
     }
 }

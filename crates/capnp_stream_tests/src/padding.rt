@@ -55,7 +55,8 @@ fn read_by_each(
     Ok(())
 }
 
-fn by_rule(stream: &PaddedStream, rule: Padding) -> Stream {
+/// What the calls of a rule return of such a stream.
+pub fn by_rule(stream: &PaddedStream, rule: Padding) -> Stream {
     Stream {
         name: stream.name,
         bytes: stream.bytes,

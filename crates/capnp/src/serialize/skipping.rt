@@ -3,6 +3,7 @@ ghost use Rattle.std.specs.Prelude.{length};
 ghost use Rattle.capnp_frame.specs.Skipping.{SkipsMessage};
 ghost use Rattle.capnp_frame.specs.Streams.{ReadsStream};
 ghost use Rattle.capnp.specs.Streams.{skipping_rules_of};
+ghost use Rattle.capnp.specs.declared.streams.Format.{Format};
 
 use capnp_frame::Result;
 use capnp_frame::io::BufRead;
@@ -22,7 +23,8 @@ pub fn try_skip_message<R: BufRead>(
     spare: SegmentLengthsBuilder,
 ) -> Result<Option<SegmentLengthsBuilder>>
     ensures { SkipsMessage (ReadsStream R.Read source.old source.new
-        (skipping_rules_of Padding.Zero (length spare)) options.traversal_limit_in_words) result }
+        (skipping_rules_of Padding.Zero Format.Framed (length spare))
+        options.traversal_limit_in_words) result }
 {
     try_skip_message_with_padding(source, Padding::Zero, options, spare)
 }
@@ -34,7 +36,8 @@ pub fn try_skip_message_lenient<R: BufRead>(
     spare: SegmentLengthsBuilder,
 ) -> Result<Option<SegmentLengthsBuilder>>
     ensures { SkipsMessage (ReadsStream R.Read source.old source.new
-        (skipping_rules_of Padding.Any (length spare)) options.traversal_limit_in_words) result }
+        (skipping_rules_of Padding.Any Format.Framed (length spare))
+        options.traversal_limit_in_words) result }
 {
     try_skip_message_with_padding(source, Padding::Any, options, spare)
 }
@@ -50,7 +53,8 @@ pub fn try_skip_message_with_padding<R: BufRead>(
     spare: SegmentLengthsBuilder,
 ) -> Result<Option<SegmentLengthsBuilder>>
     ensures { SkipsMessage (ReadsStream R.Read source.old source.new
-        (skipping_rules_of padding (length spare)) options.traversal_limit_in_words) result }
+        (skipping_rules_of padding Format.Framed (length spare))
+        options.traversal_limit_in_words) result }
 {
     try_skip_segments_with_padding(source, padding, options, spare)
 }

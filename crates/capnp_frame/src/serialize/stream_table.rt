@@ -52,8 +52,19 @@ pub(crate) fn read_indices<R: Read>(
     Ok(Some(SegmentIndices::from_several(several, total)))
 }
 
-// The lengths in the next table, or none at the source's end. They are put into `memory`.
-pub(crate) fn read_table<R: Read>(
+/// Reads the next segment table of a source, by this rule of padding, and returns the lengths of
+/// the segments, in words, or `None` where nothing is unread: the first step of a reader that takes
+/// the segments in a way of its own.
+///
+/// The source is asked for the first word of the table, and for its other words where it has any,
+/// and nothing else is consumed. The lengths are put into `memory`, whatever is in it, which grows
+/// where it has fewer entries than there are segments.
+///
+/// Fails as the module `serialize` lists, but for segments that are cut: with `MessageTooLarge`
+/// where they have more than `limit` words, with `NonZeroPadding` where `rule` is `Padding::Zero`
+/// and the padding isn't zero, and, the table's first word alone consumed, with `OutOfMemory` where
+/// `memory` can't grow.
+pub fn read_table<R: Read>(
     memory: Vec<(usize, usize)>,
     source: &mut R,
     limit: Option<usize>,

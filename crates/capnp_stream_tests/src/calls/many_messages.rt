@@ -8,13 +8,13 @@ use crate::flat::RULES;
 use crate::samples::append_word;
 use crate::streams::{Call, READERS, Wanted, is_returned};
 use crate::{framed, packed};
-use capnp::Way;
 use capnp::appended::read_messages;
 use capnp::devices::Input;
 use capnp::io::BufRead;
 use capnp::message::{DEFAULT_READER_OPTIONS, Reader};
-use capnp::serialize::{SegmentLengthsBuilder, try_skip_message_with_padding};
+use capnp::serialize::SegmentLengthsBuilder;
 use capnp::streams::{Format, MessageStream, every_message, write_each_message};
+use capnp::{Way, serialize, serialize_packed};
 use capnp_frame::message::ReaderSegments;
 use capnp_frame::serialize::{OwnedSegments, Padding};
 use capnp_frame::{Error, ErrorKind, Result};
@@ -109,11 +109,8 @@ fn each_message_is_read_into_kept_memory(rt: HostRuntime) -> Result<()> {
         let stream = stream_of(rt.alloc(), *format)?;
         for padding in &RULES {
             reuse(&rt, (*format, *padding), &stream)?;
+            skip(&rt, (*format, *padding), &stream)?;
         }
-    }
-    let stream = stream_of(rt.alloc(), Format::Framed)?;
-    for padding in &RULES {
-        skip(&rt, *padding, &stream)?;
     }
     Ok(())
 }
@@ -150,12 +147,28 @@ fn reuse(
 }
 
 // Skipped, each has as many segments as it has.
-fn skip(rt: &(impl Abort + AllocGlobal), padding: Padding, stream: &[u8]) -> Result<()> {
+fn skip(
+    rt: &(impl Abort + AllocGlobal),
+    (format, padding): (Format, Padding),
+    stream: &[u8],
+) -> Result<()> {
     let options = DEFAULT_READER_OPTIONS;
     let mut source = stream;
     let mut kept = SegmentLengthsBuilder::empty(rt.alloc());
     for index in 1..=COUNT {
-        let skipped = try_skip_message_with_padding(&mut source, padding, options, kept)?;
+        let skipped = match format {
+            Format::Framed => {
+                serialize::try_skip_message_with_padding(&mut source, padding, options, kept)?
+            }
+            Format::Packed => {
+                serialize_packed::try_skip_message_with_padding(
+                    &mut source,
+                    padding,
+                    options,
+                    kept,
+                )?
+            }
+        };
         let Some(lengths) = skipped else {
             return Err(missing());
         };

@@ -1,10 +1,10 @@
--- The first segments are listed after what was in the line before.
-use Rattle.std.proofs.Common.{◌-◌, ◌≡◌, ◌++◌, ℕ, List, length}
-use Rattle.capnp_ls.proofs.LineLemmas.{IsListed}
+-- The first lengths are listed after what was in the line before.
+use Rattle.std.proofs.Common.{◌-◌, ◌≡◌, ◌++◌, List, ℕ, length}
+use Rattle.capnp_ls.proofs.LineLemmas.{ListsLengths}
 use Rattle.capnp_ls.proofs.listing.write_line.Given as goal
 
-abbrev pub invariant-loop-segment : goal.invariant-loop-segment
-invariant-loop-segment g l = (listed : List ℕ) × (total : ℕ) × (l.text.items ≡ l.initial.text.items ++ listed) × IsListed (g.S.ReaderSegments.segments l.segments) l.id listed total
+abbrev pub invariant-loop-words : goal.invariant-loop-words
+invariant-loop-words l = (listed : List ℕ) × (l.text.items ≡ l.initial.text.items ++ listed) × ListsLengths l.lengths l.id listed
 
-abbrev pub decreases-loop-segment : goal.decreases-loop-segment
-decreases-loop-segment g l = length (g.S.ReaderSegments.segments l.segments) - l.id
+abbrev pub decreases-loop-words : goal.decreases-loop-words
+decreases-loop-words l = length l.lengths - l.id

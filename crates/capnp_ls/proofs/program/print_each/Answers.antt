@@ -1,5 +1,8 @@
 -- A list, or another run.
 use Rattle.capnp_ls.proofs.program.print_each.Goals as goal
 
-pub returns : goal.returns
-returns g c = rw (c.input-format.ensures, c.padding-padding.ensures) at c.write_each_message.ensures
+pub returns-in-Transcoding : goal.returns-in-Transcoding
+returns-in-Transcoding g c = rw c.in-Transcoding.is (rw c.input.ensures at c.write_each_message.ensures)
+
+pub returns-in-Canonical : goal.returns-in-Canonical
+returns-in-Canonical g c = rw c.in-Canonical.is c.write_each_message-in-Canonical.ensures

@@ -1,0 +1,270 @@
+//! Packed messages that are skipped, and segment tables that are read by themselves.
+use crate::assertions::{At, assert_count, assert_holds, assert_kind};
+use crate::limits::NO_LIMIT;
+use crate::messages::{MESSAGES, Message};
+use crate::retried;
+use crate::sources::{Faulty, Trickle};
+use capnp_frame::io::BufRead;
+use capnp_frame::message::ReaderOptions;
+use capnp_frame::serialize::{Padding, SegmentLengthsBuilder, read_table};
+use capnp_frame::{Error, ErrorKind, Result};
+use capnp_pack::stream::{
+    try_skip_packed_segments, try_skip_packed_segments_lenient,
+    try_skip_packed_segments_with_padding,
+};
+use std::alloc::Global;
+use std::process::Abort;
+
+// Skips the next message, which has to be there.
+fn skip<R: BufRead>(
+    source: &mut R,
+    padding: Padding,
+    limit: Option<usize>,
+    spare: SegmentLengthsBuilder,
+) -> Result<SegmentLengthsBuilder> {
+    let mut options = ReaderOptions::new();
+    let _ = options.traversal_limit_in_words(limit);
+    let skipped = match padding {
+        Padding::Zero => try_skip_packed_segments(source, options, spare)?,
+        Padding::Any => try_skip_packed_segments_lenient(source, options, spare)?,
+    };
+    needed(skipped)
+}
+
+fn needed(lengths: Option<SegmentLengthsBuilder>) -> Result<SegmentLengthsBuilder> {
+    match lengths {
+        Some(lengths) => Ok(lengths),
+        None => Err(Error::from_kind(ErrorKind::PrematureEndOfFile)),
+    }
+}
+
+// Whether these are the words of each segment.
+fn has_lengths(found: &SegmentLengthsBuilder, segments: &[&[u8]]) -> bool {
+    for id in 0..512u32 {
+        let there = match (found.length_of(id), segments.get(id as usize)) {
+            (None, None) => true,
+            (Some(words), Some(bytes)) => words == bytes.len() / 8,
+            _ => false,
+        };
+        if !there {
+            return false;
+        }
+    }
+    found.segments_count() == segments.len()
+}
+
+#[test]
+fn messages_are_skipped(rt: HostRuntime) -> Result<()> {
+    for message in &MESSAGES {
+        for most in 1..=24 {
+            skip_again(&rt, message, most)?;
+        }
+    }
+    Ok(())
+}
+
+// The second time the lengths come into the memory of the first, which takes no more.
+fn skip_again(rt: &(impl Abort + AllocGlobal), message: &Message, most: usize) -> Result<()> {
+    let at = At::new(message.name, most as u64);
+    let mut kept = retried!(skip(
+        &mut Trickle::new(message.packed, most),
+        Padding::Zero,
+        NO_LIMIT,
+        SegmentLengthsBuilder::empty(rt.alloc()),
+    ))?;
+    for _ in 0..2 {
+        let mut source = Trickle::new(message.packed, most);
+        kept = skip(&mut source, Padding::Any, NO_LIMIT, kept)?;
+        assert_holds(rt, has_lengths(&kept, message.segments), at);
+        assert_count(rt, source.bytes.len(), 0, at);
+    }
+    Ok(())
+}
+
+// What a message fails by, and how many of its bytes stay unread.
+#[rattlefmt::skip]
+const REFUSED: [(&str, &[u8], Option<usize>, ErrorKind, usize); 20] = [
+    ("a tag", &[0x10], NO_LIMIT, ErrorKind::PrematureEndOfPackedInput, 0),
+    ("a run past the table's first word", &[0, 1, 7], NO_LIMIT,
+     ErrorKind::PackedInputDidNotEndCleanlyOnASegmentBoundary, 1),
+    ("no segment counted", &[0x0f, 255, 255, 255, 255, 7], NO_LIMIT,
+     ErrorKind::InvalidNumberOfSegments(0), 1),
+    ("512 segments", &[3, 255, 1, 7, 7], NO_LIMIT, ErrorKind::InvalidNumberOfSegments(512), 2),
+    ("the table's second word is missing", &[1, 1], NO_LIMIT,
+     ErrorKind::FailedToFillTheWholeBuffer, 0),
+    ("the table's second word is cut", &[1, 1, 0x11, 1], NO_LIMIT,
+     ErrorKind::PrematureEndOfPackedInput, 0),
+    ("a run past the table's second word", &[1, 1, 0, 3, 7], NO_LIMIT,
+     ErrorKind::PackedInputDidNotEndCleanlyOnASegmentBoundary, 1),
+    ("three words of two", &[0x10, 3, 1, 7, 1, 8, 1, 9], Some(2), ErrorKind::MessageTooLarge(3), 6),
+    ("a padding that isn't zero", &[1, 1, 0x11, 1, 9, 1, 7], NO_LIMIT, ErrorKind::NonZeroPadding, 2),
+    ("two words, none there", &[0x10, 2], NO_LIMIT, ErrorKind::FailedToFillTheWholeBuffer, 0),
+    ("two words, one there", &[0x10, 2, 1, 7], NO_LIMIT, ErrorKind::PrematureEndOfPackedInput, 0),
+    ("two words, the second cut", &[0x10, 2, 1, 7, 3, 5], NO_LIMIT,
+     ErrorKind::PrematureEndOfPackedInput, 0),
+    ("no count of zero words", &[0x10, 2, 0], NO_LIMIT, ErrorKind::PrematureEndOfPackedInput, 0),
+    ("no count of literal words", &[0x10, 2, 0xff, 1, 2, 3, 4, 5, 6, 7, 8], NO_LIMIT,
+     ErrorKind::PrematureEndOfPackedInput, 0),
+    ("a literal run that is cut", &[0x10, 2, 0xff, 1, 2, 3, 4, 5, 6, 7, 8, 1, 9, 10], NO_LIMIT,
+     ErrorKind::FailedToFillTheWholeBuffer, 0),
+    ("a zero run past the end", &[0x10, 2, 0, 2, 7], NO_LIMIT,
+     ErrorKind::PackedInputDidNotEndCleanlyOnASegmentBoundary, 1),
+    ("a zero run past the end, after a word", &[0x10, 2, 1, 7, 0, 1, 5, 5], NO_LIMIT,
+     ErrorKind::PackedInputDidNotEndCleanlyOnASegmentBoundary, 2),
+    ("a literal run past the end", &[0x10, 2, 0xff, 1, 2, 3, 4, 5, 6, 7, 8, 2, 9, 9, 9], NO_LIMIT,
+     ErrorKind::PackedInputDidNotEndCleanlyOnASegmentBoundary, 3),
+    ("a cut zero run that goes past the end", &[0x10, 1, 0, 255], NO_LIMIT,
+     ErrorKind::PackedInputDidNotEndCleanlyOnASegmentBoundary, 0),
+    ("a cut literal run that goes past the end", &[0x10, 1, 0xff, 1, 2, 3, 4, 5, 6, 7, 8, 1], NO_LIMIT,
+     ErrorKind::PackedInputDidNotEndCleanlyOnASegmentBoundary, 0),
+];
+
+#[test]
+fn messages_are_refused(rt: HostRuntime) {
+    for &(name, text, limit, kind, unread) in &REFUSED {
+        for most in 1..=24 {
+            refuse(&rt, (text, limit), kind, unread, At::new(name, most));
+        }
+    }
+}
+
+fn refuse(
+    rt: &(impl Abort + AllocGlobal),
+    (text, limit): (&[u8], Option<usize>),
+    kind: ErrorKind,
+    unread: usize,
+    at: At<'_>,
+) {
+    let mut source = Trickle::new(text, at.number as usize);
+    let mut found = refusal(rt.alloc(), &mut source, limit);
+    if found == Some(ErrorKind::OutOfMemory) {
+        source = Trickle::new(text, at.number as usize);
+        found = refusal(rt.alloc(), &mut source, limit);
+    }
+    assert_kind(rt, found, Some(kind), at);
+    assert_count(rt, source.bytes.len(), unread, at);
+}
+
+fn refusal(alloc: Global, source: &mut Trickle<'_>, limit: Option<usize>) -> Option<ErrorKind> {
+    let spare = SegmentLengthsBuilder::empty(alloc);
+    skip(source, Padding::Zero, limit, spare)
+        .err()
+        .map(|error| error.kind)
+}
+
+// Two segments, of 0 words and of 1, whose table has a padding of 9. It is accepted by its rule
+// alone, and nothing is unread after it.
+#[test]
+fn a_padding_is_skipped_by_its_rule(rt: HostRuntime) -> Result<()> {
+    let text = [1, 1, 0x11, 1, 9, 1, 7];
+    let mut source = text.as_slice();
+    let alloc = rt.alloc();
+    let options = ReaderOptions::new();
+    let lengths = retried!({
+        source = text.as_slice();
+        let spare = SegmentLengthsBuilder::empty(alloc);
+        try_skip_packed_segments_with_padding(&mut source, Padding::Any, options, spare)
+    })?;
+    let at = At::row("a padding of 9");
+    assert_holds(&rt, has_lengths(&needed(lengths)?, &[&[], &[0; 8]]), at);
+    assert_count(&rt, source.len(), 0, at);
+    let spare = SegmentLengthsBuilder::empty(alloc);
+    assert_holds(
+        &rt,
+        try_skip_packed_segments(&mut source, options, spare)?.is_none(),
+        at,
+    );
+    Ok(())
+}
+
+// A segment of 600 words without a zero byte, in literal groups of 256 words, of 256 and of 88, and
+// a byte after it.
+fn large_message(alloc: Global) -> Result<Vec<u8>> {
+    let mut text = Vec::new(alloc);
+    for byte in [0x30, 0x58, 2] {
+        text.push(byte)?;
+    }
+    for words in [256, 256, 88usize] {
+        text.push(0xff)?;
+        for _ in 0..8 {
+            text.push(7)?;
+        }
+        text.push((words - 1) as u8)?;
+        for _ in 0..8 * (words - 1) {
+            text.push(7)?;
+        }
+    }
+    text.push(9)?;
+    Ok(text)
+}
+
+#[test]
+fn the_longest_groups_are_skipped(rt: HostRuntime) -> Result<()> {
+    let text = retried!(large_message(rt.alloc()))?;
+    for most in [1, 9, 100, 2048, 2059, 10000] {
+        let at = At::new("600 words", most as u64);
+        let mut source = Trickle::new(&text, most);
+        let lengths = retried!({
+            source = Trickle::new(&text, most);
+            skip(
+                &mut source,
+                Padding::Zero,
+                NO_LIMIT,
+                SegmentLengthsBuilder::empty(rt.alloc()),
+            )
+        })?;
+        assert_count(&rt, lengths.total_words(), 600, at);
+        assert_count(&rt, source.bytes.len(), 1, at);
+    }
+    Ok(())
+}
+
+// Where a call of the device fails, it is blamed, and no message is returned.
+#[test]
+fn a_device_that_fails_is_blamed(rt: HostRuntime) -> Result<()> {
+    for message in &MESSAGES {
+        for fails_at in 1..=9 {
+            blame(&rt, message, fails_at)?;
+        }
+    }
+    Ok(())
+}
+
+fn blame(rt: &(impl Abort + AllocGlobal), message: &Message, fails_at: u64) -> Result<()> {
+    let at = At::new(message.name, fails_at);
+    let mut source = Faulty::new(Trickle::new(message.packed, 3), fails_at);
+    let skipped = retried!({
+        source = Faulty::new(Trickle::new(message.packed, 3), fails_at);
+        let spare = SegmentLengthsBuilder::empty(rt.alloc());
+        skip(&mut source, Padding::Zero, NO_LIMIT, spare)
+    });
+    match skipped {
+        Ok(lengths) => {
+            assert_holds(rt, has_lengths(&lengths, message.segments), at);
+            assert_holds(rt, source.failures == 0, at);
+        }
+        Err(error) => {
+            assert_kind(rt, Some(error.kind), Some(ErrorKind::DeviceFailed), at);
+            assert_holds(rt, source.failures == 1, at);
+        }
+    }
+    Ok(())
+}
+
+// A table that is read by itself leaves the segments unread.
+#[test]
+fn tables_are_read_by_themselves(rt: HostRuntime) -> Result<()> {
+    for message in &MESSAGES {
+        let at = At::row(message.name);
+        let mut source = message.table;
+        let lengths = retried!({
+            source = message.table;
+            read_table(Vec::new(rt.alloc()), &mut source, NO_LIMIT, Padding::Zero)
+        })?;
+        assert_holds(&rt, has_lengths(&needed(lengths)?, message.segments), at);
+        assert_count(&rt, source.len(), 0, at);
+        let none = read_table(Vec::new(rt.alloc()), &mut source, NO_LIMIT, Padding::Zero)?;
+        assert_holds(&rt, none.is_none(), at);
+    }
+    Ok(())
+}
