@@ -21,7 +21,7 @@ const NONE: Packed = Packed {
 };
 
 #[rattlefmt::skip]
-pub const PACKED: [Packed; 21] = [
+pub const PACKED: [Packed; 22] = [
     NONE,
     Packed { name: "packer, no word", chunks: &[&[]], handed: Some(0), ..NONE },
     Packed { name: "packer, a zero word", chunks: &[&[0; 8]], text: &[0, 0], ..NONE },
@@ -87,11 +87,25 @@ pub const PACKED: [Packed; 21] = [
         text: &[0x24, 12, 34, 0xff, 1, 3, 2, 4, 5, 7, 6, 8, 0],
         ..NONE
     },
-    // A literal run is handed on by itself.
+    // A literal run that fits is collected with what is about it.
     Packed {
         name: "literal-runs, two words and a zero word",
         chunks: &[&[1, 2, 3, 4, 5, 6, 7, 8, 8, 7, 6, 5, 4, 3, 2, 1, 0, 0, 0, 0, 0, 0, 0, 0]],
         text: &[0xff, 1, 2, 3, 4, 5, 6, 7, 8, 1, 8, 7, 6, 5, 4, 3, 2, 1, 0, 0],
+        handed: Some(1),
+        ..NONE
+    },
+    // One that doesn't fit is handed on by itself.
+    Packed {
+        name: "literal-runs, eight words and a zero word",
+        chunks: &[&[1, 2, 3, 4, 5, 6, 7, 8, 9, 10, 11, 12, 13, 14, 15, 16, 17, 18, 19, 20, 21,
+                    22, 23, 24, 1, 2, 3, 4, 5, 6, 7, 8, 9, 10, 11, 12, 13, 14, 15, 16, 17, 18,
+                    19, 20, 21, 22, 23, 24, 1, 2, 3, 4, 5, 6, 7, 8, 9, 10, 11, 12, 13, 14, 15,
+                    16, 0, 0, 0, 0, 0, 0, 0, 0]],
+        text: &[0xff, 1, 2, 3, 4, 5, 6, 7, 8, 7, 9, 10, 11, 12, 13, 14, 15, 16, 17, 18, 19,
+                20, 21, 22, 23, 24, 1, 2, 3, 4, 5, 6, 7, 8, 9, 10, 11, 12, 13, 14, 15, 16,
+                17, 18, 19, 20, 21, 22, 23, 24, 1, 2, 3, 4, 5, 6, 7, 8, 9, 10, 11, 12, 13,
+                14, 15, 16, 0, 0],
         handed: Some(3),
         ..NONE
     },

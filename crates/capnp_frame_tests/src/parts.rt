@@ -12,8 +12,8 @@ const SEVEN: [u8; 8] = [7, 0, 0, 0, 0, 0, 0, 0];
 
 const ZERO: [u8; 8] = [0; 8];
 
-/// Words, their packed encoding, and in how many parts it is handed on at least: a literal run's
-/// words are a part by themselves, and no more than 64 bytes are collected for another.
+/// Words, their packed encoding, and in how many parts it is handed on at least: no more than 64
+/// bytes are collected for one, and a literal run's words that don't fit are a part by themselves.
 #[derive(Drop)]
 pub struct Parts {
     pub name: &'static str,
@@ -23,32 +23,86 @@ pub struct Parts {
 }
 
 #[rattlefmt::skip]
-pub const PARTS: [Parts; 6] = [
+pub const PARTS: [Parts; 12] = [
     Parts {
         name: "a literal run of three words",
         words: &[A, B, C],
-        text: &[0xff, 1, 2, 3, 4, 5, 6, 7, 8, 2, 9, 10, 11, 12, 13, 14, 15, 16,
-                17, 18, 19, 20, 21, 22, 23, 24],
-        parts: 2,
+        text: &[0xff, 1, 2, 3, 4, 5, 6, 7, 8, 2, 9, 10, 11, 12, 13, 14, 15, 16, 17, 18, 19, 20, 21, 22,
+                23, 24],
+        parts: 1,
     },
     Parts {
         name: "two literal runs of two words, a zero word between them",
         words: &[A, B, ZERO, C, A],
-        text: &[0xff, 1, 2, 3, 4, 5, 6, 7, 8, 1, 9, 10, 11, 12, 13, 14, 15, 16, 0, 0,
-                0xff, 17, 18, 19, 20, 21, 22, 23, 24, 1, 1, 2, 3, 4, 5, 6, 7, 8],
-        parts: 4,
+        text: &[0xff, 1, 2, 3, 4, 5, 6, 7, 8, 1, 9, 10, 11, 12, 13, 14, 15, 16, 0, 0, 0xff, 17, 18, 19,
+                20, 21, 22, 23, 24, 1, 1, 2, 3, 4, 5, 6, 7, 8],
+        parts: 1,
     },
     Parts {
         name: "the same, and a word after them",
         words: &[A, B, ZERO, C, A, SEVEN],
-        text: &[0xff, 1, 2, 3, 4, 5, 6, 7, 8, 1, 9, 10, 11, 12, 13, 14, 15, 16, 0, 0,
-                0xff, 17, 18, 19, 20, 21, 22, 23, 24, 1, 1, 2, 3, 4, 5, 6, 7, 8, 1, 7],
-        parts: 5,
+        text: &[0xff, 1, 2, 3, 4, 5, 6, 7, 8, 1, 9, 10, 11, 12, 13, 14, 15, 16, 0, 0, 0xff, 17, 18, 19,
+                20, 21, 22, 23, 24, 1, 1, 2, 3, 4, 5, 6, 7, 8, 1, 7],
+        parts: 1,
     },
     Parts {
         name: "words before a literal run",
         words: &[SEVEN, ZERO, ZERO, A, B],
         text: &[1, 7, 0, 1, 0xff, 1, 2, 3, 4, 5, 6, 7, 8, 1, 9, 10, 11, 12, 13, 14, 15, 16],
+        parts: 1,
+    },
+    Parts {
+        name: "a literal run of seven words",
+        words: &[A, B, C, A, B, C, A],
+        text: &[0xff, 1, 2, 3, 4, 5, 6, 7, 8, 6, 9, 10, 11, 12, 13, 14, 15, 16, 17, 18, 19, 20, 21, 22,
+                23, 24, 1, 2, 3, 4, 5, 6, 7, 8, 9, 10, 11, 12, 13, 14, 15, 16, 17, 18, 19, 20, 21, 22,
+                23, 24, 1, 2, 3, 4, 5, 6, 7, 8],
+        parts: 1,
+    },
+    Parts {
+        name: "a literal run of eight words",
+        words: &[A, B, C, A, B, C, A, B],
+        text: &[0xff, 1, 2, 3, 4, 5, 6, 7, 8, 7, 9, 10, 11, 12, 13, 14, 15, 16, 17, 18, 19, 20, 21, 22,
+                23, 24, 1, 2, 3, 4, 5, 6, 7, 8, 9, 10, 11, 12, 13, 14, 15, 16, 17, 18, 19, 20, 21, 22,
+                23, 24, 1, 2, 3, 4, 5, 6, 7, 8, 9, 10, 11, 12, 13, 14, 15, 16],
+        parts: 2,
+    },
+    Parts {
+        name: "two literal runs of eight words, a zero word between them",
+        words: &[A, B, C, A, B, C, A, B, ZERO, C, A, B, C, A, B, C, A],
+        text: &[0xff, 1, 2, 3, 4, 5, 6, 7, 8, 7, 9, 10, 11, 12, 13, 14, 15, 16, 17, 18, 19, 20, 21, 22,
+                23, 24, 1, 2, 3, 4, 5, 6, 7, 8, 9, 10, 11, 12, 13, 14, 15, 16, 17, 18, 19, 20, 21, 22,
+                23, 24, 1, 2, 3, 4, 5, 6, 7, 8, 9, 10, 11, 12, 13, 14, 15, 16, 0, 0, 0xff, 17, 18, 19,
+                20, 21, 22, 23, 24, 7, 1, 2, 3, 4, 5, 6, 7, 8, 9, 10, 11, 12, 13, 14, 15, 16, 17, 18,
+                19, 20, 21, 22, 23, 24, 1, 2, 3, 4, 5, 6, 7, 8, 9, 10, 11, 12, 13, 14, 15, 16, 17, 18,
+                19, 20, 21, 22, 23, 24, 1, 2, 3, 4, 5, 6, 7, 8],
+        parts: 4,
+    },
+    Parts {
+        name: "the two, and a word after them",
+        words: &[A, B, C, A, B, C, A, B, ZERO, C, A, B, C, A, B, C, A, SEVEN],
+        text: &[0xff, 1, 2, 3, 4, 5, 6, 7, 8, 7, 9, 10, 11, 12, 13, 14, 15, 16, 17, 18, 19, 20, 21, 22,
+                23, 24, 1, 2, 3, 4, 5, 6, 7, 8, 9, 10, 11, 12, 13, 14, 15, 16, 17, 18, 19, 20, 21, 22,
+                23, 24, 1, 2, 3, 4, 5, 6, 7, 8, 9, 10, 11, 12, 13, 14, 15, 16, 0, 0, 0xff, 17, 18, 19,
+                20, 21, 22, 23, 24, 7, 1, 2, 3, 4, 5, 6, 7, 8, 9, 10, 11, 12, 13, 14, 15, 16, 17, 18,
+                19, 20, 21, 22, 23, 24, 1, 2, 3, 4, 5, 6, 7, 8, 9, 10, 11, 12, 13, 14, 15, 16, 17, 18,
+                19, 20, 21, 22, 23, 24, 1, 2, 3, 4, 5, 6, 7, 8, 1, 7],
+        parts: 5,
+    },
+    Parts {
+        name: "words before a literal run of seven words",
+        words: &[SEVEN, ZERO, ZERO, A, B, C, A, B, C, A],
+        text: &[1, 7, 0, 1, 0xff, 1, 2, 3, 4, 5, 6, 7, 8, 6, 9, 10, 11, 12, 13, 14, 15, 16, 17, 18, 19,
+                20, 21, 22, 23, 24, 1, 2, 3, 4, 5, 6, 7, 8, 9, 10, 11, 12, 13, 14, 15, 16, 17, 18, 19,
+                20, 21, 22, 23, 24, 1, 2, 3, 4, 5, 6, 7, 8],
+        parts: 1,
+    },
+    Parts {
+        name: "words before a literal run of eight words",
+        words: &[SEVEN, ZERO, ZERO, A, B, C, A, B, C, A, B],
+        text: &[1, 7, 0, 1, 0xff, 1, 2, 3, 4, 5, 6, 7, 8, 7, 9, 10, 11, 12, 13, 14, 15, 16, 17, 18, 19,
+                20, 21, 22, 23, 24, 1, 2, 3, 4, 5, 6, 7, 8, 9, 10, 11, 12, 13, 14, 15, 16, 17, 18, 19,
+                20, 21, 22, 23, 24, 1, 2, 3, 4, 5, 6, 7, 8, 9, 10, 11, 12, 13, 14, 15, 16],
         parts: 2,
     },
     Parts { name: "two bytes a word, of forty", words: &[SEVEN; 40], text: &SEVENS, parts: 2 },

@@ -152,29 +152,31 @@ fn refusal(alloc: Global, source: &mut Trickle<'_>, limit: Option<usize>) -> Opt
         .map(|error| error.kind)
 }
 
-// Two segments, of 0 words and of 1, whose table has a padding of 9. It is accepted by its rule
-// alone, and nothing is unread after it.
+// Two segments, of 0 words and of 1, whose table has a padding of 9.
+const PADDED: &[u8] = &[1, 1, 0x11, 1, 9, 1, 7];
+
+// The message is accepted by its rule alone, and nothing is unread after it.
 #[test]
 fn a_padding_is_skipped_by_its_rule(rt: HostRuntime) -> Result<()> {
-    let text = [1, 1, 0x11, 1, 9, 1, 7];
-    let mut source = text.as_slice();
-    let alloc = rt.alloc();
-    let options = ReaderOptions::new();
-    let lengths = retried!({
-        source = text.as_slice();
-        let spare = SegmentLengthsBuilder::empty(alloc);
-        try_skip_packed_segments_with_padding(&mut source, Padding::Any, options, spare)
-    })?;
     let at = At::row("a padding of 9");
+    let mut source = PADDED;
+    let lengths = retried!({
+        source = PADDED;
+        let spare = SegmentLengthsBuilder::empty(rt.alloc());
+        skip_by_rule(&mut source, spare)
+    })?;
     assert_holds(&rt, has_lengths(&needed(lengths)?, &[&[], &[0; 8]]), at);
     assert_count(&rt, source.len(), 0, at);
-    let spare = SegmentLengthsBuilder::empty(alloc);
-    assert_holds(
-        &rt,
-        try_skip_packed_segments(&mut source, options, spare)?.is_none(),
-        at,
-    );
+    let spare = SegmentLengthsBuilder::empty(rt.alloc());
+    assert_holds(&rt, skip_by_rule(&mut source, spare)?.is_none(), at);
     Ok(())
+}
+
+fn skip_by_rule(
+    source: &mut impl BufRead,
+    spare: SegmentLengthsBuilder,
+) -> Result<Option<SegmentLengthsBuilder>> {
+    try_skip_packed_segments_with_padding(source, Padding::Any, ReaderOptions::new(), spare)
 }
 
 // A segment of 600 words without a zero byte, in literal groups of 256 words, of 256 and of 88, and
@@ -202,20 +204,21 @@ fn large_message(alloc: Global) -> Result<Vec<u8>> {
 fn the_longest_groups_are_skipped(rt: HostRuntime) -> Result<()> {
     let text = retried!(large_message(rt.alloc()))?;
     for most in [1, 9, 100, 2048, 2059, 10000] {
-        let at = At::new("600 words", most as u64);
-        let mut source = Trickle::new(&text, most);
-        let lengths = retried!({
-            source = Trickle::new(&text, most);
-            skip(
-                &mut source,
-                Padding::Zero,
-                NO_LIMIT,
-                SegmentLengthsBuilder::empty(rt.alloc()),
-            )
-        })?;
-        assert_count(&rt, lengths.total_words(), 600, at);
-        assert_count(&rt, source.bytes.len(), 1, at);
+        skip_large(&rt, text.as_slice(), most)?;
     }
+    Ok(())
+}
+
+fn skip_large(rt: &(impl Abort + AllocGlobal), text: &[u8], most: usize) -> Result<()> {
+    let at = At::new("600 words", most as u64);
+    let mut source = Trickle::new(text, most);
+    let lengths = retried!({
+        source = Trickle::new(text, most);
+        let spare = SegmentLengthsBuilder::empty(rt.alloc());
+        skip(&mut source, Padding::Zero, NO_LIMIT, spare)
+    })?;
+    assert_count(rt, lengths.total_words(), 600, at);
+    assert_count(rt, source.bytes.len(), 1, at);
     Ok(())
 }
 

@@ -1,15 +1,16 @@
 -- Groups that need nothing but the buffer, one after another.
-use Rattle.std.proofs.Common.{◌≡◌, ℕ, zero, suc, ◌<◌, refl, ◌+◌, ◌-◌, ◌≤◌, Option, List, [], ◌∷◌, ◌++◌, length, take, drop, sym, ap, ◌∙◌, subst, arith, append_assoc}
-use Rattle.std.proofs.lemmas.List.{drop_all, take_all, length-drop}
+use Rattle.std.proofs.Common.{◌≡◌, ℕ, zero, suc, ◌<◌, refl, ◌+◌, ◌-◌, ◌≤◌, Option, Some, None, List, [], ◌∷◌, ◌++◌, length, take, drop, sym, ap, ◌∙◌, subst, arith, append_assoc}
+use Rattle.std.proofs.lemmas.List.{append-nil, drop_all, take_all, length-drop}
 use Rattle.capnp_frame.proofs.SourceLemmas.{IfKnown-join}
 use Rattle.capnp_frame.specs.Sink.{Appending}
+use Rattle.capnp_frame.specs.Source.{IfKnown}
 use lib.Count.{ones, ones-le}
 use Rattle.capnp_pack.specs.Group.{Group, IsWord, group_encoding}
 use Rattle.capnp_pack.specs.Packed.{IfFirst}
 use Rattle.capnp_pack.specs.PackedWords.{PacksWords, PacksTo, HandsTo}
-use Rattle.capnp_pack.specs.Steps.{IsGroupOf, IsZero, tag_of, nonzero}
-use Rattle.capnp_pack.proofs.PackingLemmas.{other_words, words_after, PacksTo-more, ends_zeros, ends_tagged, filled_by, run_of_none}
-use Rattle.capnp_pack.proofs.HandingLemmas.{Hands-join}
+use Rattle.capnp_pack.specs.Steps.{Hands, IsGroupOf, IsZero, tag_of, nonzero}
+use Rattle.capnp_pack.proofs.PackingLemmas.{other_words, words_after, packed_more, PacksTo-more, ends_zeros, ends_tagged, filled_by, run_of_none}
+use Rattle.capnp_pack.proofs.HandingLemmas.{Hands-join, Hands-none}
 
 -- the group of one word, of which the table gives the size
 pub tagged_group : (word : List ℕ) (os : List (List ℕ)) (tag used end size : ℕ) (old new : List ℕ) → IsWord word → tag ≡ tag_of word → tag < 255
@@ -68,3 +69,27 @@ pub handed_on : (appends : Appending) (words left : List (List ℕ)) (n : ℕ) (
     → HandsTo appends words left old buffer a b → HandsTo appends left (drop n left) buffer new b c → HandsTo appends words slice old new a c
 handed_on appends words left n slice old buffer new a b c is first next =
     subst (λ l. HandsTo appends words l old new a c) (sym is) (HandsTo-join appends words left (drop n left) old buffer new a b c first next)
+
+-- of no words nothing is packed
+pub none_taken : (words : List (List ℕ)) (buffer : List ℕ) → (text : List ℕ) × PacksTo words text (drop 0 words) × (buffer ≡ buffer ++ text)
+none_taken words buffer = ([], (λ more packs. packs), sym (append-nil buffer))
+
+-- words are packed that the buffer takes, and the others are a slice
+pub taken_on : (appends : Appending) (words left : List (List ℕ)) (n : ℕ) (slice : List (List ℕ)) (old buffer new : List ℕ) (a b : Option (List ℕ)) → slice ≡ drop n left
+    → HandsTo appends words left old buffer a b → ((text : List ℕ) × PacksTo left text (drop n left) × (new ≡ buffer ++ text))
+    → HandsTo appends words slice old new a b
+taken_on appends words left n slice old buffer new a b is first (text, to, kept) =
+    handed_on appends words left n slice old buffer new a b b is first (text, to, kept_all b)
+  where
+    kept_all : (b : Option (List ℕ)) → IfKnown b b (Hands appends buffer text new)
+    kept_all None = tt
+    kept_all (Some x) = Hands-none appends buffer text new x kept
+
+-- the group of the first word is handed on
+pub handed_next : (appends : Appending) (words : List (List ℕ)) (count : ℕ) (w : List ℕ) (os : List (List ℕ)) (buffer new : List ℕ) (a b : Option (List ℕ))
+    → drop 0 words ≡ w ∷ os → os ≡ drop (0 + 1) words → (n : ℕ) × (count ≡ 1 + n) × (g : Group) × IsGroupOf w os n g × IfKnown a b (Hands appends buffer (group_encoding g) new)
+    → HandsTo appends words (drop count words) buffer new a b
+handed_next appends words count w os buffer new a b front rest more =
+    let same : 0 + count ≡ count = omega arith in
+    subst (λ n. HandsTo appends words (drop n words) buffer new a b) same
+    (packed_more appends words 0 count w os buffer buffer new a b front rest (none_taken words buffer) more)

@@ -10,7 +10,7 @@ use Rattle.capnp_pack.proofs.Chunks.{each_word}
 use Rattle.capnp_pack.proofs.RunLemmas.{IsRun-once, IsRun-some, few_or_not}
 use Rattle.capnp_pack.proofs.PackerGroups.{IsGroupOf-some, IsGroupOf-once, IsGroupOf-literal}
 use Rattle.capnp_pack.specs.PackedWords.{PacksWords, PacksTo, GrantsTo}
-use Rattle.capnp_pack.proofs.PackerLemmas.{PacksWords-more, PacksWords-none, PacksWords-some, PacksWords-once}
+use Rattle.capnp_pack.proofs.PackerLemmas.{PacksWords-each, PacksWords-more, PacksWords-none, PacksWords-some, PacksWords-once}
 use Rattle.capnp_pack.proofs.PackingLemmas.{words_after}
 
 -- the words of a literal run have as many bytes as the chunk that is written of them
@@ -29,6 +29,13 @@ run_granted before after count words end used more flat os Flushed run own all p
     let same : end + (1 + (bytes + more)) ≡ used + (bytes + more) = omega arith in
     let (done, left) = flush (bytes + more) (subst before same granted) in
     (done, subst (λ k. after (k + more)) (run_flat count words flat os run own all) left)
+
+-- and where the buffer takes the words after the count, for what it then has
+pub run_kept : (grants : ℕ → Type 0) (count words end used filled more : ℕ) (flat : List ℕ) (os : List (List ℕ))
+    → IsRun HasFewZeros os count → IsRun HasFewZeros os words → flat ≡ flat_map (λ x. x) (take words os) → used ≡ end + 1 → filled ≡ used + length flat
+    → grants (end + (1 + (length (concat (take count os)) + more))) → grants (filled + more)
+run_kept grants count words end used filled more flat os run own all pushed kept =
+    subst grants (omega (arith, run_flat count words flat os run own all, pushed, kept))
 
 -- a buffer of 64 bytes, and a word that is stored as it is: what was granted for its group is
 -- granted for what the buffer has with the count and the words
@@ -110,6 +117,24 @@ pub granted_on : (before after : ℕ → Type 0) (left slice : List (List ℕ)) 
     → ((text : List ℕ) (others : ℕ) → PacksWords left text → before (used + (length text + others)) → GrantsTo after (drop n left) end others)
     → GrantsTo after slice end more
 granted_on before after left slice n used end more is (rest, packs, granted) step = subst (λ l. GrantsTo after l end more) (sym is) (step rest more packs granted)
+
+-- and what the buffer takes, after which the others are a slice
+pub granted_kept : (grants : ℕ → Type 0) (left slice : List (List ℕ)) (n used end more : ℕ) (old new : List ℕ) → slice ≡ drop n left
+    → length old ≡ 64 → length new ≡ 64 → used ≤ 64 → end ≤ 64 → ((text : List ℕ) × PacksTo left text (drop n left) × (take end new ≡ take used old ++ text))
+    → GrantsTo grants left used more → GrantsTo grants slice end more
+granted_kept grants left slice n used end more old new is old_long new_long before after taken granted =
+    granted_on grants grants left slice n used end more is granted
+    (λ text others packs given. granted_taken grants left n used end others old new text (PacksWords-each left text packs) old_long new_long before after taken packs given)
+
+-- and the group of the first word
+pub granted_next : (before after : ℕ → Type 0) (words : List (List ℕ)) (count used end more : ℕ) (w : List ℕ) (os : List (List ℕ)) (P : Group → Type 0)
+    → ((i : ℕ) → i < length words → length (get_or words i []) ≡ 8) → drop 0 words ≡ w ∷ os → os ≡ drop (0 + 1) words
+    → (k : ℕ) × (count ≡ 1 + k) × (g : Group) × IsGroupOf w os k g × P g → GrantsTo before words used more
+    → ((group : Group) (k others : ℕ) → IsGroupOf w os k group → before (used + (length (group_encoding group) + others)) → after (end + others))
+    → GrantsTo after (drop count words) end more
+granted_next before after words count used end more w os P each front rest made granted step =
+    let same : 0 + count ≡ count = omega arith in
+    subst (λ n. GrantsTo after (drop n words) end more) same (granted_more before after words 0 count used end more w os P each front rest made granted step)
 
 -- at last what the buffer has is granted
 pub granted_last : (grants : ℕ → Type 0) (left : List (List ℕ)) (used more : ℕ) → left ≡ [] → GrantsTo grants left used more → grants (used + more)

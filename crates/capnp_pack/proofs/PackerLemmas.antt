@@ -1,5 +1,5 @@
 -- The encoding that a packer makes of some words: there is exactly one.
-use Rattle.std.proofs.Common.{◌≡◌, ℕ, zero, suc, ◌/◌, ◌%◌, ◌≤◌, List, [], ◌∷◌, ◌++◌, length, drop, replicate, refl, sym, ap, ◌∙◌, subst, arith, length-append}
+use Rattle.std.proofs.Common.{◌≡◌, ℕ, zero, suc, ◌/◌, ◌%◌, ◌≤◌, List, [], ◌∷◌, ◌++◌, length, drop, replicate, refl, sym, ap, ◌∙◌, subst, arith, length-append, ◌<◌, get_or}
 use Rattle.std.specs.List.{concat, AllByRecursion}
 use Rattle.std.specs.Simd.{first_chunks}
 use Rattle.std.proofs.lemmas.List.{length-drop, take-append-drop, take_at, drop_at}
@@ -130,3 +130,25 @@ Packs-unpacks bytes text rest p = (text, record { groups = p.groups; each = p.ea
 -- and to nothing else
 pub Packs-unpacks-alone : (bytes text rest others left : List ℕ) → Packs bytes text → Unpacks (text ++ rest) (length bytes) others left → (others ≡ bytes) × (left ≡ rest)
 Packs-unpacks-alone bytes text rest others left p q = unpack_once (text ++ rest) (length bytes) others left bytes rest q (Packs-unpacks bytes text rest p)
+
+-- what is packed are words
+zeros_each : (n : ℕ) → AllByRecursion IsWord (replicate n zero_word)
+zeros_each zero = tt
+zeros_each (suc n) = (refl, zeros_each n)
+
+group_each : (g : Group) → IsGroup g → AllByRecursion IsWord (group_words g)
+group_each (tagged tag word) is = (is.2, tt)
+group_each (zeros further) is = (refl, zeros_each further)
+group_each (literal word further) is = (is.0, is.1)
+
+groups_each : (gs : List Group) → AllByRecursion IsGroup gs → AllByRecursion IsWord (words_of_groups gs)
+groups_each [] all = tt
+groups_each (g ∷ gs) all = AllByRecursion-append IsWord (group_words g) (words_of_groups gs) (group_each g all.0) (groups_each gs all.1)
+
+word_each : (ws : List (List ℕ)) → AllByRecursion IsWord ws → (i : ℕ) → i < length ws → length (get_or ws i []) ≡ 8
+word_each [] all i low = absurd (omega arith)
+word_each (w ∷ ws) all zero low = all.0
+word_each (w ∷ ws) all (suc i) low = word_each ws all.1 i (omega arith)
+
+pub PacksWords-each : (words : List (List ℕ)) (text : List ℕ) → PacksWords words text → (i : ℕ) → i < length words → length (get_or words i []) ≡ 8
+PacksWords-each words text p = word_each words (subst (AllByRecursion IsWord) p.unpacked (groups_each p.groups p.each))

@@ -3,6 +3,8 @@ use Rattle.std.proofs.Common.{◌≡◌, ℕ, zero, suc, ◌+◌, ◌*◌, ◌/�
 use Rattle.std.specs.Prelude.{◌==◌, if◌then◌else◌, not}
 use Rattle.std.proofs.Math.Dec.{eqb-suc-zero}
 use Rattle.std.specs.List.{AllByRecursion}
+use Rattle.std.specs.Int.Bits.{bit_or, or_zero_l}
+use Rattle.std.proofs.lemmas.Nat.{le_or_l}
 use Rattle.std.proofs.lemmas.List.Sums.{sum_by-cons}
 use Rattle.capnp_pack.specs.Group.{IsWord, AreZero, zero_bytes, marked, unmarked, bytes_at}
 use Rattle.capnp_pack.specs.Steps.{tag_of, nonzero}
@@ -98,3 +100,12 @@ tag_once (b ∷ w) t low p q =
     let first : (if b == 0 then 0 else 1) ≡ t % 2 = step.0 in
     let others : tag_of w ≡ t / 2 = tag_once w (t / 2) (omega arith) step.1 step.2 in
     omega arith
+
+-- a tag is zero where it and a mark have no bit
+pub no_tag : (tag mark : ℕ) → bit_or tag mark ≡ 0 → tag ≡ 0
+no_tag tag mark none = omega (arith, none, le_or_l tag mark)
+
+-- and where they have some, it is the mark's if the tag is zero
+pub mark_left : (tag mark : ℕ) → tag ≡ 0 → (bit_or tag mark ≡ 0 → ⊥) → 0 < mark
+mark_left tag zero none some = absurd (some (ap (λ t. bit_or t 0) none ∙ or_zero_l 0))
+mark_left tag (suc mark) none some = omega arith

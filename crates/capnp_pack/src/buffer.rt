@@ -8,6 +8,7 @@ ghost use Rattle.capnp_pack.specs.Calls.{HandsOn};
 ghost use Rattle.capnp_pack.specs.Steps.{Hands, nonzero, tag_of};
 
 use crate::compact_shuffle::COMPACT_SHUFFLE;
+use crate::copies::copy_run;
 use capnp_frame::Result;
 use capnp_frame::io::Write;
 use std::simd::prelude::*;
@@ -37,6 +38,17 @@ pub(crate) fn push(bytes: &mut [u8; 64], used: usize, byte: u8) -> usize
 {
     bytes[used] = byte;
     used + 1
+}
+
+// Adds bytes that fit, and returns how many are then used.
+#[inline(always)]
+pub(crate) fn push_run(bytes: &mut [u8; 64], used: usize, run: &[u8]) -> usize
+    requires room { used + length run.now ≤ 64 }
+    ensures used { result ≡ used + length run.now }
+    ensures added { take result bytes.new ≡ take used bytes.old ++ run.now }
+{
+    copy_run(run.len(), run, &mut bytes[used..]);
+    used + run.len()
 }
 
 // Adds a tag, and the bytes of a word that aren't zero, and returns how many bytes are then used.

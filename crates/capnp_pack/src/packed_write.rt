@@ -15,7 +15,7 @@ ghost use Rattle.capnp_pack.specs.PackedWords.{PacksWords, PacksTo, HandsTo, Res
 ghost use Rattle.capnp_pack.specs.PackedSink.{AppendsPacked, LeavesPacked, DeclinesPacked};
 ghost use Rattle.capnp_pack.specs.Steps.{IsRun, IsZero, HasFewZeros, Hands, IsGroupOf, GroupAfter, LiteralAfter, tag_of};
 
-use crate::buffer::{flush, push, push_word};
+use crate::buffer::{flush, push, push_run, push_word};
 use crate::runs::{first_mark, literal_run, tag, zero_run};
 use crate::sizes::group_bytes;
 use capnp_frame::io::Write;
@@ -121,15 +121,21 @@ fn pack<W: Write>(sink: &mut W, chunk: &[u8]) -> Result<()>
     let mut bytes = [0; 64];
     let mut used = 0;
     while left.len() > 0 {
-        let next = pack_next(sink, &mut bytes, used, left)?;
-        left = &left[next.words..];
-        used = next.used;
+        // Speed: what the buffer takes is no part of a `Result`, whose numbers are kept in halves.
+        let packed = pack_buffered(&mut bytes, used, left);
+        left = &left[packed.words..];
+        used = packed.used;
+        if left.len() > 0 {
+            let next = pack_next(sink, &mut bytes, used, left)?;
+            left = &left[next.words..];
+            used = next.used;
+        }
     }
     flush(sink, &bytes, used)
 }
 
-// Packs groups that fit the buffer, and then a literal group where the buffer has room, or else
-// hands the buffer on.
+// Hands the buffer on where it may have no room for a group, or else packs the next word, which is
+// stored as it is.
 #[inline(always)]
 fn pack_next<W: Write>(
     sink: &mut W,
@@ -139,6 +145,7 @@ fn pack_next<W: Write>(
 ) -> Result<Packed>
     requires used { used ≤ 64 }
     requires some { 0 < length words.now }
+    requires literal { used ≤ 54 → IfFirst words.now (λ word. tag_of word ≡ 255) }
     ensures within { IfOk result (λ packed. packed.words ≤ length words.now) }
     ensures used { IfOk result (λ packed. packed.used ≤ 64) }
     // Some words are packed, or the buffer is handed on.
@@ -152,23 +159,12 @@ fn pack_next<W: Write>(
         IsOkAnd result (λ packed.
         GrantsTo (W.grants sink.new) (drop packed.words words.now) packed.used more) }
 {
-    let packed = pack_buffered(bytes, used, words);
-    if packed.words == words.len() {
-        return Ok(packed);
+    if used > MOST_USED {
+        flush(sink, bytes, used)?;
+        return Ok(Packed { words: 0, used: 0 });
     }
-    if packed.used > MOST_USED {
-        flush(sink, bytes, packed.used)?;
-        return Ok(Packed {
-            words: packed.words,
-            used: 0,
-        });
-    }
-    let (word, others) = (&words[packed.words], &words[packed.words + 1..]);
-    let literal = pack_literal(sink, bytes, packed.used, word, others)?;
-    Ok(Packed {
-        words: packed.words + literal.words,
-        used: literal.used,
-    })
+    let literal = pack_literal(sink, bytes, used, &words[0], &words[1..])?;
+    Ok(literal)
 }
 
 // Packs groups that fit the buffer, while it has room, up to a word that is stored as it is.
@@ -224,8 +220,8 @@ fn pack_stretch(bytes: &mut [u8; 64], used: usize, words: &[[u8; 8]]) -> Packed
             break;
         }
         let filled = push_word(bytes, end, tag, word);
-        // Speed: a sum, so that a zero word alone takes no branch of its own.
-        if tag as usize + first_mark(others) as usize == 0 {
+        // Speed: one test of both, so that a zero word alone takes no branch of its own.
+        if tag as u64 | first_mark(others) == 0 {
             let zeros = zero_run(others);
             end = push(bytes, filled, zeros as u8);
             count += 1 + zeros;
@@ -263,39 +259,43 @@ fn pack_literal<W: Write>(
         IsOkAnd result (λ packed. W.grants sink.new (packed.used + more)) }
 {
     let end = push_word(bytes, used, 255, word);
-    let further = pack_run(sink, bytes, end, others)?;
+    let words = literal_run(others);
+    let filled = pack_run(sink, bytes, end, words, others)?;
     Ok(Packed {
-        words: 1 + further.words,
-        used: further.used,
+        words: 1 + words,
+        used: filled,
     })
 }
 
-// Hands on the words after one, which are stored as they are.
+// Adds the count of the words after one, which are stored as they are, and these words, or hands
+// them on where they don't fit. It returns how many bytes are then used.
 #[inline(always)]
 fn pack_run<W: Write>(
     sink: &mut W,
     bytes: &mut [u8; 64],
     end: usize,
+    words: usize,
     others: &[[u8; 8]],
-) -> Result<Packed>
-    requires { end < 64 }
-    ensures used { IfOk result (λ packed. packed.used ≤ 64) }
-    ensures run { IfOk result (λ packed. IsRun HasFewZeros others.now packed.words) }
+) -> Result<usize>
+    requires room { end < 64 }
+    requires run { IsRun HasFewZeros others.now words }
+    ensures used { IfOk result (λ used. used ≤ 64) }
     ensures hands { HandsOn W.Write sink.old sink.new
-        (LiteralAfter (take end bytes.old) others.now) (λ packed.
+        (LiteralAfter (take end bytes.old) others.now) (λ used.
         IfKnown (W.written sink.old) (W.written sink.new) (Hands W.appends (take end bytes.old)
-        (packed.words ∷ concat (take packed.words others.now))
-        (take packed.used bytes.new))) result }
+        (words ∷ concat (take words others.now))
+        (take used bytes.new))) result }
     ensures granted { (count more : ℕ) → IsRun HasFewZeros others.now count →
         W.grants sink.old (end + (1 + (length (concat (take count others.now)) + more))) →
-        IsOkAnd result (λ packed. W.grants sink.new (packed.used + more)) }
+        IsOkAnd result (λ used. W.grants sink.new (used + more)) }
 {
-    let words = literal_run(others);
     let used = push(bytes, end, words as u8);
-    if words == 0 {
-        return Ok(Packed { words, used });
+    let run = others[..words].as_flattened();
+    // Speed: a run that fits the buffer takes no call of the sink (`capnp_ls pack` of small records).
+    if run.len() <= bytes.len() - used {
+        return Ok(push_run(bytes, used, run));
     }
     flush(sink, bytes, used)?;
-    sink.write_all(others[..words].as_flattened())?;
-    Ok(Packed { words, used: 0 })
+    sink.write_all(run)?;
+    Ok(0)
 }

@@ -3,6 +3,7 @@ use Rattle.std.proofs.Common.{rules, arith, ◌≡◌, ◌<◌, ◌≤◌, ◌+�
 use lib.Count.{ones, ones-le}
 use Rattle.capnp_pack.proofs.BufferedLemmas.{buffered_more, tagged_group}
 use Rattle.capnp_pack.proofs.PackingLemmas.{ends_zeros, filled_by, next_words, other_words}
+use Rattle.capnp_pack.proofs.TagLemmas.{mark_left, no_tag}
 use Rattle.capnp_pack.proofs.packed_write.pack_stretch.Goals as goal
 
 pub loop-end-preserved : goal.loop-end-preserved
@@ -16,7 +17,7 @@ loop-end-preserved c =
     let declared = c.push_word-filled.ensures in
     let size = c.group_bytes-end.ensures in
     let made = tagged_group (get_or words count []) others tag c.loop-end.end c.push_word-filled.result c.group_bytes-end.result _ _ is c.tag-tag.ensures low
-    (λ none. let some : 0 < c.first_mark.result = omega (arith, none) in c.first_mark.ensures some)
+    (λ none. c.first_mark.ensures (mark_left tag c.first_mark.result none c.if-tag-first_mark-eq0.false))
     declared.word declared.zero declared.used size.zero (λ some. size.tagged some low) in (
       omega arith,
       omega (arith, size.few),
@@ -32,7 +33,7 @@ loop-end-preserved-then-tag-first_mark-eq0 c =
     let zeros = c.zero_run-zeros.result in
     let others = take (length words - (count + 1)) (drop (count + 1) words) in
     let all = other_words words count in
-    let none : tag ≡ 0 = omega arith in
+    let none : tag ≡ 0 = no_tag tag c.first_mark.result c.if-tag-first_mark-eq0.true in
     let no : ones tag ≤ 0 = ones-le 0 tag (omega (arith, none)) in
     let is : length (get_or words count []) ≡ 8 = search rules in
     let (group, made, ends) = ends_zeros (get_or words count []) others zeros tag _ _ is c.tag-tag.ensures none c.zero_run-zeros.ensures c.push-end.ensures.added in
