@@ -52,6 +52,21 @@ impl<B: Benchmark> Exchange<B> {
         })
     }
 
+    /// Takes new memory for the messages that come. A packed stream keeps its own, as it does in
+    /// the programs that this one is timed beside. Fails with `OutOfMemory` alone.
+    pub fn renew(&mut self, mode: Mode) -> Result<()> {
+        self.benchmark = B::new(self.alloc);
+        self.request = Orphanage::new(self.alloc)?;
+        self.response = Orphanage::new(self.alloc)?;
+        self.request_unpacked = OwnedSegments::empty(self.alloc);
+        self.response_unpacked = OwnedSegments::empty(self.alloc);
+        if !matches!(mode, Mode::Packed) {
+            self.request_stream = Vec::new(self.alloc);
+            self.response_stream = Vec::new(self.alloc);
+        }
+        Ok(())
+    }
+
     /// Passes a request and its response, in the memory of those before. Fails where a message
     /// can't be built, written or read.
     pub fn pass(&mut self, mode: Mode, random: &mut Random, tally: &mut Tally) -> Result<()> {

@@ -122,7 +122,7 @@ fn passed<B: Benchmark>(alloc: Global, run: Run) -> capnp_frame::Result<Tally> {
     let mut exchange: Exchange<B> = Exchange::new(alloc)?;
     for _ in 0..run.times {
         if !run.reuses {
-            exchange = Exchange::new(alloc)?;
+            exchange.renew(run.mode)?;
         }
         exchange.pass(run.mode, &mut random, &mut tally)?;
     }
