@@ -7,7 +7,6 @@ use capnp::{serialize, serialize_packed};
 use capnp_frame::serialize::OwnedSegments;
 use capnp_frame::{Error, ErrorKind, Result};
 use capnp_orphans::Orphanage;
-use capnp_pack::stream::try_read_packed_segments_reusing;
 use std::alloc::Global;
 use std::mem;
 
@@ -134,8 +133,9 @@ impl<B: Benchmark> Exchange<B> {
 // The packed message at the front of a stream, in the memory of an earlier one.
 fn unpacked(stream: &[u8], spare: OwnedSegments) -> Result<Reader<OwnedSegments>> {
     let mut unread = stream;
-    match try_read_packed_segments_reusing(&mut unread, DEFAULT_READER_OPTIONS, spare)? {
-        Some(segments) => Ok(Reader::new(segments, DEFAULT_READER_OPTIONS)),
+    let options = DEFAULT_READER_OPTIONS;
+    match serialize_packed::try_read_message_reusing(&mut unread, options, spare)? {
+        Some(message) => Ok(message),
         None => Err(Error::from_kind(ErrorKind::PrematureEndOfFile)),
     }
 }

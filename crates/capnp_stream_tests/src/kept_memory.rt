@@ -2,10 +2,9 @@
 //!
 //! An equal message, or a smaller one, takes no more of it: whichever growth fails, only the first
 //! reading may lack it.
-use crate::faults::FORMATS;
-use crate::flat::RULES;
 use crate::samples::{SAMPLES, Sample, append_word};
 use crate::{framed, packed};
+use capnp::message::Reader;
 use capnp::streams::Format;
 use capnp_frame::message::{DEFAULT_READER_OPTIONS, ReaderSegments};
 use capnp_frame::serialize::{OwnedSegments, Padding};
@@ -15,53 +14,84 @@ use capnp_frame_tests::retried;
 use std::alloc::Global;
 use std::process::Abort;
 
+// What a reader returns.
+#[derive(Clone, Copy)]
+enum Returned {
+    Segments,
+    Message,
+}
+
+// A reader: of which format, by which rule of padding, and what it returns.
+type Call = (Format, Padding, Returned);
+
+#[rattlefmt::skip]
+const CALLS: [Call; 8] = [
+    (Format::Framed, Padding::Zero, Returned::Segments),
+    (Format::Framed, Padding::Zero, Returned::Message),
+    (Format::Framed, Padding::Any, Returned::Segments),
+    (Format::Framed, Padding::Any, Returned::Message),
+    (Format::Packed, Padding::Zero, Returned::Segments),
+    (Format::Packed, Padding::Zero, Returned::Message),
+    (Format::Packed, Padding::Any, Returned::Segments),
+    (Format::Packed, Padding::Any, Returned::Message),
+];
+
 // The message of a sample, by a call.
-fn read(
-    (format, padding): (Format, Padding),
-    sample: &Sample,
-    spare: OwnedSegments,
-) -> Result<OwnedSegments> {
-    match format {
-        Format::Framed => read_text((format, padding), sample.framed, spare),
-        Format::Packed => read_text((format, padding), sample.packed, spare),
+fn read(call: Call, sample: &Sample, spare: OwnedSegments) -> Result<OwnedSegments> {
+    match call.0 {
+        Format::Framed => read_text(call, sample.framed, spare),
+        Format::Packed => read_text(call, sample.packed, spare),
     }
 }
 
-fn read_text(
-    (format, padding): (Format, Padding),
-    text: &[u8],
-    spare: OwnedSegments,
-) -> Result<OwnedSegments> {
-    let options = DEFAULT_READER_OPTIONS;
-    let mut source = text;
-    let found = match format {
-        Format::Framed => framed::next_segments_reusing(padding, &mut source, options, spare),
-        Format::Packed => packed::next_segments_reusing(padding, &mut source, options, spare),
+fn read_text(call: Call, text: &[u8], spare: OwnedSegments) -> Result<OwnedSegments> {
+    let found = match call.2 {
+        Returned::Segments => next_segments(call, text, spare)?,
+        Returned::Message => next_message(call, text, spare)?.map(Reader::into_segments),
     };
     match found {
-        Ok(Some(found)) => Ok(found),
-        Ok(None) => Err(Error::from_kind(ErrorKind::PrematureEndOfFile)),
-        Err(error) => Err(error),
+        Some(found) => Ok(found),
+        None => Err(Error::from_kind(ErrorKind::PrematureEndOfFile)),
+    }
+}
+
+fn next_segments(
+    (format, padding, _): Call,
+    text: &[u8],
+    spare: OwnedSegments,
+) -> Result<Option<OwnedSegments>> {
+    let options = DEFAULT_READER_OPTIONS;
+    let mut source = text;
+    match format {
+        Format::Framed => framed::next_segments_reusing(padding, &mut source, options, spare),
+        Format::Packed => packed::next_segments_reusing(padding, &mut source, options, spare),
+    }
+}
+
+fn next_message(
+    (format, padding, _): Call,
+    text: &[u8],
+    spare: OwnedSegments,
+) -> Result<Option<Reader<OwnedSegments>>> {
+    let options = DEFAULT_READER_OPTIONS;
+    let mut source = text;
+    match format {
+        Format::Framed => framed::next_message_reusing(padding, &mut source, options, spare),
+        Format::Packed => packed::next_message_reusing(padding, &mut source, options, spare),
     }
 }
 
 #[test]
 fn equal_messages_take_no_more_memory(rt: HostRuntime) -> Result<()> {
-    for format in &FORMATS {
-        for padding in &RULES {
-            for sample in &SAMPLES {
-                read_again(&rt, (*format, *padding), sample)?;
-            }
+    for call in &CALLS {
+        for sample in &SAMPLES {
+            read_again(&rt, *call, sample)?;
         }
     }
     Ok(())
 }
 
-fn read_again(
-    rt: &(impl Abort + AllocGlobal),
-    call: (Format, Padding),
-    sample: &Sample,
-) -> Result<()> {
+fn read_again(rt: &(impl Abort + AllocGlobal), call: Call, sample: &Sample) -> Result<()> {
     let mut kept = retried!(read(call, sample, OwnedSegments::empty(rt.alloc())))?;
     for _ in 0..9 {
         kept = read(call, sample, kept)?;
@@ -84,20 +114,14 @@ fn large_message(alloc: Global, format: Format) -> Result<Vec<u8>> {
 // After it smaller ones, and the same again, many times.
 #[test]
 fn smaller_messages_take_no_more_memory(rt: HostRuntime) -> Result<()> {
-    for format in &FORMATS {
-        let large = retried!(large_message(rt.alloc(), *format))?;
-        for padding in &RULES {
-            read_smaller(&rt, (*format, *padding), &large)?;
-        }
+    for call in &CALLS {
+        let large = retried!(large_message(rt.alloc(), call.0))?;
+        read_smaller(&rt, *call, &large)?;
     }
     Ok(())
 }
 
-fn read_smaller(
-    rt: &(impl Abort + AllocGlobal),
-    call: (Format, Padding),
-    large: &[u8],
-) -> Result<()> {
+fn read_smaller(rt: &(impl Abort + AllocGlobal), call: Call, large: &[u8]) -> Result<()> {
     let mut kept = retried!(read_text(call, large, OwnedSegments::empty(rt.alloc())))?;
     for _ in 0..1005 {
         for sample in &SAMPLES {

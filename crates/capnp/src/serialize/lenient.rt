@@ -31,6 +31,25 @@ pub fn try_read_message_lenient<R: Read>(
     reading::try_read_message(alloc, source, Padding::Any, options)
 }
 
+/// Reads the next message as `try_read_message_reusing` does, but accepts any padding in the
+/// segment table.
+pub fn try_read_message_reusing_lenient<R: Read>(
+    source: &mut R,
+    options: ReaderOptions,
+    spare: OwnedSegments,
+) -> Result<Option<Reader<OwnedSegments>>>
+    // Over a source of plain bytes: the unread bytes begin with the framed encoding of the message.
+    ensures texts { IsPlainSource R.gives R.refuses → ReturnsEncodings (IsFrame Padding.Any)
+        options.traversal_limit_in_words (R.unread source.old) (R.unread source.new)
+        (next_in (λ reader. reader.segments) result) }
+    ensures reads { ReadsStream R.Read source.old source.new (framed_rules Padding.Any R.gives R.refuses)
+        options.traversal_limit_in_words (next_in (λ reader. reader.segments) result) }
+    ensures options { IfOk result (λ found. IfSome found (λ reader.
+        reader.options ≡ options)) }
+{
+    reading::try_read_message_reusing(source, Padding::Any, options, spare)
+}
+
 /// Reads the next message as `read_message` does, but accepts any padding in the segment table.
 pub fn read_message_lenient<R: Read>(
     alloc: Global,

@@ -9,7 +9,7 @@ use capnp_frame::io::Read;
 use capnp_frame::message::ReaderOptions;
 use capnp_frame::serialize::{
     NoAllocBufferSegments, OwnedSegments, Padding, try_read_segments_into_with_padding,
-    try_read_segments_with_padding,
+    try_read_segments_reusing_with_padding,
 };
 use capnp_frame::{Error, ErrorKind, Result};
 use capnp_message::Reader;
@@ -31,7 +31,27 @@ pub(crate) fn try_read_message<R: Read>(
     ensures options { IfOk result (λ found. IfSome found (λ reader.
         reader.options ≡ options)) }
 {
-    match try_read_segments_with_padding(alloc, source, padding, options)? {
+    try_read_message_reusing(source, padding, options, OwnedSegments::empty(alloc))
+}
+
+// Reads the next message of a source by this rule of padding into the memory of an earlier one, or
+// none where nothing is unread.
+pub(crate) fn try_read_message_reusing<R: Read>(
+    source: &mut R,
+    padding: Padding,
+    options: ReaderOptions,
+    spare: OwnedSegments,
+) -> Result<Option<Reader<OwnedSegments>>>
+    // Over a source of plain bytes: the unread bytes begin with the framed encoding of the message.
+    ensures texts { IsPlainSource R.gives R.refuses → ReturnsEncodings (IsFrame padding)
+        options.traversal_limit_in_words (R.unread source.old) (R.unread source.new)
+        (next_in (λ reader. reader.segments) result) }
+    ensures reads { ReadsStream R.Read source.old source.new (framed_rules padding R.gives R.refuses)
+        options.traversal_limit_in_words (next_in (λ reader. reader.segments) result) }
+    ensures options { IfOk result (λ found. IfSome found (λ reader.
+        reader.options ≡ options)) }
+{
+    match try_read_segments_reusing_with_padding(source, padding, options, spare)? {
         Some(segments) => Ok(Some(Reader::new(segments, options))),
         None => Ok(None),
     }

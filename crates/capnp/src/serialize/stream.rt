@@ -47,6 +47,26 @@ pub fn try_read_message<R: Read>(
     reading::try_read_message(alloc, source, Padding::Zero, options)
 }
 
+/// Reads the next message as `try_read_message` does, into the memory of an earlier one, which
+/// grows where it is too small: `spare` is what `Reader::into_segments` returns, or
+/// `OwnedSegments::empty`. Fails as that does.
+pub fn try_read_message_reusing<R: Read>(
+    source: &mut R,
+    options: ReaderOptions,
+    spare: OwnedSegments,
+) -> Result<Option<Reader<OwnedSegments>>>
+    // Over a source of plain bytes: the unread bytes begin with the framed encoding of the message.
+    ensures texts { IsPlainSource R.gives R.refuses → ReturnsEncodings (IsFrame Padding.Zero)
+        options.traversal_limit_in_words (R.unread source.old) (R.unread source.new)
+        (next_in (λ reader. reader.segments) result) }
+    ensures reads { ReadsStream R.Read source.old source.new (framed_rules Padding.Zero R.gives R.refuses)
+        options.traversal_limit_in_words (next_in (λ reader. reader.segments) result) }
+    ensures options { IfOk result (λ found. IfSome found (λ reader.
+        reader.options ≡ options)) }
+{
+    reading::try_read_message_reusing(source, Padding::Zero, options, spare)
+}
+
 /// Reads the next message of a source. Fails with `PrematureEndOfFile` where nothing is unread, and
 /// else as `try_read_message` does.
 pub fn read_message<R: Read>(

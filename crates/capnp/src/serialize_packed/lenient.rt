@@ -32,6 +32,25 @@ pub fn try_read_message_lenient<R: BufRead>(
     reading::try_read_message(alloc, source, Padding::Any, options)
 }
 
+/// Reads the next packed message as `try_read_message_reusing` does, but accepts any padding in the
+/// segment table.
+pub fn try_read_message_reusing_lenient<R: BufRead>(
+    source: &mut R,
+    options: ReaderOptions,
+    spare: OwnedSegments,
+) -> Result<Option<Reader<OwnedSegments>>>
+    // The unread bytes begin with a packed encoding of the message.
+    ensures texts { ReturnsEncodings (IsPackedFrame Padding.Any)
+        options.traversal_limit_in_words (R.unread source.old) (R.unread source.new)
+        (next_in (λ reader. reader.segments) result) }
+    ensures reads { ReadsStream R.Read source.old source.new (packed_rules Padding.Any)
+        options.traversal_limit_in_words (next_in (λ reader. reader.segments) result) }
+    ensures options { IfOk result (λ found. IfSome found (λ reader.
+        reader.options ≡ options)) }
+{
+    reading::try_read_message_reusing(source, Padding::Any, options, spare)
+}
+
 /// Reads the next packed message as `read_message` does, but accepts any padding in the segment
 /// table.
 pub fn read_message_lenient<R: BufRead>(

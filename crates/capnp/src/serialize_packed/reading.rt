@@ -11,7 +11,7 @@ use capnp_frame::serialize::{NoAllocBufferSegments, OwnedSegments, Padding};
 use capnp_frame::{Error, ErrorKind, Result};
 use capnp_message::Reader;
 use capnp_pack::stream::{
-    try_read_packed_segments_into_with_padding, try_read_packed_segments_with_padding,
+    try_read_packed_segments_into_with_padding, try_read_packed_segments_reusing_with_padding,
 };
 use std::alloc::Global;
 
@@ -32,7 +32,27 @@ pub(crate) fn try_read_message<R: BufRead>(
     ensures options { IfOk result (λ found. IfSome found (λ reader.
         reader.options ≡ options)) }
 {
-    match try_read_packed_segments_with_padding(alloc, source, padding, options)? {
+    try_read_message_reusing(source, padding, options, OwnedSegments::empty(alloc))
+}
+
+// Reads the next packed message of a source by this rule of padding into the memory of an earlier
+// one, or none where nothing is unread.
+pub(crate) fn try_read_message_reusing<R: BufRead>(
+    source: &mut R,
+    padding: Padding,
+    options: ReaderOptions,
+    spare: OwnedSegments,
+) -> Result<Option<Reader<OwnedSegments>>>
+    // The unread bytes begin with a packed encoding of the message.
+    ensures texts { ReturnsEncodings (IsPackedFrame padding)
+        options.traversal_limit_in_words (R.unread source.old) (R.unread source.new)
+        (next_in (λ reader. reader.segments) result) }
+    ensures reads { ReadsStream R.Read source.old source.new (packed_rules padding)
+        options.traversal_limit_in_words (next_in (λ reader. reader.segments) result) }
+    ensures options { IfOk result (λ found. IfSome found (λ reader.
+        reader.options ≡ options)) }
+{
+    match try_read_packed_segments_reusing_with_padding(source, padding, options, spare)? {
         Some(segments) => Ok(Some(Reader::new(segments, options))),
         None => Ok(None),
     }

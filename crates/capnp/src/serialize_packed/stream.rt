@@ -48,6 +48,26 @@ pub fn try_read_message<R: BufRead>(
     reading::try_read_message(alloc, source, Padding::Zero, options)
 }
 
+/// Reads the next packed message as `try_read_message` does, into the memory of an earlier one, which
+/// grows where it is too small: `spare` is what `Reader::into_segments` returns, or
+/// `OwnedSegments::empty`. Fails as that does.
+pub fn try_read_message_reusing<R: BufRead>(
+    source: &mut R,
+    options: ReaderOptions,
+    spare: OwnedSegments,
+) -> Result<Option<Reader<OwnedSegments>>>
+    // The unread bytes begin with a packed encoding of the message.
+    ensures texts { ReturnsEncodings (IsPackedFrame Padding.Zero)
+        options.traversal_limit_in_words (R.unread source.old) (R.unread source.new)
+        (next_in (λ reader. reader.segments) result) }
+    ensures reads { ReadsStream R.Read source.old source.new (packed_rules Padding.Zero)
+        options.traversal_limit_in_words (next_in (λ reader. reader.segments) result) }
+    ensures options { IfOk result (λ found. IfSome found (λ reader.
+        reader.options ≡ options)) }
+{
+    reading::try_read_message_reusing(source, Padding::Zero, options, spare)
+}
+
 /// Reads the next packed message of a source. Fails with `PrematureEndOfFile` where nothing is
 /// unread, and else as `try_read_message` does.
 pub fn read_message<R: BufRead>(

@@ -3,7 +3,7 @@ use Rattle.std.proofs.lemmas.Result.{err_from_is_err_and}
 use Rattle.capnp_frame.specs.Frame.{IsFrame}
 use Rattle.capnp_frame.specs.Streams.{framed_rules}
 use Rattle.capnp.proofs.ReaderLemmas.{frames_requested, returns_texts}
-use Rattle.capnp.proofs.serialize.reading.try_read_message.Goals as goal
+use Rattle.capnp.proofs.serialize.reading.try_read_message_reusing.Goals as goal
 
 pub returns-in_err-segments-clause-texts : goal.returns-in_err-segments-clause-texts
 returns-in_err-segments-clause-texts g c =

@@ -3,7 +3,7 @@ use Rattle.std.proofs.lemmas.Result.{err_from_is_err_and}
 use Rattle.capnp_pack.specs.PackedFrame.{IsPackedFrame}
 use Rattle.capnp_pack.specs.PackedStreams.{packed_rules}
 use Rattle.capnp.proofs.ReaderLemmas.{returns_texts}
-use Rattle.capnp.proofs.serialize_packed.reading.try_read_message.Goals as goal
+use Rattle.capnp.proofs.serialize_packed.reading.try_read_message_reusing.Goals as goal
 
 pub returns-in_err-segments-clause-texts : goal.returns-in_err-segments-clause-texts
 returns-in_err-segments-clause-texts g c =
