@@ -2,6 +2,7 @@
 pub mod LinkLemmas
 pub mod OrphanLemmas
 pub mod StructListLemmas
+pub mod TextLemmas
 pub mod WrittenLemmas
 pub mod AddingLemmas
 pub mod CopyLemmas

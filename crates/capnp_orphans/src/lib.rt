@@ -25,6 +25,7 @@ mod pointer_list;
 mod region;
 mod segment;
 mod struct_list;
+mod text_object;
 mod value;
 mod written;
 

@@ -18,6 +18,7 @@ use crate::pointer_list::PointerList;
 use crate::region::Region;
 use crate::segment::GrowingSegment;
 use crate::struct_list::StructList;
+use crate::text_object::TextObject;
 use crate::value::Value;
 use capnp_frame::{Error, ErrorKind, Result};
 use capnp_layout::pointer_word::link;
@@ -180,7 +181,7 @@ impl<S: GrowingSegment> Orphanage<S> {
         ensures writes { Writes (HasWords (IsTextTree text.now) false)
             (LacksWords (IsTextTree text.now) (LongText text.now) false) self.old self.new result }
     {
-        self.set::<text::Owned, &str>(&text)
+        self.write(&TextObject::new(text))
     }
 
     /// Writes a `Data` ("Blobs").

@@ -1,0 +1,14 @@
+-- A text is written at its start.
+use Rattle.std.proofs.Common.{◌/◌, ◌-◌, ◌++◌, ◌∷◌, [], length, false, arith}
+use Rattle.capnp_layout.proofs.words.BytesLemmas.{long_end}
+use Rattle.capnp_wire.proofs.layouts.FreeLemmas.{numbers_total}
+use Rattle.capnp_orphans.proofs.TextLemmas.{text_written}
+use Rattle.capnp_orphans.proofs.text_object.TextObjectObject.write.Goals as goal
+
+pub returns : goal.returns
+returns c body start_is =
+    let value = c.as_bytes-bytes.ensures.value in
+    let takes = c.requires.takes in
+    let long = numbers_total false 2 (c.args.self.now.text.now ++ 0 ∷ []) takes.trees takes.tree_is.1 in
+    text_written body c.args.self.now.text.now c.put_text.new.block c.args.start (length c.args.block.now / 8) (length c.args.block.now - length c.args.self.now.text.now) c.list_word.result start_is
+    takes c.requires.few (rw value at c.put_text.ensures.bytes) (omega (arith, long, takes.words_are, long_end c.args.self.now.text.now, c.requires.whole)) (rw value at c.put_text.ensures.put) (rw value at c.list_word.ensures)
