@@ -91,16 +91,14 @@ impl<B: Benchmark> Exchange<B> {
     }
 
     fn pass_bytes(&mut self, tally: &mut Tally) -> Result<u64> {
-        self.request_stream.clear();
-        serialize::write_message(self.alloc, &mut self.request_stream, &self.request)?;
+        write_framed(self.alloc, &mut self.request_stream, &self.request)?;
         let mut unread = self.request_stream.as_slice();
         let request = serialize::read_message_from_flat_slice_no_alloc(
             &mut unread,
             DEFAULT_READER_OPTIONS,
         )?;
         respond(&mut self.benchmark, &request, &mut self.response, tally)?;
-        self.response_stream.clear();
-        serialize::write_message(self.alloc, &mut self.response_stream, &self.response)?;
+        write_framed(self.alloc, &mut self.response_stream, &self.response)?;
         let mut unread = self.response_stream.as_slice();
         let response = serialize::read_message_from_flat_slice_no_alloc(
             &mut unread,
@@ -128,6 +126,14 @@ impl<B: Benchmark> Exchange<B> {
         self.response_unpacked = response.into_segments();
         Ok(value)
     }
+}
+
+// Writes a message as the only one of a stream, which asks for memory at most once.
+fn write_framed(alloc: Global, stream: &mut Vec<u8>, message: &Orphanage) -> Result<()> {
+    stream.clear();
+    let words = serialize::compute_serialized_size_in_words(message)?;
+    stream.reserve(words.saturating_mul(8))?;
+    serialize::write_message(alloc, stream, message)
 }
 
 // The packed message at the front of a stream, in the memory of an earlier one.
