@@ -1,5 +1,6 @@
 -- What the reading views show of a pointer (src/any_pointer, text, data, primitive_list, any_struct).
 use Rattle.std.specs.Prelude.{◌≡◌, ◌≢◌, ℕ, ◌-◌, ◌<◌, ◌⊎◌, ⊤, List, [], ◌∷◌, ◌++◌, false, Option, Some, None, slice_get, MatchOption, ◌≤◌, ◌^◌, Result, MatchResult, IsOk, IfErr}
+use Rattle.std.specs.Option.{ForSome}
 use Rattle.std.specs.Result.{IsErrAnd}
 use Rattle.capnp_frame.specs.declared.error.Error.{Error}
 use Rattle.capnp_frame.specs.declared.error.ErrorKind.{ErrorKind}
@@ -18,6 +19,10 @@ pub record Pointer : Type 0 where
   pub place : Option Place
   pub nesting : ℕ
   pub limit : Option ℕ
+
+-- these are the words of the segment of a pointer; of one that has no place, any
+abbrev pub HasSegment : Pointer → List ℕ → Type 0
+HasSegment pointer words = ForSome pointer.place (λ place. slice_get pointer.message place.segment ≡ Some words)
 
 -- what a pointer stands for: null, or an object within the nesting depth left
 pub data Denotes (pointer : Pointer) : Shape → Type 0 where

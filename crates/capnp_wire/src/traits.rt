@@ -2,7 +2,7 @@
 ghost use Rattle.std.specs.Prelude.{◌≡◌, ℕ, ◌-◌, ◌≤◌, length, false, Ok, MatchResult};
 ghost use Rattle.std.specs.Result.{IsErrAnd};
 ghost use Rattle.capnp_frame.specs.declared.error.ErrorKind.{ErrorKind};
-ghost use Rattle.capnp_wire.specs.Views.{Pointer, IsViewOf};
+ghost use Rattle.capnp_wire.specs.Views.{Pointer, HasSegment, IsViewOf};
 ghost use Rattle.capnp_wire.specs.Readers.{pointer_of};
 ghost use Rattle.capnp_layout.specs.Pointer.{words_of};
 ghost use Rattle.capnp_layout.specs.Tree.{Trees, count, total_words};
@@ -36,6 +36,17 @@ pub trait FromPointerReader<'a, S: ReaderSegments>: Sized {
         ensures { let pointer = pointer_of S.segments reader.entry in
             IsViewOf pointer (shows pointer) (accepts pointer) (refuses pointer) (declines pointer)
             result };
+}
+
+/// A type of views that are also taken where the segment of the pointer is known, as it is in a
+/// struct.
+pub trait FromPointerInSegment<'a, S: ReaderSegments>: FromPointerReader<'a, S> {
+    /// The view of what a pointer in this segment leads to, as `get_from_pointer` returns it.
+    fn get_from_segment(reader: any_pointer::Reader<'a, S>, segment: &'a [u8]) -> Result<Self>
+        requires { HasSegment (pointer_of S.segments reader) (words_of segment.now) }
+        ensures { let pointer = pointer_of S.segments reader.entry in
+            IsViewOf pointer (Self.shows pointer) (Self.accepts pointer) (Self.refuses pointer)
+            (Self.declines pointer) result };
 }
 
 /// A type of a schema, with its view.

@@ -244,6 +244,25 @@ fn structs_below_the_nesting_limit(rt: HostRuntime) -> Result<()> {
     Ok(())
 }
 
+// A view by a struct's segment is counted as any other.
+#[test]
+fn data_of_an_element(rt: HostRuntime) -> Result<()> {
+    let segments = [CONTACTS];
+    let arena = arena_of(&segments, Some(6), 2);
+    let list: Structs<'_> = typed_root::<struct_list::Owned>(&arena)?;
+    assert!(rt; list.len() == 2);
+    let null = has_bytes(list.get(1).get_pointer_as(0), b"");
+    let found = has_bytes(list.get(0).get_pointer_as(0), b"hi\0");
+    let again = has_bytes(list.get(0).get_pointer_as(0), b"hi\0");
+    expect(
+        &rt,
+        CONTACTS,
+        (null, found, again),
+        (Ok(true), Ok(true), Err(20)),
+    );
+    Ok(())
+}
+
 #[test]
 fn data_below_the_nesting_limit(rt: HostRuntime) -> Result<()> {
     let segments = [POINTERS];

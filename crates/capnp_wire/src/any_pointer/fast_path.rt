@@ -1,9 +1,12 @@
 //! Fast paths to what most pointers lead to.
-ghost use Rattle.std.specs.Prelude.{◌≡◌, ◌<◌, IfSome, Some};
+ghost use Rattle.std.specs.Prelude.{◌≡◌, ◌<◌, IfSome, Some, slice_get};
+ghost use Rattle.std.specs.Option.{ForSome};
+ghost use Rattle.capnp_layout.specs.Pointer.{words_of};
 ghost use Rattle.capnp_layout.specs.Object.{message_of};
 ghost use Rattle.capnp_layout.specs.Landing.{IsObject};
 ghost use Rattle.capnp_layout.specs.Local.{object_of, local_struct_of, pointers_of, structs_of};
 ghost use Rattle.capnp_wire.specs.Readers.{pointer_of, IsEntered};
+ghost use Rattle.capnp_wire.specs.Views.{HasSegment};
 ghost use Rattle.capnp_layout.specs.declared.place.Place.{Place};
 
 use crate::any_pointer::Reader;
@@ -15,7 +18,7 @@ use capnp_layout::fast_path::{
 };
 use capnp_layout::number_list::NumberList;
 use capnp_layout::object::{Body, Object};
-use capnp_layout::place::word;
+use capnp_layout::place::{Place, word};
 use capnp_layout::pointer::list_code;
 use capnp_layout::pointer_run::PointerRun;
 use capnp_layout::struct_list::StructList;
@@ -31,11 +34,17 @@ impl<'a, S: ReaderSegments> Reader<'a, S> {
     /// traversal limit: a fast path. `None` says nothing about what is there, and counts nothing;
     /// then `enter` is asked.
     #[inline(always)]
-    pub(crate) fn enter_local_numbers(&self, size: ElementSize) -> Option<Object<'a>>
+    pub(crate) fn enter_local_numbers(
+        &self,
+        known: Option<&'a [u8]>,
+        size: ElementSize,
+    ) -> Option<Object<'a>>
+        requires { ForSome known (λ segment.
+            HasSegment (pointer_of S.segments self.now) (words_of segment.now)) }
         ensures { let pointer = pointer_of S.segments self.now in
             IfSome result (λ object. IsEntered pointer object) }
     {
-        let list = self.local_numbers(size)?;
+        let list = self.local_numbers(known, size)?;
         let words = list.traversed();
         match traversed(self.limiter, words) {
             Ok(()) => Some(Object {
@@ -51,11 +60,13 @@ impl<'a, S: ReaderSegments> Reader<'a, S> {
     /// The struct that the pointer leads to without a landing pad, counted against the traversal
     /// limit: a fast path, as `enter_local_numbers`.
     #[inline(always)]
-    pub(crate) fn enter_local_struct(&self) -> Option<Object<'a>>
+    pub(crate) fn enter_local_struct(&self, known: Option<&'a [u8]>) -> Option<Object<'a>>
+        requires { ForSome known (λ segment.
+            HasSegment (pointer_of S.segments self.now) (words_of segment.now)) }
         ensures { let pointer = pointer_of S.segments self.now in
             IfSome result (λ object. IsEntered pointer object) }
     {
-        let found = self.local_fields()?;
+        let found = self.local_fields(known)?;
         let words = found.size.words();
         match traversed(self.limiter, words) {
             Ok(()) => Some(Object {
@@ -71,11 +82,13 @@ impl<'a, S: ReaderSegments> Reader<'a, S> {
     /// The list of pointers that the pointer leads to without a landing pad, counted against the
     /// traversal limit: a fast path, as `enter_local_numbers`.
     #[inline(always)]
-    pub(crate) fn enter_local_pointers(&self) -> Option<Object<'a>>
+    pub(crate) fn enter_local_pointers(&self, known: Option<&'a [u8]>) -> Option<Object<'a>>
+        requires { ForSome known (λ segment.
+            HasSegment (pointer_of S.segments self.now) (words_of segment.now)) }
         ensures { let pointer = pointer_of S.segments self.now in
             IfSome result (λ object. IsEntered pointer object) }
     {
-        let list = self.local_pointers()?;
+        let list = self.local_pointers(known)?;
         let words = list.count as u64;
         match traversed(self.limiter, words) {
             Ok(()) => Some(Object {
@@ -91,11 +104,13 @@ impl<'a, S: ReaderSegments> Reader<'a, S> {
     /// The list of structs that the pointer leads to without a landing pad, counted against the
     /// traversal limit: a fast path, as `enter_local_numbers`.
     #[inline(always)]
-    pub(crate) fn enter_local_structs(&self) -> Option<Object<'a>>
+    pub(crate) fn enter_local_structs(&self, known: Option<&'a [u8]>) -> Option<Object<'a>>
+        requires { ForSome known (λ segment.
+            HasSegment (pointer_of S.segments self.now) (words_of segment.now)) }
         ensures { let pointer = pointer_of S.segments self.now in
             IfSome result (λ object. IsEntered pointer object) }
     {
-        let list = self.local_structs()?;
+        let list = self.local_structs(known)?;
         let counted = list.traversed();
         match traversed(self.limiter, counted) {
             Ok(()) => Some(Object {
@@ -108,17 +123,34 @@ impl<'a, S: ReaderSegments> Reader<'a, S> {
         }
     }
 
+    // The segment of the pointer, where it isn't known yet.
+    #[inline(always)]
+    fn segment_at(&self, known: Option<&'a [u8]>, place: Place) -> Option<&'a [u8]>
+        requires place { self.now.place ≡ Some place }
+        requires known { ForSome known (λ segment.
+            HasSegment (pointer_of S.segments self.now) (words_of segment.now)) }
+        ensures { IfSome result (λ segment. slice_get (message_of (S.segments self.now.segments.now))
+            place.segment ≡ Some (words_of segment.now)) }
+    {
+        match known {
+            Some(segment) => Some(segment),
+            None => self.segments.get_segment(place.segment),
+        }
+    }
+
     // The list of numbers that the pointer leads to.
     // Speed: the size is looked at first, so the compiler knows it in the code after that
     // (`tools/time-reading`).
     #[inline(always)]
-    fn local_numbers(&self, size: ElementSize) -> Option<NumberList<'a>>
+    fn local_numbers(&self, known: Option<&'a [u8]>, size: ElementSize) -> Option<NumberList<'a>>
+        requires { ForSome known (λ segment.
+            HasSegment (pointer_of S.segments self.now) (words_of segment.now)) }
         ensures { IfSome result (λ list. (place : Place) × (self.now.place ≡ Some place)
             × IsObject (message_of (S.segments self.now.segments.now)) place (object_of list)
             × (0 < self.now.nesting)) }
     {
         let place = self.place?;
-        let segment = self.segments.get_segment(place.segment)?;
+        let segment = self.segment_at(known, place)?;
         let pointer = word(segment, place.word)?;
         if list_code(pointer) != size.code() {
             return None;
@@ -128,37 +160,43 @@ impl<'a, S: ReaderSegments> Reader<'a, S> {
 
     // The struct that the pointer leads to.
     #[inline(always)]
-    fn local_fields(&self) -> Option<LocalStruct<'a>>
+    fn local_fields(&self, known: Option<&'a [u8]>) -> Option<LocalStruct<'a>>
+        requires { ForSome known (λ segment.
+            HasSegment (pointer_of S.segments self.now) (words_of segment.now)) }
         ensures { IfSome result (λ found. (place : Place) × (self.now.place ≡ Some place)
             × IsObject (message_of (S.segments self.now.segments.now)) place (local_struct_of found)
             × (0 < self.now.nesting)) }
     {
         let place = self.place?;
-        let segment = self.segments.get_segment(place.segment)?;
+        let segment = self.segment_at(known, place)?;
         local_struct(segment, place, self.nesting)
     }
 
     // The list of pointers that the pointer leads to.
     #[inline(always)]
-    fn local_pointers(&self) -> Option<PointerRun<'a>>
+    fn local_pointers(&self, known: Option<&'a [u8]>) -> Option<PointerRun<'a>>
+        requires { ForSome known (λ segment.
+            HasSegment (pointer_of S.segments self.now) (words_of segment.now)) }
         ensures { IfSome result (λ list. (place : Place) × (self.now.place ≡ Some place)
             × IsObject (message_of (S.segments self.now.segments.now)) place (pointers_of list)
             × (0 < self.now.nesting)) }
     {
         let place = self.place?;
-        let segment = self.segments.get_segment(place.segment)?;
+        let segment = self.segment_at(known, place)?;
         local_pointers(segment, place, self.nesting)
     }
 
     // The list of structs that the pointer leads to.
     #[inline(always)]
-    fn local_structs(&self) -> Option<StructList<'a>>
+    fn local_structs(&self, known: Option<&'a [u8]>) -> Option<StructList<'a>>
+        requires { ForSome known (λ segment.
+            HasSegment (pointer_of S.segments self.now) (words_of segment.now)) }
         ensures { IfSome result (λ list. (place : Place) × (self.now.place ≡ Some place)
             × IsObject (message_of (S.segments self.now.segments.now)) place (structs_of list)
             × (0 < self.now.nesting)) }
     {
         let place = self.place?;
-        let segment = self.segments.get_segment(place.segment)?;
+        let segment = self.segment_at(known, place)?;
         local_structs(segment, place, self.nesting)
     }
 }

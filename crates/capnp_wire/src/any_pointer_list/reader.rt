@@ -1,10 +1,12 @@
 //! Readers of lists of pointers.
 ghost use Rattle.std.specs.Prelude.{◌≡◌, ◌+◌, ◌^◌, ◌<◌, length, MatchResult};
+ghost use Rattle.std.specs.Option.{ForSome};
+ghost use Rattle.capnp_layout.specs.Pointer.{words_of};
 
 use crate::any_pointer;
 use crate::object_content::{by_value, wrong_kind};
 use crate::read_limiter::ReadLimiter;
-use crate::traits::{FromPointerReader, IndexMove, ListIter};
+use crate::traits::{FromPointerInSegment, FromPointerReader, IndexMove, ListIter};
 use capnp_frame::Result;
 use capnp_frame::message::ReaderSegments;
 use capnp_layout::object::{Object, words_fit};
@@ -26,7 +28,7 @@ pub struct Reader<'a, S> {
 impl<'a, S: ReaderSegments> Reader<'a, S> {
     ghost use Rattle.capnp_wire.specs.Lists.{FindsElement, IsIterator};
     ghost use Rattle.capnp_wire.specs.Readers.{pointer_of, IsEntered};
-    ghost use Rattle.capnp_wire.specs.Views.{Refuses};
+    ghost use Rattle.capnp_wire.specs.Views.{HasSegment, Refuses};
     ghost use Rattle.capnp_wire.specs.ListViews.{pointer_list_of, pointer_at, IsPointerList, DeclinesPointers};
 
     /// The number of elements.
@@ -75,12 +77,14 @@ impl<'a, S: ReaderSegments> Reader<'a, S> {
 
     // The list of pointers that a pointer leads to.
     #[inline(always)]
-    fn read(reader: &any_pointer::Reader<'a, S>) -> Result<Reader<'a, S>>
+    fn read(reader: &any_pointer::Reader<'a, S>, known: Option<&'a [u8]>) -> Result<Reader<'a, S>>
+        requires { ForSome known (λ segment.
+            HasSegment (pointer_of S.segments reader.now) (words_of segment.now)) }
         ensures { let pointer = pointer_of S.segments reader.now in MatchResult result
             (λ view. IsPointerList pointer (pointer_list_of S.segments view))
             (λ error. Refuses pointer DeclinesPointers error.kind) }
     {
-        match reader.enter_local_pointers() {
+        match reader.enter_local_pointers(known) {
             Some(object) => Reader::in_object(reader, &object),
             None => by_value(Reader::enter(&reader.copied())),
         }
@@ -179,6 +183,23 @@ impl<'a, S: ReaderSegments> FromPointerReader<'a, S> for Reader<'a, S> {
             (Accepts pointer TakesPointers) (Refuses pointer DeclinesPointers)
             (Declines pointer DeclinesPointers) result }
     {
-        Reader::read(&reader)
+        Reader::read(&reader, None)
+    }
+}
+
+impl<'a, S: ReaderSegments> FromPointerInSegment<'a, S> for Reader<'a, S> {
+    ghost use Rattle.capnp_wire.specs.Readers.{pointer_of};
+    ghost use Rattle.capnp_wire.specs.Views.{HasSegment, IsViewOf, Accepts, Refuses, Declines};
+    ghost use Rattle.capnp_wire.specs.ListViews.{pointer_list_of, IsPointerList, TakesPointers, DeclinesPointers};
+
+    #[inline(always)]
+    fn get_from_segment(reader: any_pointer::Reader<'a, S>, segment: &'a [u8]) -> Result<Self>
+        requires { HasSegment (pointer_of S.segments reader) (words_of segment.now) }
+        ensures { let pointer = pointer_of S.segments reader.entry in IsViewOf pointer
+            (λ view. IsPointerList pointer (pointer_list_of S.segments view))
+            (Accepts pointer TakesPointers) (Refuses pointer DeclinesPointers)
+            (Declines pointer DeclinesPointers) result }
+    {
+        Reader::read(&reader, Some(segment))
     }
 }

@@ -1,5 +1,6 @@
 //! Readers of structs.
 ghost use Rattle.std.specs.Prelude.{◌≡◌, ◌≢◌, ◌+◌, ◌/◌, ◌≤◌, length, slice_index, None, MatchResult};
+ghost use Rattle.std.specs.Option.{ForSome};
 ghost use Rattle.capnp_layout.specs.Pointer.{words_of};
 ghost use Rattle.capnp_layout.specs.Object.{message_of};
 ghost use Rattle.capnp_wire.specs.Values.{HoldsPointers};
@@ -8,7 +9,7 @@ use crate::any_pointer;
 use crate::any_struct::part::{self, WordPart};
 use crate::object_content::{by_value, wrong_kind};
 use crate::read_limiter::ReadLimiter;
-use crate::traits::FromPointerReader;
+use crate::traits::{FromPointerInSegment, FromPointerReader};
 use capnp_frame::Result;
 use capnp_frame::message::ReaderSegments;
 use capnp_layout::object::Object;
@@ -35,7 +36,7 @@ pub struct StructReader<'a, S: ReaderSegments> {
 
 impl<'a, S: ReaderSegments> StructReader<'a, S> {
     ghost use Rattle.capnp_wire.specs.Readers.{struct_of, pointer_of, IsEntered};
-    ghost use Rattle.capnp_wire.specs.Views.{data_struct, pointer_in, IsStruct, Refuses, DeclinesStruct};
+    ghost use Rattle.capnp_wire.specs.Views.{data_struct, pointer_in, HasSegment, IsStruct, IsViewOf, Refuses, DeclinesStruct};
 
     /// The number of data words.
     pub fn data_words(&self) -> u16
@@ -85,6 +86,16 @@ impl<'a, S: ReaderSegments> StructReader<'a, S> {
         }
     }
 
+    /// The view of what a pointer leads to, as `get_pointer` and `get_as` give it.
+    #[inline(always)]
+    pub fn get_pointer_as<T: FromPointerInSegment<'a, S>>(&self, index: u16) -> Result<T>
+        ensures { let pointer = pointer_in (struct_of S.segments self.now) index in
+            IsViewOf pointer (T.shows pointer) (T.accepts pointer) (T.refuses pointer)
+            (T.declines pointer) result }
+    {
+        T::get_from_segment(self.get_pointer(index), self.segment)
+    }
+
     /// The data section of this struct, as a struct with no pointers in the place of what a pointer
     /// of another message leads to.
     pub fn data_at<R: ReaderSegments>(
@@ -110,12 +121,17 @@ impl<'a, S: ReaderSegments> StructReader<'a, S> {
 
     // The struct that a pointer leads to.
     #[inline(always)]
-    fn read(reader: &any_pointer::Reader<'a, S>) -> Result<StructReader<'a, S>>
+    fn read(
+        reader: &any_pointer::Reader<'a, S>,
+        known: Option<&'a [u8]>,
+    ) -> Result<StructReader<'a, S>>
+        requires { ForSome known (λ segment.
+            HasSegment (pointer_of S.segments reader.now) (words_of segment.now)) }
         ensures { let pointer = pointer_of S.segments reader.now in MatchResult result
             (λ view. IsStruct pointer (struct_of S.segments view))
             (λ error. Refuses pointer DeclinesStruct error.kind) }
     {
-        match reader.enter_local_struct() {
+        match reader.enter_local_struct(known) {
             Some(object) => StructReader::in_object(reader, &object),
             None => by_value(StructReader::enter(&reader.copied())),
         }
@@ -198,6 +214,22 @@ impl<'a, S: ReaderSegments> FromPointerReader<'a, S> for StructReader<'a, S> {
             (Accepts pointer TakesStruct) (Refuses pointer DeclinesStruct)
             (Declines pointer DeclinesStruct) result }
     {
-        StructReader::read(&reader)
+        StructReader::read(&reader, None)
+    }
+}
+
+impl<'a, S: ReaderSegments> FromPointerInSegment<'a, S> for StructReader<'a, S> {
+    ghost use Rattle.capnp_wire.specs.Readers.{struct_of, pointer_of};
+    ghost use Rattle.capnp_wire.specs.Views.{HasSegment, IsViewOf, Accepts, Refuses, Declines, IsStruct, TakesStruct, DeclinesStruct};
+
+    #[inline(always)]
+    fn get_from_segment(reader: any_pointer::Reader<'a, S>, segment: &'a [u8]) -> Result<Self>
+        requires { HasSegment (pointer_of S.segments reader) (words_of segment.now) }
+        ensures { let pointer = pointer_of S.segments reader.entry in IsViewOf pointer
+            (λ view. IsStruct pointer (struct_of S.segments view))
+            (Accepts pointer TakesStruct) (Refuses pointer DeclinesStruct)
+            (Declines pointer DeclinesStruct) result }
+    {
+        StructReader::read(&reader, Some(segment))
     }
 }

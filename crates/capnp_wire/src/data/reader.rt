@@ -1,12 +1,14 @@
 //! Readers of `Data`.
 ghost use Rattle.std.specs.Prelude.{◌+◌, ◌/◌, ◌≤◌, length, MatchResult};
+ghost use Rattle.std.specs.Option.{ForSome};
+ghost use Rattle.capnp_layout.specs.Pointer.{words_of};
 ghost use Rattle.capnp_layout.specs.Landing.{room_of};
-ghost use Rattle.capnp_wire.specs.Views.{IsViewOf, Accepts, Reads, Refuses, Declines, IsData, TakesNumbers, DeclinesNumbers};
+ghost use Rattle.capnp_wire.specs.Views.{HasSegment, IsViewOf, Accepts, Reads, Refuses, Declines, IsData, TakesNumbers, DeclinesNumbers};
 ghost use Rattle.capnp_wire.specs.Readers.{pointer_of, form_of};
 
 use crate::any_pointer;
 use crate::object_content::{by_value, object_bytes};
-use crate::traits::FromPointerReader;
+use crate::traits::{FromPointerInSegment, FromPointerReader};
 use capnp_frame::Result;
 use capnp_frame::message::ReaderSegments;
 use capnp_layout::element_size::ElementSize;
@@ -32,18 +34,36 @@ impl<'a, S: ReaderSegments> FromPointerReader<'a, S> for &'a [u8] {
             (Accepts pointer (TakesNumbers 2)) (Refuses pointer (DeclinesNumbers 2))
             (Declines pointer (DeclinesNumbers 2)) result }
     {
-        read_bytes(&reader)
+        read_bytes(&reader, None)
+    }
+}
+
+impl<'a, S: ReaderSegments> FromPointerInSegment<'a, S> for &'a [u8] {
+    #[inline(always)]
+    fn get_from_segment(reader: any_pointer::Reader<'a, S>, segment: &'a [u8]) -> Result<Self>
+        requires { HasSegment (pointer_of S.segments reader) (words_of segment.now) }
+        ensures { let pointer = pointer_of S.segments reader.entry in IsViewOf pointer
+            (λ view. Reads pointer (λ form. IsData form view.now))
+            (Accepts pointer (TakesNumbers 2)) (Refuses pointer (DeclinesNumbers 2))
+            (Declines pointer (DeclinesNumbers 2)) result }
+    {
+        read_bytes(&reader, Some(segment))
     }
 }
 
 // The bytes of a list of bytes.
 #[inline(always)]
-fn read_bytes<'a, S: ReaderSegments>(reader: &any_pointer::Reader<'a, S>) -> Result<&'a [u8]>
+fn read_bytes<'a, S: ReaderSegments>(
+    reader: &any_pointer::Reader<'a, S>,
+    known: Option<&'a [u8]>,
+) -> Result<&'a [u8]>
+    requires { ForSome known (λ segment.
+        HasSegment (pointer_of S.segments reader.now) (words_of segment.now)) }
     ensures { let pointer = pointer_of S.segments reader.now in MatchResult result
         (λ bytes. Reads pointer (λ form. IsData form bytes.now))
         (λ error. Refuses pointer (DeclinesNumbers 2) error.kind) }
 {
-    match reader.enter_local_numbers(ElementSize::Byte) {
+    match reader.enter_local_numbers(known, ElementSize::Byte) {
         Some(object) => bytes_in(&object),
         None => by_value(enter_bytes(&reader.copied())),
     }

@@ -1,8 +1,9 @@
 //! Readers of lists of pointers to views of one type.
 ghost use Rattle.std.specs.Prelude.{◌≡◌, ◌<◌, length};
+ghost use Rattle.capnp_layout.specs.Pointer.{words_of};
 
 use crate::list_list::view_iter::ViewIter;
-use crate::traits::FromPointerReader;
+use crate::traits::{FromPointerInSegment, FromPointerReader};
 use crate::{any_pointer, any_pointer_list};
 use capnp_frame::Result;
 use capnp_frame::message::ReaderSegments;
@@ -86,6 +87,29 @@ impl<'a, S: ReaderSegments, T> FromPointerReader<'a, S> for Reader<'a, S, T> {
             (Declines pointer DeclinesPointers) result }
     {
         match any_pointer_list::Reader::get_from_pointer(reader) {
+            Ok(pointers) => Ok(Reader {
+                pointers,
+                element: PhantomData,
+            }),
+            Err(error) => Err(error),
+        }
+    }
+}
+
+impl<'a, S: ReaderSegments, T> FromPointerInSegment<'a, S> for Reader<'a, S, T> {
+    ghost use Rattle.capnp_wire.specs.Readers.{pointer_of};
+    ghost use Rattle.capnp_wire.specs.Views.{HasSegment, IsViewOf, Accepts, Refuses, Declines};
+    ghost use Rattle.capnp_wire.specs.ListViews.{pointer_list_of, IsPointerList, TakesPointers, DeclinesPointers};
+
+    #[inline(always)]
+    fn get_from_segment(reader: any_pointer::Reader<'a, S>, segment: &'a [u8]) -> Result<Self>
+        requires { HasSegment (pointer_of S.segments reader) (words_of segment.now) }
+        ensures { let pointer = pointer_of S.segments reader.entry in IsViewOf pointer
+            (λ view. IsPointerList pointer (pointer_list_of S.segments view.pointers))
+            (Accepts pointer TakesPointers) (Refuses pointer DeclinesPointers)
+            (Declines pointer DeclinesPointers) result }
+    {
+        match any_pointer_list::Reader::get_from_segment(reader, segment) {
             Ok(pointers) => Ok(Reader {
                 pointers,
                 element: PhantomData,

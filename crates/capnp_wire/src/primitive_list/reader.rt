@@ -1,12 +1,14 @@
 //! Readers of lists of numbers.
 ghost use Rattle.std.specs.Prelude.{◌≡◌, ◌+◌, ◌*◌, ◌/◌, ◌<◌, ◌≤◌, length, slice_index, MatchResult};
+ghost use Rattle.std.specs.Option.{ForSome};
+ghost use Rattle.capnp_layout.specs.Pointer.{words_of};
 ghost use Rattle.capnp_layout.specs.Element.{code_of, width, words_for};
 ghost use Rattle.capnp_layout.specs.Landing.{room_of};
 
 use crate::any_pointer;
 use crate::object_content::{by_value, object_numbers};
 use crate::primitive_element::PrimitiveElement;
-use crate::traits::{FromPointerReader, IndexMove, ListIter};
+use crate::traits::{FromPointerInSegment, FromPointerReader, IndexMove, ListIter};
 use capnp_frame::Result;
 use capnp_frame::message::ReaderSegments;
 use capnp_layout::number_list::NumberList;
@@ -27,7 +29,7 @@ pub struct Reader<'a, T: PrimitiveElement> {
 impl<'a, T: PrimitiveElement> Reader<'a, T> {
     ghost use Rattle.capnp_wire.specs.Lists.{FindsElement, IsIterator};
     ghost use Rattle.capnp_wire.specs.NumberViews.{numbers_of, IsNumbers};
-    ghost use Rattle.capnp_wire.specs.Views.{Reads, Refuses, DeclinesNumbers};
+    ghost use Rattle.capnp_wire.specs.Views.{HasSegment, Reads, Refuses, DeclinesNumbers};
     ghost use Rattle.capnp_wire.specs.Readers.{pointer_of, form_of};
 
     /// The number of elements.
@@ -89,12 +91,17 @@ impl<'a, T: PrimitiveElement> Reader<'a, T> {
 
     // The list that a pointer leads to.
     #[inline(always)]
-    fn read<S: ReaderSegments>(reader: &any_pointer::Reader<'a, S>) -> Result<Reader<'a, T>>
+    fn read<S: ReaderSegments>(
+        reader: &any_pointer::Reader<'a, S>,
+        known: Option<&'a [u8]>,
+    ) -> Result<Reader<'a, T>>
+        requires { ForSome known (λ segment.
+            HasSegment (pointer_of S.segments reader.now) (words_of segment.now)) }
         ensures { let pointer = pointer_of S.segments reader.now in MatchResult result
             (λ view. Reads pointer (λ form. IsNumbers T.code form (numbers_of T.code view)))
             (λ error. Refuses pointer (DeclinesNumbers T.code) error.kind) }
     {
-        match reader.enter_local_numbers(T::size()) {
+        match reader.enter_local_numbers(known, T::size()) {
             Some(object) => Reader::in_object(&object),
             None => by_value(Reader::enter(&reader.copied())),
         }
@@ -182,6 +189,23 @@ impl<'a, S: ReaderSegments, T: PrimitiveElement> FromPointerReader<'a, S> for Re
             (Accepts pointer (TakesNumbers T.code)) (Refuses pointer (DeclinesNumbers T.code))
             (Declines pointer (DeclinesNumbers T.code)) result }
     {
-        Reader::read(&reader)
+        Reader::read(&reader, None)
+    }
+}
+
+impl<'a, S: ReaderSegments, T: PrimitiveElement> FromPointerInSegment<'a, S> for Reader<'a, T> {
+    ghost use Rattle.capnp_wire.specs.NumberViews.{numbers_of, IsNumbers};
+    ghost use Rattle.capnp_wire.specs.Views.{HasSegment, IsViewOf, Accepts, Reads, Refuses, Declines, TakesNumbers, DeclinesNumbers};
+    ghost use Rattle.capnp_wire.specs.Readers.{pointer_of};
+
+    #[inline(always)]
+    fn get_from_segment(reader: any_pointer::Reader<'a, S>, segment: &'a [u8]) -> Result<Self>
+        requires { HasSegment (pointer_of S.segments reader) (words_of segment.now) }
+        ensures { let pointer = pointer_of S.segments reader.entry in IsViewOf pointer
+            (λ view. Reads pointer (λ form. IsNumbers T.code form (numbers_of T.code view)))
+            (Accepts pointer (TakesNumbers T.code)) (Refuses pointer (DeclinesNumbers T.code))
+            (Declines pointer (DeclinesNumbers T.code)) result }
+    {
+        Reader::read(&reader, Some(segment))
     }
 }

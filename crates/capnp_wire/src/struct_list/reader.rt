@@ -1,5 +1,6 @@
 //! Readers of lists of structs.
 ghost use Rattle.std.specs.Prelude.{◌≡◌, ◌+◌, ◌*◌, ◌/◌, ◌^◌, ◌<◌, ◌≤◌, length, MatchResult};
+ghost use Rattle.std.specs.Option.{ForSome};
 ghost use Rattle.capnp_layout.specs.Pointer.{words_of};
 ghost use Rattle.capnp_layout.specs.Object.{message_of};
 ghost use Rattle.capnp_wire.specs.Values.{HoldsPointers};
@@ -8,7 +9,7 @@ use crate::any_pointer;
 use crate::any_struct::StructReader;
 use crate::object_content::{by_value, wrong_kind};
 use crate::read_limiter::ReadLimiter;
-use crate::traits::{FromPointerReader, IndexMove, ListIter};
+use crate::traits::{FromPointerInSegment, FromPointerReader, IndexMove, ListIter};
 use capnp_frame::Result;
 use capnp_frame::message::ReaderSegments;
 use capnp_layout::object::{Object, words_fit};
@@ -37,7 +38,7 @@ pub struct Reader<'a, S: ReaderSegments> {
 impl<'a, S: ReaderSegments> Reader<'a, S> {
     ghost use Rattle.capnp_wire.specs.Lists.{FindsElement, IsIterator};
     ghost use Rattle.capnp_wire.specs.Readers.{struct_of, pointer_of, IsEntered};
-    ghost use Rattle.capnp_wire.specs.Views.{Refuses};
+    ghost use Rattle.capnp_wire.specs.Views.{HasSegment, Refuses};
     ghost use Rattle.capnp_wire.specs.ListViews.{struct_list_of, element_of, no_structs, structs_in, IsStructList, DeclinesStructs};
 
     /// The number of elements.
@@ -91,12 +92,14 @@ impl<'a, S: ReaderSegments> Reader<'a, S> {
 
     // The list of structs that a pointer leads to.
     #[inline(always)]
-    fn read(reader: &any_pointer::Reader<'a, S>) -> Result<Reader<'a, S>>
+    fn read(reader: &any_pointer::Reader<'a, S>, known: Option<&'a [u8]>) -> Result<Reader<'a, S>>
+        requires { ForSome known (λ segment.
+            HasSegment (pointer_of S.segments reader.now) (words_of segment.now)) }
         ensures { let pointer = pointer_of S.segments reader.now in MatchResult result
             (λ view. IsStructList pointer (struct_list_of S.segments view))
             (λ error. Refuses pointer DeclinesStructs error.kind) }
     {
-        match reader.enter_local_structs() {
+        match reader.enter_local_structs(known) {
             Some(object) => Reader::in_object(reader, &object),
             None => by_value(Reader::enter(&reader.copied())),
         }
@@ -233,6 +236,23 @@ impl<'a, S: ReaderSegments> FromPointerReader<'a, S> for Reader<'a, S> {
             (Accepts pointer TakesStructs) (Refuses pointer DeclinesStructs)
             (Declines pointer DeclinesStructs) result }
     {
-        Reader::read(&reader)
+        Reader::read(&reader, None)
+    }
+}
+
+impl<'a, S: ReaderSegments> FromPointerInSegment<'a, S> for Reader<'a, S> {
+    ghost use Rattle.capnp_wire.specs.Readers.{pointer_of};
+    ghost use Rattle.capnp_wire.specs.Views.{HasSegment, IsViewOf, Accepts, Refuses, Declines};
+    ghost use Rattle.capnp_wire.specs.ListViews.{struct_list_of, IsStructList, TakesStructs, DeclinesStructs};
+
+    #[inline(always)]
+    fn get_from_segment(reader: any_pointer::Reader<'a, S>, segment: &'a [u8]) -> Result<Self>
+        requires { HasSegment (pointer_of S.segments reader) (words_of segment.now) }
+        ensures { let pointer = pointer_of S.segments reader.entry in IsViewOf pointer
+            (λ view. IsStructList pointer (struct_list_of S.segments view))
+            (Accepts pointer TakesStructs) (Refuses pointer DeclinesStructs)
+            (Declines pointer DeclinesStructs) result }
+    {
+        Reader::read(&reader, Some(segment))
     }
 }

@@ -1,13 +1,15 @@
 //! Readers of `Text`.
 ghost use Rattle.std.specs.Prelude.{◌≡◌, ◌↔◌, ◌+◌, ◌/◌, ◌≤◌, ◌++◌, ◌∷◌, [], ℕ, List, length, IsTrue, MatchResult, MatchOption};
+ghost use Rattle.std.specs.Option.{ForSome};
 ghost use Rattle.std.specs.Str.{IsUtf8, IsValidUpTo, valid_up_to};
+ghost use Rattle.capnp_layout.specs.Pointer.{words_of};
 ghost use Rattle.capnp_layout.specs.Landing.{room_of};
-ghost use Rattle.capnp_wire.specs.Views.{IsViewOf, Accepts, Reads, Refuses, Declines, IsText, TakesText, DeclinesText};
+ghost use Rattle.capnp_wire.specs.Views.{HasSegment, IsViewOf, Accepts, Reads, Refuses, Declines, IsText, TakesText, DeclinesText};
 ghost use Rattle.capnp_wire.specs.Readers.{pointer_of, form_of};
 
 use crate::any_pointer;
 use crate::object_content::{by_value, object_bytes};
-use crate::traits::FromPointerReader;
+use crate::traits::{FromPointerInSegment, FromPointerReader};
 use capnp_frame::message::ReaderSegments;
 use capnp_frame::{Error, ErrorKind, Result};
 use capnp_layout::element_size::ElementSize;
@@ -81,18 +83,36 @@ impl<'a, S: ReaderSegments> FromPointerReader<'a, S> for Reader<'a> {
             (Accepts pointer TakesText) (Refuses pointer DeclinesText)
             (Declines pointer DeclinesText) result }
     {
-        read_text(&reader)
+        read_text(&reader, None)
+    }
+}
+
+impl<'a, S: ReaderSegments> FromPointerInSegment<'a, S> for Reader<'a> {
+    #[inline(always)]
+    fn get_from_segment(reader: any_pointer::Reader<'a, S>, segment: &'a [u8]) -> Result<Self>
+        requires { HasSegment (pointer_of S.segments reader) (words_of segment.now) }
+        ensures { let pointer = pointer_of S.segments reader.entry in IsViewOf pointer
+            (λ view. Reads pointer (λ form. IsText form view.bytes.now))
+            (Accepts pointer TakesText) (Refuses pointer DeclinesText)
+            (Declines pointer DeclinesText) result }
+    {
+        read_text(&reader, Some(segment))
     }
 }
 
 // The `Text` that a list of bytes is.
 #[inline(always)]
-fn read_text<'a, S: ReaderSegments>(reader: &any_pointer::Reader<'a, S>) -> Result<Reader<'a>>
+fn read_text<'a, S: ReaderSegments>(
+    reader: &any_pointer::Reader<'a, S>,
+    known: Option<&'a [u8]>,
+) -> Result<Reader<'a>>
+    requires { ForSome known (λ segment.
+        HasSegment (pointer_of S.segments reader.now) (words_of segment.now)) }
     ensures { let pointer = pointer_of S.segments reader.now in MatchResult result
         (λ view. Reads pointer (λ form. IsText form view.bytes.now))
         (λ error. Refuses pointer DeclinesText error.kind) }
 {
-    match reader.enter_local_numbers(ElementSize::Byte) {
+    match reader.enter_local_numbers(known, ElementSize::Byte) {
         Some(object) => text_in(&object),
         None => by_value(enter_text(&reader.copied())),
     }

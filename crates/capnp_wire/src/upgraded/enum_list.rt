@@ -1,8 +1,9 @@
 //! Lists that are read as lists of an enum's values.
 ghost use Rattle.std.specs.Prelude.{◌≡◌, ◌<◌, ⊤, length};
+ghost use Rattle.capnp_layout.specs.Pointer.{words_of};
 
 use crate::any_pointer;
-use crate::traits::{FromPointerReader, IndexMove, ListIter};
+use crate::traits::{FromPointerInSegment, FromPointerReader, IndexMove, ListIter};
 use crate::upgraded::number_list::NumberList;
 use capnp_frame::Result;
 use capnp_frame::message::ReaderSegments;
@@ -113,6 +114,31 @@ impl<'a, S: ReaderSegments, E> FromPointerReader<'a, S> for EnumList<'a, E> {
             (Declines pointer (DeclinesFields 3)) result }
     {
         match NumberList::get_from_pointer(reader) {
+            Ok(numbers) => Ok(EnumList {
+                numbers,
+                element: PhantomData,
+            }),
+            Err(error) => Err(error),
+        }
+    }
+}
+
+impl<'a, S: ReaderSegments, E> FromPointerInSegment<'a, S> for EnumList<'a, E> {
+    ghost use Rattle.capnp_wire.specs.Readers.{pointer_of};
+    ghost use Rattle.capnp_wire.specs.Views.{HasSegment, IsViewOf, Accepts, Reads, Refuses, Declines};
+    ghost use Rattle.capnp_wire.specs.UpgradedViews.{ReadsAsNumbers, TakesFields, DeclinesFields};
+    ghost use Rattle.capnp_wire.specs.UpgradedReaders.{upgraded_numbers_of};
+
+    #[inline(always)]
+    fn get_from_segment(reader: any_pointer::Reader<'a, S>, segment: &'a [u8]) -> Result<Self>
+        requires { HasSegment (pointer_of S.segments reader) (words_of segment.now) }
+        ensures { let pointer = pointer_of S.segments reader.entry in IsViewOf pointer
+            (λ view. Reads pointer (λ form.
+            ReadsAsNumbers 3 form (upgraded_numbers_of 3 view.numbers)))
+            (Accepts pointer (TakesFields 3)) (Refuses pointer (DeclinesFields 3))
+            (Declines pointer (DeclinesFields 3)) result }
+    {
+        match NumberList::get_from_segment(reader, segment) {
             Ok(numbers) => Ok(EnumList {
                 numbers,
                 element: PhantomData,

@@ -1,9 +1,10 @@
 //! Lists that are read as lists of pointers to views of one type.
 ghost use Rattle.std.specs.Prelude.{◌≡◌, ◌<◌, length};
+ghost use Rattle.capnp_layout.specs.Pointer.{words_of};
 
 use crate::any_pointer;
 use crate::list_list::view_iter::ViewIter;
-use crate::traits::FromPointerReader;
+use crate::traits::{FromPointerInSegment, FromPointerReader};
 use crate::upgraded::pointer_list::PointerList;
 use capnp_frame::Result;
 use capnp_frame::message::ReaderSegments;
@@ -92,6 +93,30 @@ impl<'a, S: ReaderSegments, T> FromPointerReader<'a, S> for ListList<'a, S, T> {
             (Declines pointer DeclinesFirstPointers) result }
     {
         match PointerList::get_from_pointer(reader) {
+            Ok(pointers) => Ok(ListList {
+                pointers,
+                element: PhantomData,
+            }),
+            Err(error) => Err(error),
+        }
+    }
+}
+
+impl<'a, S: ReaderSegments, T> FromPointerInSegment<'a, S> for ListList<'a, S, T> {
+    ghost use Rattle.capnp_wire.specs.Readers.{pointer_of};
+    ghost use Rattle.capnp_wire.specs.Views.{HasSegment, IsViewOf, Accepts, Refuses, Declines};
+    ghost use Rattle.capnp_wire.specs.UpgradedViews.{IsUpgradedPointers, TakesFirstPointers, DeclinesFirstPointers};
+    ghost use Rattle.capnp_wire.specs.UpgradedReaders.{upgraded_pointers_of};
+
+    #[inline(always)]
+    fn get_from_segment(reader: any_pointer::Reader<'a, S>, segment: &'a [u8]) -> Result<Self>
+        requires { HasSegment (pointer_of S.segments reader) (words_of segment.now) }
+        ensures { let pointer = pointer_of S.segments reader.entry in IsViewOf pointer
+            (λ view. IsUpgradedPointers pointer (upgraded_pointers_of S.segments view.pointers))
+            (Accepts pointer TakesFirstPointers) (Refuses pointer DeclinesFirstPointers)
+            (Declines pointer DeclinesFirstPointers) result }
+    {
+        match PointerList::get_from_segment(reader, segment) {
             Ok(pointers) => Ok(ListList {
                 pointers,
                 element: PhantomData,

@@ -1,12 +1,14 @@
 //! Lists that are read as lists of numbers.
 ghost use Rattle.std.specs.Prelude.{◌≡◌, ◌↔◌, ◌+◌, ◌*◌, ◌/◌, ◌<◌, ◌≤◌, length, slice_index, IsTrue, MatchResult};
+ghost use Rattle.std.specs.Option.{ForSome};
 ghost use Rattle.capnp_layout.specs.Element.{code_of, width};
 ghost use Rattle.capnp_layout.specs.Landing.{room_of, words_in};
+ghost use Rattle.capnp_layout.specs.Pointer.{words_of};
 ghost use Rattle.capnp_wire.specs.UpgradedViews.{IsFirstField};
 
 use crate::object_content::{by_value, object_numbers, wrong_kind};
 use crate::primitive_element::PrimitiveElement;
-use crate::traits::{FromPointerReader, IndexMove, ListIter};
+use crate::traits::{FromPointerInSegment, FromPointerReader, IndexMove, ListIter};
 use crate::{any_pointer, primitive_list};
 use capnp_frame::Result;
 use capnp_frame::message::ReaderSegments;
@@ -62,7 +64,7 @@ impl<'a, T: PrimitiveElement> FirstFields<'a, T> {
 impl<'a, T: PrimitiveElement> NumberList<'a, T> {
     ghost use Rattle.capnp_wire.specs.Lists.{FindsElement, IsIterator};
     ghost use Rattle.capnp_wire.specs.Readers.{pointer_of, form_of};
-    ghost use Rattle.capnp_wire.specs.Views.{Reads, Refuses};
+    ghost use Rattle.capnp_wire.specs.Views.{HasSegment, Reads, Refuses};
     ghost use Rattle.capnp_wire.specs.UpgradedViews.{ReadsAsNumbers, DeclinesFields};
     ghost use Rattle.capnp_wire.specs.UpgradedReaders.{upgraded_numbers_of};
 
@@ -104,13 +106,18 @@ impl<'a, T: PrimitiveElement> NumberList<'a, T> {
 
     // The list that a pointer leads to.
     #[inline(always)]
-    fn read<S: ReaderSegments>(reader: &any_pointer::Reader<'a, S>) -> Result<NumberList<'a, T>>
+    fn read<S: ReaderSegments>(
+        reader: &any_pointer::Reader<'a, S>,
+        known: Option<&'a [u8]>,
+    ) -> Result<NumberList<'a, T>>
+        requires { ForSome known (λ segment.
+            HasSegment (pointer_of S.segments reader.now) (words_of segment.now)) }
         ensures { let pointer = pointer_of S.segments reader.now in MatchResult result
             (λ view. Reads pointer (λ form.
             ReadsAsNumbers T.code form (upgraded_numbers_of T.code view)))
             (λ error. Refuses pointer (DeclinesFields T.code) error.kind) }
     {
-        match reader.enter_local_numbers(T::size()) {
+        match reader.enter_local_numbers(known, T::size()) {
             Some(object) => NumberList::of(&object),
             None => by_value(NumberList::enter(&reader.copied())),
         }
@@ -230,6 +237,25 @@ impl<'a, S: ReaderSegments, T: PrimitiveElement> FromPointerReader<'a, S> for Nu
             (Accepts pointer (TakesFields T.code)) (Refuses pointer (DeclinesFields T.code))
             (Declines pointer (DeclinesFields T.code)) result }
     {
-        NumberList::read(&reader)
+        NumberList::read(&reader, None)
+    }
+}
+
+impl<'a, S: ReaderSegments, T: PrimitiveElement> FromPointerInSegment<'a, S> for NumberList<'a, T> {
+    ghost use Rattle.capnp_wire.specs.Readers.{pointer_of};
+    ghost use Rattle.capnp_wire.specs.Views.{HasSegment, IsViewOf, Accepts, Reads, Refuses, Declines};
+    ghost use Rattle.capnp_wire.specs.UpgradedViews.{ReadsAsNumbers, TakesFields, DeclinesFields};
+    ghost use Rattle.capnp_wire.specs.UpgradedReaders.{upgraded_numbers_of};
+
+    #[inline(always)]
+    fn get_from_segment(reader: any_pointer::Reader<'a, S>, segment: &'a [u8]) -> Result<Self>
+        requires { HasSegment (pointer_of S.segments reader) (words_of segment.now) }
+        ensures { let pointer = pointer_of S.segments reader.entry in IsViewOf pointer
+            (λ view. Reads pointer (λ form.
+            ReadsAsNumbers T.code form (upgraded_numbers_of T.code view)))
+            (Accepts pointer (TakesFields T.code)) (Refuses pointer (DeclinesFields T.code))
+            (Declines pointer (DeclinesFields T.code)) result }
+    {
+        NumberList::read(&reader, Some(segment))
     }
 }

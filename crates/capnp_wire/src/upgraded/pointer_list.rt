@@ -1,10 +1,12 @@
 //! Lists that are read as lists of pointers.
 ghost use Rattle.std.specs.Prelude.{◌≡◌, ◌+◌, ◌*◌, ◌^◌, ◌<◌, length, MatchResult};
+ghost use Rattle.std.specs.Option.{ForSome};
+ghost use Rattle.capnp_layout.specs.Pointer.{words_of};
 
 use crate::any_pointer;
 use crate::object_content::{by_value, wrong_kind};
 use crate::read_limiter::ReadLimiter;
-use crate::traits::{FromPointerReader, IndexMove, ListIter};
+use crate::traits::{FromPointerInSegment, FromPointerReader, IndexMove, ListIter};
 use capnp_frame::Result;
 use capnp_frame::message::ReaderSegments;
 use capnp_layout::object::{Object, words_fit};
@@ -27,7 +29,7 @@ pub struct PointerList<'a, S> {
 impl<'a, S: ReaderSegments> PointerList<'a, S> {
     ghost use Rattle.capnp_wire.specs.Lists.{FindsElement, IsIterator};
     ghost use Rattle.capnp_wire.specs.Readers.{pointer_of, IsEntered};
-    ghost use Rattle.capnp_wire.specs.Views.{Refuses};
+    ghost use Rattle.capnp_wire.specs.Views.{HasSegment, Refuses};
     ghost use Rattle.capnp_wire.specs.ListViews.{pointer_at};
     ghost use Rattle.capnp_wire.specs.UpgradedViews.{IsUpgradedPointers, DeclinesFirstPointers};
     ghost use Rattle.capnp_wire.specs.UpgradedReaders.{upgraded_pointers_of, pointers_from};
@@ -79,12 +81,17 @@ impl<'a, S: ReaderSegments> PointerList<'a, S> {
 
     // The list that a pointer leads to.
     #[inline(always)]
-    fn read(reader: &any_pointer::Reader<'a, S>) -> Result<PointerList<'a, S>>
+    fn read(
+        reader: &any_pointer::Reader<'a, S>,
+        known: Option<&'a [u8]>,
+    ) -> Result<PointerList<'a, S>>
+        requires { ForSome known (λ segment.
+            HasSegment (pointer_of S.segments reader.now) (words_of segment.now)) }
         ensures { let pointer = pointer_of S.segments reader.now in MatchResult result
             (λ view. IsUpgradedPointers pointer (upgraded_pointers_of S.segments view))
             (λ error. Refuses pointer DeclinesFirstPointers error.kind) }
     {
-        match reader.enter_local_pointers() {
+        match reader.enter_local_pointers(known) {
             Some(object) => PointerList::of(reader, &object),
             None => by_value(PointerList::enter(&reader.copied())),
         }
@@ -208,6 +215,24 @@ impl<'a, S: ReaderSegments> FromPointerReader<'a, S> for PointerList<'a, S> {
             (Accepts pointer TakesFirstPointers) (Refuses pointer DeclinesFirstPointers)
             (Declines pointer DeclinesFirstPointers) result }
     {
-        PointerList::read(&reader)
+        PointerList::read(&reader, None)
+    }
+}
+
+impl<'a, S: ReaderSegments> FromPointerInSegment<'a, S> for PointerList<'a, S> {
+    ghost use Rattle.capnp_wire.specs.Readers.{pointer_of};
+    ghost use Rattle.capnp_wire.specs.Views.{HasSegment, IsViewOf, Accepts, Refuses, Declines};
+    ghost use Rattle.capnp_wire.specs.UpgradedViews.{IsUpgradedPointers, TakesFirstPointers, DeclinesFirstPointers};
+    ghost use Rattle.capnp_wire.specs.UpgradedReaders.{upgraded_pointers_of};
+
+    #[inline(always)]
+    fn get_from_segment(reader: any_pointer::Reader<'a, S>, segment: &'a [u8]) -> Result<Self>
+        requires { HasSegment (pointer_of S.segments reader) (words_of segment.now) }
+        ensures { let pointer = pointer_of S.segments reader.entry in IsViewOf pointer
+            (λ view. IsUpgradedPointers pointer (upgraded_pointers_of S.segments view))
+            (Accepts pointer TakesFirstPointers) (Refuses pointer DeclinesFirstPointers)
+            (Declines pointer DeclinesFirstPointers) result }
+    {
+        PointerList::read(&reader, Some(segment))
     }
 }

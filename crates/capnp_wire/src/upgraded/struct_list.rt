@@ -1,6 +1,8 @@
 //! Lists that are read as lists of structs.
 ghost use Rattle.std.specs.Prelude.{◌≡◌, ◌+◌, ◌*◌, ◌/◌, ◌^◌, ◌<◌, ◌≤◌, length, MatchResult};
+ghost use Rattle.std.specs.Option.{ForSome};
 ghost use Rattle.capnp_layout.specs.Element.{code_of, width, words_for};
+ghost use Rattle.capnp_layout.specs.Pointer.{words_of};
 ghost use Rattle.capnp_layout.specs.declared.object.Body.{Body};
 ghost use Rattle.capnp_wire.specs.UpgradedViews.{elements_without_data as elements_of};
 
@@ -8,7 +10,7 @@ use crate::any_struct::StructReader;
 use crate::any_struct::part::WordPart;
 use crate::object_content::{by_value, words_at, wrong_kind};
 use crate::read_limiter::ReadLimiter;
-use crate::traits::{FromPointerReader, IndexMove, ListIter};
+use crate::traits::{FromPointerInSegment, FromPointerReader, IndexMove, ListIter};
 use crate::{any_pointer, struct_list};
 use capnp_frame::Result;
 use capnp_frame::message::ReaderSegments;
@@ -83,7 +85,7 @@ impl<'a, S: ReaderSegments> NumberRows<'a, S> {
 impl<'a, S: ReaderSegments> StructList<'a, S> {
     ghost use Rattle.capnp_wire.specs.Lists.{FindsElement, IsIterator};
     ghost use Rattle.capnp_wire.specs.Readers.{struct_of, pointer_of, IsEntered};
-    ghost use Rattle.capnp_wire.specs.Views.{Refuses};
+    ghost use Rattle.capnp_wire.specs.Views.{HasSegment, Refuses};
     ghost use Rattle.capnp_wire.specs.ListViews.{element_of, structs_in};
     ghost use Rattle.capnp_wire.specs.UpgradedViews.{IsUpgradedStructs, DeclinesRows};
     ghost use Rattle.capnp_wire.specs.UpgradedReaders.{upgraded_structs_of};
@@ -130,12 +132,17 @@ impl<'a, S: ReaderSegments> StructList<'a, S> {
 
     // The list that a pointer leads to.
     #[inline(always)]
-    fn read(reader: &any_pointer::Reader<'a, S>) -> Result<StructList<'a, S>>
+    fn read(
+        reader: &any_pointer::Reader<'a, S>,
+        known: Option<&'a [u8]>,
+    ) -> Result<StructList<'a, S>>
+        requires { ForSome known (λ segment.
+            HasSegment (pointer_of S.segments reader.now) (words_of segment.now)) }
         ensures { let pointer = pointer_of S.segments reader.now in MatchResult result
             (λ view. IsUpgradedStructs pointer (upgraded_structs_of S.segments view))
             (λ error. Refuses pointer DeclinesRows error.kind) }
     {
-        match reader.enter_local_structs() {
+        match reader.enter_local_structs(known) {
             Some(object) => StructList::of(reader, &object),
             None => by_value(StructList::enter(&reader.copied())),
         }
@@ -295,6 +302,24 @@ impl<'a, S: ReaderSegments> FromPointerReader<'a, S> for StructList<'a, S> {
             (Accepts pointer TakesRows) (Refuses pointer DeclinesRows)
             (Declines pointer DeclinesRows) result }
     {
-        StructList::read(&reader)
+        StructList::read(&reader, None)
+    }
+}
+
+impl<'a, S: ReaderSegments> FromPointerInSegment<'a, S> for StructList<'a, S> {
+    ghost use Rattle.capnp_wire.specs.Readers.{pointer_of};
+    ghost use Rattle.capnp_wire.specs.Views.{HasSegment, IsViewOf, Accepts, Refuses, Declines};
+    ghost use Rattle.capnp_wire.specs.UpgradedViews.{IsUpgradedStructs, TakesRows, DeclinesRows};
+    ghost use Rattle.capnp_wire.specs.UpgradedReaders.{upgraded_structs_of};
+
+    #[inline(always)]
+    fn get_from_segment(reader: any_pointer::Reader<'a, S>, segment: &'a [u8]) -> Result<Self>
+        requires { HasSegment (pointer_of S.segments reader) (words_of segment.now) }
+        ensures { let pointer = pointer_of S.segments reader.entry in IsViewOf pointer
+            (λ view. IsUpgradedStructs pointer (upgraded_structs_of S.segments view))
+            (Accepts pointer TakesRows) (Refuses pointer DeclinesRows)
+            (Declines pointer DeclinesRows) result }
+    {
+        StructList::read(&reader, Some(segment))
     }
 }

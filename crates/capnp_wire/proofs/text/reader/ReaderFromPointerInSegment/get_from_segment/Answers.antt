@@ -1,0 +1,10 @@
+-- `Text` is a view that decides which objects it accepts.
+use Rattle.capnp_wire.specs.Views.{DeclinesText, TakesText}
+use Rattle.capnp_wire.specs.Readers.{pointer_of}
+use Rattle.capnp_wire.proofs.views.ViewLemmas.{is_view_of, text_decides, text_accepted}
+use Rattle.capnp_wire.proofs.text.reader.ReaderFromPointerInSegment.get_from_segment.Goals as goal
+
+pub returns : goal.returns
+returns g c =
+    let p = pointer_of g.S.ReaderSegments.segments c.args.reader in
+    is_view_of p TakesText DeclinesText _ text_decides (λ view shown. text_accepted p view.bytes.now shown) c.read_text.result c.read_text.ensures

@@ -1,0 +1,13 @@
+-- A list of numbers is a view that decides which objects it accepts.
+use Rattle.capnp_wire.specs.Readers.{pointer_of}
+use Rattle.capnp_wire.specs.UpgradedViews.{TakesFields, DeclinesFields}
+use Rattle.capnp_wire.specs.UpgradedReaders.{upgraded_numbers_of}
+use Rattle.capnp_wire.proofs.views.ViewLemmas.{is_view_of}
+use Rattle.capnp_wire.proofs.views.UpgradedNumberLemmas.{fields_decide, fields_accepted}
+use Rattle.capnp_wire.proofs.upgraded.number_list.NumberListFromPointerInSegment.get_from_segment.Goals as goal
+
+pub returns : goal.returns
+returns g c =
+    let p = pointer_of g.S.ReaderSegments.segments c.args.reader in
+    let code = g.T.PrimitiveElement.code in
+    is_view_of p (TakesFields code) (DeclinesFields code) _ (fields_decide code) (λ view shown. fields_accepted p code (upgraded_numbers_of code view) shown) c.read.result c.read.ensures

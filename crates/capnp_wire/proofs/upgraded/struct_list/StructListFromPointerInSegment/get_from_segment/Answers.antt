@@ -1,0 +1,12 @@
+-- A list of structs is a view that decides which objects it accepts.
+use Rattle.capnp_wire.specs.Readers.{pointer_of}
+use Rattle.capnp_wire.specs.UpgradedViews.{TakesRows, DeclinesRows}
+use Rattle.capnp_wire.specs.UpgradedReaders.{upgraded_structs_of}
+use Rattle.capnp_wire.proofs.views.ViewLemmas.{is_view_of}
+use Rattle.capnp_wire.proofs.views.UpgradedRowLemmas.{rows_decide, rows_accepted}
+use Rattle.capnp_wire.proofs.upgraded.struct_list.StructListFromPointerInSegment.get_from_segment.Goals as goal
+
+pub returns : goal.returns
+returns g c =
+    let p = pointer_of g.S.ReaderSegments.segments c.args.reader in
+    is_view_of p TakesRows DeclinesRows _ rows_decide (λ view shown. rows_accepted p (upgraded_structs_of g.S.ReaderSegments.segments view) shown) c.read.result c.read.ensures
