@@ -47,7 +47,10 @@ pub mod parking_lot {
                 (Accepts pointer TakesRows) (Refuses pointer DeclinesRows)
                 (Declines pointer DeclinesRows) result }
         {
-            FromPointerReader::get_from_pointer(self.fields.get_pointer(0))
+            match self.fields.get_pointer_as(0) {
+                Ok(elements) => Ok(super::car::ListReader { elements }),
+                Err(error) => Err(error),
+            }
         }
 
         /// Whether `cars` is there, and is not null.
@@ -585,7 +588,7 @@ pub mod car {
                 (Accepts pointer TakesText) (Refuses pointer DeclinesText)
                 (Declines pointer DeclinesText) result }
         {
-            FromPointerReader::get_from_pointer(self.fields.get_pointer(0))
+            self.fields.get_pointer_as(0)
         }
 
         /// Whether `make` is there, and is not null.
@@ -605,7 +608,7 @@ pub mod car {
                 (Accepts pointer TakesText) (Refuses pointer DeclinesText)
                 (Declines pointer DeclinesText) result }
         {
-            FromPointerReader::get_from_pointer(self.fields.get_pointer(1))
+            self.fields.get_pointer_as(1)
         }
 
         /// Whether `model` is there, and is not null.
@@ -661,7 +664,10 @@ pub mod car {
                 (Accepts pointer TakesRows) (Refuses pointer DeclinesRows)
                 (Declines pointer DeclinesRows) result }
         {
-            FromPointerReader::get_from_pointer(self.fields.get_pointer(2))
+            match self.fields.get_pointer_as(2) {
+                Ok(elements) => Ok(super::wheel::ListReader { elements }),
+                Err(error) => Err(error),
+            }
         }
 
         /// Whether `wheels` is there, and is not null.
@@ -713,7 +719,10 @@ pub mod car {
                 (Accepts pointer TakesStruct) (Refuses pointer DeclinesStruct)
                 (Declines pointer DeclinesStruct) result }
         {
-            FromPointerReader::get_from_pointer(self.fields.get_pointer(3))
+            match self.fields.get_pointer_as(3) {
+                Ok(fields) => Ok(super::engine::Reader { fields }),
+                Err(error) => Err(error),
+            }
         }
 
         /// Whether `engine` is there, and is not null.

@@ -47,7 +47,10 @@ pub mod search_result_list {
                 (Accepts pointer TakesRows) (Refuses pointer DeclinesRows)
                 (Declines pointer DeclinesRows) result }
         {
-            FromPointerReader::get_from_pointer(self.fields.get_pointer(0))
+            match self.fields.get_pointer_as(0) {
+                Ok(elements) => Ok(super::search_result::ListReader { elements }),
+                Err(error) => Err(error),
+            }
         }
 
         /// Whether `results` is there, and is not null.
@@ -321,7 +324,7 @@ pub mod search_result {
                 (Accepts pointer TakesText) (Refuses pointer DeclinesText)
                 (Declines pointer DeclinesText) result }
         {
-            FromPointerReader::get_from_pointer(self.fields.get_pointer(0))
+            self.fields.get_pointer_as(0)
         }
 
         /// Whether `url` is there, and is not null.
@@ -349,7 +352,7 @@ pub mod search_result {
                 (Accepts pointer TakesText) (Refuses pointer DeclinesText)
                 (Declines pointer DeclinesText) result }
         {
-            FromPointerReader::get_from_pointer(self.fields.get_pointer(1))
+            self.fields.get_pointer_as(1)
         }
 
         /// Whether `snippet` is there, and is not null.

@@ -391,7 +391,6 @@ pub mod expression {
         use capnp_frame::message::ReaderSegments;
         use capnp_orphans::Orphan;
         use capnp_wire::any_struct::StructReader;
-        use capnp_wire::traits::FromPointerReader;
 
         /// The group, in a struct in a message.
         #[derive(Drop)]
@@ -418,7 +417,10 @@ pub mod expression {
                     (Accepts pointer TakesStruct) (Refuses pointer DeclinesStruct)
                     (Declines pointer DeclinesStruct) result }
             {
-                FromPointerReader::get_from_pointer(self.fields.get_pointer(0))
+                match self.fields.get_pointer_as(0) {
+                    Ok(fields) => Ok(super::super::expression::Reader { fields }),
+                    Err(error) => Err(error),
+                }
             }
 
             /// Whether `expression` is there, and is not null.
@@ -506,7 +508,6 @@ pub mod expression {
         use capnp_frame::message::ReaderSegments;
         use capnp_orphans::Orphan;
         use capnp_wire::any_struct::StructReader;
-        use capnp_wire::traits::FromPointerReader;
 
         /// The group, in a struct in a message.
         #[derive(Drop)]
@@ -533,7 +534,10 @@ pub mod expression {
                     (Accepts pointer TakesStruct) (Refuses pointer DeclinesStruct)
                     (Declines pointer DeclinesStruct) result }
             {
-                FromPointerReader::get_from_pointer(self.fields.get_pointer(1))
+                match self.fields.get_pointer_as(1) {
+                    Ok(fields) => Ok(super::super::expression::Reader { fields }),
+                    Err(error) => Err(error),
+                }
             }
 
             /// Whether `expression` is there, and is not null.

@@ -76,7 +76,7 @@ pub mod printed {
                 (Accepts pointer TakesText) (Refuses pointer DeclinesText)
                 (Declines pointer DeclinesText) result }
         {
-            FromPointerReader::get_from_pointer(self.fields.get_pointer(0))
+            self.fields.get_pointer_as(0)
         }
 
         /// Whether `title` is there, and is not null.
@@ -96,7 +96,7 @@ pub mod printed {
                 (Accepts pointer (TakesNumbers 2)) (Refuses pointer (DeclinesNumbers 2))
                 (Declines pointer (DeclinesNumbers 2)) result }
         {
-            FromPointerReader::get_from_pointer(self.fields.get_pointer(1))
+            self.fields.get_pointer_as(1)
         }
 
         /// Whether `payload` is there, and is not null.
@@ -116,7 +116,10 @@ pub mod printed {
                 (Accepts pointer TakesRows) (Refuses pointer DeclinesRows)
                 (Declines pointer DeclinesRows) result }
         {
-            FromPointerReader::get_from_pointer(self.fields.get_pointer(2))
+            match self.fields.get_pointer_as(2) {
+                Ok(elements) => Ok(point::ListReader { elements }),
+                Err(error) => Err(error),
+            }
         }
 
         /// Whether `points` is there, and is not null.
@@ -137,7 +140,7 @@ pub mod printed {
                 (Accepts pointer (TakesFields 3)) (Refuses pointer (DeclinesFields 3))
                 (Declines pointer (DeclinesFields 3)) result }
         {
-            FromPointerReader::get_from_pointer(self.fields.get_pointer(3))
+            self.fields.get_pointer_as(3)
         }
 
         /// Whether `colors` is there, and is not null.
@@ -217,7 +220,10 @@ pub mod printed {
                 (Accepts pointer TakesStruct) (Refuses pointer DeclinesStruct)
                 (Declines pointer DeclinesStruct) result }
         {
-            FromPointerReader::get_from_pointer(self.fields.get_pointer(5))
+            match self.fields.get_pointer_as(5) {
+                Ok(fields) => Ok(super::printed::Reader { fields }),
+                Err(error) => Err(error),
+            }
         }
 
         /// Whether `inner` is there, and is not null.

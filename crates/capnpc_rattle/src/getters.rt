@@ -4,9 +4,10 @@ use crate::defaults::{has_default, shown_default};
 use crate::enums::{cases_of, enum_name};
 use crate::names::module;
 use crate::numbers::{Stored, default_bits, number_of};
+use crate::paths::path_to;
 use crate::schema::{Base, Body, Field, Node, Place, Request, Slot};
 use crate::templates::{
-    ANY_POINTER_BODY, ANY_POINTER_FACT, ENUM_FACT, GROUP_BODY, POINTER_FACT, VIEW_BODY,
+    ANY_POINTER_BODY, ANY_POINTER_FACT, ENUM_FACT, GROUP_BODY, POINTER_FACT, STRUCT_BODY, VIEW_BODY,
 };
 use crate::views::{MESSAGE, View, view_of};
 use std::alloc::{AllocError, Global};
@@ -176,7 +177,7 @@ fn shown_pointer(
 // A pointer that has no default.
 fn shown_stored(alloc: Global, site: Site<'_>, place: &Place) -> Result<Option<Shown>, AllocError> {
     match view_of(alloc, site.request, site.node.id, place.of, MESSAGE)? {
-        Some(view) => shown_view(alloc, place.offset, &view),
+        Some(view) => shown_view(alloc, site, place, &view),
         None => Ok(None),
     }
 }
@@ -193,13 +194,38 @@ fn shown_any_pointer(alloc: Global, offset: u32) -> Result<Option<Shown>, AllocE
 }
 
 // A view of what a pointer leads to.
-fn shown_view(alloc: Global, offset: u32, view: &View) -> Result<Option<Shown>, AllocError> {
+fn shown_view(
+    alloc: Global,
+    site: Site<'_>,
+    place: &Place,
+    view: &View,
+) -> Result<Option<Shown>, AllocError> {
     let holes = Holes::new(alloc)
-        .holding("offset", format!(in alloc; "{offset}"))
+        .holding("offset", format!(in alloc; "{}", place.offset))
         .holding("fact", view.fact(alloc, "@value@"));
     Shown::new(
         fill_with(alloc, "Result<@view@>", "view", view.type_name.as_str()),
         fill(alloc, POINTER_FACT, &holes),
-        fill(alloc, VIEW_BODY, &holes),
+        view_body(alloc, site, place),
     )
+}
+
+// The code that returns it.
+fn view_body(alloc: Global, site: Site<'_>, place: &Place) -> Result<String, AllocError> {
+    let holes = Holes::new(alloc).holding("offset", format!(in alloc; "{}", place.offset));
+    let (reader, part) = match place.of.lists {
+        0 => ("Reader", "fields"),
+        _ => ("ListReader", "elements"),
+    };
+    match place.of.base {
+        Base::Struct(id) if place.of.lists < 2 => {
+            let path = path_to(alloc, site.request, site.node.id, id);
+            let holes = holes
+                .with("reader", reader)
+                .with("part", part)
+                .holding("path", path);
+            fill(alloc, STRUCT_BODY, &holes)
+        }
+        _ => fill(alloc, VIEW_BODY, &holes),
+    }
 }

@@ -53,7 +53,7 @@ pub mod node {
                 (Accepts pointer TakesText) (Refuses pointer DeclinesText)
                 (Declines pointer DeclinesText) result }
         {
-            FromPointerReader::get_from_pointer(self.fields.get_pointer(0))
+            self.fields.get_pointer_as(0)
         }
 
         /// Whether `displayName` is there, and is not null.
@@ -94,7 +94,10 @@ pub mod node {
                 (Accepts pointer TakesRows) (Refuses pointer DeclinesRows)
                 (Declines pointer DeclinesRows) result }
         {
-            FromPointerReader::get_from_pointer(self.fields.get_pointer(1))
+            match self.fields.get_pointer_as(1) {
+                Ok(elements) => Ok(nested_node::ListReader { elements }),
+                Err(error) => Err(error),
+            }
         }
 
         /// Whether `nestedNodes` is there, and is not null.
@@ -114,7 +117,10 @@ pub mod node {
                 (Accepts pointer TakesRows) (Refuses pointer DeclinesRows)
                 (Declines pointer DeclinesRows) result }
         {
-            FromPointerReader::get_from_pointer(self.fields.get_pointer(2))
+            match self.fields.get_pointer_as(2) {
+                Ok(elements) => Ok(super::annotation::ListReader { elements }),
+                Err(error) => Err(error),
+            }
         }
 
         /// Whether `annotations` is there, and is not null.
@@ -192,7 +198,10 @@ pub mod node {
                 (Accepts pointer TakesRows) (Refuses pointer DeclinesRows)
                 (Declines pointer DeclinesRows) result }
         {
-            FromPointerReader::get_from_pointer(self.fields.get_pointer(5))
+            match self.fields.get_pointer_as(5) {
+                Ok(elements) => Ok(parameter::ListReader { elements }),
+                Err(error) => Err(error),
+            }
         }
 
         /// Whether `parameters` is there, and is not null.
@@ -367,7 +376,6 @@ pub mod node {
         use capnp_frame::Result;
         use capnp_frame::message::ReaderSegments;
         use capnp_wire::any_struct::StructReader;
-        use capnp_wire::traits::FromPointerReader;
 
         /// The group, in a struct in a message.
         #[derive(Drop)]
@@ -474,7 +482,10 @@ pub mod node {
                     (Accepts pointer TakesRows) (Refuses pointer DeclinesRows)
                     (Declines pointer DeclinesRows) result }
             {
-                FromPointerReader::get_from_pointer(self.fields.get_pointer(3))
+                match self.fields.get_pointer_as(3) {
+                    Ok(elements) => Ok(super::super::field::ListReader { elements }),
+                    Err(error) => Err(error),
+                }
             }
 
             /// Whether `fields` is there, and is not null.
@@ -491,7 +502,6 @@ pub mod node {
         use capnp_frame::Result;
         use capnp_frame::message::ReaderSegments;
         use capnp_wire::any_struct::StructReader;
-        use capnp_wire::traits::FromPointerReader;
 
         /// The group, in a struct in a message.
         #[derive(Drop)]
@@ -510,7 +520,10 @@ pub mod node {
                     (Accepts pointer TakesRows) (Refuses pointer DeclinesRows)
                     (Declines pointer DeclinesRows) result }
             {
-                FromPointerReader::get_from_pointer(self.fields.get_pointer(3))
+                match self.fields.get_pointer_as(3) {
+                    Ok(elements) => Ok(super::super::enumerant::ListReader { elements }),
+                    Err(error) => Err(error),
+                }
             }
 
             /// Whether `enumerants` is there, and is not null.
@@ -527,7 +540,6 @@ pub mod node {
         use capnp_frame::Result;
         use capnp_frame::message::ReaderSegments;
         use capnp_wire::any_struct::StructReader;
-        use capnp_wire::traits::FromPointerReader;
 
         /// The group, in a struct in a message.
         #[derive(Drop)]
@@ -546,7 +558,10 @@ pub mod node {
                     (Accepts pointer TakesRows) (Refuses pointer DeclinesRows)
                     (Declines pointer DeclinesRows) result }
             {
-                FromPointerReader::get_from_pointer(self.fields.get_pointer(3))
+                match self.fields.get_pointer_as(3) {
+                    Ok(elements) => Ok(super::super::method::ListReader { elements }),
+                    Err(error) => Err(error),
+                }
             }
 
             /// Whether `methods` is there, and is not null.
@@ -566,7 +581,10 @@ pub mod node {
                     (Accepts pointer TakesRows) (Refuses pointer DeclinesRows)
                     (Declines pointer DeclinesRows) result }
             {
-                FromPointerReader::get_from_pointer(self.fields.get_pointer(4))
+                match self.fields.get_pointer_as(4) {
+                    Ok(elements) => Ok(super::super::superclass::ListReader { elements }),
+                    Err(error) => Err(error),
+                }
             }
 
             /// Whether `superclasses` is there, and is not null.
@@ -583,7 +601,6 @@ pub mod node {
         use capnp_frame::Result;
         use capnp_frame::message::ReaderSegments;
         use capnp_wire::any_struct::StructReader;
-        use capnp_wire::traits::FromPointerReader;
 
         /// The group, in a struct in a message.
         #[derive(Drop)]
@@ -602,7 +619,10 @@ pub mod node {
                     (Accepts pointer TakesStruct) (Refuses pointer DeclinesStruct)
                     (Declines pointer DeclinesStruct) result }
             {
-                FromPointerReader::get_from_pointer(self.fields.get_pointer(3))
+                match self.fields.get_pointer_as(3) {
+                    Ok(fields) => Ok(super::super::type_::Reader { fields }),
+                    Err(error) => Err(error),
+                }
             }
 
             /// Whether `type` is there, and is not null.
@@ -622,7 +642,10 @@ pub mod node {
                     (Accepts pointer TakesStruct) (Refuses pointer DeclinesStruct)
                     (Declines pointer DeclinesStruct) result }
             {
-                FromPointerReader::get_from_pointer(self.fields.get_pointer(4))
+                match self.fields.get_pointer_as(4) {
+                    Ok(fields) => Ok(super::super::value::Reader { fields }),
+                    Err(error) => Err(error),
+                }
             }
 
             /// Whether `value` is there, and is not null.
@@ -639,7 +662,6 @@ pub mod node {
         use capnp_frame::Result;
         use capnp_frame::message::ReaderSegments;
         use capnp_wire::any_struct::StructReader;
-        use capnp_wire::traits::FromPointerReader;
 
         /// The group, in a struct in a message.
         #[derive(Drop)]
@@ -658,7 +680,10 @@ pub mod node {
                     (Accepts pointer TakesStruct) (Refuses pointer DeclinesStruct)
                     (Declines pointer DeclinesStruct) result }
             {
-                FromPointerReader::get_from_pointer(self.fields.get_pointer(3))
+                match self.fields.get_pointer_as(3) {
+                    Ok(fields) => Ok(super::super::type_::Reader { fields }),
+                    Err(error) => Err(error),
+                }
             }
 
             /// Whether `type` is there, and is not null.
@@ -799,7 +824,7 @@ pub mod node {
                     (Accepts pointer TakesText) (Refuses pointer DeclinesText)
                     (Declines pointer DeclinesText) result }
             {
-                FromPointerReader::get_from_pointer(self.fields.get_pointer(0))
+                self.fields.get_pointer_as(0)
             }
 
             /// Whether `name` is there, and is not null.
@@ -955,7 +980,7 @@ pub mod node {
                     (Accepts pointer TakesText) (Refuses pointer DeclinesText)
                     (Declines pointer DeclinesText) result }
             {
-                FromPointerReader::get_from_pointer(self.fields.get_pointer(0))
+                self.fields.get_pointer_as(0)
             }
 
             /// Whether `name` is there, and is not null.
@@ -1130,7 +1155,7 @@ pub mod node {
                     (Accepts pointer TakesText) (Refuses pointer DeclinesText)
                     (Declines pointer DeclinesText) result }
             {
-                FromPointerReader::get_from_pointer(self.fields.get_pointer(0))
+                self.fields.get_pointer_as(0)
             }
 
             /// Whether `docComment` is there, and is not null.
@@ -1154,7 +1179,10 @@ pub mod node {
                     (Accepts pointer TakesRows) (Refuses pointer DeclinesRows)
                     (Declines pointer DeclinesRows) result }
             {
-                FromPointerReader::get_from_pointer(self.fields.get_pointer(1))
+                match self.fields.get_pointer_as(1) {
+                    Ok(elements) => Ok(member::ListReader { elements }),
+                    Err(error) => Err(error),
+                }
             }
 
             /// Whether `members` is there, and is not null.
@@ -1307,7 +1335,7 @@ pub mod node {
                         (Accepts pointer TakesText) (Refuses pointer DeclinesText)
                         (Declines pointer DeclinesText) result }
                 {
-                    FromPointerReader::get_from_pointer(self.fields.get_pointer(0))
+                    self.fields.get_pointer_as(0)
                 }
 
                 /// Whether `docComment` is there, and is not null.
@@ -1464,7 +1492,7 @@ pub mod field {
                 (Accepts pointer TakesText) (Refuses pointer DeclinesText)
                 (Declines pointer DeclinesText) result }
         {
-            FromPointerReader::get_from_pointer(self.fields.get_pointer(0))
+            self.fields.get_pointer_as(0)
         }
 
         /// Whether `name` is there, and is not null.
@@ -1497,7 +1525,10 @@ pub mod field {
                 (Accepts pointer TakesRows) (Refuses pointer DeclinesRows)
                 (Declines pointer DeclinesRows) result }
         {
-            FromPointerReader::get_from_pointer(self.fields.get_pointer(1))
+            match self.fields.get_pointer_as(1) {
+                Ok(elements) => Ok(super::annotation::ListReader { elements }),
+                Err(error) => Err(error),
+            }
         }
 
         /// Whether `annotations` is there, and is not null.
@@ -1695,7 +1726,6 @@ pub mod field {
         use capnp_frame::Result;
         use capnp_frame::message::ReaderSegments;
         use capnp_wire::any_struct::StructReader;
-        use capnp_wire::traits::FromPointerReader;
 
         /// The group, in a struct in a message.
         #[derive(Drop)]
@@ -1724,7 +1754,10 @@ pub mod field {
                     (Accepts pointer TakesStruct) (Refuses pointer DeclinesStruct)
                     (Declines pointer DeclinesStruct) result }
             {
-                FromPointerReader::get_from_pointer(self.fields.get_pointer(2))
+                match self.fields.get_pointer_as(2) {
+                    Ok(fields) => Ok(super::super::type_::Reader { fields }),
+                    Err(error) => Err(error),
+                }
             }
 
             /// Whether `type` is there, and is not null.
@@ -1744,7 +1777,10 @@ pub mod field {
                     (Accepts pointer TakesStruct) (Refuses pointer DeclinesStruct)
                     (Declines pointer DeclinesStruct) result }
             {
-                FromPointerReader::get_from_pointer(self.fields.get_pointer(3))
+                match self.fields.get_pointer_as(3) {
+                    Ok(fields) => Ok(super::super::value::Reader { fields }),
+                    Err(error) => Err(error),
+                }
             }
 
             /// Whether `defaultValue` is there, and is not null.
@@ -1879,7 +1915,7 @@ pub mod enumerant {
                 (Accepts pointer TakesText) (Refuses pointer DeclinesText)
                 (Declines pointer DeclinesText) result }
         {
-            FromPointerReader::get_from_pointer(self.fields.get_pointer(0))
+            self.fields.get_pointer_as(0)
         }
 
         /// Whether `name` is there, and is not null.
@@ -1908,7 +1944,10 @@ pub mod enumerant {
                 (Accepts pointer TakesRows) (Refuses pointer DeclinesRows)
                 (Declines pointer DeclinesRows) result }
         {
-            FromPointerReader::get_from_pointer(self.fields.get_pointer(1))
+            match self.fields.get_pointer_as(1) {
+                Ok(elements) => Ok(super::annotation::ListReader { elements }),
+                Err(error) => Err(error),
+            }
         }
 
         /// Whether `annotations` is there, and is not null.
@@ -2070,7 +2109,10 @@ pub mod superclass {
                 (Accepts pointer TakesStruct) (Refuses pointer DeclinesStruct)
                 (Declines pointer DeclinesStruct) result }
         {
-            FromPointerReader::get_from_pointer(self.fields.get_pointer(0))
+            match self.fields.get_pointer_as(0) {
+                Ok(fields) => Ok(super::brand::Reader { fields }),
+                Err(error) => Err(error),
+            }
         }
 
         /// Whether `brand` is there, and is not null.
@@ -2225,7 +2267,7 @@ pub mod method {
                 (Accepts pointer TakesText) (Refuses pointer DeclinesText)
                 (Declines pointer DeclinesText) result }
         {
-            FromPointerReader::get_from_pointer(self.fields.get_pointer(0))
+            self.fields.get_pointer_as(0)
         }
 
         /// Whether `name` is there, and is not null.
@@ -2276,7 +2318,10 @@ pub mod method {
                 (Accepts pointer TakesRows) (Refuses pointer DeclinesRows)
                 (Declines pointer DeclinesRows) result }
         {
-            FromPointerReader::get_from_pointer(self.fields.get_pointer(1))
+            match self.fields.get_pointer_as(1) {
+                Ok(elements) => Ok(super::annotation::ListReader { elements }),
+                Err(error) => Err(error),
+            }
         }
 
         /// Whether `annotations` is there, and is not null.
@@ -2296,7 +2341,10 @@ pub mod method {
                 (Accepts pointer TakesStruct) (Refuses pointer DeclinesStruct)
                 (Declines pointer DeclinesStruct) result }
         {
-            FromPointerReader::get_from_pointer(self.fields.get_pointer(2))
+            match self.fields.get_pointer_as(2) {
+                Ok(fields) => Ok(super::brand::Reader { fields }),
+                Err(error) => Err(error),
+            }
         }
 
         /// Whether `paramBrand` is there, and is not null.
@@ -2316,7 +2364,10 @@ pub mod method {
                 (Accepts pointer TakesStruct) (Refuses pointer DeclinesStruct)
                 (Declines pointer DeclinesStruct) result }
         {
-            FromPointerReader::get_from_pointer(self.fields.get_pointer(3))
+            match self.fields.get_pointer_as(3) {
+                Ok(fields) => Ok(super::brand::Reader { fields }),
+                Err(error) => Err(error),
+            }
         }
 
         /// Whether `resultBrand` is there, and is not null.
@@ -2337,7 +2388,10 @@ pub mod method {
                 (Accepts pointer TakesRows) (Refuses pointer DeclinesRows)
                 (Declines pointer DeclinesRows) result }
         {
-            FromPointerReader::get_from_pointer(self.fields.get_pointer(4))
+            match self.fields.get_pointer_as(4) {
+                Ok(elements) => Ok(super::node::parameter::ListReader { elements }),
+                Err(error) => Err(error),
+            }
         }
 
         /// Whether `implicitParameters` is there, and is not null.
@@ -2773,7 +2827,6 @@ pub mod type_ {
         use capnp_frame::Result;
         use capnp_frame::message::ReaderSegments;
         use capnp_wire::any_struct::StructReader;
-        use capnp_wire::traits::FromPointerReader;
 
         /// The group, in a struct in a message.
         #[derive(Drop)]
@@ -2792,7 +2845,10 @@ pub mod type_ {
                     (Accepts pointer TakesStruct) (Refuses pointer DeclinesStruct)
                     (Declines pointer DeclinesStruct) result }
             {
-                FromPointerReader::get_from_pointer(self.fields.get_pointer(0))
+                match self.fields.get_pointer_as(0) {
+                    Ok(fields) => Ok(super::super::type_::Reader { fields }),
+                    Err(error) => Err(error),
+                }
             }
 
             /// Whether `elementType` is there, and is not null.
@@ -2809,7 +2865,6 @@ pub mod type_ {
         use capnp_frame::Result;
         use capnp_frame::message::ReaderSegments;
         use capnp_wire::any_struct::StructReader;
-        use capnp_wire::traits::FromPointerReader;
 
         /// The group, in a struct in a message.
         #[derive(Drop)]
@@ -2836,7 +2891,10 @@ pub mod type_ {
                     (Accepts pointer TakesStruct) (Refuses pointer DeclinesStruct)
                     (Declines pointer DeclinesStruct) result }
             {
-                FromPointerReader::get_from_pointer(self.fields.get_pointer(0))
+                match self.fields.get_pointer_as(0) {
+                    Ok(fields) => Ok(super::super::brand::Reader { fields }),
+                    Err(error) => Err(error),
+                }
             }
 
             /// Whether `brand` is there, and is not null.
@@ -2853,7 +2911,6 @@ pub mod type_ {
         use capnp_frame::Result;
         use capnp_frame::message::ReaderSegments;
         use capnp_wire::any_struct::StructReader;
-        use capnp_wire::traits::FromPointerReader;
 
         /// The group, in a struct in a message.
         #[derive(Drop)]
@@ -2880,7 +2937,10 @@ pub mod type_ {
                     (Accepts pointer TakesStruct) (Refuses pointer DeclinesStruct)
                     (Declines pointer DeclinesStruct) result }
             {
-                FromPointerReader::get_from_pointer(self.fields.get_pointer(0))
+                match self.fields.get_pointer_as(0) {
+                    Ok(fields) => Ok(super::super::brand::Reader { fields }),
+                    Err(error) => Err(error),
+                }
             }
 
             /// Whether `brand` is there, and is not null.
@@ -2897,7 +2957,6 @@ pub mod type_ {
         use capnp_frame::Result;
         use capnp_frame::message::ReaderSegments;
         use capnp_wire::any_struct::StructReader;
-        use capnp_wire::traits::FromPointerReader;
 
         /// The group, in a struct in a message.
         #[derive(Drop)]
@@ -2924,7 +2983,10 @@ pub mod type_ {
                     (Accepts pointer TakesStruct) (Refuses pointer DeclinesStruct)
                     (Declines pointer DeclinesStruct) result }
             {
-                FromPointerReader::get_from_pointer(self.fields.get_pointer(0))
+                match self.fields.get_pointer_as(0) {
+                    Ok(fields) => Ok(super::super::brand::Reader { fields }),
+                    Err(error) => Err(error),
+                }
             }
 
             /// Whether `brand` is there, and is not null.
@@ -3177,7 +3239,10 @@ pub mod brand {
                 (Accepts pointer TakesRows) (Refuses pointer DeclinesRows)
                 (Declines pointer DeclinesRows) result }
         {
-            FromPointerReader::get_from_pointer(self.fields.get_pointer(0))
+            match self.fields.get_pointer_as(0) {
+                Ok(elements) => Ok(scope::ListReader { elements }),
+                Err(error) => Err(error),
+            }
         }
 
         /// Whether `scopes` is there, and is not null.
@@ -3338,7 +3403,10 @@ pub mod brand {
                     (Accepts pointer TakesRows) (Refuses pointer DeclinesRows)
                     (Declines pointer DeclinesRows) result }
             {
-                FromPointerReader::get_from_pointer(self.fields.get_pointer(0))
+                match self.fields.get_pointer_as(0) {
+                    Ok(elements) => Ok(super::binding::ListReader { elements }),
+                    Err(error) => Err(error),
+                }
             }
 
             /// Whether `bind` is there, and is not null.
@@ -3544,7 +3612,10 @@ pub mod brand {
                     (Accepts pointer TakesStruct) (Refuses pointer DeclinesStruct)
                     (Declines pointer DeclinesStruct) result }
             {
-                FromPointerReader::get_from_pointer(self.fields.get_pointer(0))
+                match self.fields.get_pointer_as(0) {
+                    Ok(fields) => Ok(super::super::type_::Reader { fields }),
+                    Err(error) => Err(error),
+                }
             }
 
             /// Whether `type` is there, and is not null.
@@ -3823,7 +3894,7 @@ pub mod value {
                 (Accepts pointer TakesText) (Refuses pointer DeclinesText)
                 (Declines pointer DeclinesText) result }
         {
-            FromPointerReader::get_from_pointer(self.fields.get_pointer(0))
+            self.fields.get_pointer_as(0)
         }
 
         /// Whether `text` is there, and is not null.
@@ -3843,7 +3914,7 @@ pub mod value {
                 (Accepts pointer (TakesNumbers 2)) (Refuses pointer (DeclinesNumbers 2))
                 (Declines pointer (DeclinesNumbers 2)) result }
         {
-            FromPointerReader::get_from_pointer(self.fields.get_pointer(0))
+            self.fields.get_pointer_as(0)
         }
 
         /// Whether `data` is there, and is not null.
@@ -4155,7 +4226,10 @@ pub mod annotation {
                 (Accepts pointer TakesStruct) (Refuses pointer DeclinesStruct)
                 (Declines pointer DeclinesStruct) result }
         {
-            FromPointerReader::get_from_pointer(self.fields.get_pointer(0))
+            match self.fields.get_pointer_as(0) {
+                Ok(fields) => Ok(super::value::Reader { fields }),
+                Err(error) => Err(error),
+            }
         }
 
         /// Whether `value` is there, and is not null.
@@ -4177,7 +4251,10 @@ pub mod annotation {
                 (Accepts pointer TakesStruct) (Refuses pointer DeclinesStruct)
                 (Declines pointer DeclinesStruct) result }
         {
-            FromPointerReader::get_from_pointer(self.fields.get_pointer(1))
+            match self.fields.get_pointer_as(1) {
+                Ok(fields) => Ok(super::brand::Reader { fields }),
+                Err(error) => Err(error),
+            }
         }
 
         /// Whether `brand` is there, and is not null.
@@ -4542,7 +4619,10 @@ pub mod code_generator_request {
                 (Accepts pointer TakesRows) (Refuses pointer DeclinesRows)
                 (Declines pointer DeclinesRows) result }
         {
-            FromPointerReader::get_from_pointer(self.fields.get_pointer(0))
+            match self.fields.get_pointer_as(0) {
+                Ok(elements) => Ok(super::node::ListReader { elements }),
+                Err(error) => Err(error),
+            }
         }
 
         /// Whether `nodes` is there, and is not null.
@@ -4562,7 +4642,10 @@ pub mod code_generator_request {
                 (Accepts pointer TakesRows) (Refuses pointer DeclinesRows)
                 (Declines pointer DeclinesRows) result }
         {
-            FromPointerReader::get_from_pointer(self.fields.get_pointer(1))
+            match self.fields.get_pointer_as(1) {
+                Ok(elements) => Ok(requested_file::ListReader { elements }),
+                Err(error) => Err(error),
+            }
         }
 
         /// Whether `requestedFiles` is there, and is not null.
@@ -4587,7 +4670,10 @@ pub mod code_generator_request {
                 (Accepts pointer TakesStruct) (Refuses pointer DeclinesStruct)
                 (Declines pointer DeclinesStruct) result }
         {
-            FromPointerReader::get_from_pointer(self.fields.get_pointer(2))
+            match self.fields.get_pointer_as(2) {
+                Ok(fields) => Ok(super::capnp_version::Reader { fields }),
+                Err(error) => Err(error),
+            }
         }
 
         /// Whether `capnpVersion` is there, and is not null.
@@ -4608,7 +4694,10 @@ pub mod code_generator_request {
                 (Accepts pointer TakesRows) (Refuses pointer DeclinesRows)
                 (Declines pointer DeclinesRows) result }
         {
-            FromPointerReader::get_from_pointer(self.fields.get_pointer(3))
+            match self.fields.get_pointer_as(3) {
+                Ok(elements) => Ok(super::node::source_info::ListReader { elements }),
+                Err(error) => Err(error),
+            }
         }
 
         /// Whether `sourceInfo` is there, and is not null.
@@ -4770,7 +4859,7 @@ pub mod code_generator_request {
                     (Accepts pointer TakesText) (Refuses pointer DeclinesText)
                     (Declines pointer DeclinesText) result }
             {
-                FromPointerReader::get_from_pointer(self.fields.get_pointer(0))
+                self.fields.get_pointer_as(0)
             }
 
             /// Whether `filename` is there, and is not null.
@@ -4790,7 +4879,10 @@ pub mod code_generator_request {
                     (Accepts pointer TakesRows) (Refuses pointer DeclinesRows)
                     (Declines pointer DeclinesRows) result }
             {
-                FromPointerReader::get_from_pointer(self.fields.get_pointer(1))
+                match self.fields.get_pointer_as(1) {
+                    Ok(elements) => Ok(import::ListReader { elements }),
+                    Err(error) => Err(error),
+                }
             }
 
             /// Whether `imports` is there, and is not null.
@@ -4956,7 +5048,7 @@ pub mod code_generator_request {
                         (Accepts pointer TakesText) (Refuses pointer DeclinesText)
                         (Declines pointer DeclinesText) result }
                 {
-                    FromPointerReader::get_from_pointer(self.fields.get_pointer(0))
+                    self.fields.get_pointer_as(0)
                 }
 
                 /// Whether `name` is there, and is not null.

@@ -124,8 +124,13 @@ elim @value@ [
 ]";
 
 /// How a view is read.
-pub const VIEW_BODY: &str =
-    "FromPointerReader::get_from_pointer(self.fields.get_pointer(@offset@))";
+pub const VIEW_BODY: &str = "self.fields.get_pointer_as(@offset@)";
+
+/// How a struct is read, or a list of structs.
+pub const STRUCT_BODY: &str = "match self.fields.get_pointer_as(@offset@) {
+    Ok(@part@) => Ok(@path@::@reader@ { @part@ }),
+    Err(error) => Err(error),
+}";
 
 /// How a view is read that has a default.
 pub const DEFAULT_BODY: &str = "let pointer = self.fields.get_pointer(@offset@);

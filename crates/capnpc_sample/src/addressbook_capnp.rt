@@ -54,7 +54,7 @@ pub mod person {
                 (Accepts pointer TakesText) (Refuses pointer DeclinesText)
                 (Declines pointer DeclinesText) result }
         {
-            FromPointerReader::get_from_pointer(self.fields.get_pointer(0))
+            self.fields.get_pointer_as(0)
         }
 
         /// Whether `name` is there, and is not null.
@@ -74,7 +74,7 @@ pub mod person {
                 (Accepts pointer TakesText) (Refuses pointer DeclinesText)
                 (Declines pointer DeclinesText) result }
         {
-            FromPointerReader::get_from_pointer(self.fields.get_pointer(1))
+            self.fields.get_pointer_as(1)
         }
 
         /// Whether `email` is there, and is not null.
@@ -94,7 +94,10 @@ pub mod person {
                 (Accepts pointer TakesRows) (Refuses pointer DeclinesRows)
                 (Declines pointer DeclinesRows) result }
         {
-            FromPointerReader::get_from_pointer(self.fields.get_pointer(2))
+            match self.fields.get_pointer_as(2) {
+                Ok(elements) => Ok(phone_number::ListReader { elements }),
+                Err(error) => Err(error),
+            }
         }
 
         /// Whether `phones` is there, and is not null.
@@ -401,7 +404,6 @@ pub mod person {
         use capnp_orphans::Orphan;
         use capnp_wire::any_struct::StructReader;
         use capnp_wire::text;
-        use capnp_wire::traits::FromPointerReader;
 
         /// The group, in a struct in a message.
         #[derive(Drop)]
@@ -423,7 +425,7 @@ pub mod person {
                     (Accepts pointer TakesText) (Refuses pointer DeclinesText)
                     (Declines pointer DeclinesText) result }
             {
-                FromPointerReader::get_from_pointer(self.fields.get_pointer(3))
+                self.fields.get_pointer_as(3)
             }
 
             /// Whether `employer` is there, and is not null.
@@ -443,7 +445,7 @@ pub mod person {
                     (Accepts pointer TakesText) (Refuses pointer DeclinesText)
                     (Declines pointer DeclinesText) result }
             {
-                FromPointerReader::get_from_pointer(self.fields.get_pointer(3))
+                self.fields.get_pointer_as(3)
             }
 
             /// Whether `school` is there, and is not null.
@@ -591,7 +593,7 @@ pub mod person {
                     (Accepts pointer TakesText) (Refuses pointer DeclinesText)
                     (Declines pointer DeclinesText) result }
             {
-                FromPointerReader::get_from_pointer(self.fields.get_pointer(0))
+                self.fields.get_pointer_as(0)
             }
 
             /// Whether `number` is there, and is not null.
@@ -964,7 +966,10 @@ pub mod address_book {
                 (Accepts pointer TakesRows) (Refuses pointer DeclinesRows)
                 (Declines pointer DeclinesRows) result }
         {
-            FromPointerReader::get_from_pointer(self.fields.get_pointer(0))
+            match self.fields.get_pointer_as(0) {
+                Ok(elements) => Ok(super::person::ListReader { elements }),
+                Err(error) => Err(error),
+            }
         }
 
         /// Whether `people` is there, and is not null.

@@ -378,7 +378,10 @@ pub mod tree {
                 (Accepts pointer TakesStruct) (Refuses pointer DeclinesStruct)
                 (Declines pointer DeclinesStruct) result }
         {
-            FromPointerReader::get_from_pointer(self.fields.get_pointer(0))
+            match self.fields.get_pointer_as(0) {
+                Ok(fields) => Ok(super::tree::Reader { fields }),
+                Err(error) => Err(error),
+            }
         }
 
         /// Whether `left` is there, and is not null.
@@ -398,7 +401,10 @@ pub mod tree {
                 (Accepts pointer TakesStruct) (Refuses pointer DeclinesStruct)
                 (Declines pointer DeclinesStruct) result }
         {
-            FromPointerReader::get_from_pointer(self.fields.get_pointer(1))
+            match self.fields.get_pointer_as(1) {
+                Ok(fields) => Ok(super::tree::Reader { fields }),
+                Err(error) => Err(error),
+            }
         }
 
         /// Whether `right` is there, and is not null.
@@ -787,7 +793,7 @@ pub mod sample {
                 (Accepts pointer TakesText) (Refuses pointer DeclinesText)
                 (Declines pointer DeclinesText) result }
         {
-            FromPointerReader::get_from_pointer(self.fields.get_pointer(0))
+            self.fields.get_pointer_as(0)
         }
 
         /// Whether `title` is there, and is not null.
@@ -807,7 +813,7 @@ pub mod sample {
                 (Accepts pointer (TakesNumbers 2)) (Refuses pointer (DeclinesNumbers 2))
                 (Declines pointer (DeclinesNumbers 2)) result }
         {
-            FromPointerReader::get_from_pointer(self.fields.get_pointer(1))
+            self.fields.get_pointer_as(1)
         }
 
         /// Whether `payload` is there, and is not null.
@@ -827,7 +833,10 @@ pub mod sample {
                 (Accepts pointer TakesRows) (Refuses pointer DeclinesRows)
                 (Declines pointer DeclinesRows) result }
         {
-            FromPointerReader::get_from_pointer(self.fields.get_pointer(2))
+            match self.fields.get_pointer_as(2) {
+                Ok(elements) => Ok(super::point::ListReader { elements }),
+                Err(error) => Err(error),
+            }
         }
 
         /// Whether `points` is there, and is not null.
@@ -847,7 +856,7 @@ pub mod sample {
                 (Accepts pointer (TakesFields 4)) (Refuses pointer (DeclinesFields 4))
                 (Declines pointer (DeclinesFields 4)) result }
         {
-            FromPointerReader::get_from_pointer(self.fields.get_pointer(3))
+            self.fields.get_pointer_as(3)
         }
 
         /// Whether `numbers` is there, and is not null.
@@ -867,7 +876,10 @@ pub mod sample {
                 (Accepts pointer TakesStruct) (Refuses pointer DeclinesStruct)
                 (Declines pointer DeclinesStruct) result }
         {
-            FromPointerReader::get_from_pointer(self.fields.get_pointer(4))
+            match self.fields.get_pointer_as(4) {
+                Ok(fields) => Ok(super::point::Reader { fields }),
+                Err(error) => Err(error),
+            }
         }
 
         /// Whether `origin` is there, and is not null.
@@ -923,7 +935,7 @@ pub mod sample {
                 (Accepts pointer TakesText) (Refuses pointer DeclinesText)
                 (Declines pointer DeclinesText) result }
         {
-            FromPointerReader::get_from_pointer(self.fields.get_pointer(5))
+            self.fields.get_pointer_as(5)
         }
 
         /// Whether `label` is there, and is not null.
@@ -1967,7 +1979,6 @@ pub mod shape {
         use capnp_orphans::Orphan;
         use capnp_wire::any_struct::StructReader;
         use capnp_wire::text;
-        use capnp_wire::traits::FromPointerReader;
 
         /// The group, in a struct in a message.
         #[derive(Drop)]
@@ -2010,7 +2021,7 @@ pub mod shape {
                     (Accepts pointer TakesText) (Refuses pointer DeclinesText)
                     (Declines pointer DeclinesText) result }
             {
-                FromPointerReader::get_from_pointer(self.fields.get_pointer(0))
+                self.fields.get_pointer_as(0)
             }
 
             /// Whether `label` is there, and is not null.
@@ -2151,7 +2162,7 @@ pub mod palette {
                 (Accepts pointer (TakesFields 3)) (Refuses pointer (DeclinesFields 3))
                 (Declines pointer (DeclinesFields 3)) result }
         {
-            FromPointerReader::get_from_pointer(self.fields.get_pointer(0))
+            self.fields.get_pointer_as(0)
         }
 
         /// Whether `colors` is there, and is not null.
