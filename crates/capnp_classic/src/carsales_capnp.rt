@@ -18,7 +18,7 @@ ghost use Rattle.capnp_wire.specs.Views.{Struct, IsViewOf, IsStruct, IsText, Acc
 pub mod parking_lot {
     use capnp_frame::Result;
     use capnp_frame::message::ReaderSegments;
-    use capnp_orphans::{Draft, Drafts, GrowingSegment, Orphan, Orphanage, StructDraft};
+    use capnp_orphans::{Draft, GrowingSegment, Orphan, Orphanage, StructDraft};
     use capnp_wire::any_struct::StructReader;
     use capnp_wire::traits::{self, FromPointerReader, IndexMove, ListIter};
     use capnp_wire::{any_pointer, upgraded};
@@ -260,8 +260,7 @@ pub mod parking_lot {
                 Writes (TakesStructs 0 1 count) (ManyStructs 0 1 count)
                 objects.old objects.new result }
         {
-            let list = objects.lazy_struct_list(&Drafts::new(elements))?;
-            Ok(list.of_type())
+            objects.draft_list(elements)
         }
     }
 
@@ -295,7 +294,7 @@ pub mod parking_lot {
 pub mod total_value {
     use capnp_frame::Result;
     use capnp_frame::message::ReaderSegments;
-    use capnp_orphans::{Draft, Drafts, GrowingSegment, Orphan, Orphanage, StructDraft};
+    use capnp_orphans::{Draft, GrowingSegment, Orphan, Orphanage, StructDraft};
     use capnp_wire::any_struct::StructReader;
     use capnp_wire::traits::{self, FromPointerReader, IndexMove, ListIter};
     use capnp_wire::{any_pointer, upgraded};
@@ -522,8 +521,7 @@ pub mod total_value {
                 Writes (TakesStructs 1 0 count) (ManyStructs 1 0 count)
                 objects.old objects.new result }
         {
-            let list = objects.lazy_struct_list(&Drafts::new(elements))?;
-            Ok(list.of_type())
+            objects.draft_list(elements)
         }
     }
 
@@ -559,7 +557,7 @@ pub mod car {
     use super::Color;
     use capnp_frame::Result;
     use capnp_frame::message::ReaderSegments;
-    use capnp_orphans::{Draft, Drafts, GrowingSegment, Orphan, Orphanage, StructDraft};
+    use capnp_orphans::{Draft, GrowingSegment, Orphan, Orphanage, StructDraft};
     use capnp_wire::any_struct::StructReader;
     use capnp_wire::traits::{self, FromPointerReader, IndexMove, ListIter};
     use capnp_wire::{any_pointer, text, upgraded};
@@ -988,8 +986,7 @@ pub mod car {
                 Writes (TakesStructs 3 4 count) (ManyStructs 3 4 count)
                 objects.old objects.new result }
         {
-            let list = objects.lazy_struct_list(&Drafts::new(elements))?;
-            Ok(list.of_type())
+            objects.draft_list(elements)
         }
     }
 
@@ -1415,7 +1412,7 @@ impl Color {
 pub mod wheel {
     use capnp_frame::Result;
     use capnp_frame::message::ReaderSegments;
-    use capnp_orphans::{Draft, Drafts, GrowingSegment, Orphan, Orphanage, StructDraft};
+    use capnp_orphans::{Draft, GrowingSegment, Orphan, Orphanage, StructDraft};
     use capnp_wire::any_struct::StructReader;
     use capnp_wire::traits::{self, FromPointerReader, IndexMove, ListIter};
     use capnp_wire::{any_pointer, upgraded};
@@ -1658,8 +1655,7 @@ pub mod wheel {
                 Writes (TakesStructs 1 0 count) (ManyStructs 1 0 count)
                 objects.old objects.new result }
         {
-            let list = objects.lazy_struct_list(&Drafts::new(elements))?;
-            Ok(list.of_type())
+            objects.draft_list(elements)
         }
     }
 
@@ -1728,7 +1724,7 @@ pub mod wheel {
 pub mod engine {
     use capnp_frame::Result;
     use capnp_frame::message::ReaderSegments;
-    use capnp_orphans::{Draft, Drafts, GrowingSegment, Orphan, Orphanage, StructDraft};
+    use capnp_orphans::{Draft, GrowingSegment, Orphan, Orphanage, StructDraft};
     use capnp_wire::any_struct::StructReader;
     use capnp_wire::traits::{self, FromPointerReader, IndexMove, ListIter};
     use capnp_wire::{any_pointer, upgraded};
@@ -1987,8 +1983,7 @@ pub mod engine {
                 Writes (TakesStructs 1 0 count) (ManyStructs 1 0 count)
                 objects.old objects.new result }
         {
-            let list = objects.lazy_struct_list(&Drafts::new(elements))?;
-            Ok(list.of_type())
+            objects.draft_list(elements)
         }
     }
 

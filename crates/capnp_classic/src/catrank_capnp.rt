@@ -18,7 +18,7 @@ ghost use Rattle.capnp_wire.specs.Views.{Struct, IsViewOf, IsStruct, IsText, Acc
 pub mod search_result_list {
     use capnp_frame::Result;
     use capnp_frame::message::ReaderSegments;
-    use capnp_orphans::{Draft, Drafts, GrowingSegment, Orphan, Orphanage, StructDraft};
+    use capnp_orphans::{Draft, GrowingSegment, Orphan, Orphanage, StructDraft};
     use capnp_wire::any_struct::StructReader;
     use capnp_wire::traits::{self, FromPointerReader, IndexMove, ListIter};
     use capnp_wire::{any_pointer, upgraded};
@@ -260,8 +260,7 @@ pub mod search_result_list {
                 Writes (TakesStructs 0 1 count) (ManyStructs 0 1 count)
                 objects.old objects.new result }
         {
-            let list = objects.lazy_struct_list(&Drafts::new(elements))?;
-            Ok(list.of_type())
+            objects.draft_list(elements)
         }
     }
 
@@ -295,7 +294,7 @@ pub mod search_result_list {
 pub mod search_result {
     use capnp_frame::Result;
     use capnp_frame::message::ReaderSegments;
-    use capnp_orphans::{Draft, Drafts, GrowingSegment, Orphan, Orphanage, StructDraft};
+    use capnp_orphans::{Draft, GrowingSegment, Orphan, Orphanage, StructDraft};
     use capnp_wire::any_struct::StructReader;
     use capnp_wire::traits::{self, FromPointerReader, IndexMove, ListIter};
     use capnp_wire::{any_pointer, text, upgraded};
@@ -562,8 +561,7 @@ pub mod search_result {
                 Writes (TakesStructs 1 2 count) (ManyStructs 1 2 count)
                 objects.old objects.new result }
         {
-            let list = objects.lazy_struct_list(&Drafts::new(elements))?;
-            Ok(list.of_type())
+            objects.draft_list(elements)
         }
     }
 

@@ -82,7 +82,7 @@ pub mod expression {
     use super::Operation;
     use capnp_frame::Result;
     use capnp_frame::message::ReaderSegments;
-    use capnp_orphans::{Draft, Drafts, GrowingSegment, Orphan, Orphanage, StructDraft};
+    use capnp_orphans::{Draft, GrowingSegment, Orphan, Orphanage, StructDraft};
     use capnp_wire::any_struct::StructReader;
     use capnp_wire::traits::{self, FromPointerReader, IndexMove, ListIter};
     use capnp_wire::{any_pointer, upgraded};
@@ -339,8 +339,7 @@ pub mod expression {
                 Writes (TakesStructs 2 2 count) (ManyStructs 2 2 count)
                 objects.old objects.new result }
         {
-            let list = objects.lazy_struct_list(&Drafts::new(elements))?;
-            Ok(list.of_type())
+            objects.draft_list(elements)
         }
     }
 
@@ -624,7 +623,7 @@ pub mod expression {
 pub mod evaluation_result {
     use capnp_frame::Result;
     use capnp_frame::message::ReaderSegments;
-    use capnp_orphans::{Draft, Drafts, GrowingSegment, Orphan, Orphanage, StructDraft};
+    use capnp_orphans::{Draft, GrowingSegment, Orphan, Orphanage, StructDraft};
     use capnp_wire::any_struct::StructReader;
     use capnp_wire::traits::{self, FromPointerReader, IndexMove, ListIter};
     use capnp_wire::{any_pointer, upgraded};
@@ -851,8 +850,7 @@ pub mod evaluation_result {
                 Writes (TakesStructs 1 0 count) (ManyStructs 1 0 count)
                 objects.old objects.new result }
         {
-            let list = objects.lazy_struct_list(&Drafts::new(elements))?;
-            Ok(list.of_type())
+            objects.draft_list(elements)
         }
     }
 

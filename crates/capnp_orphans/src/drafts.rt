@@ -4,6 +4,11 @@ ghost use Rattle.capnp_orphans.specs.declared.draft.StructDraft.{StructDraft};
 
 use crate::draft::StructDraft;
 use crate::draft_source::DraftSource;
+use crate::orphan::Orphan;
+use crate::orphanage::Orphanage;
+use crate::segment::GrowingSegment;
+use crate::struct_list::StructList;
+use capnp_frame::Result;
 
 /// A type that is written as a draft: a builder that the schema compiler makes.
 pub trait Draft<T, const D: usize, const P: usize> {
@@ -17,13 +22,13 @@ pub trait Draft<T, const D: usize, const P: usize> {
 
 /// A source of the structs of a slice.
 #[derive(Drop)]
-pub struct Drafts<'a, B> {
+pub(crate) struct Drafts<'a, B> {
     builders: &'a [B],
 }
 
 impl<'a, B> Drafts<'a, B> {
-    /// A source of these structs.
-    pub fn new(builders: &'a [B]) -> Drafts<'a, B>
+    // A source of these structs.
+    fn new(builders: &'a [B]) -> Drafts<'a, B>
         ensures { result.builders.now ≡ builders.now }
     {
         Drafts { builders }
@@ -42,5 +47,25 @@ impl<'a, T, const D: usize, const P: usize, B: Draft<T, D, P>> DraftSource<T, D,
 
     fn get(&self, index: usize) -> StructDraft<T, D, P> {
         self.builders[index].draft()
+    }
+}
+
+impl<S: GrowingSegment> Orphanage<S> {
+    ghost use Rattle.capnp_orphans.specs.Adding.{Adds, Writes};
+    ghost use Rattle.capnp_orphans.specs.Held.{word_of, HoldsStructs, TakesStructs, ManyStructs};
+    ghost use Rattle.capnp_orphans.specs.Segments.{body_of};
+
+    /// Writes a list of structs of a schema's own type, by their builders, as an orphan of the type
+    /// that the schema gives the list. It fails as `struct_list` does.
+    pub fn draft_list<T, U, const D: usize, const P: usize, B: Draft<T, D, P>>(
+        &mut self,
+        builders: &[B],
+    ) -> Result<Orphan<U>>
+        ensures adds { Adds (HoldsStructs (body_of self.old) (map B.draft builders.now)) self.old
+            self.new word_of result }
+        ensures writes { Writes (TakesStructs D P (length builders.now))
+            (ManyStructs D P (length builders.now)) self.old self.new result }
+    {
+        self.write(&StructList::<T, D, P, Drafts<'_, B>>::new(&Drafts::new(builders)))
     }
 }

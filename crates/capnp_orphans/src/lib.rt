@@ -31,7 +31,7 @@ mod written;
 
 pub use draft::StructDraft;
 pub use draft_source::DraftSource;
-pub use drafts::{Draft, Drafts};
+pub use drafts::Draft;
 pub use heap::Heap;
 pub use object::Object;
 pub use orphan::Orphan;

@@ -124,7 +124,7 @@ impl<S: GrowingSegment> Orphanage<S> {
     // Speed: where the memory needs no preparation the call can't fail, so no result goes by memory
     // (`tools/time-building built`, `table`).
     #[inline(always)]
-    fn write<T, O: Object>(&mut self, object: &O) -> Result<Orphan<T>>
+    pub(crate) fn write<T, O: Object>(&mut self, object: &O) -> Result<Orphan<T>>
         ensures adds { Adds (O.holds object.now (body_of self.old)) self.old self.new
             word_of result }
         ensures writes { Writes (O.takes object.now) (O.refuses object.now) self.old self.new

@@ -90,8 +90,7 @@ impl Builder {
             Writes (TakesStructs @words@ @pointers@ count) (ManyStructs @words@ @pointers@ count)
             objects.old objects.new result }
     {
-        let list = objects.lazy_struct_list(&Drafts::new(elements))?;
-        Ok(list.of_type())
+        objects.draft_list(elements)
     }
 }
 

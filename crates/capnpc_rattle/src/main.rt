@@ -22,6 +22,7 @@ mod enums;
 mod fields;
 mod file;
 mod getters;
+mod importable;
 mod imports;
 mod input;
 mod list_templates;

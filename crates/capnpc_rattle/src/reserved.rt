@@ -83,7 +83,6 @@ const ENUMS: &[&str] = &[
     "Copy",
     "Debug",
     "Draft",
-    "Drafts",
     "Drop",
     "Eq",
     "Err",

@@ -17,7 +17,7 @@ ghost use Rattle.capnp_wire.specs.Views.{Struct, IsViewOf, IsStruct, IsText, Acc
 pub mod person {
     use capnp_frame::Result;
     use capnp_frame::message::ReaderSegments;
-    use capnp_orphans::{Draft, Drafts, GrowingSegment, Orphan, Orphanage, StructDraft};
+    use capnp_orphans::{Draft, GrowingSegment, Orphan, Orphanage, StructDraft};
     use capnp_wire::any_struct::StructReader;
     use capnp_wire::traits::{self, FromPointerReader, IndexMove, ListIter};
     use capnp_wire::{any_pointer, text, upgraded};
@@ -318,8 +318,7 @@ pub mod person {
                 Writes (TakesStructs 1 4 count) (ManyStructs 1 4 count)
                 objects.old objects.new result }
         {
-            let list = objects.lazy_struct_list(&Drafts::new(elements))?;
-            Ok(list.of_type())
+            objects.draft_list(elements)
         }
     }
 
@@ -564,7 +563,7 @@ pub mod person {
     pub mod phone_number {
         use capnp_frame::Result;
         use capnp_frame::message::ReaderSegments;
-        use capnp_orphans::{Draft, Drafts, GrowingSegment, Orphan, Orphanage, StructDraft};
+        use capnp_orphans::{Draft, GrowingSegment, Orphan, Orphanage, StructDraft};
         use capnp_wire::any_struct::StructReader;
         use capnp_wire::traits::{self, FromPointerReader, IndexMove, ListIter};
         use capnp_wire::{any_pointer, text, upgraded};
@@ -820,8 +819,7 @@ pub mod person {
                     Writes (TakesStructs 1 1 count) (ManyStructs 1 1 count)
                     objects.old objects.new result }
             {
-                let list = objects.lazy_struct_list(&Drafts::new(elements))?;
-                Ok(list.of_type())
+                objects.draft_list(elements)
             }
         }
 
@@ -937,7 +935,7 @@ pub mod person {
 pub mod address_book {
     use capnp_frame::Result;
     use capnp_frame::message::ReaderSegments;
-    use capnp_orphans::{Draft, Drafts, GrowingSegment, Orphan, Orphanage, StructDraft};
+    use capnp_orphans::{Draft, GrowingSegment, Orphan, Orphanage, StructDraft};
     use capnp_wire::any_struct::StructReader;
     use capnp_wire::traits::{self, FromPointerReader, IndexMove, ListIter};
     use capnp_wire::{any_pointer, upgraded};
@@ -1179,8 +1177,7 @@ pub mod address_book {
                 Writes (TakesStructs 0 1 count) (ManyStructs 0 1 count)
                 objects.old objects.new result }
         {
-            let list = objects.lazy_struct_list(&Drafts::new(elements))?;
-            Ok(list.of_type())
+            objects.draft_list(elements)
         }
     }
 

@@ -52,7 +52,7 @@ pub fn get_corner() -> Result<point::Reader<'static, Words<16>>>
 pub mod point {
     use capnp_frame::Result;
     use capnp_frame::message::ReaderSegments;
-    use capnp_orphans::{Draft, Drafts, GrowingSegment, Orphan, Orphanage, StructDraft};
+    use capnp_orphans::{Draft, GrowingSegment, Orphan, Orphanage, StructDraft};
     use capnp_wire::any_struct::StructReader;
     use capnp_wire::traits::{self, FromPointerReader, IndexMove, ListIter};
     use capnp_wire::{any_pointer, upgraded};
@@ -287,8 +287,7 @@ pub mod point {
                 Writes (TakesStructs 1 0 count) (ManyStructs 1 0 count)
                 objects.old objects.new result }
         {
-            let list = objects.lazy_struct_list(&Drafts::new(elements))?;
-            Ok(list.of_type())
+            objects.draft_list(elements)
         }
     }
 
@@ -341,7 +340,7 @@ pub mod point {
 pub mod tree {
     use capnp_frame::Result;
     use capnp_frame::message::ReaderSegments;
-    use capnp_orphans::{Draft, Drafts, GrowingSegment, Orphan, Orphanage, StructDraft};
+    use capnp_orphans::{Draft, GrowingSegment, Orphan, Orphanage, StructDraft};
     use capnp_wire::any_struct::StructReader;
     use capnp_wire::traits::{self, FromPointerReader, IndexMove, ListIter};
     use capnp_wire::{any_pointer, upgraded};
@@ -614,8 +613,7 @@ pub mod tree {
                 Writes (TakesStructs 1 2 count) (ManyStructs 1 2 count)
                 objects.old objects.new result }
         {
-            let list = objects.lazy_struct_list(&Drafts::new(elements))?;
-            Ok(list.of_type())
+            objects.draft_list(elements)
         }
     }
 
@@ -738,7 +736,7 @@ pub mod sample {
     use super::Color;
     use capnp_frame::Result;
     use capnp_frame::message::ReaderSegments;
-    use capnp_orphans::{Draft, Drafts, GrowingSegment, Orphan, Orphanage, StructDraft};
+    use capnp_orphans::{Draft, GrowingSegment, Orphan, Orphanage, StructDraft};
     use capnp_wire::any_struct::StructReader;
     use capnp_wire::constant::Words;
     use capnp_wire::primitive_element::PrimitiveElement;
@@ -1268,8 +1266,7 @@ pub mod sample {
                 Writes (TakesStructs 4 9 count) (ManyStructs 4 9 count)
                 objects.old objects.new result }
         {
-            let list = objects.lazy_struct_list(&Drafts::new(elements))?;
-            Ok(list.of_type())
+            objects.draft_list(elements)
         }
     }
 
@@ -1674,7 +1671,7 @@ pub mod sample {
 pub mod shape {
     use capnp_frame::Result;
     use capnp_frame::message::ReaderSegments;
-    use capnp_orphans::{Draft, Drafts, GrowingSegment, Orphan, Orphanage, StructDraft};
+    use capnp_orphans::{Draft, GrowingSegment, Orphan, Orphanage, StructDraft};
     use capnp_wire::any_struct::StructReader;
     use capnp_wire::traits::{self, FromPointerReader, IndexMove, ListIter};
     use capnp_wire::{any_pointer, upgraded};
@@ -1939,8 +1936,7 @@ pub mod shape {
                 Writes (TakesStructs 2 1 count) (ManyStructs 2 1 count)
                 objects.old objects.new result }
         {
-            let list = objects.lazy_struct_list(&Drafts::new(elements))?;
-            Ok(list.of_type())
+            objects.draft_list(elements)
         }
     }
 
@@ -2131,7 +2127,7 @@ pub mod shape {
 pub mod palette {
     use capnp_frame::Result;
     use capnp_frame::message::ReaderSegments;
-    use capnp_orphans::{Draft, Drafts, GrowingSegment, Orphan, Orphanage, StructDraft};
+    use capnp_orphans::{Draft, GrowingSegment, Orphan, Orphanage, StructDraft};
     use capnp_wire::any_struct::StructReader;
     use capnp_wire::constant::{OrDefault, Words};
     use capnp_wire::traits::{self, FromPointerReader, IndexMove, ListIter};
@@ -2411,8 +2407,7 @@ pub mod palette {
                 Writes (TakesStructs 0 2 count) (ManyStructs 0 2 count)
                 objects.old objects.new result }
         {
-            let list = objects.lazy_struct_list(&Drafts::new(elements))?;
-            Ok(list.of_type())
+            objects.draft_list(elements)
         }
     }
 
