@@ -41,7 +41,7 @@ pub trait FromPointerReader<'a, S: ReaderSegments>: Sized {
 /// A type of views that are also taken where the segment of the pointer is known, as it is in a
 /// struct.
 pub trait FromPointerInSegment<'a, S: ReaderSegments>: FromPointerReader<'a, S> {
-    /// The view of what a pointer in this segment leads to, as `get_from_pointer` returns it.
+    /// The view of what a pointer in this segment leads to. Fails as `get_from_pointer` does.
     fn get_from_segment(reader: any_pointer::Reader<'a, S>, segment: &'a [u8]) -> Result<Self>
         requires { HasSegment (pointer_of S.segments reader) (words_of segment.now) }
         ensures { let pointer = pointer_of S.segments reader.entry in

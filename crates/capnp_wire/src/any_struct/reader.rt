@@ -86,7 +86,7 @@ impl<'a, S: ReaderSegments> StructReader<'a, S> {
         }
     }
 
-    /// The view of what a pointer leads to, as `get_pointer` and `get_as` give it.
+    /// The view of what a pointer leads to. Fails as `any_pointer::Reader::get_as` does of it.
     #[inline(always)]
     pub fn get_pointer_as<T: FromPointerInSegment<'a, S>>(&self, index: u16) -> Result<T>
         ensures { let pointer = pointer_in (struct_of S.segments self.now) index in
