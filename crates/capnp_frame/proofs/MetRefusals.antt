@@ -1,5 +1,5 @@
 -- Which line of the error table each part of a reader meets.
-use Rattle.std.proofs.Common.{◌≡◌, ℕ, ◌+◌, ◌-◌, ◌*◌, ◌/◌, ◌<◌, Option, Some, None, ◌⊎◌, inl, inr, List, [], ◌++◌, length, take, drop, refl, ap, ◌∙◌, subst, arith}
+use Rattle.std.proofs.Common.{◌≡◌, ℕ, ◌+◌, ◌-◌, ◌*◌, ◌/◌, ◌<◌, Option, Some, None, ◌⊎◌, inl, inr, max, List, [], ◌++◌, length, take, drop, refl, ap, ◌∙◌, subst, arith}
 use Rattle.std.specs.Prelude.{sum, IsSomeAnd}
 use Rattle.capnp_frame.specs.declared.error.ErrorKind.{ErrorKind}
 use Rattle.capnp_frame.specs.declared.error.ErrorKind.TheVariants.{BufferNotLargeEnough, MessageTooLarge, NonZeroPadding, DeviceFailed}
@@ -10,7 +10,7 @@ use Rattle.capnp_frame.specs.Front.{declared_lengths, declared_padding, Declares
 use Rattle.capnp_frame.specs.Limits.{KeepsLimit, AreWithin}
 use Rattle.capnp_frame.specs.Source.{Giving, Refusing, IsSource, IfKnown, IsTail, IsRefused}
 use Rattle.capnp_frame.specs.Requests.{TableStands}
-use Rattle.capnp_frame.specs.Refusals.{Tells, DeclaresAccepted, TakesMemory, TakesForLengths, IsTooLarge, LacksRoom, IsTableKind, IsReaderKind, IsProvidedReaderKind}
+use Rattle.capnp_frame.specs.Refusals.{Tells, DeclaresAccepted, Outgrows, TakesForLengths, IsTooLarge, LacksRoom, IsTableKind, IsReaderKind, IsProvidedReaderKind}
 use Rattle.capnp_frame.specs.Refusals.{RefusesAtLimit, RefusesTable, RefusesStream}
 use Rattle.capnp_frame.specs.Steps.{StopsAtTable, RefusesComplete}
 use Rattle.capnp_frame.proofs.SourceLemmas.{IfKnown-join, IfKnown-weaker, IfKnown-refused}
@@ -181,10 +181,10 @@ table_met_skipping rule F M gives refuses limit kind old new (inl p) = inl p
 table_met_skipping rule F M gives refuses limit kind old new (inr (inl p)) = inr (inl p)
 table_met_skipping rule F M gives refuses limit kind old new (inr (inr p)) = or_memory (table_met rule F gives refuses limit None kind old new (inr p))
 
-pub table_met_growing : (rule : Padding) (F M : Type 0) (gives : Giving) (refuses : Refusing) (limit : Option ℕ) (kind : ErrorKind)
-    (old new : Option (List ℕ)) → F ⊎ (M × IfKnown old new (TakesForLengths 1 gives))
+pub table_met_growing : (rule : Padding) (F M : Type 0) (segments bytes : ℕ) (gives : Giving) (refuses : Refusing) (limit : Option ℕ) (kind : ErrorKind)
+    (old new : Option (List ℕ)) → F ⊎ (M × IfKnown old new (TakesForLengths (max 1 segments) gives))
     ⊎ IfKnown old new (RefusesTable rule gives refuses limit None kind) → F
-    ⊎ (M × IfKnown old new (TakesMemory rule gives limit)) ⊎ IfKnown old new (RefusesStream rule gives refuses limit None kind)
-table_met_growing rule F M gives refuses limit kind old new (inl p) = inl p
-table_met_growing rule F M gives refuses limit kind old new (inr (inl p)) = inr (inl (p.0, IfKnown-weaker old new (λ raw left takes. inl takes) p.1))
-table_met_growing rule F M gives refuses limit kind old new (inr (inr p)) = or_memory (table_met rule F gives refuses limit None kind old new (inr p))
+    ⊎ (M × IfKnown old new (Outgrows segments bytes rule gives limit)) ⊎ IfKnown old new (RefusesStream rule gives refuses limit None kind)
+table_met_growing rule F M segments bytes gives refuses limit kind old new (inl p) = inl p
+table_met_growing rule F M segments bytes gives refuses limit kind old new (inr (inl p)) = inr (inl (p.0, IfKnown-weaker old new (λ raw left takes. inl takes) p.1))
+table_met_growing rule F M segments bytes gives refuses limit kind old new (inr (inr p)) = or_memory (table_met rule F gives refuses limit None kind old new (inr p))

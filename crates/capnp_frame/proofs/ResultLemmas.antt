@@ -5,7 +5,7 @@ use Rattle.std.specs.List.{AllByRecursion}
 use Rattle.std.specs.Result.{IsErrAnd}
 use Rattle.capnp_frame.specs.declared.io.Read.{Ghosts}
 use Rattle.capnp_frame.specs.Message.{IsWholeWords}
-use Rattle.capnp_frame.specs.Streams.{framed_rules, ReadsStream}
+use Rattle.capnp_frame.specs.Streams.{StreamRules, framed_rules, ReadsStream}
 use Rattle.capnp_frame.specs.Steps.{AsksNext}
 use Rattle.capnp_frame.specs.declared.error.Error.{Error}
 use Rattle.capnp_frame.specs.declared.error.ErrorKind.{ErrorKind}
@@ -14,7 +14,8 @@ use Rattle.capnp_frame.specs.declared.serialize.segment_table.Padding.{Padding}
 use Rattle.capnp_frame.specs.Limits.{IsWithin}
 use Rattle.capnp_frame.specs.Source.{Giving, Refusing, IsSource, IfKnown}
 use Rattle.capnp_frame.specs.Requests.{MessageStands}
-use Rattle.capnp_frame.specs.Refusals.{RefusesStream, TakesMemory}
+use Rattle.capnp_frame.specs.Refusals.{RefusesStream}
+use Rattle.capnp_frame.proofs.SourceLemmas.{IfKnown-weaker}
 use Rattle.capnp_frame.proofs.RefusalLemmas.{Unless-after, RefusesStream-once, RefusesStream-apart}
 
 pub accepted : (rule : Padding) (M : Type 0) {gives : Giving} {refuses : Refusing} (laws : IsSource gives refuses) {X : Type 0}
@@ -71,12 +72,32 @@ reads_taking rule source laws old new takes limit r found within whole asks = re
   advances = asks.asked.advances;
 }
 
--- and one that grows
-pub reads_stream : {S : Type 0} (rule : Padding) (source : Ghosts S) (laws : IsSource source.gives source.refuses) (old new : S)
-    (limit : Option ℕ) (r : Result (Option (List (List ℕ))) Error)
-    → IfOk r (λ found. IfSome found (λ segments. IfKnown (source.unread old) (source.unread new) (MessageStands rule source.gives segments)))
-    → IfOk r (λ found. IfSome found (λ segments. IsWithin segments limit))
-    → IfOk r (λ found. IfSome found (AllByRecursion IsWholeWords))
-    → AsksNext source old new rule (TakesMemory rule source.gives limit) (RefusesStream rule source.gives source.refuses limit None) r
-    → ReadsStream source old new (framed_rules rule source.gives source.refuses) limit r
-reads_stream rule source laws old new limit r found within whole asks = reads_taking rule source laws old new (TakesMemory rule source.gives) limit r found within whole asks
+-- what is read with more memory at hand is read with less of it
+pub reads_with_less : {S : Type 0} (source : Ghosts S) (old new : S) (rules : StreamRules) (takes also : Option ℕ → List ℕ → List ℕ → Type 0)
+    (limit : Option ℕ) (r : Result (Option (List (List ℕ))) Error) → ((raw left : List ℕ) → takes limit raw left → also limit raw left)
+    → ReadsStream source old new (record rules { takes_memory = takes }) limit r
+    → ReadsStream source old new (record rules { takes_memory = also }) limit r
+reads_with_less source old new rules takes also limit r wider reads = record {
+  found = reads.found;
+  within = reads.within;
+  whole = reads.whole;
+  none = reads.none;
+  accepted = reads.accepted;
+  end = reads.end;
+  refused = taken r reads.refused;
+  exact = reads.exact;
+  kinds = reads.kinds;
+  failed = reads.failed;
+  advances = reads.advances;
+}
+  where
+    taken : (tried : Result (Option (List (List ℕ))) Error) → IfErr tried (λ e. (e.kind ≡ DeviceFailed)
+        ⊎ ((e.kind ≡ OutOfMemory) × IfKnown (source.unread old) (source.unread new) (takes limit))
+        ⊎ IfKnown (source.unread old) (source.unread new) (rules.refuses limit None e.kind))
+        → IfErr tried (λ e. (e.kind ≡ DeviceFailed)
+        ⊎ ((e.kind ≡ OutOfMemory) × IfKnown (source.unread old) (source.unread new) (also limit))
+        ⊎ IfKnown (source.unread old) (source.unread new) (rules.refuses limit None e.kind))
+    taken (Ok found) refused = tt
+    taken (Err e) (inl device) = inl device
+    taken (Err e) (inr (inl (memory, here))) = inr (inl (memory, IfKnown-weaker _ _ wider here))
+    taken (Err e) (inr (inr line)) = inr (inr line)

@@ -1,5 +1,5 @@
 -- Which error a stream reader returns: the lines of its table in their order (docs/FORMAT.md, "Readers of streams").
-use Rattle.std.specs.Prelude.{◌≡◌, ◌≢◌, ℕ, ◌+◌, ◌-◌, ◌*◌, ◌/◌, ◌%◌, ◌^◌, ◌<◌, ◌≤◌, ◌⊎◌, List, [], ◌++◌, length, take, sum, Option, IsSomeAnd}
+use Rattle.std.specs.Prelude.{◌≡◌, ◌≢◌, ℕ, ◌+◌, ◌-◌, ◌*◌, ◌/◌, ◌%◌, ◌^◌, ◌<◌, ◌≤◌, ◌⊎◌, max, List, [], ◌++◌, length, take, sum, Option, IsSomeAnd}
 use Rattle.capnp_frame.specs.declared.error.ErrorKind.{ErrorKind}
 use Rattle.capnp_frame.specs.declared.error.ErrorKind.TheVariants.{DeviceFailed, OutOfMemory, BufferNotLargeEnough, InvalidNumberOfSegments, MessageTooLarge, NonZeroPadding}
 use Rattle.capnp_frame.specs.declared.serialize.segment_table.Padding.{Padding}
@@ -100,11 +100,16 @@ pub record CountStands (gives : Giving) (raw rest : List ℕ) : Type 0 where
 abbrev pub TakesForLengths : ℕ → Giving → List ℕ → List ℕ → Type 0
 TakesForLengths kept gives raw left = (stands : CountStands gives raw left) × (kept < stands.count)
 
--- Where a reader that allocates takes memory: for the lengths of more than one segment once their number is accepted, and for the
--- segments once their table is, with the limit and the padding. Only what it has asked for until then is consumed.
+-- Where a reader that allocates takes memory, and has some for this number of lengths and of bytes: for the lengths of more segments
+-- than these, and than one, once their number is accepted, and for segments of more bytes once their table is, with the limit and the
+-- padding. Only what it has asked for until then is consumed.
+abbrev pub Outgrows : ℕ → ℕ → Padding → Giving → Option ℕ → List ℕ → List ℕ → Type 0
+Outgrows segments bytes rule gives limit raw left = TakesForLengths (max 1 segments) gives raw left
+    ⊎ ((lengths : List ℕ) × TableStands rule gives lengths raw left × AreWithin lengths limit × (bytes < 8 * sum lengths))
+
+-- where it takes memory and has none
 abbrev pub TakesMemory : Padding → Giving → Option ℕ → List ℕ → List ℕ → Type 0
-TakesMemory rule gives limit raw left = TakesForLengths 1 gives raw left
-    ⊎ ((lengths : List ℕ) × TableStands rule gives lengths raw left × AreWithin lengths limit)
+TakesMemory = Outgrows 0 0
 
 -- the kind of a padding that the rule does not accept
 abbrev pub IsPaddingKind : Padding → ErrorKind → Type 0

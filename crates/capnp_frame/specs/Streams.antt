@@ -1,6 +1,6 @@
 -- What the readers of streams return, and when they fail (src/serialize/stream.rt, src/serialize/provided_stream.rt).
 use Rattle.std.specs.Prelude.{◌≡◌, ℕ, ◌+◌, ◌*◌, ◌<◌, ◌≤◌, ◌⊎◌, List, [], length, Option, Some, None, Result, IfOk, IfErr, IfSome, IfNone}
-use Rattle.std.specs.List.{AllByRecursion}
+use Rattle.std.specs.List.{concat, AllByRecursion}
 use Rattle.std.specs.Option.{option_map}
 use Rattle.std.specs.Result.{IsErrAnd, result_map_both}
 use Rattle.capnp_frame.specs.declared.error.Error.{Error}
@@ -14,7 +14,7 @@ use Rattle.capnp_frame.specs.Limits.{IsWithin}
 use Rattle.capnp_frame.specs.Requests.{MessageStands}
 use Rattle.capnp_frame.specs.Source.{Giving, Refusing, IfKnown, Advances, Fails}
 use Rattle.capnp_frame.specs.Errors.{FailsWith}
-use Rattle.capnp_frame.specs.Refusals.{RefusesStream, TakesMemory, TakesForLengths, IsReaderKind, IsProvidedReaderKind}
+use Rattle.capnp_frame.specs.Refusals.{RefusesStream, Outgrows, TakesMemory, TakesForLengths, IsReaderKind, IsProvidedReaderKind}
 
 -- A message is at the front of `raw`, and `rest` after it, as a relation:
 -- `stands segments raw rest`.
@@ -54,6 +54,11 @@ framed_rules rule gives refuses = record {
   kinds = IsReaderKind rule refuses;
   provided_kinds = IsProvidedReaderKind rule refuses;
 }
+
+-- Framed messages that are read into the memory of the message `kept`: none is taken for as many segments as it has, or for one, and
+-- for as many bytes.
+abbrev pub reusing_rules : Padding → Giving → Refusing → List (List ℕ) → StreamRules
+reusing_rules rule gives refuses kept = record (framed_rules rule gives refuses) { takes_memory = Outgrows (length kept) (length (concat kept)) rule gives }
 
 -- Framed messages whose segments are skipped: memory is taken for the lengths alone, where they are more than `kept`.
 abbrev pub skipping_rules : Padding → Giving → Refusing → ℕ → StreamRules

@@ -1,13 +1,14 @@
 -- The readers of `capnp_frame` over a packed source, in packed encodings.
 use Rattle.std.proofs.Common.{◌≡◌, ◌⊎◌, ℕ, ◌+◌, ◌*◌, ◌≤◌, ap, sym, subst, ◌∙◌, Option, Some, None, Result, Ok, Err, IfErr, List, length}
 use Rattle.std.specs.Prelude.{sum}
+use Rattle.std.specs.List.{concat}
 use Rattle.capnp_frame.specs.declared.error.Error.{Error}
 use Rattle.capnp_frame.specs.declared.error.ErrorKind.{ErrorKind}
 use Rattle.capnp_frame.specs.declared.error.ErrorKind.TheVariants.{DeviceFailed, OutOfMemory}
 use Rattle.capnp_frame.specs.declared.serialize.segment_table.Padding.{Padding}
 use Rattle.capnp_frame.specs.declared.io.Read.{Ghosts}
 use Rattle.capnp_frame.specs.Message.{size_in_words}
-use Rattle.capnp_frame.specs.Refusals.{TakesMemory, TakesForLengths}
+use Rattle.capnp_frame.specs.Refusals.{Outgrows, TakesMemory, TakesForLengths}
 use Rattle.capnp_frame.specs.Requests.{TableStands}
 use Rattle.capnp_frame.specs.SegmentLengths.{cut}
 use Rattle.capnp_frame.specs.Skipping.{SkipsMessage, LengthsStand}
@@ -16,9 +17,9 @@ use Rattle.capnp_frame.proofs.RequestLemmas.{lengths-cut, MessageStands-cut}
 use Rattle.capnp_frame.proofs.SourceLemmas.{IfKnown-join}
 use Rattle.capnp_frame.specs.Steps.{AsksNext}
 use Rattle.capnp_frame.specs.SegmentTable.{table_size}
-use Rattle.capnp_frame.specs.Streams.{framed_rules, skipping_rules, ReadsStream, ReadsStreamInto}
+use Rattle.capnp_frame.specs.Streams.{framed_rules, reusing_rules, skipping_rules, ReadsStream, ReadsStreamInto}
 use Rattle.capnp_pack.specs.PackedSource.{Unpacks, RefusesChunk}
-use Rattle.capnp_pack.specs.PackedStreams.{packed_rules, packed_skipping_rules, packed_source}
+use Rattle.capnp_pack.specs.PackedStreams.{packed_rules, packed_reusing_rules, packed_skipping_rules, packed_source}
 use Rattle.capnp_pack.proofs.MessageLemmas.{found_packed, accepted_packed}
 
 -- what unpacks a source: what is seen of it is what is seen of that source
@@ -56,6 +57,13 @@ pub packed_reads : {S T : Type 0} (rule : Padding) (following : T → S) (source
     → ReadsStream source (following old) (following new) (packed_rules rule) limit r
 packed_reads rule following source same old new limit r same_source declared =
     packed_reads_taking rule (TakesMemory rule Unpacks) following source same old new limit r same_source declared
+
+pub packed_reads_reusing : {S T : Type 0} (rule : Padding) (following : T → S) (source : Ghosts S) (same : T → T → Type 0) (old new : T)
+    (kept : List (List ℕ)) (limit : Option ℕ) (r : Result (Option (List (List ℕ))) Error) → source.same (following old) (following new)
+    → ReadsStream (unpacked following source same) old new (reusing_rules rule Unpacks RefusesChunk kept) limit r
+    → ReadsStream source (following old) (following new) (packed_reusing_rules rule kept) limit r
+packed_reads_reusing rule following source same old new kept limit r same_source declared =
+    packed_reads_taking rule (Outgrows (length kept) (length (concat kept)) rule Unpacks) following source same old new limit r same_source declared
 
 pub packed_reads_into : {S T : Type 0} (rule : Padding) (following : T → S) (source : Ghosts S) (same : T → T → Type 0) (old new : T)
     (limit : Option ℕ) (room : ℕ) (r : Result (Option (List (List ℕ))) Error) → source.same (following old) (following new)

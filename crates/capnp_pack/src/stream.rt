@@ -1,6 +1,6 @@
 //! Packed messages, read by the readers of `capnp_frame` over `PackedRead`.
 ghost use Rattle.capnp_frame.specs.Streams.{ReadsStream};
-ghost use Rattle.capnp_pack.specs.PackedStreams.{packed_rules};
+ghost use Rattle.capnp_pack.specs.PackedStreams.{packed_rules, packed_reusing_rules};
 
 mod framed;
 mod provided;
@@ -72,12 +72,15 @@ pub fn try_read_packed_segments_with_padding<R: BufRead>(
 
 /// Reads the next packed message as `try_read_packed_segments` does, into the memory of an earlier
 /// message, which grows where it is too small.
+///
+/// It fails with `OutOfMemory` only for more bytes than the segments of `spare` have, or for more
+/// segments than one and than `spare` has, and else as `try_read_packed_segments` does.
 pub fn try_read_packed_segments_reusing<R: BufRead>(
     source: &mut R,
     options: ReaderOptions,
     spare: OwnedSegments,
 ) -> Result<Option<OwnedSegments>>
-    ensures { ReadsStream R.Read source.old source.new (packed_rules Padding.Zero)
+    ensures { ReadsStream R.Read source.old source.new (packed_reusing_rules Padding.Zero spare)
         options.traversal_limit_in_words result }
 {
     try_read_packed_segments_reusing_with_padding(source, Padding::Zero, options, spare)
@@ -90,7 +93,7 @@ pub fn try_read_packed_segments_reusing_lenient<R: BufRead>(
     options: ReaderOptions,
     spare: OwnedSegments,
 ) -> Result<Option<OwnedSegments>>
-    ensures { ReadsStream R.Read source.old source.new (packed_rules Padding.Any)
+    ensures { ReadsStream R.Read source.old source.new (packed_reusing_rules Padding.Any spare)
         options.traversal_limit_in_words result }
 {
     try_read_packed_segments_reusing_with_padding(source, Padding::Any, options, spare)
@@ -104,7 +107,7 @@ pub fn try_read_packed_segments_reusing_with_padding<R: BufRead>(
     options: ReaderOptions,
     spare: OwnedSegments,
 ) -> Result<Option<OwnedSegments>>
-    ensures { ReadsStream R.Read source.old source.new (packed_rules padding)
+    ensures { ReadsStream R.Read source.old source.new (packed_reusing_rules padding spare)
         options.traversal_limit_in_words result }
 {
     let mut packed = PackedRead::new(source);

@@ -49,7 +49,8 @@ impl OwnedSegments {
 
     /// The memory of the segments: where each begins and ends, in words, and their bytes.
     pub(crate) fn into_parts(self) -> (SegmentIndices, Vec<u8>)
-        ensures { self ≡ cut result.0 result.1.items }
+        ensures segments { self ≡ cut result.0 result.1.items }
+        ensures whole { vec_len result.1 ≡ 8 * sum result.0 }
     {
         (self.segment_indices, self.bytes)
     }

@@ -1,5 +1,5 @@
 //! Where the segments of a message begin and end.
-ghost use Rattle.std.specs.Prelude.{◌≡◌, ℕ, List, [], ◌∷◌, length, map, sum};
+ghost use Rattle.std.specs.Prelude.{◌≡◌, ℕ, ◌≤◌, max, List, [], ◌∷◌, length, map, sum, vec_len};
 ghost use Rattle.capnp_frame.specs.SegmentLengths.{ranges, range_len, held_ranges, AreRanges};
 
 use std::alloc::Global;
@@ -60,7 +60,9 @@ impl SegmentIndices {
     }
 
     /// The memory, for the ranges of more than one segment.
-    pub(crate) fn into_several(self) -> Vec<(usize, usize)> {
+    pub(crate) fn into_several(self) -> Vec<(usize, usize)>
+        ensures { length self ≤ max 1 (vec_len result) }
+    {
         self.several
     }
 

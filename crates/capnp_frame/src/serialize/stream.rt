@@ -1,13 +1,13 @@
 //! Reading messages from a source.
-ghost use Rattle.std.specs.Prelude.{IfOk, IfSome, None};
+ghost use Rattle.std.specs.Prelude.{◌≡◌, ◌*◌, length, sum, vec_len, IfOk, IfSome, None};
 ghost use Rattle.std.specs.List.{AllByRecursion};
 ghost use Rattle.capnp_frame.specs.Message.{IsWholeWords};
 ghost use Rattle.capnp_frame.specs.Limits.{IsWithin};
 ghost use Rattle.capnp_frame.specs.Source.{IfKnown};
-ghost use Rattle.capnp_frame.specs.Streams.{framed_rules, ReadsStream};
+ghost use Rattle.capnp_frame.specs.Streams.{framed_rules, reusing_rules, ReadsStream};
 ghost use Rattle.capnp_frame.specs.Steps.{AsksNext};
 ghost use Rattle.capnp_frame.specs.Requests.{MessageStands};
-ghost use Rattle.capnp_frame.specs.Refusals.{RefusesStream, TakesMemory};
+ghost use Rattle.capnp_frame.specs.Refusals.{RefusesStream, Outgrows};
 
 use crate::error::Result;
 use crate::io::Read;
@@ -71,13 +71,16 @@ pub fn try_read_segments_with_padding<R: Read>(
 
 /// Reads the next message as `try_read_segments` does, into the memory of an earlier message, which
 /// grows where it is too small.
+///
+/// It fails with `OutOfMemory` only for more bytes than the segments of `spare` have, or for more
+/// segments than one and than `spare` has, and else as `try_read_segments` does.
 pub fn try_read_segments_reusing<R: Read>(
     source: &mut R,
     options: ReaderOptions,
     spare: OwnedSegments,
 ) -> Result<Option<OwnedSegments>>
     ensures { ReadsStream R.Read source.old source.new
-        (framed_rules Padding.Zero R.gives R.refuses) options.traversal_limit_in_words result }
+        (reusing_rules Padding.Zero R.gives R.refuses spare) options.traversal_limit_in_words result }
 {
     try_read_segments_reusing_with_padding(source, Padding::Zero, options, spare)
 }
@@ -90,7 +93,7 @@ pub fn try_read_segments_reusing_lenient<R: Read>(
     spare: OwnedSegments,
 ) -> Result<Option<OwnedSegments>>
     ensures { ReadsStream R.Read source.old source.new
-        (framed_rules Padding.Any R.gives R.refuses) options.traversal_limit_in_words result }
+        (reusing_rules Padding.Any R.gives R.refuses spare) options.traversal_limit_in_words result }
 {
     try_read_segments_reusing_with_padding(source, Padding::Any, options, spare)
 }
@@ -104,14 +107,14 @@ pub fn try_read_segments_reusing_with_padding<R: Read>(
     spare: OwnedSegments,
 ) -> Result<Option<OwnedSegments>>
     ensures { ReadsStream R.Read source.old source.new
-        (framed_rules padding R.gives R.refuses) options.traversal_limit_in_words result }
+        (reusing_rules padding R.gives R.refuses spare) options.traversal_limit_in_words result }
 {
     let limit = options.traversal_limit_in_words;
     let (indices, bytes) = spare.into_parts();
     read_segments(source, limit, padding, indices, bytes)
 }
 
-// Reads the table and the segments.
+// Reads the table and the segments, into this memory.
 fn read_segments<R: Read>(
     source: &mut R,
     limit: Option<usize>,
@@ -123,7 +126,8 @@ fn read_segments<R: Read>(
         IfKnown (R.unread source.old) (R.unread source.new) (MessageStands rule R.gives segments))) }
     ensures within { IfOk result (λ found. IfSome found (λ segments. IsWithin segments limit)) }
     ensures whole { IfOk result (λ found. IfSome found (AllByRecursion IsWholeWords)) }
-    ensures asks { AsksNext R.Read source.old source.new rule (TakesMemory rule R.gives limit)
+    ensures asks { AsksNext R.Read source.old source.new rule
+        (Outgrows (length spare_indices) (vec_len spare_bytes) rule R.gives limit)
         (RefusesStream rule R.gives R.refuses limit None) result }
 {
     let Some(indices) = read_indices(spare_indices, source, limit, rule)? else {

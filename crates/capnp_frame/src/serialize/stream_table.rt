@@ -1,5 +1,5 @@
 //! Reading segment tables from a source.
-ghost use Rattle.std.specs.Prelude.{◌≡◌, ◌-◌, ◌<◌, ◌≤◌, ◌^◌, [], length, take, drop, map, sum, IfOk, IfErr, OnOk, IfSome, IfNone, IsOk, Some, None};
+ghost use Rattle.std.specs.Prelude.{◌≡◌, ◌-◌, ◌<◌, ◌≤◌, ◌^◌, max, [], length, take, drop, map, sum, IfOk, IfErr, OnOk, IfSome, IfNone, IsOk, Some, None};
 ghost use Rattle.capnp_frame.specs.SegmentTable.{table_size, KeepsPadding};
 ghost use Rattle.capnp_frame.specs.SegmentLengths.{range_len, AreRanges};
 ghost use Rattle.capnp_frame.specs.Front.{declared_lengths, declared_padding, DeclaresTable};
@@ -24,7 +24,7 @@ use crate::serialize::segment_table::{
 const SHORT_TABLE: usize = 256;
 
 // Where the segments of the next table begin and end, or none at the source's end. Memory is taken
-// only for more than one segment.
+// only for more segments than one, and than `spare` has.
 pub(crate) fn read_indices<R: Read>(
     spare: SegmentIndices,
     source: &mut R,
@@ -35,7 +35,8 @@ pub(crate) fn read_indices<R: Read>(
         IfKnown (R.unread source.old) (R.unread source.new) (TableStands rule R.gives ns))) }
     ensures within { IfOk result (λ found. IfSome found (λ ns. AreWithin ns limit)) }
     ensures bound { IfOk result (λ found. IfSome found (λ ns. sum ns < 2 ^ 42)) }
-    ensures asks { AsksNext R.Read source.old source.new rule (TakesForLengths 1 R.gives)
+    ensures asks { AsksNext R.Read source.old source.new rule
+        (TakesForLengths (max 1 (length spare)) R.gives)
         (RefusesTable rule R.gives R.refuses limit None) result }
 {
     let Some(first) = read_first(source)? else {

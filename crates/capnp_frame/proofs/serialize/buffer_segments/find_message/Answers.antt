@@ -7,7 +7,8 @@ use Rattle.capnp_frame.proofs.serialize.buffer_segments.find_message.Goals as go
 pub returns-in_err-indices-clause-refused : goal.returns-in_err-indices-clause-refused
 returns-in_err-indices-clause-refused c =
     let p = err_from_is_err_and c.from_residual.result c.from_residual.ensures.1 in
-    rw (p.1, p.2) (slice_refused c.args.empty c.args.rule c.args.limit _ c.args.bytes.now _ c.in_err-indices.ensures.asks.asked.failed c.in_err-indices.ensures.asks.refused)
+    rw (p.1, p.2) (slice_refused c.args.empty c.args.rule c.args.limit _ c.args.bytes.now _ c.in_err-indices.ensures.asks.asked.failed
+    (rw c.empty-spare.ensures at c.in_err-indices.ensures.asks.refused))
 
 pub returns-then-rest-total-clause-refused : goal.returns-then-rest-total-clause-refused
 returns-then-rest-total-clause-refused c =

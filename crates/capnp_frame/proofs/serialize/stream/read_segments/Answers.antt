@@ -13,7 +13,7 @@ use Rattle.capnp_frame.proofs.serialize.stream.read_segments.Goals as goal
 pub returns-in_err-indices-clause-asks : goal.returns-in_err-indices-clause-asks
 returns-in_err-indices-clause-asks g c =
     asks_passed g.R.Read _ _ c.args.rule _ _ _ _ _ _ c.from_residual.ensures.1
-    (table_met_growing c.args.rule _ _ g.R.Read.gives g.R.Read.refuses _ _ _ _) c.in_err-indices.ensures.asks
+    (table_met_growing c.args.rule _ _ _ _ g.R.Read.gives g.R.Read.refuses _ _ _ _) c.in_err-indices.ensures.asks
 
 pub returns-in_err-read_chunk-clause-asks : goal.returns-in_err-read_chunk-clause-asks
 returns-in_err-read_chunk-clause-asks g c =

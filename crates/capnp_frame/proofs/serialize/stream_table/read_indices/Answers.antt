@@ -1,5 +1,5 @@
 -- The table that is read is the only one that is there.
-use Rattle.std.proofs.Common.{rules, ◌≡◌, ◌∙◌, ◌<◌, length, map, ap, arith}
+use Rattle.std.proofs.Common.{rules, ◌≡◌, ◌∙◌, ◌<◌, max, length, map, ap, arith}
 use Rattle.capnp_frame.specs.SegmentLengths.{range_len}
 use Rattle.capnp_frame.proofs.Ranges.{width_alone}
 use Rattle.capnp_frame.proofs.StepLemmas.{asks_found, first_failed, memory_failed, lengths_failed}
@@ -44,8 +44,11 @@ returns-in_err-resize-clause-asks g c =
     let first = rw c.in-Some.is at c.in_ok-first.ensures.found in
     let some = c.in_ok-count.ensures.accepted.some in
     let several = c.if-count-eq1.false in
-    let more : 1 < c.in_ok-count.count = omega arith in
-    memory_failed g.R.Read c.args.rule 1 _ g.met.R.Read.lawful _ _ c.in-Some.first c.in_ok-count.count _ (search rules)
+    let memory = c.into_several-several.result in
+    let kept = c.into_several-several.ensures in
+    let full = c.in_err-resize.ensures.full in
+    let more : max 1 (length c.args.spare) < c.in_ok-count.count = omega (arith, memory.ok.0, memory.ok.1) in
+    memory_failed g.R.Read c.args.rule (max 1 (length c.args.spare)) _ g.met.R.Read.lawful _ _ c.in-Some.first c.in_ok-count.count _ (search rules)
     first c.in_ok-count.ensures.accepted more c.read_first.ensures.asked.advances
 
 pub returns-in_err-total-2-clause-asks : goal.returns-in_err-total-2-clause-asks
