@@ -1,5 +1,6 @@
 -- The readers of both formats over a source of plain bytes.
-use Rattle.std.proofs.Common.{◌≡◌, inl, inr, ◌⊎◌, ℕ, List, Option, Some, None, IfSome, Result, Ok, Err, IfOk, IfErr}
+use Rattle.std.proofs.Common.{◌≡◌, inl, inr, ◌⊎◌, ℕ, max, List, length, Option, Some, None, IfSome, Result, Ok, Err, IfOk, IfErr, arith}
+use Rattle.std.specs.List.{concat}
 use Rattle.capnp_frame.specs.declared.serialize.segment_table.Padding.{Padding}
 use Rattle.capnp_frame.specs.declared.error.Error.{Error}
 use Rattle.capnp_frame.specs.declared.error.ErrorKind.{ErrorKind}
@@ -7,10 +8,10 @@ use Rattle.capnp_frame.specs.declared.error.ErrorKind.TheVariants.{DeviceFailed,
 use Rattle.capnp_frame.specs.declared.io.Read.{Ghosts}
 use Rattle.capnp_frame.specs.Limits.{IsWithin}
 use Rattle.capnp_frame.specs.Source.{Giving, Refusing, Splits, RunsShort, IfKnown, Advances, Fails}
-use Rattle.capnp_frame.specs.Refusals.{CountStands, RefusesStream, TakesMemory, TakesForLengths, IsReaderKind}
+use Rattle.capnp_frame.specs.Refusals.{CountStands, RefusesStream, Outgrows, TakesMemory, TakesForLengths, IsReaderKind}
 use Rattle.capnp_frame.specs.Requests.{MessageStands}
 use Rattle.capnp_frame.specs.Skipping.{SkipsMessage}
-use Rattle.capnp_frame.specs.Streams.{StreamRules, framed_rules, skipping_rules, ReadsStream}
+use Rattle.capnp_frame.specs.Streams.{StreamRules, framed_rules, reusing_rules, skipping_rules, ReadsStream}
 use Rattle.capnp_frame.proofs.SourceLemmas.{IfKnown-weaker}
 use Rattle.capnp_frame.proofs.RefusalLemmas.{RefusesStream-map}
 use Rattle.capnp.specs.declared.streams.Format.{Format}
@@ -35,11 +36,11 @@ TakesForLengths-map : (kept : ℕ) {gives others : Giving} (given : (raw : List 
 unfolding CountStands-map
 TakesForLengths-map kept given raw left (count, more) = (CountStands-map given raw left count, more)
 
-TakesMemory-map : (rule : Padding) {gives others : Giving}
+Outgrows-map : (segments bytes : ℕ) (rule : Padding) {gives others : Giving}
     (given : (raw : List ℕ) (n : ℕ) (bytes rest : List ℕ) → gives raw n bytes rest → others raw n bytes rest)
-    (limit : Option ℕ) (raw left : List ℕ) → TakesMemory rule gives limit raw left → TakesMemory rule others limit raw left
-TakesMemory-map rule given limit raw left (inl several) = inl (TakesForLengths-map 1 given raw left several)
-TakesMemory-map rule given limit raw left (inr (lengths, table, within)) = inr (
+    (limit : Option ℕ) (raw left : List ℕ) → Outgrows segments bytes rule gives limit raw left → Outgrows segments bytes rule others limit raw left
+Outgrows-map segments bytes rule given limit raw left (inl several) = inl (TakesForLengths-map (max 1 segments) given raw left several)
+Outgrows-map segments bytes rule given limit raw left (inr (lengths, table, within, more)) = inr (
   lengths,
   record {
     first = table.first;
@@ -50,7 +51,14 @@ TakesMemory-map rule given limit raw left (inr (lengths, table, within)) = inr (
     table = table.table;
   },
   within,
+  more,
 )
+
+-- with less memory at hand it is outgrown sooner
+pub Outgrows-none : (segments bytes : ℕ) (rule : Padding) (gives : Giving) (limit : Option ℕ) (raw left : List ℕ)
+    → Outgrows segments bytes rule gives limit raw left → TakesMemory rule gives limit raw left
+Outgrows-none segments bytes rule gives limit raw left (inl (stands, more)) = inl (stands, omega arith)
+Outgrows-none segments bytes rule gives limit raw left (inr (lengths, table, within, more)) = inr (lengths, table, within, omega arith)
 
 kinds_of : (rule : Padding) {refuses also : Refusing} (refused : (raw : List ℕ) (n : ℕ) (kind : ErrorKind) → refuses raw n kind → also raw n kind)
     (kind : ErrorKind) → IsReaderKind rule refuses kind → IsReaderKind rule also kind
@@ -124,7 +132,14 @@ module _ {S : Type 0} (rule : Padding) (source : Ghosts S) (plain : IsPlainSourc
       → ReadsStream source old new (framed_rules rule source.gives source.refuses) limit r
       → ReadsStream source old new (rules_of rule Framed) limit r
   plain_reads old new r reads = plain_reads_taking (TakesMemory rule source.gives) (TakesMemory rule Splits)
-      (TakesMemory-map rule (λ w n b t. (plain.given w n b t).1) limit) old new r reads
+      (Outgrows-map 0 0 rule (λ w n b t. (plain.given w n b t).1) limit) old new r reads
+
+  -- also of a reader into kept memory
+  pub plain_reads_reusing : (kept : List (List ℕ)) (old new : S) (r : Result (Option (List (List ℕ))) Error)
+      → ReadsStream source old new (reusing_rules rule source.gives source.refuses kept) limit r
+      → ReadsStream source old new (rules_of rule Framed) limit r
+  plain_reads_reusing kept old new r reads = plain_reads_taking (Outgrows (length kept) (length (concat kept)) rule source.gives) (TakesMemory rule Splits)
+      (λ raw left takes. Outgrows-none _ _ rule _ limit raw left (Outgrows-map _ _ rule (λ w n b t. (plain.given w n b t).1) limit raw left takes)) old new r reads
 
   plain_skips_each : (kept : ℕ) (old new : S) (r : Result (Option (List (List ℕ))) Error)
       → ReadsStream source old new (skipping_rules rule source.gives source.refuses kept) limit r

@@ -8,6 +8,7 @@ pub mod PaddingLemmas
 pub mod RequestLemmas
 pub mod FrameLemmas
 pub mod RefusalLemmas
+pub mod KeptMemoryLemmas
 pub mod LimitLemmas
 pub mod MetRefusals
 pub mod TextLemmas

@@ -92,7 +92,7 @@ RefusesStream-once rule laws limit room kind other raw left rest = RefusesAtStar
     left rest (λ ns following. Unless-once (λ x y. x.0 ∙ sym y.0) (laws.one_kind following (8 * sum ns) kind other))
 
 -- a table that is accepted comes to what is after it
-few_tells : {rule : Padding} (word others ns : List ℕ) (count : ℕ) → IsTable rule (word ++ others) ns → length word ≡ 8 → length ns < 512 → Tells word count → count ≡ length ns
+pub few_tells : {rule : Padding} (word others ns : List ℕ) (count : ℕ) → IsTable rule (word ++ others) ns → length word ≡ 8 → length ns < 512 → Tells word count → count ≡ length ns
 few_tells word others ns count table long few tells =
     let declared = count_declared word others ns tells.0 table long tells.2 tells.1 in
     tells.3 ∙ ap (λ k. k % 2 ^ 32) declared ∙ small (length ns) few

@@ -1,5 +1,5 @@
 //! Facts about framed messages, each the contract of a function that does nothing.
-ghost use Rattle.std.specs.Prelude.{◌≡◌, ◌≢◌, ◌⊎◌, ℕ, ◌*◌, ◌<◌, ◌≤◌, List, ◌++◌, ◌↔◌, Option, None, length, slice_get, IsSome};
+ghost use Rattle.std.specs.Prelude.{◌≡◌, ◌≢◌, ◌⊎◌, ℕ, ◌*◌, ◌<◌, ◌≤◌, List, ◌++◌, ◌↔◌, max, Option, None, length, slice_get, IsSome};
 ghost use Rattle.std.specs.List.{AllByRecursion, concat};
 ghost use Rattle.capnp_frame.specs.Message.{IsWholeWords, lengths, size_in_words};
 ghost use Rattle.capnp_frame.specs.SegmentTable.{zero_padded_table, HasTable, IsTable};
@@ -7,7 +7,7 @@ ghost use Rattle.capnp_frame.specs.Frame.{IsFrame, frame_bytes};
 ghost use Rattle.capnp_frame.specs.Source.{Splits, IsFront, Fails};
 ghost use Rattle.capnp_frame.specs.Sink.{AppendsSame, AppendsAll, LeavesFront, LeavesSome, ByKind, DeclinesSome};
 ghost use Rattle.capnp_frame.specs.Requests.{MessageStands};
-ghost use Rattle.capnp_frame.specs.Refusals.{IsTooLarge, RefusesStream};
+ghost use Rattle.capnp_frame.specs.Refusals.{IsTooLarge, RefusesStream, Outgrows};
 ghost use Rattle.capnp_frame.specs.Writers.{RefusesUnwritten};
 ghost use Rattle.capnp_frame.specs.Writing.{IsWritable, RefusesMany, chunks, serialized_words};
 ghost use Rattle.capnp_frame.specs.Front.{HasFrame};
@@ -65,6 +65,15 @@ pub fn message_past_the_limit_is_refused<R: Read>()
         MessageStands rule R.gives m raw rest → length m < SEGMENTS_COUNT_LIMIT → IsTooLarge (lengths m) limit →
         (left : List ℕ) × RefusesStream rule R.gives R.refuses limit None
         (ErrorKind.MessageTooLarge (size_in_words m)) raw left }
+{}
+
+/// Reading a message into the memory of another one takes no memory where it has no more bytes, and
+/// no more segments, or one alone: a `_reusing` reader then doesn't fail with `OutOfMemory`.
+pub fn smaller_messages_take_no_memory<R: Read>()
+    ensures { (rule : Padding) (limit : Option ℕ) (kept m : List (List ℕ)) (raw rest left : List ℕ) →
+        MessageStands rule R.gives m raw rest → length m < SEGMENTS_COUNT_LIMIT →
+        length m ≤ max 1 (length kept) → 8 * size_in_words m ≤ length (concat kept) →
+        Outgrows (length kept) (length (concat kept)) rule R.gives limit raw left → ⊥ }
 {}
 
 /// Chunks that a plain sink takes are joined there.

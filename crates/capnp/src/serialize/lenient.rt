@@ -1,6 +1,6 @@
 //! Reading messages of any padding from a source.
 ghost use Rattle.std.specs.Prelude.{◌≡◌, length, IfSome, IfOk};
-ghost use Rattle.capnp_frame.specs.Streams.{message_in, next_in, framed_rules, ReadsStream, ReadsStreamInto};
+ghost use Rattle.capnp_frame.specs.Streams.{message_in, next_in, framed_rules, reusing_rules, ReadsStream, ReadsStreamInto};
 ghost use Rattle.capnp_frame.specs.Frame.{IsFrame};
 ghost use Rattle.capnp.specs.Streams.{IsPlainSource};
 ghost use Rattle.capnp.specs.Headline.{ReturnsEncodings, ReturnsEncodingsInto, OrFailsAtEnd};
@@ -42,7 +42,7 @@ pub fn try_read_message_reusing_lenient<R: Read>(
     ensures texts { IsPlainSource R.gives R.refuses → ReturnsEncodings (IsFrame Padding.Any)
         options.traversal_limit_in_words (R.unread source.old) (R.unread source.new)
         (next_in (λ reader. reader.segments) result) }
-    ensures reads { ReadsStream R.Read source.old source.new (framed_rules Padding.Any R.gives R.refuses)
+    ensures reads { ReadsStream R.Read source.old source.new (reusing_rules Padding.Any R.gives R.refuses spare)
         options.traversal_limit_in_words (next_in (λ reader. reader.segments) result) }
     ensures options { IfOk result (λ found. IfSome found (λ reader.
         reader.options ≡ options)) }

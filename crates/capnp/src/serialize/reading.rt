@@ -1,6 +1,6 @@
 //! The readers of messages from a source, for both rules of padding.
 ghost use Rattle.std.specs.Prelude.{◌≡◌, length, IfSome, IfOk};
-ghost use Rattle.capnp_frame.specs.Streams.{message_in, next_in, framed_rules, ReadsStream, ReadsStreamInto};
+ghost use Rattle.capnp_frame.specs.Streams.{message_in, next_in, framed_rules, reusing_rules, ReadsStream, ReadsStreamInto};
 ghost use Rattle.capnp_frame.specs.Frame.{IsFrame};
 ghost use Rattle.capnp.specs.Streams.{IsPlainSource};
 ghost use Rattle.capnp.specs.Headline.{ReturnsEncodings, ReturnsEncodingsInto, OrFailsAtEnd};
@@ -46,7 +46,7 @@ pub(crate) fn try_read_message_reusing<R: Read>(
     ensures texts { IsPlainSource R.gives R.refuses → ReturnsEncodings (IsFrame padding)
         options.traversal_limit_in_words (R.unread source.old) (R.unread source.new)
         (next_in (λ reader. reader.segments) result) }
-    ensures reads { ReadsStream R.Read source.old source.new (framed_rules padding R.gives R.refuses)
+    ensures reads { ReadsStream R.Read source.old source.new (reusing_rules padding R.gives R.refuses spare)
         options.traversal_limit_in_words (next_in (λ reader. reader.segments) result) }
     ensures options { IfOk result (λ found. IfSome found (λ reader.
         reader.options ≡ options)) }

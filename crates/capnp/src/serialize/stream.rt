@@ -1,6 +1,6 @@
 //! Reading messages from a source.
 ghost use Rattle.std.specs.Prelude.{◌≡◌, length, IfSome, IfOk};
-ghost use Rattle.capnp_frame.specs.Streams.{message_in, next_in, framed_rules, ReadsStream, ReadsStreamInto};
+ghost use Rattle.capnp_frame.specs.Streams.{message_in, next_in, framed_rules, reusing_rules, ReadsStream, ReadsStreamInto};
 ghost use Rattle.capnp_frame.specs.Frame.{IsFrame};
 ghost use Rattle.capnp.specs.Streams.{IsPlainSource};
 ghost use Rattle.capnp.specs.Headline.{ReturnsEncodings, ReturnsEncodingsInto, OrFailsAtEnd};
@@ -49,7 +49,10 @@ pub fn try_read_message<R: Read>(
 
 /// Reads the next message as `try_read_message` does, into the memory of an earlier one, which
 /// grows where it is too small: `spare` is what `Reader::into_segments` returns, or
-/// `OwnedSegments::empty`. Fails as that does.
+/// `OwnedSegments::empty`.
+///
+/// It fails with `OutOfMemory` only for more bytes than the segments of `spare` have, or for more
+/// segments than one and than `spare` has, and else as `try_read_message` does.
 pub fn try_read_message_reusing<R: Read>(
     source: &mut R,
     options: ReaderOptions,
@@ -59,7 +62,7 @@ pub fn try_read_message_reusing<R: Read>(
     ensures texts { IsPlainSource R.gives R.refuses → ReturnsEncodings (IsFrame Padding.Zero)
         options.traversal_limit_in_words (R.unread source.old) (R.unread source.new)
         (next_in (λ reader. reader.segments) result) }
-    ensures reads { ReadsStream R.Read source.old source.new (framed_rules Padding.Zero R.gives R.refuses)
+    ensures reads { ReadsStream R.Read source.old source.new (reusing_rules Padding.Zero R.gives R.refuses spare)
         options.traversal_limit_in_words (next_in (λ reader. reader.segments) result) }
     ensures options { IfOk result (λ found. IfSome found (λ reader.
         reader.options ≡ options)) }

@@ -2,7 +2,7 @@
 ghost use Rattle.std.specs.Prelude.{◌≡◌, length, IfSome, IfOk};
 ghost use Rattle.capnp_frame.specs.Streams.{message_in, next_in, ReadsStream, ReadsStreamInto};
 ghost use Rattle.capnp_pack.specs.PackedFrame.{IsPackedFrame};
-ghost use Rattle.capnp_pack.specs.PackedStreams.{packed_rules};
+ghost use Rattle.capnp_pack.specs.PackedStreams.{packed_rules, packed_reusing_rules};
 ghost use Rattle.capnp.specs.Headline.{ReturnsEncodings, ReturnsEncodingsInto, OrFailsAtEnd};
 
 use super::reading;
@@ -43,7 +43,7 @@ pub fn try_read_message_reusing_lenient<R: BufRead>(
     ensures texts { ReturnsEncodings (IsPackedFrame Padding.Any)
         options.traversal_limit_in_words (R.unread source.old) (R.unread source.new)
         (next_in (λ reader. reader.segments) result) }
-    ensures reads { ReadsStream R.Read source.old source.new (packed_rules Padding.Any)
+    ensures reads { ReadsStream R.Read source.old source.new (packed_reusing_rules Padding.Any spare)
         options.traversal_limit_in_words (next_in (λ reader. reader.segments) result) }
     ensures options { IfOk result (λ found. IfSome found (λ reader.
         reader.options ≡ options)) }

@@ -2,7 +2,7 @@
 ghost use Rattle.std.specs.Prelude.{◌≡◌, length, IfSome, IfOk};
 ghost use Rattle.capnp_frame.specs.Streams.{message_in, next_in, ReadsStream, ReadsStreamInto};
 ghost use Rattle.capnp_pack.specs.PackedFrame.{IsPackedFrame};
-ghost use Rattle.capnp_pack.specs.PackedStreams.{packed_rules};
+ghost use Rattle.capnp_pack.specs.PackedStreams.{packed_rules, packed_reusing_rules};
 ghost use Rattle.capnp.specs.Headline.{ReturnsEncodings, ReturnsEncodingsInto, OrFailsAtEnd};
 
 use super::reading;
@@ -50,7 +50,10 @@ pub fn try_read_message<R: BufRead>(
 
 /// Reads the next packed message as `try_read_message` does, into the memory of an earlier one, which
 /// grows where it is too small: `spare` is what `Reader::into_segments` returns, or
-/// `OwnedSegments::empty`. Fails as that does.
+/// `OwnedSegments::empty`.
+///
+/// It fails with `OutOfMemory` only for more bytes than the segments of `spare` have, or for more
+/// segments than one and than `spare` has, and else as `try_read_message` does.
 pub fn try_read_message_reusing<R: BufRead>(
     source: &mut R,
     options: ReaderOptions,
@@ -60,7 +63,7 @@ pub fn try_read_message_reusing<R: BufRead>(
     ensures texts { ReturnsEncodings (IsPackedFrame Padding.Zero)
         options.traversal_limit_in_words (R.unread source.old) (R.unread source.new)
         (next_in (λ reader. reader.segments) result) }
-    ensures reads { ReadsStream R.Read source.old source.new (packed_rules Padding.Zero)
+    ensures reads { ReadsStream R.Read source.old source.new (packed_reusing_rules Padding.Zero spare)
         options.traversal_limit_in_words (next_in (λ reader. reader.segments) result) }
     ensures options { IfOk result (λ found. IfSome found (λ reader.
         reader.options ≡ options)) }
