@@ -22,7 +22,7 @@ fits_kept {gives} rule laws limit kept m raw rest left stands few segments size 
     let tells : Tells table.first there.count = subst (λ word. Tells word there.count) first.0 there.declared in
     let long = length-map m word_count in
     let same = few_tells table.first table.others (lengths m) there.count table.table
-        (laws.gives_all raw 8 table.first table.between table.first_given) (omega arith) tells in
+    (laws.gives_all raw 8 table.first table.between table.first_given) (omega arith) tells in
     absurd (omega arith)
 fits_kept {gives} rule laws limit kept m raw rest left stands few segments size (inr (ns, table, within, more)) =
     let same = TableStands-once gives raw ns left (lengths m) stands.between laws.unique laws.gives_all table stands.table in
