@@ -8,6 +8,7 @@ pub mod Landing
 pub mod Local
 pub mod Reached
 pub mod Traversed
+pub mod Enums
 pub mod Faults
 pub mod Views
 pub mod Parts

@@ -1,4 +1,5 @@
 //! `Text`.
+mod display;
 mod reader;
 
 use crate::layout::copy::Copied;

@@ -1,24 +1,33 @@
 //! Lists that are read as lists of an enum's values.
-ghost use Rattle.std.specs.Prelude.{◌≡◌, ◌<◌, ⊤, length};
+ghost use Rattle.std.specs.Prelude.{◌≡◌, ◌<◌, ℕ, length, slice_index};
 ghost use Rattle.capnp_layout.specs.Pointer.{words_of};
+ghost use Rattle.capnp_wire.specs.Enums.{hash_of_number};
 
 use crate::any_pointer;
 use crate::traits::{FromPointerInSegment, FromPointerReader, IndexMove, ListIter};
 use crate::upgraded::number_list::NumberList;
 use capnp_frame::Result;
 use capnp_frame::message::ReaderSegments;
+use std::hash::Hash;
 use std::marker::PhantomData;
 
-/// An enum of a schema, whose values a message holds by their numbers.
-pub trait EnumElement: Sized {
+/// An enum of a schema, whose values a message holds by their numbers: a variant for each number
+/// that the schema names, in their order, and a last one that keeps any other number.
+///
+/// Contracts tell its values apart by what its derived `Hash` feeds, which no two of them share: the
+/// index of the variant, and the number that the last one keeps.
+pub trait EnumElement: Hash + Sized {
+    /// How many numbers the schema names.
+    ghost named: { ℕ };
+
     /// The value of this number; where the schema names none, the variant that keeps the number.
-    fn from_number(number: u16) -> Self;
+    fn from_number(number: u16) -> Self
+        ensures { Self.hash_input result ≡ hash_of_number named number };
 }
 
 /// A list of an enum's values in a message, or of structs whose first field is such a value.
 ///
-/// Contracts see it by its numbers. One that speaks of an element's value reads the number, and makes
-/// the value of it as the enum does.
+/// Contracts see it by its numbers, and an element as the value of its number.
 #[derive(Drop)]
 pub struct EnumList<'a, E> {
     pub(crate) numbers: NumberList<'a, u16>,
@@ -46,6 +55,8 @@ impl<'a, E: EnumElement> EnumList<'a, E> {
     /// The element of this index, which must be below `len`; `try_get` takes any.
     pub fn get(&self, index: u32) -> E
         requires { index < length (upgraded_numbers_of 3 self.now.numbers) }
+        ensures { E.hash_input result ≡ hash_of_number E.named
+            (slice_index (upgraded_numbers_of 3 self.now.numbers) index) }
     {
         E::from_number(self.numbers.get(index))
     }
@@ -53,7 +64,8 @@ impl<'a, E: EnumElement> EnumList<'a, E> {
     /// The element of this index, or `None` where there are no more elements than it.
     pub fn try_get(&self, index: u32) -> Option<E>
         ensures { FindsElement (length (upgraded_numbers_of 3 self.now.numbers)) index
-            (λ item. ⊤) result }
+            (λ item. E.hash_input item ≡ hash_of_number E.named
+            (slice_index (upgraded_numbers_of 3 self.now.numbers) index)) result }
     {
         self.try_index_move(index)
     }
@@ -66,19 +78,21 @@ impl<'a, E: EnumElement> EnumList<'a, E> {
     }
 }
 
-// What is seen of an element is that there is one.
+// What is seen of an element is which value it is.
 impl<'a, E: EnumElement> IndexMove for EnumList<'a, E> {
+    ghost use Rattle.std.specs.Hash.{HashWrites};
     ghost use Rattle.capnp_wire.specs.UpgradedReaders.{upgraded_numbers_of};
 
     type Item = E;
 
-    ghost Element = { ⊤ };
+    ghost Element = { HashWrites };
 
-    ghost seen = { λ item. tt };
+    ghost seen = { E.hash_input };
 
     ghost size = { λ list. length (upgraded_numbers_of 3 list.numbers) };
 
-    ghost element = { λ list index. tt };
+    ghost element = { λ list index.
+        hash_of_number E.named (slice_index (upgraded_numbers_of 3 list.numbers) index) };
 
     fn len(&self) -> u32 {
         self.len()
