@@ -12,3 +12,4 @@ pub mod OneValueLemmas
 pub mod PartWordLemmas
 pub mod ListValueLemmas
 pub mod NumberValueLemmas
+pub mod UpgradedValueLemmas

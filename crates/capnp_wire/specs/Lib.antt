@@ -26,6 +26,7 @@ pub mod Rows
 pub mod Copy
 pub mod Values
 pub mod ListValues
+pub mod UpgradedValues
 pub mod Canonical
 pub mod Tested
 pub mod Constants

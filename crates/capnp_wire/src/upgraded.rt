@@ -12,6 +12,7 @@ mod list_list;
 mod number_list;
 mod pointer_list;
 mod struct_list;
+mod values;
 
 pub use enum_list::{EnumElement, EnumList};
 pub use list_list::ListList;

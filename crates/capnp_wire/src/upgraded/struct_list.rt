@@ -15,6 +15,7 @@ use crate::{any_pointer, struct_list};
 use capnp_frame::Result;
 use capnp_frame::message::ReaderSegments;
 use capnp_layout::element_size::ElementSize;
+use capnp_layout::number_list::NumberList;
 use capnp_layout::object::{Body, Object, words_fit};
 use capnp_layout::place::Place;
 use capnp_layout::pointer::{Elements, StructSize};
@@ -78,6 +79,25 @@ impl<'a, S: ReaderSegments> NumberRows<'a, S> {
                 size: self.size,
                 index,
             }),
+        }
+    }
+
+    /// The list of numbers as a value to be copied.
+    pub(crate) fn as_value(&self) -> NumberList<'a>
+        ensures size { result.size ≡ self.now.size }
+        ensures count { result.count ≡ self.now.count }
+        ensures start { result.start.word ≡ 0 }
+        ensures bytes { result.segment.now ≡ self.now.bytes.now }
+    {
+        NumberList {
+            segment: self.bytes,
+            start: Place {
+                segment: 0,
+                word: 0,
+            },
+            size: self.size,
+            count: self.count,
+            bits: self.size.bits_of_list(self.count),
         }
     }
 }

@@ -1,0 +1,71 @@
+-- Lists whose elements may have been written as another type, as values (src/upgraded/values.rt).
+use Rattle.std.specs.Prelude.{◌≡◌, ◌⊎◌, ℕ, List}
+use Rattle.std.proofs.Common.{ap}
+use Rattle.capnp_frame.specs.declared.error.ErrorKind.{ErrorKind}
+use Rattle.capnp_frame.specs.declared.error.ErrorKind.TheVariants.{WrongPointerKind}
+use Rattle.capnp_frame.specs.declared.message.segments.ReaderSegments.{Ghosts as SegmentGhosts}
+use Rattle.capnp_layout.specs.Pointer.{words_of}
+use Rattle.capnp_layout.specs.Element.{code_of}
+use Rattle.capnp_layout.specs.Tree.{Trees, pointers, count}
+use Rattle.capnp_layout.specs.Object.{elements}
+use Rattle.capnp_wire.specs.ListViews.{struct_list_of}
+use Rattle.capnp_wire.specs.NumberViews.{numbers_of}
+use Rattle.capnp_wire.specs.ListValues.{IsListTree, StopsInList, structs_of, pointers_in, IsNumbersTree, TooManyNumbers}
+use Rattle.capnp_wire.specs.UpgradedReaders.{upgraded_pointers_of}
+use Rattle.capnp_wire.specs.declared.primitive_element.PrimitiveElement.{Ghosts as ElementGhosts}
+use Rattle.capnp_wire.specs.declared.primitive_list.reader.Reader.{Reader as NumbersReader}
+use Rattle.capnp_wire.specs.declared.upgraded.number_list.FirstFields.{FirstFields}
+use Rattle.capnp_wire.specs.declared.upgraded.number_list.Numbers.{Numbers}
+use Rattle.capnp_wire.specs.declared.upgraded.number_list.Numbers.TheVariants.{InPlace as NumbersInPlace, OfStructs}
+use Rattle.capnp_wire.specs.declared.upgraded.pointer_list.PointerList.{PointerList as PointerListReader}
+use Rattle.capnp_wire.specs.declared.upgraded.struct_list.NumberRows.{NumberRows}
+use Rattle.capnp_wire.specs.declared.upgraded.struct_list.Rows.{Rows}
+use Rattle.capnp_wire.specs.declared.upgraded.struct_list.Rows.TheVariants.{InPlace as StructsInPlace, Numbers as NumbersAsStructs}
+
+-- Numbers: the tree of a list of them, whose error is that of too many. First fields of structs are
+-- no value, since the view doesn't know what else the structs have.
+abbrev pub IsNumbersValue : {T : Type 0} {ghosts : ElementGhosts T} → ℕ → Numbers (NumbersReader T ghosts) (FirstFields T ghosts) → Trees → Type 0
+IsNumbersValue code (NumbersInPlace list) trees = IsNumbersTree code (numbers_of code list) trees
+IsNumbersValue code (OfStructs list) trees = ⊥
+
+abbrev pub RefusesNumbers : {T : Type 0} {ghosts : ElementGhosts T} → ℕ → Numbers (NumbersReader T ghosts) (FirstFields T ghosts) → ErrorKind → Type 0
+RefusesNumbers code (NumbersInPlace list) kind = TooManyNumbers code (numbers_of code list) kind
+RefusesNumbers code (OfStructs list) kind = kind ≡ WrongPointerKind
+
+-- the numbers that are read as structs
+abbrev pub numbers_in_rows : {S : Type 0} {ghosts : SegmentGhosts S} → NumberRows S ghosts → List ℕ
+numbers_in_rows rows = elements (words_of rows.bytes.now) 0 (code_of rows.size) rows.count
+
+-- Structs: the tree of a list of them, with all below them. A list of numbers that is read as one
+-- of structs stays the list of numbers that it is.
+abbrev pub IsRowsValue : {S : Type 0} {ghosts : SegmentGhosts S} → (S → List (List ℕ)) → Rows S ghosts → Trees → Type 0
+IsRowsValue segments (StructsInPlace list) trees = IsListTree (structs_of segments list) (pointers_in (struct_list_of segments list)) trees
+IsRowsValue segments (NumbersAsStructs rows) trees = IsNumbersTree (code_of rows.size) (numbers_in_rows rows) trees
+
+abbrev pub RefusesRows : {S : Type 0} {ghosts : SegmentGhosts S} → (S → List (List ℕ)) → Rows S ghosts → ErrorKind → Type 0
+RefusesRows segments (StructsInPlace list) kind = StopsInList (pointers_in (struct_list_of segments list)) kind
+RefusesRows segments (NumbersAsStructs rows) kind = TooManyNumbers (code_of rows.size) (numbers_in_rows rows) kind
+
+-- pointers that follow one another: those of a list of pointers, or of structs of one pointer each
+abbrev pub IsConsecutive : {S : Type 0} → PointerListReader S → Type 0
+IsConsecutive list = (list.count ≡ 0) ⊎ (list.step ≡ 1)
+
+-- Pointers: the tree of a list of them, with all below them. First pointers of larger structs are
+-- no value, since the view doesn't know what else the structs have.
+abbrev pub IsPointersValue : {S : Type 0} → (S → List (List ℕ)) → PointerListReader S → Trees → Type 0
+IsPointersValue segments list trees = IsConsecutive list × IsListTree pointers (upgraded_pointers_of segments list) trees
+
+abbrev pub RefusesPointers : {S : Type 0} → (S → List (List ℕ)) → PointerListReader S → ErrorKind → Type 0
+RefusesPointers segments list kind =
+    (IsConsecutive list × StopsInList (upgraded_pointers_of segments list) kind)
+    ⊎ ((IsConsecutive list → ⊥) × (kind ≡ WrongPointerKind))
+
+-- each of these values is one tree
+pub one_of_number_values : {T : Type 0} {ghosts : ElementGhosts T} (code : ℕ) (numbers : Numbers (NumbersReader T ghosts) (FirstFields T ghosts)) (trees : Trees) → IsNumbersValue code numbers trees
+    → count trees ≡ 1
+one_of_number_values code (NumbersInPlace list) trees is = ap count is.1
+one_of_number_values code (OfStructs list) trees is = absurd is
+
+pub one_of_row_values : {S : Type 0} {ghosts : SegmentGhosts S} (segments : S → List (List ℕ)) (rows : Rows S ghosts) (trees : Trees) → IsRowsValue segments rows trees → count trees ≡ 1
+one_of_row_values segments (StructsInPlace list) trees is = ap count is.whole
+one_of_row_values segments (NumbersAsStructs rows) trees is = ap count is.1

@@ -1,0 +1,99 @@
+//! Lists that were read, as values: each is the list that is there, with all below it, within the
+//! nesting depth left and the traversal limit.
+//!
+//! A view of numbers, or of pointers, whose elements another writer wrote as larger structs knows no
+//! more than their first fields, and what is lost would not be seen. So it is no value, and fails
+//! with `WrongPointerKind`: the pointer to the list, an `any_pointer::Reader`, is one in any case.
+use crate::layout::copy::Copied;
+use crate::layout::value;
+use crate::object_content::wrong_kind;
+use crate::primitive_element::PrimitiveElement;
+use crate::traits::SetterInput;
+use crate::upgraded::enum_list::EnumList;
+use crate::upgraded::number_list::{NumberList, Numbers};
+use crate::upgraded::struct_list::{Rows, StructList};
+use crate::{primitive_list, struct_list};
+use capnp_frame::Result;
+use capnp_frame::message::ReaderSegments;
+
+// The value is the list of the numbers.
+impl<'a, T: PrimitiveElement> SetterInput<primitive_list::Owned<T>> for NumberList<'a, T> {
+    ghost use Rattle.capnp_wire.specs.UpgradedValues.{IsNumbersValue, RefusesNumbers, one_of_number_values};
+
+    ghost has_tree = { λ list trees. IsNumbersValue T.code list.numbers trees };
+
+    ghost refuses = { λ list kind. RefusesNumbers T.code list.numbers kind };
+
+    ghost one = { λ list trees is. one_of_number_values T.code list.numbers trees is };
+
+    fn measure(&self, canonical: bool) -> Result<u32> {
+        match &self.numbers {
+            Numbers::InPlace(list) => list.measure(canonical),
+            Numbers::OfStructs(_) => Err(wrong_kind()),
+        }
+    }
+
+    fn is_null(&self) -> bool {
+        false
+    }
+
+    fn write(&self, canonical: bool, block: &mut [u8], following: usize, next: usize) -> Copied {
+        match &self.numbers {
+            Numbers::InPlace(list) => list.write(canonical, block, following, next),
+            Numbers::OfStructs(_) => Copied { pointer: 0, next },
+        }
+    }
+}
+
+// The value is the list of the enum's numbers.
+impl<'a, E> SetterInput<primitive_list::Owned<u16>> for EnumList<'a, E> {
+    ghost use Rattle.capnp_wire.specs.UpgradedValues.{IsNumbersValue, RefusesNumbers, one_of_number_values};
+
+    ghost has_tree = { λ list trees. IsNumbersValue 3 list.numbers.numbers trees };
+
+    ghost refuses = { λ list kind. RefusesNumbers 3 list.numbers.numbers kind };
+
+    ghost one = { λ list trees is. one_of_number_values 3 list.numbers.numbers trees is };
+
+    fn measure(&self, canonical: bool) -> Result<u32> {
+        self.numbers.measure(canonical)
+    }
+
+    fn is_null(&self) -> bool {
+        false
+    }
+
+    fn write(&self, canonical: bool, block: &mut [u8], following: usize, next: usize) -> Copied {
+        self.numbers.write(canonical, block, following, next)
+    }
+}
+
+// The value is the list of the structs. Numbers that are read as structs stay a list of numbers, and
+// pointers that are become structs of one pointer each.
+impl<'a, S: ReaderSegments> SetterInput<struct_list::Owned> for StructList<'a, S> {
+    ghost use Rattle.capnp_wire.specs.UpgradedValues.{IsRowsValue, RefusesRows, one_of_row_values};
+
+    ghost has_tree = { λ list trees. IsRowsValue S.segments list.rows trees };
+
+    ghost refuses = { λ list kind. RefusesRows S.segments list.rows kind };
+
+    ghost one = { λ list trees is. one_of_row_values S.segments list.rows trees is };
+
+    fn measure(&self, canonical: bool) -> Result<u32> {
+        match &self.rows {
+            Rows::InPlace(list) => list.measure(canonical),
+            Rows::Numbers(rows) => value::measure_numbers(rows.size, rows.count),
+        }
+    }
+
+    fn is_null(&self) -> bool {
+        false
+    }
+
+    fn write(&self, canonical: bool, block: &mut [u8], following: usize, next: usize) -> Copied {
+        match &self.rows {
+            Rows::InPlace(list) => list.write(canonical, block, following, next),
+            Rows::Numbers(rows) => value::write_numbers(&rows.as_value(), block, following, next),
+        }
+    }
+}
