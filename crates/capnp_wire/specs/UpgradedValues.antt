@@ -17,10 +17,12 @@ use Rattle.capnp_wire.specs.declared.primitive_list.reader.Reader.{Reader as Num
 use Rattle.capnp_wire.specs.declared.upgraded.number_list.FirstFields.{FirstFields}
 use Rattle.capnp_wire.specs.declared.upgraded.number_list.Numbers.{Numbers}
 use Rattle.capnp_wire.specs.declared.upgraded.number_list.Numbers.TheVariants.{InPlace as NumbersInPlace, OfStructs}
+use Rattle.capnp_wire.specs.declared.upgraded.number_list.NumberList.{NumberList as NumberListReader}
 use Rattle.capnp_wire.specs.declared.upgraded.pointer_list.PointerList.{PointerList as PointerListReader}
 use Rattle.capnp_wire.specs.declared.upgraded.struct_list.NumberRows.{NumberRows}
 use Rattle.capnp_wire.specs.declared.upgraded.struct_list.Rows.{Rows}
 use Rattle.capnp_wire.specs.declared.upgraded.struct_list.Rows.TheVariants.{InPlace as StructsInPlace, Numbers as NumbersAsStructs}
+use Rattle.capnp_wire.specs.declared.upgraded.struct_list.StructList.{StructList as StructListReader}
 
 -- Numbers: the tree of a list of them, whose error is that of too many. First fields of structs are
 -- no value, since the view doesn't know what else the structs have.
@@ -31,6 +33,12 @@ IsNumbersValue code (OfStructs list) trees = ⊥
 abbrev pub RefusesNumbers : {T : Type 0} {ghosts : ElementGhosts T} → ℕ → Numbers (NumbersReader T ghosts) (FirstFields T ghosts) → ErrorKind → Type 0
 RefusesNumbers code (NumbersInPlace list) kind = TooManyNumbers code (numbers_of code list) kind
 RefusesNumbers code (OfStructs list) kind = kind ≡ WrongPointerKind
+
+abbrev pub IsNumberListValue : {T : Type 0} {ghosts : ElementGhosts T} → ℕ → NumberListReader T ghosts → Trees → Type 0
+IsNumberListValue code list trees = IsNumbersValue code list.numbers trees
+
+abbrev pub RefusesNumberList : {T : Type 0} {ghosts : ElementGhosts T} → ℕ → NumberListReader T ghosts → ErrorKind → Type 0
+RefusesNumberList code list kind = RefusesNumbers code list.numbers kind
 
 -- the numbers that are read as structs
 abbrev pub numbers_in_rows : {S : Type 0} {ghosts : SegmentGhosts S} → NumberRows S ghosts → List ℕ
@@ -46,26 +54,37 @@ abbrev pub RefusesRows : {S : Type 0} {ghosts : SegmentGhosts S} → (S → List
 RefusesRows segments (StructsInPlace list) kind = StopsInList (pointers_in (struct_list_of segments list)) kind
 RefusesRows segments (NumbersAsStructs rows) kind = TooManyNumbers (code_of rows.size) (numbers_in_rows rows) kind
 
+abbrev pub IsStructListValue : {S : Type 0} {ghosts : SegmentGhosts S} → (S → List (List ℕ)) → StructListReader S ghosts → Trees → Type 0
+IsStructListValue segments list trees = IsRowsValue segments list.rows trees
+
+abbrev pub RefusesStructList : {S : Type 0} {ghosts : SegmentGhosts S} → (S → List (List ℕ)) → StructListReader S ghosts → ErrorKind → Type 0
+RefusesStructList segments list kind = RefusesRows segments list.rows kind
+
 -- pointers that follow one another: those of a list of pointers, or of structs of one pointer each
 abbrev pub IsConsecutive : {S : Type 0} → PointerListReader S → Type 0
 IsConsecutive list = (list.count ≡ 0) ⊎ (list.step ≡ 1)
 
 -- Pointers: the tree of a list of them, with all below them. First pointers of larger structs are
 -- no value, since the view doesn't know what else the structs have.
-abbrev pub IsPointersValue : {S : Type 0} → (S → List (List ℕ)) → PointerListReader S → Trees → Type 0
-IsPointersValue segments list trees = IsConsecutive list × IsListTree pointers (upgraded_pointers_of segments list) trees
+abbrev pub IsPointerListValue : {S : Type 0} → (S → List (List ℕ)) → PointerListReader S → Trees → Type 0
+IsPointerListValue segments list trees = IsConsecutive list × IsListTree pointers (upgraded_pointers_of segments list) trees
 
-abbrev pub RefusesPointers : {S : Type 0} → (S → List (List ℕ)) → PointerListReader S → ErrorKind → Type 0
-RefusesPointers segments list kind =
+abbrev pub RefusesPointerList : {S : Type 0} → (S → List (List ℕ)) → PointerListReader S → ErrorKind → Type 0
+RefusesPointerList segments list kind =
     (IsConsecutive list × StopsInList (upgraded_pointers_of segments list) kind)
     ⊎ ((IsConsecutive list → ⊥) × (kind ≡ WrongPointerKind))
 
 -- each of these values is one tree
-pub one_of_number_values : {T : Type 0} {ghosts : ElementGhosts T} (code : ℕ) (numbers : Numbers (NumbersReader T ghosts) (FirstFields T ghosts)) (trees : Trees) → IsNumbersValue code numbers trees
-    → count trees ≡ 1
-one_of_number_values code (NumbersInPlace list) trees is = ap count is.1
-one_of_number_values code (OfStructs list) trees is = absurd is
+one_of_numbers : {T : Type 0} {ghosts : ElementGhosts T} (code : ℕ) (numbers : Numbers (NumbersReader T ghosts) (FirstFields T ghosts)) (trees : Trees) → IsNumbersValue code numbers trees → count trees ≡ 1
+one_of_numbers code (NumbersInPlace list) trees is = ap count is.1
+one_of_numbers code (OfStructs list) trees is = absurd is
 
-pub one_of_row_values : {S : Type 0} {ghosts : SegmentGhosts S} (segments : S → List (List ℕ)) (rows : Rows S ghosts) (trees : Trees) → IsRowsValue segments rows trees → count trees ≡ 1
-one_of_row_values segments (StructsInPlace list) trees is = ap count is.whole
-one_of_row_values segments (NumbersAsStructs rows) trees is = ap count is.1
+pub one_number_list : {T : Type 0} {ghosts : ElementGhosts T} (code : ℕ) (list : NumberListReader T ghosts) (trees : Trees) → IsNumberListValue code list trees → count trees ≡ 1
+one_number_list code list trees is = one_of_numbers code list.numbers trees is
+
+one_of_rows : {S : Type 0} {ghosts : SegmentGhosts S} (segments : S → List (List ℕ)) (rows : Rows S ghosts) (trees : Trees) → IsRowsValue segments rows trees → count trees ≡ 1
+one_of_rows segments (StructsInPlace list) trees is = ap count is.whole
+one_of_rows segments (NumbersAsStructs rows) trees is = ap count is.1
+
+pub one_struct_list : {S : Type 0} {ghosts : SegmentGhosts S} (segments : S → List (List ℕ)) (list : StructListReader S ghosts) (trees : Trees) → IsStructListValue segments list trees → count trees ≡ 1
+one_struct_list segments list trees is = one_of_rows segments list.rows trees is

@@ -52,6 +52,11 @@ stepped_within segment word step (suc n) (suc i) within =
     let more : suc i * step ≡ step + i * step = omega arith in
     stepped_within segment (word + step) step n i (omega arith) ∙ ap (λ (w : ℕ). Some (record { segment = segment; word = w })) (omega (arith, more))
 
+-- those at a distance of one word follow one another
+pub stepped_by_one : (segment word n : ℕ) → stepped_places segment word 1 n ≡ places segment word n
+stepped_by_one segment word zero = refl
+stepped_by_one segment word (suc n) = ap (λ (ps : List Place). record { segment = segment; word = word } ∷ ps) (stepped_by_one segment (word + 1) n)
+
 -- the last of them is before the list's end
 pub step_ends : (i n step : ℕ) → i < n → i * step ≤ n * step
 step_ends i zero step within = absurd (omega arith)

@@ -1,12 +1,12 @@
 //! Lists that are read as lists of pointers.
-ghost use Rattle.std.specs.Prelude.{◌≡◌, ◌+◌, ◌*◌, ◌^◌, ◌<◌, length, MatchResult};
+ghost use Rattle.std.specs.Prelude.{◌≡◌, ◌+◌, ◌*◌, ◌^◌, ◌<◌, length, MatchOption, MatchResult};
 ghost use Rattle.std.specs.Option.{ForSome};
 ghost use Rattle.capnp_layout.specs.Pointer.{words_of};
 
-use crate::any_pointer;
 use crate::object_content::{by_value, wrong_kind};
 use crate::read_limiter::ReadLimiter;
 use crate::traits::{FromPointerInSegment, FromPointerReader, IndexMove, ListIter};
+use crate::{any_pointer, any_pointer_list};
 use capnp_frame::Result;
 use capnp_frame::message::ReaderSegments;
 use capnp_layout::object::{Object, words_fit};
@@ -24,15 +24,19 @@ pub struct PointerList<'a, S> {
     pub(crate) count: u32,
     pub(crate) nesting: u32,
     ghost bound: { first.word + count * step < 2 ^ 64 },
+    ghost run: { step ≡ 1 → first.word + count < 2 ^ 61 },
+    ghost few: { count < 2 ^ 29 },
 }
 
 impl<'a, S: ReaderSegments> PointerList<'a, S> {
     ghost use Rattle.capnp_wire.specs.Lists.{FindsElement, IsIterator};
     ghost use Rattle.capnp_wire.specs.Readers.{pointer_of, IsEntered};
     ghost use Rattle.capnp_wire.specs.Views.{HasSegment, Refuses};
-    ghost use Rattle.capnp_wire.specs.ListViews.{pointer_at};
+    ghost use Rattle.capnp_wire.specs.ListViews.{pointer_at, pointer_list_of};
     ghost use Rattle.capnp_wire.specs.UpgradedViews.{IsUpgradedPointers, DeclinesFirstPointers};
     ghost use Rattle.capnp_wire.specs.UpgradedReaders.{upgraded_pointers_of, pointers_from};
+    ghost use Rattle.capnp_wire.specs.UpgradedValues.{IsConsecutive};
+    ghost use Rattle.capnp_layout.specs.Object.{places};
 
     /// The number of elements.
     pub fn len(&self) -> u32
@@ -143,6 +147,40 @@ impl<'a, S: ReaderSegments> PointerList<'a, S> {
         Ok(PointerList::new(reader, first, step, elements.count))
     }
 
+    /// The list as one of consecutive pointers; `None` where others lie between them.
+    pub(crate) fn consecutive(&self) -> Option<any_pointer_list::Reader<'a, S>>
+        ensures { MatchOption result (IsConsecutive self.now → ⊥) (λ list. IsConsecutive self.now
+            × (pointer_list_of S.segments list ≡ upgraded_pointers_of S.segments self.now)) }
+    {
+        if self.count == 0 {
+            let nowhere = Place {
+                segment: 0,
+                word: 0,
+            };
+            return Some(self.run(nowhere, 0));
+        }
+        if self.step != 1 {
+            return None;
+        }
+        Some(self.run(self.first, self.count))
+    }
+
+    // Consecutive pointers of the list's message.
+    fn run(&self, first: Place, count: u32) -> any_pointer_list::Reader<'a, S>
+        requires bound { first.word + count < 2 ^ 61 }
+        requires few { count < 2 ^ 29 }
+        ensures { pointer_list_of S.segments result ≡ record (upgraded_pointers_of S.segments self.now)
+            { children = places first.segment first.word count } }
+    {
+        any_pointer_list::Reader {
+            segments: self.segments,
+            limiter: self.limiter,
+            first,
+            count,
+            nesting: self.nesting,
+        }
+    }
+
     // Pointers at this distance from one another.
     #[inline(always)]
     fn new(
@@ -151,7 +189,9 @@ impl<'a, S: ReaderSegments> PointerList<'a, S> {
         step: usize,
         count: u32,
     ) -> PointerList<'a, S>
-        requires { first.word + count * step < 2 ^ 64 }
+        requires bound { first.word + count * step < 2 ^ 64 }
+        requires run { step ≡ 1 → first.word + count < 2 ^ 61 }
+        requires few { count < 2 ^ 29 }
         ensures { upgraded_pointers_of S.segments result
             ≡ pointers_from (pointer_of S.segments reader.now) first step count }
     {

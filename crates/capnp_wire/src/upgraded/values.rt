@@ -10,21 +10,23 @@ use crate::object_content::wrong_kind;
 use crate::primitive_element::PrimitiveElement;
 use crate::traits::SetterInput;
 use crate::upgraded::enum_list::EnumList;
+use crate::upgraded::list_list::ListList;
 use crate::upgraded::number_list::{NumberList, Numbers};
+use crate::upgraded::pointer_list::PointerList;
 use crate::upgraded::struct_list::{Rows, StructList};
-use crate::{primitive_list, struct_list};
+use crate::{any_pointer_list, list_list, primitive_list, struct_list};
 use capnp_frame::Result;
 use capnp_frame::message::ReaderSegments;
 
 // The value is the list of the numbers.
 impl<'a, T: PrimitiveElement> SetterInput<primitive_list::Owned<T>> for NumberList<'a, T> {
-    ghost use Rattle.capnp_wire.specs.UpgradedValues.{IsNumbersValue, RefusesNumbers, one_of_number_values};
+    ghost use Rattle.capnp_wire.specs.UpgradedValues.{IsNumberListValue, RefusesNumberList, one_number_list};
 
-    ghost has_tree = { λ list trees. IsNumbersValue T.code list.numbers trees };
+    ghost has_tree = { λ list trees. IsNumberListValue T.code list trees };
 
-    ghost refuses = { λ list kind. RefusesNumbers T.code list.numbers kind };
+    ghost refuses = { λ list kind. RefusesNumberList T.code list kind };
 
-    ghost one = { λ list trees is. one_of_number_values T.code list.numbers trees is };
+    ghost one = { λ list trees is. one_number_list T.code list trees is };
 
     fn measure(&self, canonical: bool) -> Result<u32> {
         match &self.numbers {
@@ -47,13 +49,13 @@ impl<'a, T: PrimitiveElement> SetterInput<primitive_list::Owned<T>> for NumberLi
 
 // The value is the list of the enum's numbers.
 impl<'a, E> SetterInput<primitive_list::Owned<u16>> for EnumList<'a, E> {
-    ghost use Rattle.capnp_wire.specs.UpgradedValues.{IsNumbersValue, RefusesNumbers, one_of_number_values};
+    ghost use Rattle.capnp_wire.specs.UpgradedValues.{IsNumberListValue, RefusesNumberList, one_number_list};
 
-    ghost has_tree = { λ list trees. IsNumbersValue 3 list.numbers.numbers trees };
+    ghost has_tree = { λ list trees. IsNumberListValue 3 list.numbers trees };
 
-    ghost refuses = { λ list kind. RefusesNumbers 3 list.numbers.numbers kind };
+    ghost refuses = { λ list kind. RefusesNumberList 3 list.numbers kind };
 
-    ghost one = { λ list trees is. one_of_number_values 3 list.numbers.numbers trees is };
+    ghost one = { λ list trees is. one_number_list 3 list.numbers trees is };
 
     fn measure(&self, canonical: bool) -> Result<u32> {
         self.numbers.measure(canonical)
@@ -71,13 +73,13 @@ impl<'a, E> SetterInput<primitive_list::Owned<u16>> for EnumList<'a, E> {
 // The value is the list of the structs. Numbers that are read as structs stay a list of numbers, and
 // pointers that are become structs of one pointer each.
 impl<'a, S: ReaderSegments> SetterInput<struct_list::Owned> for StructList<'a, S> {
-    ghost use Rattle.capnp_wire.specs.UpgradedValues.{IsRowsValue, RefusesRows, one_of_row_values};
+    ghost use Rattle.capnp_wire.specs.UpgradedValues.{IsStructListValue, RefusesStructList, one_struct_list};
 
-    ghost has_tree = { λ list trees. IsRowsValue S.segments list.rows trees };
+    ghost has_tree = { λ list trees. IsStructListValue S.segments list trees };
 
-    ghost refuses = { λ list kind. RefusesRows S.segments list.rows kind };
+    ghost refuses = { λ list kind. RefusesStructList S.segments list kind };
 
-    ghost one = { λ list trees is. one_of_row_values S.segments list.rows trees is };
+    ghost one = { λ list trees is. one_struct_list S.segments list trees is };
 
     fn measure(&self, canonical: bool) -> Result<u32> {
         match &self.rows {
@@ -95,5 +97,62 @@ impl<'a, S: ReaderSegments> SetterInput<struct_list::Owned> for StructList<'a, S
             Rows::InPlace(list) => list.write(canonical, block, following, next),
             Rows::Numbers(rows) => value::write_numbers(&rows.as_value(), block, following, next),
         }
+    }
+}
+
+// The value is the list of the pointers.
+impl<'a, S: ReaderSegments> SetterInput<any_pointer_list::Owned> for PointerList<'a, S> {
+    ghost use Rattle.capnp_wire.specs.UpgradedValues.{IsPointerListValue, RefusesPointerList};
+    ghost use Rattle.capnp_layout.specs.Tree.{count};
+    ghost use Rattle.std.proofs.Common.{ap};
+
+    ghost has_tree = { λ list trees. IsPointerListValue S.segments list trees };
+
+    ghost refuses = { λ list kind. RefusesPointerList S.segments list kind };
+
+    ghost one = { λ list trees is. ap count is.1.whole };
+
+    fn measure(&self, canonical: bool) -> Result<u32> {
+        match self.consecutive() {
+            Some(list) => list.measure(canonical),
+            None => Err(wrong_kind()),
+        }
+    }
+
+    fn is_null(&self) -> bool {
+        false
+    }
+
+    fn write(&self, canonical: bool, block: &mut [u8], following: usize, next: usize) -> Copied {
+        match self.consecutive() {
+            Some(list) => list.write(canonical, block, following, next),
+            None => Copied { pointer: 0, next },
+        }
+    }
+}
+
+// The value is the list of the pointers, whose views are values of the elements' type.
+impl<'a, S: ReaderSegments, T, V: SetterInput<T>> SetterInput<list_list::Owned<T>>
+    for ListList<'a, S, V> {
+    ghost use Rattle.capnp_wire.specs.UpgradedValues.{IsPointerListValue, RefusesPointerList};
+    ghost use Rattle.capnp_layout.specs.Tree.{count};
+    ghost use Rattle.std.proofs.Common.{ap};
+
+    ghost has_tree = { λ list trees. IsPointerListValue S.segments list.pointers trees };
+
+    ghost refuses = { λ list kind. RefusesPointerList S.segments list.pointers kind };
+
+    ghost one = { λ list trees is. ap count is.1.whole };
+
+    fn measure(&self, canonical: bool) -> Result<u32> {
+        self.pointers.measure(canonical)
+    }
+
+    fn is_null(&self) -> bool {
+        false
+    }
+
+    fn write(&self, canonical: bool, block: &mut [u8], following: usize, next: usize) -> Copied {
+        self.pointers.write(canonical, block, following, next)
     }
 }

@@ -1,9 +1,24 @@
 -- The pointers are those of the object, or the first ones of its structs.
-use Rattle.std.proofs.Common.{◌≡◌, ◌<◌, ℕ, refl, sym, ◌∙◌, ap, arith}
+use Rattle.std.proofs.Common.{◌≡◌, ◌<◌, ◌≤◌, ◌+◌, ◌*◌, ℕ, refl, sym, ◌∙◌, ap, arith}
+use Rattle.std.proofs.Math.Nat.{mul-le-mul_left}
 use Rattle.capnp_wire.specs.Readers.{pointer_of}
 use Rattle.capnp_layout.specs.declared.pointer.Elements.{Elements}
+use Rattle.capnp_wire.proofs.views.ListViewLemmas.{few_pointers, few_structs}
 use Rattle.capnp_wire.proofs.views.UpgradedPointerLemmas.{pointers_read, first_pointers_read, no_first_pointers}
 use Rattle.capnp_wire.proofs.upgraded.pointer_list.PointerList.of.Goals as goal
+
+pub new-requires-clause-few : goal.new-requires-clause-few
+new-requires-clause-few g c =
+    let p = pointer_of g.S.ReaderSegments.segments c.args.reader.now in few_pointers p c.args.object.now c.in-Some.count c.requires c.in-Some.ensures
+
+pub new-requires-2-clause-few : goal.new-requires-2-clause-few
+new-requires-2-clause-few g c =
+    let p = pointer_of g.S.ReaderSegments.segments c.args.reader.now in
+    let there = c.in-Some-as_structs.ensures in
+    let elements = c.in-Some-as_structs.elements in
+    let few = few_structs p c.args.object.now elements there.0 c.requires there.1 in
+    let each : elements.count * 1 ≤ elements.count * (elements.size.data_words + elements.size.pointers) = mul-le-mul_left elements.count (omega (arith, c.if-elements-eq0.false)) in
+    omega (arith, few.1, each)
 
 pub returns-in-Some : goal.returns-in-Some
 returns-in-Some g c =
