@@ -9,6 +9,7 @@ pub mod Local
 pub mod Reached
 pub mod Traversed
 pub mod Enums
+pub mod Hex
 pub mod Faults
 pub mod Views
 pub mod Parts

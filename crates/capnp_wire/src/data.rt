@@ -1,4 +1,5 @@
 //! `Data`: bytes.
+mod hex;
 mod reader;
 
 use crate::layout::copy::Copied;
@@ -6,6 +7,7 @@ use crate::layout::value;
 use crate::traits::{self, SetterInput};
 use capnp_frame::Result;
 use capnp_frame::message::ReaderSegments;
+pub use hex::Hex;
 pub use reader::Reader;
 
 /// `Data`, as a type of a schema.

@@ -20,5 +20,5 @@ returns g c =
     } in (
       inr one,
       c.run-2.ensures ∙ ap list (sym (stepped_by_one self.first.segment self.first.word self.count)
-      ∙ ap (λ (k : ℕ). stepped_places self.first.segment self.first.word k self.count) (sym one)),
+          ∙ ap (λ (k : ℕ). stepped_places self.first.segment self.first.word k self.count) (sym one)),
     )
