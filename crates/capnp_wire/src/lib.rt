@@ -18,6 +18,7 @@ pub mod canonical;
 pub mod constant;
 pub mod data;
 pub mod data_list;
+mod into_iter;
 pub mod laws;
 mod layout;
 mod list_iter;

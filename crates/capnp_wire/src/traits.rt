@@ -18,6 +18,10 @@ use capnp_frame::Result;
 use capnp_frame::message::ReaderSegments;
 
 /// A type of views of what a pointer leads to, as `text::Reader` is one.
+///
+/// A view that doesn't name `S` has a lifetime of its own, as in
+/// `impl<'a: 'v, 'v, S: ReaderSegments> FromPointerReader<'a, S> for View<'v>`. A loop over a list of
+/// such views isn't proved where the impl names the one lifetime `'a` for both.
 pub trait FromPointerReader<'a, S: ReaderSegments>: Sized {
     /// The view shows what the pointer leads to.
     ghost shows: { Pointer → Self → Type 0 };

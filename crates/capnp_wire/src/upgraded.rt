@@ -14,8 +14,15 @@ mod pointer_list;
 mod struct_list;
 mod values;
 
+use crate::{data, text};
 pub use enum_list::{EnumElement, EnumList};
 pub use list_list::ListList;
 pub use number_list::NumberList;
 pub use pointer_list::PointerList;
 pub use struct_list::StructList;
+
+/// A list of `Text` in a message, or of structs whose first pointer leads to one.
+pub type TextList<'a, S> = ListList<'a, S, text::Reader<'a>>;
+
+/// A list of `Data` in a message, or of structs whose first pointer leads to one.
+pub type DataList<'a, S> = ListList<'a, S, data::Reader<'a>>;

@@ -18,7 +18,7 @@ use capnp_layout::object::Object;
 pub type Reader<'a> = &'a [u8];
 
 // Null is empty; a list of bytes shows its bytes; any other object fails with `WrongPointerKind`.
-impl<'a, S: ReaderSegments> FromPointerReader<'a, S> for &'a [u8] {
+impl<'a: 'v, 'v, S: ReaderSegments> FromPointerReader<'a, S> for &'v [u8] {
     ghost shows = { λ pointer view. Reads pointer (λ form. IsData form view.now) };
 
     ghost accepts = { λ pointer. Accepts pointer (TakesNumbers 2) };
@@ -38,7 +38,7 @@ impl<'a, S: ReaderSegments> FromPointerReader<'a, S> for &'a [u8] {
     }
 }
 
-impl<'a, S: ReaderSegments> FromPointerInSegment<'a, S> for &'a [u8] {
+impl<'a: 'v, 'v, S: ReaderSegments> FromPointerInSegment<'a, S> for &'v [u8] {
     #[inline(always)]
     fn get_from_segment(reader: any_pointer::Reader<'a, S>, segment: &'a [u8]) -> Result<Self>
         requires { HasSegment (pointer_of S.segments reader) (words_of segment.now) }

@@ -168,7 +168,8 @@ impl<'a, T: PrimitiveElement> IndexMove for Reader<'a, T> {
 
 // Null is an empty list; a list of numbers of this size shows its numbers; any other object fails
 // with `WrongPointerKind`.
-impl<'a, S: ReaderSegments, T: PrimitiveElement> FromPointerReader<'a, S> for Reader<'a, T> {
+impl<'a: 'v, 'v, S: ReaderSegments, T: PrimitiveElement> FromPointerReader<'a, S>
+    for Reader<'v, T> {
     ghost use Rattle.capnp_wire.specs.NumberViews.{numbers_of, IsNumbers};
     ghost use Rattle.capnp_wire.specs.Views.{IsViewOf, Accepts, Reads, Refuses, Declines, TakesNumbers, DeclinesNumbers};
     ghost use Rattle.capnp_wire.specs.Readers.{pointer_of};
@@ -193,7 +194,8 @@ impl<'a, S: ReaderSegments, T: PrimitiveElement> FromPointerReader<'a, S> for Re
     }
 }
 
-impl<'a, S: ReaderSegments, T: PrimitiveElement> FromPointerInSegment<'a, S> for Reader<'a, T> {
+impl<'a: 'v, 'v, S: ReaderSegments, T: PrimitiveElement> FromPointerInSegment<'a, S>
+    for Reader<'v, T> {
     ghost use Rattle.capnp_wire.specs.NumberViews.{numbers_of, IsNumbers};
     ghost use Rattle.capnp_wire.specs.Views.{HasSegment, IsViewOf, Accepts, Reads, Refuses, Declines, TakesNumbers, DeclinesNumbers};
     ghost use Rattle.capnp_wire.specs.Readers.{pointer_of};

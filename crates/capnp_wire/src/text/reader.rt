@@ -67,7 +67,7 @@ impl<'a> Reader<'a> {
 
 // Null is empty; a list of bytes that ends with a zero byte shows the bytes before it, and one that
 // doesn't fails with `TextNotTerminated`. Any other object fails with `WrongPointerKind`.
-impl<'a, S: ReaderSegments> FromPointerReader<'a, S> for Reader<'a> {
+impl<'a: 'v, 'v, S: ReaderSegments> FromPointerReader<'a, S> for Reader<'v> {
     ghost shows = { λ pointer view. Reads pointer (λ form. IsText form view.bytes.now) };
 
     ghost accepts = { λ pointer. Accepts pointer TakesText };
@@ -87,7 +87,7 @@ impl<'a, S: ReaderSegments> FromPointerReader<'a, S> for Reader<'a> {
     }
 }
 
-impl<'a, S: ReaderSegments> FromPointerInSegment<'a, S> for Reader<'a> {
+impl<'a: 'v, 'v, S: ReaderSegments> FromPointerInSegment<'a, S> for Reader<'v> {
     #[inline(always)]
     fn get_from_segment(reader: any_pointer::Reader<'a, S>, segment: &'a [u8]) -> Result<Self>
         requires { HasSegment (pointer_of S.segments reader) (words_of segment.now) }

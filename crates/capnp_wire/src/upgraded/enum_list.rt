@@ -104,7 +104,7 @@ impl<'a, E: EnumElement> IndexMove for EnumList<'a, E> {
 }
 
 // Null is empty; else it shows what a list of numbers of 16 bits does, each as a value of the enum.
-impl<'a, S: ReaderSegments, E> FromPointerReader<'a, S> for EnumList<'a, E> {
+impl<'a: 'v, 'v, S: ReaderSegments, E> FromPointerReader<'a, S> for EnumList<'v, E> {
     ghost use Rattle.capnp_wire.specs.Readers.{pointer_of};
     ghost use Rattle.capnp_wire.specs.Views.{IsViewOf, Accepts, Reads, Refuses, Declines};
     ghost use Rattle.capnp_wire.specs.UpgradedViews.{ReadsAsNumbers, TakesFields, DeclinesFields};
@@ -137,7 +137,7 @@ impl<'a, S: ReaderSegments, E> FromPointerReader<'a, S> for EnumList<'a, E> {
     }
 }
 
-impl<'a, S: ReaderSegments, E> FromPointerInSegment<'a, S> for EnumList<'a, E> {
+impl<'a: 'v, 'v, S: ReaderSegments, E> FromPointerInSegment<'a, S> for EnumList<'v, E> {
     ghost use Rattle.capnp_wire.specs.Readers.{pointer_of};
     ghost use Rattle.capnp_wire.specs.Views.{HasSegment, IsViewOf, Accepts, Reads, Refuses, Declines};
     ghost use Rattle.capnp_wire.specs.UpgradedViews.{ReadsAsNumbers, TakesFields, DeclinesFields};

@@ -214,7 +214,8 @@ impl<'a, T: PrimitiveElement> IndexMove for NumberList<'a, T> {
 // Null is an empty list; a list of numbers of this size shows its numbers, and a list of structs
 // that have a data word shows their first fields. Any other object fails with `WrongPointerKind`;
 // where bits are asked for, so does any object other than a list of bits.
-impl<'a, S: ReaderSegments, T: PrimitiveElement> FromPointerReader<'a, S> for NumberList<'a, T> {
+impl<'a: 'v, 'v, S: ReaderSegments, T: PrimitiveElement> FromPointerReader<'a, S>
+    for NumberList<'v, T> {
     ghost use Rattle.capnp_wire.specs.Readers.{pointer_of};
     ghost use Rattle.capnp_wire.specs.Views.{IsViewOf, Accepts, Reads, Refuses, Declines};
     ghost use Rattle.capnp_wire.specs.UpgradedViews.{ReadsAsNumbers, TakesFields, DeclinesFields};
@@ -241,7 +242,8 @@ impl<'a, S: ReaderSegments, T: PrimitiveElement> FromPointerReader<'a, S> for Nu
     }
 }
 
-impl<'a, S: ReaderSegments, T: PrimitiveElement> FromPointerInSegment<'a, S> for NumberList<'a, T> {
+impl<'a: 'v, 'v, S: ReaderSegments, T: PrimitiveElement> FromPointerInSegment<'a, S>
+    for NumberList<'v, T> {
     ghost use Rattle.capnp_wire.specs.Readers.{pointer_of};
     ghost use Rattle.capnp_wire.specs.Views.{HasSegment, IsViewOf, Accepts, Reads, Refuses, Declines};
     ghost use Rattle.capnp_wire.specs.UpgradedViews.{ReadsAsNumbers, TakesFields, DeclinesFields};
