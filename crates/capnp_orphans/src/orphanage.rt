@@ -156,8 +156,9 @@ impl<S: GrowingSegment> Orphanage<S> {
     }
 
     /// Adds an orphan: the object of a value that a pointer can be set to. The value is composed
-    /// (`capnp_values`), or it is what a view of another message shows. What a pointer leads to
-    /// there, a list too, is copied when it is given as the view `any_pointer::Reader`.
+    /// (`capnp_values`), or it is what a view of another message shows: a text, data, a struct, a
+    /// list of any kind. What a pointer leads to there is copied, as it is, when it is given as the
+    /// view `any_pointer::Reader`.
     ///
     /// Fails for 2^29 words and more with `AllocationTooLarge` of the value's words, at most
     /// 2^32 - 1; as its view does for what can't be read; and for want of room as `Orphanage` says.

@@ -2,8 +2,7 @@
 use Rattle.std.proofs.Common.{◌<◌, ◌≡◌, ◌++◌, length, encode_utf8, sym, ◌∙◌, append_assoc, append-nil, rules}
 use lib.Utf8.{encode}
 use Rattle.std.specs.Fmt.{HasWritten}
-use Rattle.std.specs.Str.Lossy.{utf8_lossy, replacement_bytes}
-use Rattle.std.specs.Str.Chunks.{utf8_chunks_rest}
+use Rattle.std.specs.Str.Lossy.{utf8_lossy}
 use Rattle.std.proofs.Output.{has_written_append, has_written_of_eq}
 use Rattle.std.proofs.lemmas.Str.{utf8_lossy_chunk, utf8_lossy_last_chunk, utf8_lossy_empty}
 use Rattle.capnp_wire.proofs.text.display.write_replaced.Goals as goal

@@ -1,5 +1,4 @@
 -- Text that is UTF-8 is its own.
-use Rattle.std.proofs.Common.{◌≡◌, sym, ◌∙◌}
 use Rattle.std.proofs.lemmas.Str.{utf8_lossy-IsUtf8}
 use Rattle.capnp_wire.proofs.text.display.ReaderDisplay.fmt.Goals as goal
 

@@ -1,6 +1,5 @@
 -- The words of a list that is read as a list of pointers are those of its tree.
-use Rattle.std.proofs.Common.{MatchResult, rules}
-use Rattle.capnp_wire.specs.Values.{HasWords, LacksWords}
+use Rattle.std.proofs.Common.{rules}
 use Rattle.capnp_wire.specs.UpgradedValues.{IsPointerListValue, RefusesPointerList}
 use Rattle.capnp_wire.proofs.views.OneValueLemmas.{measured_found, measured_exactly}
 use Rattle.capnp_wire.proofs.views.UpgradedValueLemmas.{one_of_pointers}
