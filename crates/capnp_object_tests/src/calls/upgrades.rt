@@ -18,7 +18,7 @@ const BITS: &[u8] = b"\x01\0\0\0\x19\0\0\0\x07\0\0\0\0\0\0\0";
 
 const BYTES: &[u8] = b"\x01\0\0\0\x1a\0\0\0\x05\xfa\x07\0\0\0\0\0";
 
-const PAIRS: &[u8] = b"\x01\0\0\0\x1b\0\0\0\x01\0\x02\x03\xff\xff\0\0";
+pub const PAIRS: &[u8] = b"\x01\0\0\0\x1b\0\0\0\x01\0\x02\x03\xff\xff\0\0";
 
 const QUADS: &[u8] = b"\x01\0\0\0\x1c\0\0\0\x07\0\0\0\x01\0\0\x80\x09\0\0\0\0\0\0\0";
 
@@ -26,18 +26,18 @@ const WORDS: &[u8] =
     b"\x01\0\0\0\x1d\0\0\0\x01\0\0\0\0\0\0\x80\x02\0\0\0\0\0\0\0\x03\0\0\0\x04\0\0\0";
 
 // Three pointers: null, to the text "a", and null.
-const POINTERS: &[u8] = b"\x01\0\0\0\x1e\0\0\0\0\0\0\0\0\0\0\0\
+pub const POINTERS: &[u8] = b"\x01\0\0\0\x1e\0\0\0\0\0\0\0\0\0\0\0\
 \x05\0\0\0\x12\0\0\0\0\0\0\0\0\0\0\0a\0\0\0\0\0\0\0";
 
 // Three structs of two data words.
-const DATA: &[u8] = b"\x01\0\0\0\x37\0\0\0\x0c\0\0\0\x02\0\0\0\
+pub const DATA: &[u8] = b"\x01\0\0\0\x37\0\0\0\x0c\0\0\0\x02\0\0\0\
 \x01\x02\x03\x04\x05\x06\x07\x08\xee\xee\xee\xee\xee\xee\xee\xee\
 \xf1\xf2\xf3\xf4\xf5\xf6\xf7\xf8\xee\xee\xee\xee\xee\xee\xee\xee\
 \0\0\0\0\0\0\0\x01\xee\xee\xee\xee\xee\xee\xee\xee";
 
 // Three structs of a data word and two pointers: the first is null, to the text "b", and null; the
 // second is to the text "c" in each.
-const BOTH: &[u8] = b"\x01\0\0\0\x4f\0\0\0\x0c\0\0\0\x01\0\x02\0\
+pub const BOTH: &[u8] = b"\x01\0\0\0\x4f\0\0\0\x0c\0\0\0\x01\0\x02\0\
 \x09\0\0\0\0\0\0\0\0\0\0\0\0\0\0\0\x1d\0\0\0\x12\0\0\0\
 \x08\0\0\0\0\0\0\0\x11\0\0\0\x12\0\0\0\x11\0\0\0\x12\0\0\0\
 \x07\0\0\0\0\0\0\0\0\0\0\0\0\0\0\0\x05\0\0\0\x12\0\0\0\
@@ -81,11 +81,11 @@ const ROWS: [(&[u8], (u16, u16), [u64; 3]); 8] = [
     (BOTH,     (1, 2), [9, 8, 7]),
 ];
 
-type Structs<'a> = StructList<'a, SegmentArray<'a>>;
+pub type Structs<'a> = StructList<'a, SegmentArray<'a>>;
 
-type Pointers<'a> = PointerList<'a, SegmentArray<'a>>;
+pub type Pointers<'a> = PointerList<'a, SegmentArray<'a>>;
 
-type Texts<'a> = ListList<'a, SegmentArray<'a>, text::Reader<'a>>;
+pub type Texts<'a> = ListList<'a, SegmentArray<'a>, text::Reader<'a>>;
 
 fn number_refusal<T: PrimitiveElement>(arena: &Arena<'_>) -> u8 {
     root_refusal::<SegmentArray<'_>, NumberList<'_, T>>(arena)

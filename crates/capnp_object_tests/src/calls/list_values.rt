@@ -1,0 +1,99 @@
+//! Lists that were read, as values.
+use crate::calls::upgrades::{BOTH, DATA, PAIRS, POINTERS, Pointers, Structs, Texts};
+use crate::fixtures::{Arena, Numbered, arena_of, expect, root_as};
+use capnp_frame::Result;
+use capnp_wire::traits::SetterInput;
+use capnp_wire::upgraded::NumberList;
+use capnp_wire::{any_pointer_list, list_list, primitive_list, struct_list, text};
+
+/// A pointer word, and a block of seven words.
+type Written = ([u8; 8], [u8; 56]);
+
+// A value of at most seven words as it is written, without regard to where.
+fn written<T, V: SetterInput<T>>(value: &V) -> Numbered<Written> {
+    match value.measure(false) {
+        Ok(words) if words <= 7 => {
+            let mut block = [0; 56];
+            let copied = value.write(false, &mut block, 0, 0);
+            Ok((copied.pointer.to_le_bytes(), block))
+        }
+        Ok(_) => Err(0),
+        Err(error) => Err(error.kind.number()),
+    }
+}
+
+// What a segment of at most eight words is, with no word between its first pointer and the list.
+fn as_it_is(segment: &[u8]) -> Numbered<Written> {
+    let mut pointer = [0; 8];
+    let mut block = [0; 56];
+    if segment.len() < 8 || segment.len() > 64 {
+        return Err(0);
+    }
+    pointer.copy_from_slice(&segment[..8]);
+    block[..segment.len() - 8].copy_from_slice(&segment[8..]);
+    Ok((pointer, block))
+}
+
+fn numbers_of(arena: &Arena<'_>) -> Result<Numbered<Written>> {
+    let list: NumberList<'_, u16> = root_as(arena)?;
+    Ok(written::<primitive_list::Owned<u16>, NumberList<'_, u16>>(&list))
+}
+
+fn structs_of(arena: &Arena<'_>) -> Result<Numbered<Written>> {
+    let list: Structs<'_> = root_as(arena)?;
+    Ok(written::<struct_list::Owned, Structs<'_>>(&list))
+}
+
+fn pointers_of(arena: &Arena<'_>) -> Result<Numbered<Written>> {
+    let list: Pointers<'_> = root_as(arena)?;
+    Ok(written::<any_pointer_list::Owned, Pointers<'_>>(&list))
+}
+
+fn texts_of(arena: &Arena<'_>) -> Result<Numbered<Written>> {
+    let list: Texts<'_> = root_as(arena)?;
+    Ok(written::<list_list::Owned<text::Owned>, Texts<'_>>(&list))
+}
+
+#[test]
+fn lists_as_they_are(rt: HostRuntime) -> Result<()> {
+    let segments = [PAIRS];
+    let arena = arena_of(&segments, None, 64);
+    expect(&rt, "numbers", numbers_of(&arena)?, as_it_is(PAIRS));
+    // Numbers that are read as structs stay numbers.
+    expect(&rt, "as structs", structs_of(&arena)?, as_it_is(PAIRS));
+    let segments = [POINTERS];
+    let arena = arena_of(&segments, None, 64);
+    expect(&rt, "pointers", pointers_of(&arena)?, as_it_is(POINTERS));
+    expect(&rt, "texts", texts_of(&arena)?, as_it_is(POINTERS));
+    let segments = [DATA];
+    let arena = arena_of(&segments, None, 64);
+    expect(&rt, "structs", structs_of(&arena)?, as_it_is(DATA));
+    Ok(())
+}
+
+// Three structs of a pointer: null, to the text "a", and null.
+const POINTERS_AS_STRUCTS: &[u8] = b"\x01\0\0\0\x1f\0\0\0\x0c\0\0\0\0\0\x01\0\
+\0\0\0\0\0\0\0\0\x05\0\0\0\x12\0\0\0\0\0\0\0\0\0\0\0a\0\0\0\0\0\0\0";
+
+#[test]
+fn pointers_as_structs(rt: HostRuntime) -> Result<()> {
+    let segments = [POINTERS];
+    let arena = arena_of(&segments, None, 64);
+    expect(
+        &rt,
+        "pointers as structs",
+        structs_of(&arena)?,
+        as_it_is(POINTERS_AS_STRUCTS),
+    );
+    Ok(())
+}
+
+// What else the structs have is not in the view.
+#[test]
+fn first_fields_are_no_value(rt: HostRuntime) -> Result<()> {
+    let segments = [BOTH];
+    let arena = arena_of(&segments, None, 64);
+    let found = [numbers_of(&arena)?, pointers_of(&arena)?, texts_of(&arena)?];
+    expect(&rt, "first fields", found, [Err(22), Err(22), Err(22)]);
+    Ok(())
+}

@@ -1,0 +1,40 @@
+//! Text and data that are printed.
+use crate::fixtures::{expect, plain_arena, root_as, root_as_data};
+use capnp_frame::Result;
+use capnp_wire::{data, text};
+
+// A text of the bytes in table 3-8 of the Unicode Standard.
+const TRUNCATED: &[u8] = b"\x01\0\0\0\x72\0\0\0a\xf1\x80\x80\xe1\x80\xc2b\x80c\x80\xbfd\0\0\0";
+
+// What that table has for them: U+FFFD for each sequence that ends early.
+const REPLACED: &str = "a\u{FFFD}\u{FFFD}\u{FFFD}b\u{FFFD}c\u{FFFD}\u{FFFD}d";
+
+#[test]
+fn bytes_that_are_no_text(rt: HostRuntime) -> Result<()> {
+    let segments = [TRUNCATED];
+    let arena = plain_arena(&segments);
+    let text: text::Reader<'_> = root_as(&arena)?;
+    let printed = format!(in rt.alloc(); "{text}")?;
+    expect(&rt, "replaced", printed.as_str(), REPLACED);
+    Ok(())
+}
+
+#[test]
+fn text_in_a_width(rt: HostRuntime) -> Result<()> {
+    let segments = [b"\x01\0\0\0\x1a\0\0\0\xc3\xa9\0\0\0\0\0\0".as_slice()];
+    let arena = plain_arena(&segments);
+    let text: text::Reader<'_> = root_as(&arena)?;
+    let printed = format!(in rt.alloc(); "{text:>3}")?;
+    expect(&rt, "padded", printed.as_str(), "  \u{E9}");
+    Ok(())
+}
+
+#[test]
+fn data_as_digits(rt: HostRuntime) -> Result<()> {
+    let segments = [b"\x01\0\0\0\x22\0\0\0\0\x0f\xf0\xab\0\0\0\0".as_slice()];
+    let arena = plain_arena(&segments);
+    let digits = data::Hex(root_as_data(&arena)?);
+    let printed = format!(in rt.alloc(); "{digits}")?;
+    expect(&rt, "digits", printed.as_str(), "000ff0ab");
+    Ok(())
+}
