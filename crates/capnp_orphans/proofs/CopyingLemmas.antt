@@ -30,6 +30,8 @@ pub record IsCopied (fields : Struct) (count : ℕ) (old new : Segment) (pointer
   pub unstopped : (index before : ℕ) (kind : ErrorKind) → index < count → TakesCopies fields index before → Stops (pointer_in fields index) before old kind → ⊥
   pub most : new.most ≡ old.most
   pub memory : old.capacity ≤ new.capacity
+  pub within_memory : 0 < count → length new.bytes ≤ new.capacity
+  pub stays_within : length old.bytes ≤ old.capacity → length new.bytes ≤ new.capacity
 
 -- none is
 pub none_copied : (fields : Struct) (old : Segment) (pointers : List ℕ) → IsCopied fields 0 old old pointers
@@ -43,6 +45,8 @@ none_copied fields old pointers = record {
   unstopped = λ index before kind low taken stops. absurd (omega (arith, low));
   most = refl;
   memory = omega arith;
+  within_memory = λ some. absurd (omega (arith, some));
+  stays_within = λ held. held;
 }
 
 -- one more is
@@ -79,6 +83,8 @@ one_copied {T} fields count old between new pointers pointer word object same wi
       ];
       most = writes.most ∙ so.most;
       memory = omega (arith, so.memory, writes.memory);
+      within_memory = λ some. writes.within_memory;
+      stays_within = λ held. writes.within_memory;
     }
 
 -- a copy of too many words
@@ -104,6 +110,8 @@ all_copied fields count old new pointers made object long same so = record {
   full = λ index before words low taken room takes many. so.unstopped index before (AllocationTooLarge words) low taken (inr (words, takes, refl, inr many));
   most = so.most;
   memory = so.memory;
+  within_memory = so.within_memory;
+  stays_within = so.stays_within;
 }
 
 -- room for copies is room for each
@@ -166,6 +174,8 @@ copy_failed {T} {U} fields count index old between new pointers pointer made err
           stops_there fields index old between pointers error at before (AllocationTooLarge words) so fails taken room (inr (words, takes, refl, inr many));
       most = writes.most ∙ so.most;
       memory = omega (arith, so.memory, writes.memory);
+      within_memory = tt;
+      stays_within = λ held. subst (λ (s : Segment). length s.bytes ≤ s.capacity) stays (so.stays_within held);
     })
 
 -- what is said of the pointers is said of what has them
@@ -184,6 +194,8 @@ copies_of {T} {U} fields count old new pointers made object other same so = reco
   full = so.full;
   most = so.most;
   memory = so.memory;
+  within_memory = so.within_memory;
+  stays_within = so.stays_within;
 }
 
 pub copies_not : {T U : Type 0} (fields : Struct) (count : ℕ) (old new : Segment) (pointers : T → List ℕ) (made : U → List ℕ) (error : Error) (result : Result U Error) → result ≡ Err error
@@ -201,6 +213,8 @@ copies_not {T} {U} fields count old new pointers made error result failed so = s
   full = so.full;
   most = so.most;
   memory = so.memory;
+  within_memory = tt;
+  stays_within = so.stays_within;
 })
 
 -- what `?` returns

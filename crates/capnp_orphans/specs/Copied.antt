@@ -68,5 +68,7 @@ pub record Copies {T : Type 0} (fields : Struct) (count : ℕ) (old new : Segmen
   pub full : (index before words : ℕ) → index < count → TakesCopies fields index before → HasRoom before old → TakesCopy (pointer_in fields index) words
       → ExceedsMost (before + words) old → IsErrAnd result (λ error. error.kind ≡ AllocationTooLarge words)
   pub most : new.most ≡ old.most
-  -- the memory that is there stays
+  -- the memory that is there stays, and the bytes are in it, after a failure, too, where they were in it before
   pub memory : old.capacity ≤ new.capacity
+  pub within_memory : OnOk result (0 < count → length new.bytes ≤ new.capacity)
+  pub stays_within : length old.bytes ≤ old.capacity → length new.bytes ≤ new.capacity
