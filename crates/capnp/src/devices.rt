@@ -2,17 +2,19 @@
 //! sinks of messages.
 //!
 //! Both are buffered, and both try an interrupted call again. Any other failure of the device is
-//! `DeviceFailed`.
+//! `DeviceFailed`; a device that is `Watched` keeps the system's reason.
 ghost use Rattle.std.specs.Prelude.{◌≡◌, ◌+◌, ◌-◌, ◌^◌, ◌≤◌, min};
 ghost use Rattle.capnp.specs.Passed.{ErrorKind};
 
 mod input;
 mod output;
 mod retried;
+mod watched;
 
 use crate::{Error, ErrorKind};
 pub use input::Input;
 pub use output::Output;
+pub use watched::Watched;
 
 /// The size in bytes of the buffer for a device that is read.
 pub const BUFFER_BYTES: usize = 4096;

@@ -6,8 +6,8 @@ use Rattle.capnp_ls.specs.declared.flags.TheConstants.{HELP, VERSION}
 
 -- these words, each as its bytes, are the flag
 abbrev pub IsFlag : Flag → List (List ℕ) → Type 0
-IsFlag Help words = (words ≡ codes "--help" ∷ []) ⊎ (words ≡ codes "-h" ∷ [])
-IsFlag Version words = words ≡ codes "--version" ∷ []
+IsFlag Help words = (words ≡ codes "--help" ∷ []) ⊎ (words ≡ codes "-h" ∷ []) ⊎ (words ≡ codes "help" ∷ [])
+IsFlag Version words = (words ≡ codes "--version" ∷ []) ⊎ (words ≡ codes "-V" ∷ [])
 
 -- the bytes that it prints
 abbrev pub text_of : Flag → List ℕ

@@ -18,12 +18,13 @@ Commands:
   pack [--lenient]             Write each message packed
   unpack [--lenient]           Write each packed message framed
   canon [--packed]             Write the canonical form of each message, framed
+  help                         Print help
 
 Options:
       --packed   The messages are packed
       --lenient  Take any padding; else it has to be zero
   -h, --help     Print help
-      --version  Print version
+  -V, --version  Print version
 
 Exit status:
   0  Each message was read, and what the command prints is written
@@ -39,9 +40,9 @@ pub const VERSION: &str = "capnp_ls 0.1.0\n";
 /// A flag, which is given alone, instead of a command.
 #[derive(Clone, Copy)]
 pub enum Flag {
-    /// `--help`, and `-h`: what the program does, its commands and their options.
+    /// `--help`, `-h` and `help`: what the program does, its commands and their options.
     Help,
-    /// `--version`: the program's name and version.
+    /// `--version`, and `-V`: the program's name and version.
     Version,
 }
 
@@ -56,8 +57,8 @@ impl Flag {
             return None;
         };
         match word.as_str() {
-            "--help" | "-h" => Some(Flag::Help),
-            "--version" => Some(Flag::Version),
+            "--help" | "-h" | "help" => Some(Flag::Help),
+            "--version" | "-V" => Some(Flag::Version),
             _ => None,
         }
     }

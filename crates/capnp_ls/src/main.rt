@@ -16,12 +16,10 @@ mod lines;
 mod listing;
 mod program;
 mod stop;
-mod watched;
 
 use crate::flags::{Flag, print_flag};
 use crate::stop::{Stop, report, report_fault};
-use crate::watched::Watched;
-use capnp::devices::{Input, OUTPUT_BYTES, Output};
+use capnp::devices::{Input, OUTPUT_BYTES, Output, Watched};
 use capnp::{Error, ErrorKind};
 use std::io::{Read, Write};
 use std::process::ExitCode;
