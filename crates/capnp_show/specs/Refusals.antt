@@ -1,7 +1,8 @@
 -- What is said of errors (`src/refusals.rt`).
-use Rattle.std.specs.Prelude.{ℕ, List, codes}
+use Rattle.std.specs.Prelude.{ℕ, List, [], ◌++◌, codes}
 use Rattle.capnp.specs.Passed.{ErrorKind}
 use Rattle.capnp_frame.specs.declared.error.ErrorKind.TheVariants.{FailedToFillTheWholeBuffer, BufferNotLargeEnough, EmptyBuffer, EmptySlice, InvalidNumberOfSegments, MessageEndsPrematurely, MessageSizeOverflow, MessageTooLarge, PrematureEndOfFile, PrematureEndOfPackedInput, PackedInputDidNotEndCleanlyOnASegmentBoundary, OutOfMemory, DeviceFailed, NotWholeWords, AllocationTooLarge, SegmentTaken, PointerOutOfBounds, InvalidSegmentId, NestingLimitExceeded, ReadLimitExceeded, CapabilityRefused, WrongPointerKind, TextNotTerminated, CanonicalTooLarge, NotOneSegment, NonZeroPadding}
+use Rattle.capnp_show.specs.Texts.{AddsEscaped}
 
 -- what is said of an error of this kind, in one sentence
 abbrev pub sentence_of : ErrorKind → List ℕ
@@ -36,3 +37,7 @@ sentence_of NonZeroPadding = codes "the padding of the segment table is not zero
 abbrev pub unwritten_of : ErrorKind → List ℕ
 unwritten_of DeviceFailed = codes "standard output can't be written"
 unwritten_of kind = sentence_of kind
+
+-- the line gives a reason why the input of this name failed; the wording of the reason is left open
+abbrev pub IsFaultLine : List ℕ → List ℕ → Type 0
+IsFaultLine name line = (reason : List ℕ) × AddsEscaped (codes "capnp_show: ") name (codes ": " ++ (reason ++ codes "\n")) [] line

@@ -1,6 +1,9 @@
 //! Whether the messages of an input are packed, by the bytes at its front.
-ghost use Rattle.std.specs.Prelude.{◌≡◌, IfOk, MatchOption};
+ghost use Rattle.std.specs.Prelude.{◌≡◌, ◌≢◌, IfOk, IfErr, MatchResult};
 ghost use Rattle.std.specs.Io.KnownBytes.{IsAtEnd};
+ghost use Rattle.std.specs.IoError.{error_kind};
+ghost use Rattle.std.specs.declared.io.Error.{Error};
+ghost use Rattle.std.specs.declared.io.ErrorKind.TheVariants.{Interrupted};
 ghost use Rattle.capnp_show.specs.declared.detected.Look.TheVariants.{More};
 ghost use Rattle.capnp_show.specs.Fronts.{Says, Takes, Tells};
 
@@ -44,33 +47,35 @@ pub fn look_at(front: &[u8], limits: ReaderOptions) -> Look
 }
 
 /// Reads bytes of a device into `front` until they say which format its messages have, or the
-/// device ends; `None` where it fails before that. Bytes that begin a framed message within the
-/// limit of words are framed, also where they end too early; only bytes that begin none are packed.
+/// device ends; where it fails before that, its error. An interrupted read is tried again. Bytes
+/// that begin a framed message within the limit of words are framed, also where they end too early;
+/// only bytes that begin none are packed.
 pub fn detect<D: Read>(
     device: &mut D,
     front: &mut Vec<u8>,
     limits: ReaderOptions,
-) -> Result<Option<Format>, AllocError>
+) -> Result<io::Result<Format>, AllocError>
     ensures taken { IfOk result (λ _. Takes front.old.items front.new.items
         (D.remaining device.old) (D.remaining device.new)) }
-    ensures told { IfOk result (λ found. MatchOption found
-        (Says FRONT_BYTES limits.traversal_limit_in_words front.new.items More)
+    ensures told { IfOk result (λ found. MatchResult found
         (Tells FRONT_BYTES limits.traversal_limit_in_words front.new.items
-        (D.remaining device.new))) }
+        (D.remaining device.new))
+        (λ _. Says FRONT_BYTES limits.traversal_limit_in_words front.new.items More)) }
+    ensures retried { IfOk result (λ found. IfErr found (λ error. error_kind error ≢ Interrupted)) }
 {
     for _ in 0..u64::MAX {
         if let Look::Is(format) = look_at(front.as_slice(), limits) {
-            return Ok(Some(format));
+            return Ok(Ok(format));
         }
         match take_part(device, front)? {
             Part::Bytes => {}
-            Part::End => return Ok(Some(Format::Framed)),
-            Part::Failure => return Ok(None),
+            Part::End => return Ok(Ok(Format::Framed)),
+            Part::Failure(error) => return Ok(Err(error)),
         }
     }
     match look_at(front.as_slice(), limits) {
-        Look::Is(format) => Ok(Some(format)),
-        Look::More => Ok(None),
+        Look::Is(format) => Ok(Ok(format)),
+        Look::More => Ok(Err(io::Error::from(io::ErrorKind::TimedOut))),
     }
 }
 
@@ -80,7 +85,8 @@ enum Part {
     /// Some bytes, or none yet.
     Bytes,
     End,
-    Failure,
+    /// No bytes, for this reason, which is no interruption.
+    Failure(io::Error),
 }
 
 // Reads what a device has at once into `front`.
@@ -89,7 +95,10 @@ fn take_part<D: Read>(device: &mut D, front: &mut Vec<u8>) -> Result<Part, Alloc
         (D.remaining device.old) (D.remaining device.new)) }
     ensures end { IfOk result (λ part. part ≡ Part.End →
         (front.new.items ≡ front.old.items) × IsAtEnd (D.remaining device.new)) }
-    ensures failure { IfOk result (λ part. part ≡ Part.Failure → front.new.items ≡ front.old.items) }
+    ensures failure { IfOk result (λ part. (error : Error) → part ≡ Part.Failure error →
+        front.new.items ≡ front.old.items) }
+    ensures retried { IfOk result (λ part. (error : Error) → part ≡ Part.Failure error →
+        error_kind error ≢ Interrupted) }
 {
     let mut part = [0; FRONT_BYTES];
     match device.read(&mut part) {
@@ -102,7 +111,7 @@ fn take_part<D: Read>(device: &mut D, front: &mut Vec<u8>) -> Result<Part, Alloc
             if error.kind() == io::ErrorKind::Interrupted {
                 Ok(Part::Bytes)
             } else {
-                Ok(Part::Failure)
+                Ok(Part::Failure(error))
             }
         }
     }

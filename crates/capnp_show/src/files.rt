@@ -4,10 +4,10 @@ use crate::detected::detect;
 use crate::html::{push_end, push_input, push_page};
 use crate::messages::show_messages;
 use crate::progress::Progress;
-use crate::refusals::{Stop, detected_line, refused_line, unopened_line};
+use crate::refusals::{Stop, fault_line, input_line, refused_line, unopened_line};
 use crate::settings::{Form, Reading, Settings};
 use crate::shown::Showing;
-use capnp::devices::Input;
+use capnp::devices::{Input, Watched};
 use capnp::io::{BufRead, Write};
 use capnp::streams::Format;
 use capnp::{Error, Result};
@@ -174,7 +174,7 @@ fn say_detected(rt: HostRuntime, name: &str, format: Format) -> Result<()> {
         Format::Framed => "framed",
         Format::Packed => "packed",
     };
-    let line = detected_line(rt.alloc(), name, seen)?;
+    let line = input_line(rt.alloc(), name, seen)?;
     let _ = eprint!(rt; "{line}");
     Ok(())
 }
@@ -187,8 +187,20 @@ fn show_input<D: Read + Drop, W: Write>(
     device: D,
     sink: &mut W,
 ) -> Result<bool> {
-    let source = Input::new(rt.alloc(), device)?;
-    show_source(rt, showing, progress, source, sink)
+    let mut device = Watched::new(device);
+    let source = Input::new(rt.alloc(), &mut device)?;
+    let is_whole = show_source(rt, showing, progress, source, sink)?;
+    if let Some(fault) = device.fault() {
+        say_fault(rt, showing.name, &fault)?;
+    }
+    Ok(is_whole)
+}
+
+// Says on standard error why a device failed.
+fn say_fault(rt: HostRuntime, name: &str, fault: &io::Error) -> Result<()> {
+    let line = fault_line(rt.alloc(), name, fault)?;
+    let _ = eprint!(rt; "{line}");
+    Ok(())
 }
 
 // Shows the messages of a source, and says where it stops.

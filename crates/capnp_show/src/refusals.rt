@@ -1,6 +1,6 @@
 //! What is said of errors.
 ghost use Rattle.std.specs.Prelude.{◌≡◌, ◌++◌, [], IfOk, codes, string_bytes};
-ghost use Rattle.capnp_show.specs.Refusals.{sentence_of, unwritten_of};
+ghost use Rattle.capnp_show.specs.Refusals.{IsFaultLine, sentence_of, unwritten_of};
 ghost use Rattle.capnp_show.specs.Texts.{AddsEscaped};
 
 use crate::text::push_escaped;
@@ -87,14 +87,22 @@ pub fn unopened_line(alloc: Global, name: &str, error: &io::Error) -> Result<Str
     Ok(line)
 }
 
-/// The line for an input whose format was detected.
+/// The line that gives the system's reason why the device of an input failed.
+pub fn fault_line(alloc: Global, name: &str, fault: &io::Error) -> Result<String, AllocError>
+    ensures { IfOk result (λ line. IsFaultLine name.now (string_bytes line)) }
+{
+    let reason = fault.to_string(alloc)?;
+    input_line(alloc, name, &reason)
+}
+
+/// The line that says this of an input.
 #[tactic(auto, using(crate::proofs::TextLemmas::escaped_and_more))]
-pub fn detected_line(alloc: Global, name: &str, seen: &str) -> Result<String, AllocError>
+pub fn input_line(alloc: Global, name: &str, said: &str) -> Result<String, AllocError>
     ensures { IfOk result (λ line. AddsEscaped (codes "capnp_show: ") name.now
-        (codes ": " ++ (seen.now ++ codes "\n")) [] (string_bytes line)) }
+        (codes ": " ++ (said.now ++ codes "\n")) [] (string_bytes line)) }
 {
     let mut line = named_line(alloc, name)?;
-    write!(line, "{seen}\n")?;
+    write!(line, "{said}\n")?;
     Ok(line)
 }
 
