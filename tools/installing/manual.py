@@ -1,7 +1,8 @@
-"""Writes the manual page of a built program: manual.py ROOT CRATE NAME
+"""Writes the manual page of a built program: manual.py ROOT CRATE NAME [PROGRAM]
 
 The page is made of what the program prints for `--help`, or of the comment at the head of its main.rt, where it
-has no such word. NAME is what it is installed as.
+has no such word. NAME is what it is installed as, and PROGRAM the file that is asked, if it isn't that in the
+crate's folder.
 """
 import os
 import re
@@ -27,15 +28,17 @@ def term(text):
 
 
 def items_of(lines):
-    """The terms of a section, each with its text: a line is two spaces, the term, at least two spaces, the text; or
-    it goes on with the text above it."""
-    items = []
+    """The terms of a section, each with its text. A line is two to six spaces, the term, at least two spaces, the
+    text; a line that is indented as far as the text above it goes on with that."""
+    items, column = [], 0
     for line in lines:
         if not line.strip():
             continue
         begun = re.fullmatch(r" {2,6}(\S.*?)(?: {2,}(\S.*))?", line)
-        if begun:
+        if begun and (not items or begun.start(1) < column):
             items.append([begun[1], begun[2] or ""])
+            # Where the text begins only on the next line, it stands further in than any term.
+            column = begun.start(2) if begun[2] else 7
         else:
             items[-1][1] = (items[-1][1] + " " + line.strip()).strip()
     return items
@@ -72,7 +75,7 @@ def page_of_comment(source):
     return about, [".SH SYNOPSIS", bold(usage), ".SH DESCRIPTION", "\n.PP\n".join(marked)]
 
 
-root, crate, name = sys.argv[1:]
+root, crate, name, *programs = sys.argv[1:]
 with open(os.path.join(root, "crates", crate, "src/main.rt")) as file:
     source = file.read()
 with open(os.path.join(root, "VERSION")) as file:
@@ -80,7 +83,7 @@ with open(os.path.join(root, "VERSION")) as file:
 if crate == "capnpc_rattle":
     about, page = page_of_comment(source)
 else:
-    program = os.path.join(root, "crates", crate, "out", crate)
+    program = programs[0] if programs else os.path.join(root, "crates", crate, "out", crate)
     about, page = page_of_help(subprocess.run([program, "--help"], check=True, capture_output=True, text=True).stdout)
 print('.TH "%s" 1 "" "linsjoar %s"' % (escaped(name.upper()), version))
 print(".SH NAME\n%s \\- %s" % (escaped(name), escaped(about[0].lower() + about[1:])))

@@ -22,7 +22,7 @@ def try_reads(program):
         program.compare(wanted, ended, "list, read %d fails" % fails)
     program.compare(whole(b"".join(LINES)), program.slow(["list"], STREAM, READ_MOST="8"), "list, 8 bytes a read")
     # Reads and writes of two bytes, of which the first are interrupted, lose nothing.
-    for interrupted in "3", "1000":
+    for interrupted in "3", "5000":
         ended = program.slow(["list"], STREAM, READ_MOST="2", READ_INTERRUPTED=interrupted, WRITE_MOST="2",
                              WRITE_INTERRUPTED=interrupted)
         program.compare(whole(b"".join(LINES)), ended, "list, %s interruptions" % interrupted)

@@ -16,6 +16,7 @@ from try_lanes import try_lanes
 from try_lengths import try_lengths
 from try_page import try_pages
 from try_progress import try_progress
+from try_reads import try_reads
 from try_words import try_words
 from try_written import try_written
 
@@ -74,7 +75,11 @@ def try_refusals():
     expect("large", run(["--words", "2"], hello), 1, "", refused("standard input", 0, 0, "MessageTooLarge(3)"))
     expect("cut, packed", run(["--packed"], pack(HELLO)[:9]), 1, "", refused("standard input", 0, 0, "PrematureEndOfPackedInput"))
     os.mkdir("folder")
-    expect("a folder", run(["folder"]), 1, "", refused("folder", 0, 0, "DeviceFailed"))
+    os.mkdir("a\nfolder")
+    for args, name, seen in ((["folder"], "folder", ""), (["--detect", "folder"], "folder", "framed"), (["a\nfolder"], "a\\nfolder", "")):
+        said = f"capnp_show: {name}: {seen}\n" if seen else ""
+        reason = f"capnp_show: {name}: Is a directory (os error 21)\n"
+        expect(f"a folder {args}", run(args), 1, "", said + refused(name, 0, 0, "DeviceFailed") + reason)
     several = run(["cut", "missing", "empty", "cut"])
     missing = several.stderr.decode().splitlines(keepends=True)
     opened = len(missing) > 1 and missing[1].startswith("capnp_show: missing: the file can't be opened: ")
@@ -87,6 +92,7 @@ def main():
     try_forms()
     try_refusals()
     try_devices()
+    try_reads()
     try_growing_log()
     try_gigabyte()
     try_words()

@@ -5,8 +5,23 @@ import shutil
 import subprocess
 
 from oracle import Tree, frame, lines_of, pack, sha256_of
-from runs import PROGRAM, expect, run
+from rendered import wrongs_of
+from runs import PROGRAM, count, expect, leave_out, run
 from samples import CANONICAL, FAR, HELLO, listed
+
+VERSION = os.path.join(os.path.dirname(os.path.abspath(__file__)), "../../VERSION")
+# The terms of the manual page, by its sections.
+TERMS = {
+    "ARGUMENTS": ["[FILE]..."],
+    "OPTIONS": [
+        "--packed", "--detect", "--hash", "--tree", "--json", "--count", "--html", "--pack", "--unpack", "--first <N>",
+        "--words <N>", "--nesting <N>", "--progress", "-h, --help", "-V, --version",
+    ],
+    "EXAMPLES": [
+        "capnp_show log", "capnp_show --packed --tree < log", "capnp_show --hash a b", "capnp_show --json --first 1 log",
+        "capnp_show --html log > log.html", "capnp_show --pack --words 99999999 log > log.packed",
+    ],
+}
 
 
 def try_help():
@@ -56,6 +71,13 @@ def try_words():
         result = run(args)
         result.stderr = result.stderr[:7]
         expect(" ".join(args), result, 2, "", "error: ")
-    version = run(["--version"]).stdout.decode()
-    expect("the version", run(["--version"]), 0, version if version.startswith("capnp_show ") else "capnp_show", "")
+    with open(VERSION) as file:
+        version = f"capnp_show {file.read()}"
+    for word in "--version", "-V":
+        expect(f"the version by {word}", run([word]), 0, version, "")
+    wrongs = wrongs_of("capnp_show", PROGRAM, TERMS)
+    if wrongs is None:
+        leave_out("the manual page", "man is not installed")
+    else:
+        count("the manual page", wrongs)
     try_help()
