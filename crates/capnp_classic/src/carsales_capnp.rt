@@ -201,6 +201,9 @@ pub mod parking_lot {
         /// copied, each object as an orphan, and null stays null. What a writer of another version of
         /// the type left out is zero and null, and what it had beyond this one is left out.
         ///
+        /// What a setter replaces after that was copied, and stays in the bytes of the message, where no
+        /// pointer leads to it. Canonical words of the message are without it.
+        ///
         /// It fails as `Orphanage::set` of the first pointer does that can't be copied.
         pub fn from_reader<R: ReaderSegments, S: GrowingSegment>(
             read: &Reader<'_, R>,
@@ -274,6 +277,8 @@ pub mod parking_lot {
 
     impl Builder {
         /// Sets the field `cars`.
+        ///
+        /// An object that it led to before stays in the bytes of the message.
         pub fn set_cars(&mut self, value: Orphan<super::car::OwnedList>)
             ensures words { self.new.draft.words ≡ self.old.draft.words }
             ensures pointers { self.new.draft.pointers
@@ -289,6 +294,9 @@ pub mod parking_lot {
             self.draft.has_pointer(0)
         }
     }
+
+    /// Which pointer of the struct leads to `cars`, for `fields.get_pointer`.
+    pub const CARS_POINTER: u16 = 0;
 }
 
 pub mod total_value {
@@ -461,6 +469,9 @@ pub mod total_value {
         /// One of what a reader shows, to be changed and written again. What its pointers lead to is
         /// copied, each object as an orphan, and null stays null. What a writer of another version of
         /// the type left out is zero and null, and what it had beyond this one is left out.
+        ///
+        /// What a setter replaces after that was copied, and stays in the bytes of the message, where no
+        /// pointer leads to it. Canonical words of the message are without it.
         ///
         /// It fails as `Orphanage::set` of the first pointer does that can't be copied.
         pub fn from_reader<R: ReaderSegments, S: GrowingSegment>(
@@ -927,6 +938,9 @@ pub mod car {
         /// copied, each object as an orphan, and null stays null. What a writer of another version of
         /// the type left out is zero and null, and what it had beyond this one is left out.
         ///
+        /// What a setter replaces after that was copied, and stays in the bytes of the message, where no
+        /// pointer leads to it. Canonical words of the message are without it.
+        ///
         /// It fails as `Orphanage::set` of the first pointer does that can't be copied.
         pub fn from_reader<R: ReaderSegments, S: GrowingSegment>(
             read: &Reader<'_, R>,
@@ -1000,6 +1014,8 @@ pub mod car {
 
     impl Builder {
         /// Sets the field `make`.
+        ///
+        /// An object that it led to before stays in the bytes of the message.
         pub fn set_make(&mut self, value: Orphan<text::Owned>)
             ensures words { self.new.draft.words ≡ self.old.draft.words }
             ensures pointers { self.new.draft.pointers
@@ -1016,6 +1032,8 @@ pub mod car {
         }
 
         /// Sets the field `model`.
+        ///
+        /// An object that it led to before stays in the bytes of the message.
         pub fn set_model(&mut self, value: Orphan<text::Owned>)
             ensures words { self.new.draft.words ≡ self.old.draft.words }
             ensures pointers { self.new.draft.pointers
@@ -1106,6 +1124,8 @@ pub mod car {
         }
 
         /// Sets the field `wheels`.
+        ///
+        /// An object that it led to before stays in the bytes of the message.
         pub fn set_wheels(&mut self, value: Orphan<super::wheel::OwnedList>)
             ensures words { self.new.draft.words ≡ self.old.draft.words }
             ensures pointers { self.new.draft.pointers
@@ -1190,6 +1210,8 @@ pub mod car {
         }
 
         /// Sets the field `engine`.
+        ///
+        /// An object that it led to before stays in the bytes of the message.
         pub fn set_engine(&mut self, value: Orphan<super::engine::Owned>)
             ensures words { self.new.draft.words ≡ self.old.draft.words }
             ensures pointers { self.new.draft.pointers
@@ -1324,6 +1346,18 @@ pub mod car {
             self.draft.get_data_field(83)
         }
     }
+
+    /// Which pointer of the struct leads to `make`, for `fields.get_pointer`.
+    pub const MAKE_POINTER: u16 = 0;
+
+    /// Which pointer of the struct leads to `model`, for `fields.get_pointer`.
+    pub const MODEL_POINTER: u16 = 1;
+
+    /// Which pointer of the struct leads to `wheels`, for `fields.get_pointer`.
+    pub const WHEELS_POINTER: u16 = 2;
+
+    /// Which pointer of the struct leads to `engine`, for `fields.get_pointer`.
+    pub const ENGINE_POINTER: u16 = 3;
 }
 
 #[derive(Clone, Copy, PartialEq, Eq, Debug)]
@@ -1595,6 +1629,9 @@ pub mod wheel {
         /// One of what a reader shows, to be changed and written again. What its pointers lead to is
         /// copied, each object as an orphan, and null stays null. What a writer of another version of
         /// the type left out is zero and null, and what it had beyond this one is left out.
+        ///
+        /// What a setter replaces after that was copied, and stays in the bytes of the message, where no
+        /// pointer leads to it. Canonical words of the message are without it.
         ///
         /// It fails as `Orphanage::set` of the first pointer does that can't be copied.
         pub fn from_reader<R: ReaderSegments, S: GrowingSegment>(
@@ -1923,6 +1960,9 @@ pub mod engine {
         /// One of what a reader shows, to be changed and written again. What its pointers lead to is
         /// copied, each object as an orphan, and null stays null. What a writer of another version of
         /// the type left out is zero and null, and what it had beyond this one is left out.
+        ///
+        /// What a setter replaces after that was copied, and stays in the bytes of the message, where no
+        /// pointer leads to it. Canonical words of the message are without it.
         ///
         /// It fails as `Orphanage::set` of the first pointer does that can't be copied.
         pub fn from_reader<R: ReaderSegments, S: GrowingSegment>(

@@ -201,6 +201,9 @@ pub mod search_result_list {
         /// copied, each object as an orphan, and null stays null. What a writer of another version of
         /// the type left out is zero and null, and what it had beyond this one is left out.
         ///
+        /// What a setter replaces after that was copied, and stays in the bytes of the message, where no
+        /// pointer leads to it. Canonical words of the message are without it.
+        ///
         /// It fails as `Orphanage::set` of the first pointer does that can't be copied.
         pub fn from_reader<R: ReaderSegments, S: GrowingSegment>(
             read: &Reader<'_, R>,
@@ -274,6 +277,8 @@ pub mod search_result_list {
 
     impl Builder {
         /// Sets the field `results`.
+        ///
+        /// An object that it led to before stays in the bytes of the message.
         pub fn set_results(&mut self, value: Orphan<super::search_result::OwnedList>)
             ensures words { self.new.draft.words ≡ self.old.draft.words }
             ensures pointers { self.new.draft.pointers
@@ -289,6 +294,9 @@ pub mod search_result_list {
             self.draft.has_pointer(0)
         }
     }
+
+    /// Which pointer of the struct leads to `results`, for `fields.get_pointer`.
+    pub const RESULTS_POINTER: u16 = 0;
 }
 
 pub mod search_result {
@@ -502,6 +510,9 @@ pub mod search_result {
         /// copied, each object as an orphan, and null stays null. What a writer of another version of
         /// the type left out is zero and null, and what it had beyond this one is left out.
         ///
+        /// What a setter replaces after that was copied, and stays in the bytes of the message, where no
+        /// pointer leads to it. Canonical words of the message are without it.
+        ///
         /// It fails as `Orphanage::set` of the first pointer does that can't be copied.
         pub fn from_reader<R: ReaderSegments, S: GrowingSegment>(
             read: &Reader<'_, R>,
@@ -575,6 +586,8 @@ pub mod search_result {
 
     impl Builder {
         /// Sets the field `url`.
+        ///
+        /// An object that it led to before stays in the bytes of the message.
         pub fn set_url(&mut self, value: Orphan<text::Owned>)
             ensures words { self.new.draft.words ≡ self.old.draft.words }
             ensures pointers { self.new.draft.pointers
@@ -608,6 +621,8 @@ pub mod search_result {
         }
 
         /// Sets the field `snippet`.
+        ///
+        /// An object that it led to before stays in the bytes of the message.
         pub fn set_snippet(&mut self, value: Orphan<text::Owned>)
             ensures words { self.new.draft.words ≡ self.old.draft.words }
             ensures pointers { self.new.draft.pointers
@@ -623,4 +638,10 @@ pub mod search_result {
             self.draft.has_pointer(1)
         }
     }
+
+    /// Which pointer of the struct leads to `url`, for `fields.get_pointer`.
+    pub const URL_POINTER: u16 = 0;
+
+    /// Which pointer of the struct leads to `snippet`, for `fields.get_pointer`.
+    pub const SNIPPET_POINTER: u16 = 1;
 }

@@ -280,6 +280,9 @@ pub mod expression {
         /// copied, each object as an orphan, and null stays null. What a writer of another version of
         /// the type left out is zero and null, and what it had beyond this one is left out.
         ///
+        /// What a setter replaces after that was copied, and stays in the bytes of the message, where no
+        /// pointer leads to it. Canonical words of the message are without it.
+        ///
         /// It fails as `Orphanage::set` of the first pointer does that can't be copied.
         pub fn from_reader<R: ReaderSegments, S: GrowingSegment>(
             read: &Reader<'_, R>,
@@ -483,6 +486,8 @@ pub mod expression {
             }
 
             /// Sets the field `expression`.
+            ///
+            /// An object that it led to before stays in the bytes of the message.
             pub fn set_left_expression(&mut self, value: Orphan<super::super::expression::Owned>)
                 ensures words { self.new.draft.words
                     ≡ (with_field self.old.draft.words 16 1 1) }
@@ -500,6 +505,9 @@ pub mod expression {
                 self.draft.has_pointer(0)
             }
         }
+
+        /// Which pointer of the struct leads to `expression`, for `fields.get_pointer`.
+        pub const EXPRESSION_POINTER: u16 = 0;
     }
 
     pub mod right {
@@ -600,6 +608,8 @@ pub mod expression {
             }
 
             /// Sets the field `expression`.
+            ///
+            /// An object that it led to before stays in the bytes of the message.
             pub fn set_right_expression(&mut self, value: Orphan<super::super::expression::Owned>)
                 ensures words { self.new.draft.words
                     ≡ (with_field self.old.draft.words 16 6 1) }
@@ -617,6 +627,9 @@ pub mod expression {
                 self.draft.has_pointer(1)
             }
         }
+
+        /// Which pointer of the struct leads to `expression`, for `fields.get_pointer`.
+        pub const EXPRESSION_POINTER: u16 = 1;
     }
 }
 
@@ -790,6 +803,9 @@ pub mod evaluation_result {
         /// One of what a reader shows, to be changed and written again. What its pointers lead to is
         /// copied, each object as an orphan, and null stays null. What a writer of another version of
         /// the type left out is zero and null, and what it had beyond this one is left out.
+        ///
+        /// What a setter replaces after that was copied, and stays in the bytes of the message, where no
+        /// pointer leads to it. Canonical words of the message are without it.
         ///
         /// It fails as `Orphanage::set` of the first pointer does that can't be copied.
         pub fn from_reader<R: ReaderSegments, S: GrowingSegment>(

@@ -390,6 +390,27 @@ pub mod printed {
         }
     }
 
+    /// Which pointer of the struct leads to `title`, for `fields.get_pointer`.
+    pub const TITLE_POINTER: u16 = 0;
+
+    /// Which pointer of the struct leads to `payload`, for `fields.get_pointer`.
+    pub const PAYLOAD_POINTER: u16 = 1;
+
+    /// Which pointer of the struct leads to `points`, for `fields.get_pointer`.
+    pub const POINTS_POINTER: u16 = 2;
+
+    /// Which pointer of the struct leads to `colors`, for `fields.get_pointer`.
+    pub const COLORS_POINTER: u16 = 3;
+
+    /// Which pointer of the struct leads to `any`, for `fields.get_pointer`.
+    pub const ANY_POINTER: u16 = 4;
+
+    /// Which pointer of the struct leads to `label`, for `fields.get_pointer`.
+    pub const LABEL_POINTER: u16 = 5;
+
+    /// Which pointer of the struct leads to `inner`, for `fields.get_pointer`.
+    pub const INNER_POINTER: u16 = 5;
+
     #[rattlefmt::skip]
     pub static LABEL_DEFAULT: Words<16> = Words { bytes: [
         1, 0, 0, 0, 42, 0, 0, 0,

@@ -5,7 +5,6 @@ use crate::getters::{Shown, Site, shown_of};
 use crate::owners::Owner;
 use crate::schema::{Base, Field, Slot};
 use crate::setters::{field_name, is_data};
-use crate::signatures::signature;
 use crate::templates::GETTER;
 use std::alloc::{AllocError, Global};
 
@@ -63,7 +62,7 @@ fn push_getter(
         "name",
         field.name.as_str(),
     )?;
-    let signature = signature(alloc, code.depth, name, "&self", shown.type_name.as_str());
+    let signature = format!(in alloc; "pub fn get_{name}(&self) -> {}", shown.type_name);
     let holes = Holes::new(alloc)
         .holding("signature", signature)
         .holding(

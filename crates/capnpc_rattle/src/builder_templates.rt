@@ -31,6 +31,9 @@ impl Builder {
     /// copied, each object as an orphan, and null stays null. What a writer of another version of
     /// the type left out is zero and null, and what it had beyond this one is left out.
     ///
+    /// What a setter replaces after that was copied, and stays in the bytes of the message, where no
+    /// pointer leads to it. Canonical words of the message are without it.
+    ///
     /// It fails as `Orphanage::set` of the first pointer does that can't be copied.
     pub fn from_reader<R: ReaderSegments, S: GrowingSegment>(
         read: &Reader<'_, R>,
@@ -154,9 +157,14 @@ pub const WORDS_CLAUSE: &str = "self.new.draft.words
 
 /// What a clause says where an enum is set.
 pub const ENUM_CLAUSE: &str = "let words = @words@ in
-elim value [
-@cases@
-]";
+    elim value [
+    @cases@
+    ]";
+
+/// What is said of what a setter of a pointer replaces.
+pub const STAYS: &str = "///
+/// An object that it led to before stays in the bytes of the message.
+";
 
 /// The setter of a pointer.
 pub const POINTER_SETTER: &str = "pub fn set_@name@@generic@(&mut self, value: Orphan<@owned@>)

@@ -2,12 +2,16 @@
 //! there, and no two names of one scope may become one.
 use crate::cleared::{group_name, group_of};
 use crate::getters::Site;
-use crate::names::{constant, default_name, enum_type, module, snake, variant};
+use crate::names::{constant, default_name, enum_type, module, pointer_name, snake, variant};
 use crate::owners::{Owner, is_member, owner_of};
+use crate::pointer_names::pointer_of;
 use crate::schema::{Base, Body, Field, Node, Place, Request, Slot, Struct};
 use crate::setters::{field_name, has_setter};
 use anyhow::{Result, bail};
 use std::alloc::{AllocError, Global};
+
+// What is said where names collide.
+const ANOTHER_NAME: &str = ": the annotation `name` of rattle.capnp gives one another name";
 
 /// Says what is wrong with a file of a request, where something is.
 pub fn check_file(alloc: Global, request: &Request, file: u64) -> Result<()> {
@@ -110,7 +114,7 @@ impl Names {
     fn expect_new(&self, name: &str, of: &str) -> Result<()> {
         for (other, one) in self.taken.as_slice() {
             if other.as_str().eq_ignore_ascii_case(name) {
-                bail!("`{one}` and `{of}` would both be named `{name}`");
+                bail!("`{one}` and `{of}` would both be named `{name}`{ANOTHER_NAME}");
             }
         }
         Ok(())
@@ -140,6 +144,7 @@ fn add_declared(
     node: &Node,
 ) -> Result<()> {
     let name = node.name.as_str();
+    expect_name(name)?;
     match &node.body {
         Body::Struct(_) => items.add(alloc, module(alloc, name), name),
         Body::Interface if !node.nested.is_empty() => items.add(alloc, module(alloc, name), name),
@@ -162,8 +167,29 @@ fn add_fields(
             Slot::Group(_) => items.add(alloc, module(alloc, name), name)?,
             _ => constants.add(alloc, default_name(alloc, name), name)?,
         }
+        if pointer_of(field).is_some() {
+            constants.add(alloc, pointer_name(alloc, name), name)?;
+        }
     }
     Ok(())
+}
+
+// Fails for what is no name, which an annotation may have given.
+fn expect_name(name: &str) -> Result<()> {
+    if name.starts_with(is_letter) && name.chars().all(is_letter_of_name) {
+        return Ok(());
+    }
+    bail!("`{name}` is no name: letters and digits, a letter in front");
+}
+
+// Whether a name may begin with a letter.
+fn is_letter(letter: char) -> bool {
+    letter.is_ascii_alphabetic()
+}
+
+// Whether it may have it.
+fn is_letter_of_name(letter: char) -> bool {
+    letter.is_ascii_alphanumeric() || letter == '_'
 }
 
 // Says which two enumerants, or fields, would have the same name.
@@ -173,12 +199,14 @@ fn check_variants(alloc: Global, node: &Node) -> Result<()> {
         Body::Enum(enumerants) => {
             for name in enumerants.as_slice() {
                 let name = name.as_str();
+                expect_name(name)?;
                 names.add(alloc, variant(alloc, name), name)?;
             }
         }
         Body::Struct(body) => {
             for field in body.fields.as_slice() {
                 let name = field.name.as_str();
+                expect_name(name)?;
                 names.add(alloc, snake(alloc, name), name)?;
             }
         }

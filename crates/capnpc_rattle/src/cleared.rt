@@ -73,7 +73,7 @@ impl Cleared {
     fn words(&self, alloc: Global, mut words: String) -> Result<String, AllocError> {
         for (width, offset) in self.fields.as_slice() {
             let before = words.as_str();
-            words = format!(in alloc; "(with_field {before}\n    {width} {offset} 0)")?;
+            words = format!(in alloc; "(with_field {before}\n{width} {offset} 0)")?;
         }
         Ok(words)
     }

@@ -4,7 +4,6 @@ use crate::names::{constant, snake, variant};
 use crate::numbers::{literal, number_of};
 use crate::paths::path_to;
 use crate::schema::{Base, Body, Node, Request, Type, Value};
-use crate::signatures::{WIDTH, signature};
 use crate::templates::{GET_WORDS, LAYOUT, NO_LAYOUT};
 use crate::trees::wrapped;
 use crate::views::{CONSTANT, View, view_of};
@@ -100,10 +99,7 @@ pub fn push_view(
 ) -> Result<(), AllocError> {
     let words = words_of(alloc, value)?;
     let holes = Holes::new(alloc)
-        .holding(
-            "signature",
-            head_of(alloc, code.depth, getter, view, words.len()),
-        )
+        .holding("signature", head_of(alloc, getter, view, words.len()))
         .holding("title", title)
         .with("name", name)
         .holding("fact", view.fact(alloc, "result"));
@@ -140,14 +136,13 @@ fn push_layout(
 // The head of the getter of this name, of a view of a given number of bytes.
 fn head_of(
     alloc: Global,
-    depth: usize,
     getter: Result<String, AllocError>,
     view: &View,
     bytes: usize,
 ) -> Result<String, AllocError> {
     let getter = getter?;
     let type_name = view_type(alloc, view, bytes)?;
-    signature(alloc, depth, getter.as_str(), "", type_name.as_str())
+    format!(in alloc; "pub fn get_{getter}() -> {type_name}")
 }
 
 // The type of what the getter of a view of a given number of bytes returns.
@@ -158,7 +153,7 @@ fn view_type(alloc: Global, view: &View, bytes: usize) -> Result<String, AllocEr
     fill_with(alloc, type_name.as_str(), "size", size.as_str())
 }
 
-// Adds the line of a constant; its value on a line of its own if that line would be too wide.
+// Adds the line of a constant.
 fn push_line(
     alloc: Global,
     code: &mut Code,
@@ -167,14 +162,7 @@ fn push_line(
     value: &str,
 ) -> Result<(), AllocError> {
     let line = format!(in alloc; "pub const {name}: {type_name} = {value};")?;
-    if code.depth.saturating_mul(4).saturating_add(line.len()) <= WIDTH {
-        return code.add_with("@line@", "line", line.as_str());
-    }
-    let holes = Holes::new(alloc)
-        .with("name", name)
-        .with("type", type_name)
-        .with("value", value);
-    code.add("pub const @name@: @type@ =\n    @value@;", &holes)
+    code.add_with("@line@", "line", line.as_str())
 }
 
 // Adds a constant that is an enumerant.

@@ -157,10 +157,10 @@ fn enum_of(field: &Field) -> Option<u64> {
     }
 }
 
-/// The lines that bring the enums of a struct's fields into its module, so that clauses may name
+/// The paths by which a module of a struct imports the enums of its fields, so that clauses may name
 /// their variants.
-pub fn enum_uses(alloc: Global, site: Site<'_>) -> Result<Vec<String>, AllocError> {
-    let mut lines: Vec<(String, String)> = Vec::new(alloc);
+pub fn enum_paths(alloc: Global, site: Site<'_>) -> Result<Vec<String>, AllocError> {
+    let mut paths: Vec<String> = Vec::new(alloc);
     for id in enums_of(alloc, site.node)?.as_slice() {
         let Some(node) = site.request.find(*id) else {
             continue;
@@ -168,50 +168,20 @@ pub fn enum_uses(alloc: Global, site: Site<'_>) -> Result<Vec<String>, AllocErro
         if node.scope == site.node.id {
             continue;
         }
-        let path = path_to(alloc, site.request, site.node.id, *id)?;
-        push_use(alloc, &mut lines, site, node, path.as_str())?;
+        paths.push(enum_path(alloc, site, node)?)?;
     }
-    lines.sort()?;
-    let mut sorted = Vec::new(alloc);
-    for (_, line) in lines {
-        sorted.push(line)?;
-    }
-    Ok(sorted)
+    Ok(paths)
 }
 
-// Adds the line that brings an enum of this path into the module of a struct, at its place in the
-// order.
-fn push_use(
-    alloc: Global,
-    lines: &mut Vec<(String, String)>,
-    site: Site<'_>,
-    node: &Node,
-    path: &str,
-) -> Result<(), AllocError> {
-    let order = order_of(alloc, path)?;
-    let line = enum_use(alloc, site, node, path)?;
-    lines.push((order, line))?;
-    Ok(())
-}
-
-// The line that brings an enum of this path into the module of a struct.
-fn enum_use(alloc: Global, site: Site<'_>, node: &Node, path: &str) -> Result<String, AllocError> {
+// The path by which a module of a struct imports an enum.
+fn enum_path(alloc: Global, site: Site<'_>, node: &Node) -> Result<String, AllocError> {
+    let mut path = path_to(alloc, site.request, site.node.id, node.id)?;
     let name = enum_name(alloc, site, node.id)?;
-    let name = name.as_str();
-    if enum_type(alloc, node.name.as_str())?.as_str() == name {
-        return format!(in alloc; "use {path};");
+    if enum_type(alloc, node.name.as_str())?.as_str() != name.as_str() {
+        path.push_str(" as ")?;
+        path.push_str(name.as_str())?;
     }
-    format!(in alloc; "use {path} as {name};")
-}
-
-// A key that sorts paths as `rt fmt` does: those that lead further out come first.
-fn order_of(alloc: Global, path: &str) -> Result<String, AllocError> {
-    let mut text = String::new(alloc);
-    for part in path.split("::") {
-        text.push_str(if part == "super" { " " } else { part })?;
-        text.push(' ')?;
-    }
-    Ok(text)
+    Ok(path)
 }
 
 /// Adds an enum.

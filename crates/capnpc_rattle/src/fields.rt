@@ -4,7 +4,6 @@ use crate::getters::{Shown, Site};
 use crate::names::snake;
 use crate::numbers::number_of;
 use crate::schema::{Base, Field, Place, Slot};
-use crate::signatures::signature;
 use crate::templates::{ALWAYS_INLINED, GETTER, HAS, LEFT_OUT, VOID};
 use std::alloc::{AllocError, Global};
 
@@ -32,7 +31,8 @@ pub fn push_field(
         code.add_lines(ALWAYS_INLINED)?;
     }
     let type_name = fill_with(alloc, shown.type_name.as_str(), "borrow", site.borrow())?;
-    let signature = signature(alloc, code.depth, name, "&self", type_name.as_str());
+    let type_name = type_name.as_str();
+    let signature = format!(in alloc; "pub fn get_{name}(&self) -> {type_name}");
     let holes = Holes::new(alloc)
         .holding("signature", signature)
         .holding(
@@ -84,7 +84,7 @@ fn is_nothing(field: &Field) -> bool {
     }
 }
 
-// Whether there is a pointer at this place.
-fn is_pointer(place: &Place) -> bool {
+/// Whether there is a pointer at this place.
+pub fn is_pointer(place: &Place) -> bool {
     place.of.lists > 0 || (number_of(place.of.base).is_none() && place.of.base != Base::Void)
 }

@@ -3,6 +3,7 @@ use crate::code::Code;
 use crate::constants::push_constants;
 use crate::enums::push_enum;
 use crate::imports::{push_definitions, push_imports};
+use crate::layout::laid_out;
 use crate::names::base_name;
 use crate::printing::push_printing;
 use crate::schema::{Body, Node, Request, Slot, Struct};
@@ -47,7 +48,7 @@ pub fn code_of(alloc: Global, request: &Request, file: u64) -> Result<String, Al
     code.add_with(FILE, "file", name)?;
     push_definitions(alloc, &mut code, body.text.as_str())?;
     code.text.push_str(body.text.as_str())?;
-    Ok(code.text)
+    laid_out(alloc, code.text.as_str())
 }
 
 // Adds the constants of a file or an interface, with what they import; the other declarations there

@@ -2,6 +2,7 @@
 use crate::code::{Code, Holes};
 use crate::importable::{DEFINITIONS, ITEMS, ORPHANS, TRAITS, VIEWS};
 use std::alloc::{AllocError, Global};
+use std::fmt::Write;
 
 /// Whether clauses cite something by this name.
 pub fn is_definition(name: &str) -> bool {
@@ -84,7 +85,7 @@ fn push_name(list: &mut String, name: &str) -> Result<(), AllocError> {
     list.push_str(name)
 }
 
-/// Adds the lines that import what a module has: enums by these lines, and what is named in its
+/// Adds the lines that import what a module has: enums by these paths, and what is named in its
 /// text.
 pub fn push_imports(
     alloc: Global,
@@ -92,23 +93,50 @@ pub fn push_imports(
     enums: &[String],
     text: &str,
 ) -> Result<(), AllocError> {
-    for line in enums {
-        code.add_lines(line.as_str())?;
-    }
-    let mut lines: Vec<String> = Vec::new(alloc);
+    let mut lines: Vec<(String, String)> = Vec::new(alloc);
+    push_enums(alloc, &mut lines, enums)?;
     push_items(alloc, &mut lines, text)?;
     push_group(alloc, &mut lines, "capnp_orphans", ORPHANS, text)?;
     push_group(alloc, &mut lines, "capnp_wire::traits", TRAITS, text)?;
     push_group(alloc, &mut lines, "capnp_wire", VIEWS, text)?;
     lines.sort()?;
-    for line in lines.as_slice() {
-        code.add_lines(line.as_str())?;
+    for (_, path) in lines.as_slice() {
+        code.add_with("use @path@;", "path", path.as_str())?;
     }
     Ok(())
 }
 
+// Adds the lines that import enums by these paths, one for each module that declares some.
+fn push_enums(
+    alloc: Global,
+    lines: &mut Vec<(String, String)>,
+    paths: &[String],
+) -> Result<(), AllocError> {
+    let mut sorted: Vec<(String, &str)> = Vec::new(alloc);
+    for path in paths {
+        sorted.push((order_of(alloc, path.as_str())?, path.as_str()))?;
+    }
+    sorted.sort()?;
+    let mut last = "";
+    let mut names = String::new(alloc);
+    for (_, path) in sorted.as_slice() {
+        let (module, name) = path.rsplit_once("::").unwrap_or(("", path));
+        if module != last {
+            push_names(alloc, lines, last, names.as_str())?;
+            names.clear();
+            last = module;
+        }
+        push_name(&mut names, name)?;
+    }
+    push_names(alloc, lines, last, names.as_str())
+}
+
 // Adds the lines that import one item each.
-fn push_items(alloc: Global, lines: &mut Vec<String>, text: &str) -> Result<(), AllocError> {
+fn push_items(
+    alloc: Global,
+    lines: &mut Vec<(String, String)>,
+    text: &str,
+) -> Result<(), AllocError> {
     for (word, path) in ITEMS {
         if text.contains(*word) {
             push_line(alloc, lines, path)?;
@@ -117,14 +145,61 @@ fn push_items(alloc: Global, lines: &mut Vec<String>, text: &str) -> Result<(), 
     push_words(alloc, lines, text)
 }
 
-// Adds a line that imports something.
-fn push_line(alloc: Global, lines: &mut Vec<String>, name: &str) -> Result<(), AllocError> {
-    lines.push(format!(in alloc; "use {name};")?)?;
+// Adds the line that imports what a path leads to, with a key for its place among the others.
+fn push_line(
+    alloc: Global,
+    lines: &mut Vec<(String, String)>,
+    path: &str,
+) -> Result<(), AllocError> {
+    let order = order_of(alloc, path)?;
+    lines.push((order, String::from_str(alloc, path)?))?;
+    Ok(())
+}
+
+// A key that sorts paths as `rt fmt` does: those that lead further out come first, and numbers in
+// names count as numbers.
+fn order_of(alloc: Global, path: &str) -> Result<String, AllocError> {
+    let mut key = String::new(alloc);
+    for part in path.split("::") {
+        if part == "super" {
+            key.push(' ')?;
+        } else {
+            push_ordered(alloc, &mut key, part)?;
+        }
+        key.push(' ')?;
+    }
+    Ok(key)
+}
+
+// Adds a name to a key, in front of each number how many digits it has.
+fn push_ordered(alloc: Global, key: &mut String, name: &str) -> Result<(), AllocError> {
+    let mut digits = String::new(alloc);
+    for letter in name.chars() {
+        if letter.is_ascii_digit() {
+            digits.push(letter)?;
+            continue;
+        }
+        push_digits(key, &mut digits)?;
+        key.push(letter)?;
+    }
+    push_digits(key, &mut digits)
+}
+
+// Adds a number to a key, and takes it away.
+fn push_digits(key: &mut String, digits: &mut String) -> Result<(), AllocError> {
+    if !digits.is_empty() {
+        write!(key, "{:02}{digits}", digits.len())?;
+        digits.clear();
+    }
     Ok(())
 }
 
 // Adds the line that imports what constants and defaults are made of.
-fn push_words(alloc: Global, lines: &mut Vec<String>, text: &str) -> Result<(), AllocError> {
+fn push_words(
+    alloc: Global,
+    lines: &mut Vec<(String, String)>,
+    text: &str,
+) -> Result<(), AllocError> {
     if text.contains("OrDefault<") {
         return push_line(alloc, lines, "capnp_wire::constant::{OrDefault, Words}");
     }
@@ -138,24 +213,34 @@ fn push_words(alloc: Global, lines: &mut Vec<String>, text: &str) -> Result<(), 
 // is named there.
 fn push_group(
     alloc: Global,
-    lines: &mut Vec<String>,
+    lines: &mut Vec<(String, String)>,
     module: &str,
     names: &[(&str, &str)],
     text: &str,
 ) -> Result<(), AllocError> {
     let mut found = String::new(alloc);
-    let mut count = 0u8;
     for (name, use_of) in names {
         if is_named(text, use_of) {
             push_name(&mut found, name)?;
-            count = count.saturating_add(1);
         }
     }
-    let found = found.as_str();
-    let path = match count {
-        0 => return Ok(()),
-        1 if found != "self" => format!(in alloc; "{module}::{found}")?,
-        _ => format!(in alloc; "{module}::{{{found}}}")?,
+    push_names(alloc, lines, module, found.as_str())
+}
+
+// Adds the line that imports some names from a module, with commas between them.
+fn push_names(
+    alloc: Global,
+    lines: &mut Vec<(String, String)>,
+    module: &str,
+    names: &str,
+) -> Result<(), AllocError> {
+    if names.is_empty() {
+        return Ok(());
+    }
+    let path = if names == "self" || names.contains(',') {
+        format!(in alloc; "{module}::{{{names}}}")?
+    } else {
+        format!(in alloc; "{module}::{names}")?
     };
     push_line(alloc, lines, path.as_str())
 }

@@ -6,15 +6,20 @@
 //! standard output if that is `-`. Nothing is written before everything is made. Its other
 //! arguments, or else the words of the environment's `CAPNPC_RATTLE`, with commas between them, say
 //! what it writes: where one is `readers`, only readers, and else builders, too; where one is
-//! `print`, for each struct a method that prints it.
+//! `print`, for each struct a method that prints it. Other words are rejected.
 #![tactic(auto)]
 
+mod annotations;
+mod brackets;
+mod breaking;
+mod broken_heads;
 mod builder_getters;
 mod builder_templates;
 mod builders;
 mod checked;
 mod cleared;
 mod code;
+mod command;
 mod constants;
 mod defaults;
 mod enum_numbers;
@@ -25,13 +30,16 @@ mod getters;
 mod importable;
 mod imports;
 mod input;
+mod layout;
 mod list_templates;
 mod names;
 mod numbers;
 mod output;
 mod owned_types;
 mod owners;
+mod part;
 mod paths;
+mod pointer_names;
 mod pointer_setters;
 mod print_templates;
 mod printing;
@@ -41,7 +49,6 @@ mod schema;
 mod schema_capnp;
 mod set_words;
 mod setters;
-mod signatures;
 mod structs;
 mod templates;
 mod trees;
@@ -52,6 +59,7 @@ mod views;
 mod wanted;
 mod words;
 
+use crate::command::{Task, USAGE, WAITING, task_of};
 use crate::output::{Output, outputs_of, write_outputs};
 use crate::schema::Request;
 use crate::schema_capnp::code_generator_request;
@@ -60,11 +68,12 @@ use anyhow::{Context, Result};
 use capnp_frame::serialize::OwnedSegments;
 use std::alloc::Global;
 use std::env;
+use std::io::IsTerminal;
 use std::process::ExitCode;
 
 fn main(rt: HostRuntime) -> ExitCode {
-    match run(rt) {
-        Ok(()) => ExitCode::SUCCESS,
+    match run(&rt) {
+        Ok(status) => status,
         Err(error) => {
             let _ = eprintln!(rt; "capnpc-rattle: {error:#}");
             ExitCode::FAILURE
@@ -72,24 +81,36 @@ fn main(rt: HostRuntime) -> ExitCode {
     }
 }
 
-// What is wanted beside readers, by the arguments after the folder, or else by the environment.
-fn wanted_by(rt: &HostRuntime, words: &[String]) -> Wanted {
-    let mut wanted = Wanted::new();
-    match words.get(2..) {
-        Some(words) if !words.is_empty() => {
-            for word in words {
-                wanted.ask(word.as_str());
-            }
-        }
-        _ => {
-            if let Ok(words) = env::var(rt, "CAPNPC_RATTLE") {
-                for word in words.as_str().split(',') {
-                    wanted.ask(word);
-                }
-            }
+// Does what the arguments ask for, or else the environment.
+fn run(rt: &HostRuntime) -> Result<ExitCode> {
+    let alloc = rt.alloc();
+    let arguments: Vec<String> = env::args(rt)?.collect(alloc)?;
+    let variable = match env::var(rt, "CAPNPC_RATTLE") {
+        Ok(words) => words,
+        Err(_) => String::new(alloc),
+    };
+    match task_of(arguments.get(1..).unwrap_or(&[]), variable.as_str()) {
+        Task::Print(text) => print!(rt; "{text}")?,
+        Task::Write(folder, wanted) => write_into(alloc, rt, folder, wanted)?,
+        Task::Reject(word) => {
+            eprint!(rt; "capnpc-rattle: unknown word `{word}`\n{USAGE}")?;
+            return Ok(ExitCode::from(2));
         }
     }
-    wanted
+    Ok(ExitCode::SUCCESS)
+}
+
+// Reads the request, and writes what it asks for.
+fn write_into(alloc: Global, rt: &HostRuntime, folder: &str, wanted: Wanted) -> Result<()> {
+    if rt.stdin().is_terminal() {
+        eprint!(rt; "{WAITING}")?;
+    }
+    let outputs = outputs_from(alloc, rt, wanted)?;
+    if folder == "-" {
+        print_outputs(rt, outputs.as_slice())
+    } else {
+        write_outputs(alloc, rt, folder, outputs.as_slice())
+    }
 }
 
 // Reads the request from standard input.
@@ -117,20 +138,4 @@ fn print_outputs(rt: &HostRuntime, outputs: &[Output]) -> Result<()> {
         print!(rt; "{code}")?;
     }
     Ok(())
-}
-
-// Reads the request, and writes what it asks for.
-fn run(rt: HostRuntime) -> Result<()> {
-    let alloc = rt.alloc();
-    let words: Vec<String> = env::args(&rt)?.collect(alloc)?;
-    let folder = match words.get(1) {
-        Some(folder) => folder.as_str(),
-        None => ".",
-    };
-    let outputs = outputs_from(alloc, &rt, wanted_by(&rt, words.as_slice()))?;
-    if folder == "-" {
-        print_outputs(&rt, outputs.as_slice())
-    } else {
-        write_outputs(alloc, &rt, folder, outputs.as_slice())
-    }
 }

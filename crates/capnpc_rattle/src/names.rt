@@ -70,6 +70,13 @@ pub fn default_name(alloc: Global, name: &str) -> Result<String, AllocError> {
     Ok(text)
 }
 
+/// The name of the index of a field's pointer: `DEEP_BLUE_POINTER` of `deepBlue`.
+pub fn pointer_name(alloc: Global, name: &str) -> Result<String, AllocError> {
+    let mut text = constant(alloc, name)?;
+    text.push_str("_POINTER")?;
+    Ok(text)
+}
+
 /// The name of a struct, or of a file, as a part of a longer name: `AddressBook` of
 /// `dir/address-book.capnp`.
 pub fn scope_name(alloc: Global, name: &str) -> Result<String, AllocError> {

@@ -1,5 +1,5 @@
 //! The setters of pointers.
-use crate::builder_templates::POINTER_SETTER;
+use crate::builder_templates::{POINTER_SETTER, STAYS};
 use crate::code::{Code, Holes};
 use crate::getters::Site;
 use crate::owned_types::owned_type;
@@ -25,6 +25,7 @@ pub fn push_pointer_setter(
         return Ok(());
     }
     push_comment(code, field, comment)?;
+    code.add_lines(STAYS)?;
     let offset = place.offset;
     let call = format!(in alloc; "self.draft.adopt({offset}, value);")?;
     let tags = tags_of(alloc, owner, site, field)?;

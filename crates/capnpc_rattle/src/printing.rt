@@ -1,6 +1,5 @@
 //! How the structs of a file are printed: the table of their types, and a method of each.
 use crate::code::{Code, Holes};
-use crate::enums::enumerants_of;
 use crate::paths::path_to;
 use crate::print_templates::{ENUM, FIELD, METHOD, MODULE, STRUCT, TABLE};
 use crate::schema::{Base, Body, Field, Place, Request, Slot, Value};
@@ -75,8 +74,8 @@ fn push_struct(
         return Ok(());
     };
     let mut fields = Code::new(alloc, 0);
-    for field in body.fields.as_slice() {
-        push_field(alloc, &mut fields, table, field)?;
+    for (field, name) in body.fields.iter().zip(node.member_names.as_slice()) {
+        push_field(alloc, &mut fields, table, field, name.as_str())?;
     }
     let holes = Holes::new(alloc)
         .with("name", node.name.as_str())
@@ -85,12 +84,13 @@ fn push_struct(
     rows.add(STRUCT, &holes)
 }
 
-// Adds the row of a field.
+// Adds the row of a field, which is shown by this name.
 fn push_field(
     alloc: Global,
     rows: &mut Code,
     table: &TypeTable,
     field: &Field,
+    name: &str,
 ) -> Result<(), AllocError> {
     let (lists, base, offset) = match &field.slot {
         Slot::At(place) => (place.of.lists, base_of(alloc, table, place)?, place.offset),
@@ -102,7 +102,7 @@ fn push_field(
         Slot::Unknown => return Ok(()),
     };
     let holes = Holes::new(alloc)
-        .with("name", field.name.as_str())
+        .with("name", name)
         .holding(
             "member",
             optional(alloc, field.member.map(|member| member as u32)),
@@ -182,14 +182,19 @@ fn data_default(alloc: Global, bytes: &[u8]) -> Result<String, AllocError> {
 fn enums_of(alloc: Global, request: &Request, table: &TypeTable) -> Result<String, AllocError> {
     let mut rows = Code::new(alloc, 0);
     for id in table.enums.as_slice() {
-        let holes = Holes::new(alloc).holding(
-            "names",
-            names_of(alloc, enumerants_of(request, *id)),
-        );
+        let holes = Holes::new(alloc).holding("names", names_of(alloc, shown_names(request, *id)));
         rows.add(ENUM, &holes)?;
     }
     let _ = rows.text.pop();
     Ok(rows.text)
+}
+
+// The names by which the enumerants of a node are shown.
+fn shown_names(request: &Request, id: u64) -> &[String] {
+    match request.find(id) {
+        Some(node) => node.member_names.as_slice(),
+        None => &[],
+    }
 }
 
 // Names, within quotation marks.

@@ -1,5 +1,6 @@
 //! The request that the schema compiler hands to its plugins, read with the types that this
 //! compiler has made from `schema.capnp`.
+use crate::annotations::name_in_code;
 use crate::schema::{Body, Field, Node, Place, Request, RequestedFile, Slot, Struct};
 use crate::schema_capnp::{code_generator_request, field, node};
 use crate::types::{read_type, read_value};
@@ -37,6 +38,7 @@ fn read_nodes<S: ReaderSegments>(
     for node in list.iter() {
         nodes.push(read_node(alloc, &node)?)?;
     }
+    name_groups(alloc, &mut nodes)?;
     Ok(nodes)
 }
 
@@ -66,7 +68,7 @@ pub fn read_text(alloc: Global, text: text::Reader<'_>) -> Result<String> {
 
 // A node, without its comments, which are elsewhere in the request.
 fn read_node<S: ReaderSegments>(alloc: Global, read: &node::Reader<'_, S>) -> Result<Node> {
-    let name = read_name(alloc, read)?;
+    let name = name_in_code(alloc, &read.get_annotations()?, read_name(alloc, read)?)?;
     let nested = read_nested(alloc, read)?;
     let body = read_body(alloc, read)?;
     Ok(Node {
@@ -75,6 +77,7 @@ fn read_node<S: ReaderSegments>(alloc: Global, read: &node::Reader<'_, S>) -> Re
         name,
         comment: String::new(alloc),
         member_comments: Vec::new(alloc),
+        member_names: read_member_names(alloc, read)?,
         nested,
         body,
     })
@@ -122,9 +125,56 @@ fn read_enumerants<S: ReaderSegments>(
     let mut names = Vec::new(alloc);
     let list = group.get_enumerants()?;
     for enumerant in list.iter() {
-        names.push(read_text(alloc, enumerant.get_name()?)?)?;
+        let name = read_text(alloc, enumerant.get_name()?)?;
+        names.push(name_in_code(alloc, &enumerant.get_annotations()?, name)?)?;
     }
     Ok(names)
+}
+
+// The names of the fields or enumerants of a node, as the schema has them.
+fn read_member_names<S: ReaderSegments>(
+    alloc: Global,
+    read: &node::Reader<'_, S>,
+) -> Result<Vec<String>> {
+    let mut names = Vec::new(alloc);
+    match read.which() {
+        node::Which::Struct(group) => {
+            let list = group.get_fields()?;
+            for field in list.iter() {
+                names.push(read_text(alloc, field.get_name()?)?)?;
+            }
+        }
+        node::Which::Enum(group) => {
+            let list = group.get_enumerants()?;
+            for enumerant in list.iter() {
+                names.push(read_text(alloc, enumerant.get_name()?)?)?;
+            }
+        }
+        _ => {}
+    }
+    Ok(names)
+}
+
+// Gives each group the name of its field.
+fn name_groups(alloc: Global, nodes: &mut Vec<Node>) -> Result<()> {
+    let mut groups: Vec<(u64, String)> = Vec::new(alloc);
+    for node in nodes.as_slice() {
+        if let Body::Struct(body) = &node.body {
+            for field in body.fields.as_slice() {
+                if let Slot::Group(group) = field.slot {
+                    groups.push((group, String::from_str(alloc, field.name.as_str())?))?;
+                }
+            }
+        }
+    }
+    for node in nodes.as_mut_slice() {
+        for (group, name) in groups.as_slice() {
+            if *group == node.id {
+                node.name = String::from_str(alloc, name.as_str())?;
+            }
+        }
+    }
+    Ok(())
 }
 
 // What a node says of a struct.
@@ -154,6 +204,7 @@ fn read_struct<S: ReaderSegments>(
 fn read_field<S: ReaderSegments>(alloc: Global, read: &field::Reader<'_, S>) -> Result<Field> {
     let member = read.get_discriminant_value();
     let name = read_text(alloc, read.get_name()?)?;
+    let name = name_in_code(alloc, &read.get_annotations()?, name)?;
     let slot = read_slot(alloc, read)?;
     Ok(Field {
         name,

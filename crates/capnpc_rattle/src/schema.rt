@@ -8,12 +8,14 @@ pub struct Node {
     pub id: u64,
     /// The node in which it is declared; 0 for a file.
     pub scope: u64,
-    /// The name within that node.
+    /// The name within that node, or the one that an annotation gives instead.
     pub name: String,
     /// Its comment; empty if it has none.
     pub comment: String,
     /// The comments of its fields or enumerants, in the order of these.
     pub member_comments: Vec<String>,
+    /// The names of its fields or enumerants as the schema has them, in the same order.
+    pub member_names: Vec<String>,
     /// The nodes that are declared in it.
     pub nested: Vec<u64>,
     pub body: Body,
@@ -49,6 +51,7 @@ pub struct Struct {
 /// A field of a struct.
 #[derive(Drop)]
 pub struct Field {
+    /// The name, or the one that an annotation gives instead.
     pub name: String,
     /// Its number among the members of the union, if it is one.
     pub member: Option<u16>,

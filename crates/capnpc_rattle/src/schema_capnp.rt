@@ -371,6 +371,18 @@ pub mod node {
         }
     }
 
+    /// Which pointer of the struct leads to `displayName`, for `fields.get_pointer`.
+    pub const DISPLAY_NAME_POINTER: u16 = 0;
+
+    /// Which pointer of the struct leads to `nestedNodes`, for `fields.get_pointer`.
+    pub const NESTED_NODES_POINTER: u16 = 1;
+
+    /// Which pointer of the struct leads to `annotations`, for `fields.get_pointer`.
+    pub const ANNOTATIONS_POINTER: u16 = 2;
+
+    /// Which pointer of the struct leads to `parameters`, for `fields.get_pointer`.
+    pub const PARAMETERS_POINTER: u16 = 5;
+
     pub mod struct_ {
         use super::super::ElementSize;
         use capnp_frame::Result;
@@ -496,6 +508,9 @@ pub mod node {
                 self.fields.has_pointer(3)
             }
         }
+
+        /// Which pointer of the struct leads to `fields`, for `fields.get_pointer`.
+        pub const FIELDS_POINTER: u16 = 3;
     }
 
     pub mod enum_ {
@@ -534,6 +549,9 @@ pub mod node {
                 self.fields.has_pointer(3)
             }
         }
+
+        /// Which pointer of the struct leads to `enumerants`, for `fields.get_pointer`.
+        pub const ENUMERANTS_POINTER: u16 = 3;
     }
 
     pub mod interface {
@@ -595,6 +613,12 @@ pub mod node {
                 self.fields.has_pointer(4)
             }
         }
+
+        /// Which pointer of the struct leads to `methods`, for `fields.get_pointer`.
+        pub const METHODS_POINTER: u16 = 3;
+
+        /// Which pointer of the struct leads to `superclasses`, for `fields.get_pointer`.
+        pub const SUPERCLASSES_POINTER: u16 = 4;
     }
 
     pub mod const_ {
@@ -656,6 +680,12 @@ pub mod node {
                 self.fields.has_pointer(4)
             }
         }
+
+        /// Which pointer of the struct leads to `type`, for `fields.get_pointer`.
+        pub const TYPE_POINTER: u16 = 3;
+
+        /// Which pointer of the struct leads to `value`, for `fields.get_pointer`.
+        pub const VALUE_POINTER: u16 = 4;
     }
 
     pub mod annotation {
@@ -790,6 +820,9 @@ pub mod node {
                 self.fields.get_data_field(123)
             }
         }
+
+        /// Which pointer of the struct leads to `type`, for `fields.get_pointer`.
+        pub const TYPE_POINTER: u16 = 3;
     }
 
     /// Information about one of the node's parameters.
@@ -945,6 +978,9 @@ pub mod node {
                 }
             }
         }
+
+        /// Which pointer of the struct leads to `name`, for `fields.get_pointer`.
+        pub const NAME_POINTER: u16 = 0;
     }
 
     pub mod nested_node {
@@ -1110,6 +1146,9 @@ pub mod node {
                 }
             }
         }
+
+        /// Which pointer of the struct leads to `name`, for `fields.get_pointer`.
+        pub const NAME_POINTER: u16 = 0;
     }
 
     /// Additional information about a node which is not needed at runtime, but may be useful for
@@ -1304,6 +1343,12 @@ pub mod node {
             }
         }
 
+        /// Which pointer of the struct leads to `docComment`, for `fields.get_pointer`.
+        pub const DOC_COMMENT_POINTER: u16 = 0;
+
+        /// Which pointer of the struct leads to `members`, for `fields.get_pointer`.
+        pub const MEMBERS_POINTER: u16 = 1;
+
         pub mod member {
             use capnp_frame::Result;
             use capnp_frame::message::ReaderSegments;
@@ -1456,6 +1501,9 @@ pub mod node {
                     }
                 }
             }
+
+            /// Which pointer of the struct leads to `docComment`, for `fields.get_pointer`.
+            pub const DOC_COMMENT_POINTER: u16 = 0;
         }
     }
 }
@@ -1719,6 +1767,12 @@ pub mod field {
         }
     }
 
+    /// Which pointer of the struct leads to `name`, for `fields.get_pointer`.
+    pub const NAME_POINTER: u16 = 0;
+
+    /// Which pointer of the struct leads to `annotations`, for `fields.get_pointer`.
+    pub const ANNOTATIONS_POINTER: u16 = 1;
+
     pub const NO_DISCRIMINANT: u16 = 65535;
 
     /// A regular, non-group, non-fixed-list field.
@@ -1802,6 +1856,12 @@ pub mod field {
                 self.fields.get_data_field(128)
             }
         }
+
+        /// Which pointer of the struct leads to `type`, for `fields.get_pointer`.
+        pub const TYPE_POINTER: u16 = 2;
+
+        /// Which pointer of the struct leads to `defaultValue`, for `fields.get_pointer`.
+        pub const DEFAULT_VALUE_POINTER: u16 = 3;
     }
 
     /// A group.
@@ -2068,6 +2128,12 @@ pub mod enumerant {
             }
         }
     }
+
+    /// Which pointer of the struct leads to `name`, for `fields.get_pointer`.
+    pub const NAME_POINTER: u16 = 0;
+
+    /// Which pointer of the struct leads to `annotations`, for `fields.get_pointer`.
+    pub const ANNOTATIONS_POINTER: u16 = 1;
 }
 
 pub mod superclass {
@@ -2233,6 +2299,9 @@ pub mod superclass {
             }
         }
     }
+
+    /// Which pointer of the struct leads to `brand`, for `fields.get_pointer`.
+    pub const BRAND_POINTER: u16 = 0;
 }
 
 /// Schema for method of an interface.
@@ -2512,6 +2581,21 @@ pub mod method {
             }
         }
     }
+
+    /// Which pointer of the struct leads to `name`, for `fields.get_pointer`.
+    pub const NAME_POINTER: u16 = 0;
+
+    /// Which pointer of the struct leads to `annotations`, for `fields.get_pointer`.
+    pub const ANNOTATIONS_POINTER: u16 = 1;
+
+    /// Which pointer of the struct leads to `paramBrand`, for `fields.get_pointer`.
+    pub const PARAM_BRAND_POINTER: u16 = 2;
+
+    /// Which pointer of the struct leads to `resultBrand`, for `fields.get_pointer`.
+    pub const RESULT_BRAND_POINTER: u16 = 3;
+
+    /// Which pointer of the struct leads to `implicitParameters`, for `fields.get_pointer`.
+    pub const IMPLICIT_PARAMETERS_POINTER: u16 = 4;
 }
 
 /// Represents a type expression.
@@ -2859,6 +2943,9 @@ pub mod type_ {
                 self.fields.has_pointer(0)
             }
         }
+
+        /// Which pointer of the struct leads to `elementType`, for `fields.get_pointer`.
+        pub const ELEMENT_TYPE_POINTER: u16 = 0;
     }
 
     pub mod enum_ {
@@ -2905,6 +2992,9 @@ pub mod type_ {
                 self.fields.has_pointer(0)
             }
         }
+
+        /// Which pointer of the struct leads to `brand`, for `fields.get_pointer`.
+        pub const BRAND_POINTER: u16 = 0;
     }
 
     pub mod struct_ {
@@ -2951,6 +3041,9 @@ pub mod type_ {
                 self.fields.has_pointer(0)
             }
         }
+
+        /// Which pointer of the struct leads to `brand`, for `fields.get_pointer`.
+        pub const BRAND_POINTER: u16 = 0;
     }
 
     pub mod interface {
@@ -2997,6 +3090,9 @@ pub mod type_ {
                 self.fields.has_pointer(0)
             }
         }
+
+        /// Which pointer of the struct leads to `brand`, for `fields.get_pointer`.
+        pub const BRAND_POINTER: u16 = 0;
     }
 
     pub mod any_pointer_ {
@@ -3364,6 +3460,9 @@ pub mod brand {
         }
     }
 
+    /// Which pointer of the struct leads to `scopes`, for `fields.get_pointer`.
+    pub const SCOPES_POINTER: u16 = 0;
+
     pub mod scope {
         use capnp_frame::Result;
         use capnp_frame::message::ReaderSegments;
@@ -3576,6 +3675,9 @@ pub mod brand {
                 }
             }
         }
+
+        /// Which pointer of the struct leads to `bind`, for `fields.get_pointer`.
+        pub const BIND_POINTER: u16 = 0;
     }
 
     pub mod binding {
@@ -3768,6 +3870,9 @@ pub mod brand {
                 }
             }
         }
+
+        /// Which pointer of the struct leads to `type`, for `fields.get_pointer`.
+        pub const TYPE_POINTER: u16 = 0;
     }
 }
 
@@ -4183,6 +4288,21 @@ pub mod value {
             }
         }
     }
+
+    /// Which pointer of the struct leads to `text`, for `fields.get_pointer`.
+    pub const TEXT_POINTER: u16 = 0;
+
+    /// Which pointer of the struct leads to `data`, for `fields.get_pointer`.
+    pub const DATA_POINTER: u16 = 0;
+
+    /// Which pointer of the struct leads to `list`, for `fields.get_pointer`.
+    pub const LIST_POINTER: u16 = 0;
+
+    /// Which pointer of the struct leads to `struct`, for `fields.get_pointer`.
+    pub const STRUCT_POINTER: u16 = 0;
+
+    /// Which pointer of the struct leads to `anyPointer`, for `fields.get_pointer`.
+    pub const ANY_POINTER_POINTER: u16 = 0;
 }
 
 /// Describes an annotation applied to a declaration.  Note AnnotationNode describes the
@@ -4375,6 +4495,12 @@ pub mod annotation {
             }
         }
     }
+
+    /// Which pointer of the struct leads to `value`, for `fields.get_pointer`.
+    pub const VALUE_POINTER: u16 = 0;
+
+    /// Which pointer of the struct leads to `brand`, for `fields.get_pointer`.
+    pub const BRAND_POINTER: u16 = 1;
 }
 
 /// Possible element sizes for encoded lists.  These correspond exactly to the possible values of
@@ -4819,6 +4945,18 @@ pub mod code_generator_request {
         }
     }
 
+    /// Which pointer of the struct leads to `nodes`, for `fields.get_pointer`.
+    pub const NODES_POINTER: u16 = 0;
+
+    /// Which pointer of the struct leads to `requestedFiles`, for `fields.get_pointer`.
+    pub const REQUESTED_FILES_POINTER: u16 = 1;
+
+    /// Which pointer of the struct leads to `capnpVersion`, for `fields.get_pointer`.
+    pub const CAPNP_VERSION_POINTER: u16 = 2;
+
+    /// Which pointer of the struct leads to `sourceInfo`, for `fields.get_pointer`.
+    pub const SOURCE_INFO_POINTER: u16 = 3;
+
     pub mod requested_file {
         use capnp_frame::Result;
         use capnp_frame::message::ReaderSegments;
@@ -5004,6 +5142,12 @@ pub mod code_generator_request {
             }
         }
 
+        /// Which pointer of the struct leads to `filename`, for `fields.get_pointer`.
+        pub const FILENAME_POINTER: u16 = 0;
+
+        /// Which pointer of the struct leads to `imports`, for `fields.get_pointer`.
+        pub const IMPORTS_POINTER: u16 = 1;
+
         pub mod import {
             use capnp_frame::Result;
             use capnp_frame::message::ReaderSegments;
@@ -5169,6 +5313,9 @@ pub mod code_generator_request {
                     }
                 }
             }
+
+            /// Which pointer of the struct leads to `name`, for `fields.get_pointer`.
+            pub const NAME_POINTER: u16 = 0;
         }
     }
 }

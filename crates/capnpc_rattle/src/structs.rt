@@ -3,12 +3,13 @@ use crate::builders::push_builder;
 use crate::code::Code;
 use crate::constants::push_constants;
 use crate::defaults::push_defaults;
-use crate::enums::enum_uses;
+use crate::enums::enum_paths;
 use crate::fields::push_field;
 use crate::getters::{Shown, Site, shown_of};
 use crate::imports::push_imports;
 use crate::list_templates::LIST_READER;
 use crate::names::module;
+use crate::pointer_names::push_pointers;
 use crate::schema::{Field, Node, Request, Struct};
 use crate::templates::{FROM_POINTER, GROUP_IMPL, GROUP_READER, READER, READER_IMPL};
 use crate::unions::{Members, push_members, push_which};
@@ -28,7 +29,7 @@ pub fn push_struct(
     let mut inner = Code::new(alloc, code.depth);
     push_reader(alloc, &mut inner, site, body)?;
     push_constants(alloc, &mut inner, request, node)?;
-    let enums = enum_uses(alloc, site)?;
+    let enums = enum_paths(alloc, site)?;
     push_imports(alloc, code, enums.as_slice(), inner.text.as_str())?;
     code.add_gap()?;
     code.text.push_str(inner.text.as_str())
@@ -78,6 +79,7 @@ fn push_reader(
     if site.request.wanted.builders {
         push_builder(alloc, code, site, body)?;
     }
+    push_pointers(alloc, code, body)?;
     push_defaults(alloc, code, site, body)
 }
 

@@ -1,6 +1,6 @@
 //! Trees of values that pointers lead to, as clauses have them: terms of `Trees` of `capnp_wire`, in
 //! the names under which `imports.rt` imports its constructors.
-use crate::signatures::WIDTH;
+use crate::part::WIDTH;
 use anyhow::Result;
 use capnp_frame::message::ReaderSegments;
 use capnp_wire::any_object::Numbers;

@@ -18,12 +18,14 @@ impl Wanted {
     }
 
     /// Adds what a word asks for: no builders for `readers`, the methods that print structs for
-    /// `print`, and nothing for other words.
-    pub fn ask(&mut self, word: &str) {
+    /// `print`, nothing for `builders`. Returns whether it is one of these words.
+    pub fn ask(&mut self, word: &str) -> bool {
         match word {
+            "builders" => {}
             "readers" => self.builders = false,
             "print" => self.printing = true,
-            _ => {}
+            _ => return false,
         }
+        true
     }
 }

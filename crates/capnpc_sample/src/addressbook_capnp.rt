@@ -259,6 +259,9 @@ pub mod person {
         /// copied, each object as an orphan, and null stays null. What a writer of another version of
         /// the type left out is zero and null, and what it had beyond this one is left out.
         ///
+        /// What a setter replaces after that was copied, and stays in the bytes of the message, where no
+        /// pointer leads to it. Canonical words of the message are without it.
+        ///
         /// It fails as `Orphanage::set` of the first pointer does that can't be copied.
         pub fn from_reader<R: ReaderSegments, S: GrowingSegment>(
             read: &Reader<'_, R>,
@@ -349,6 +352,8 @@ pub mod person {
         }
 
         /// Sets the field `name`.
+        ///
+        /// An object that it led to before stays in the bytes of the message.
         pub fn set_name(&mut self, value: Orphan<text::Owned>)
             ensures words { self.new.draft.words ≡ self.old.draft.words }
             ensures pointers { self.new.draft.pointers
@@ -365,6 +370,8 @@ pub mod person {
         }
 
         /// Sets the field `email`.
+        ///
+        /// An object that it led to before stays in the bytes of the message.
         pub fn set_email(&mut self, value: Orphan<text::Owned>)
             ensures words { self.new.draft.words ≡ self.old.draft.words }
             ensures pointers { self.new.draft.pointers
@@ -381,6 +388,8 @@ pub mod person {
         }
 
         /// Sets the field `phones`.
+        ///
+        /// An object that it led to before stays in the bytes of the message.
         pub fn set_phones(&mut self, value: Orphan<phone_number::OwnedList>)
             ensures words { self.new.draft.words ≡ self.old.draft.words }
             ensures pointers { self.new.draft.pointers
@@ -396,6 +405,15 @@ pub mod person {
             self.draft.has_pointer(2)
         }
     }
+
+    /// Which pointer of the struct leads to `name`, for `fields.get_pointer`.
+    pub const NAME_POINTER: u16 = 0;
+
+    /// Which pointer of the struct leads to `email`, for `fields.get_pointer`.
+    pub const EMAIL_POINTER: u16 = 1;
+
+    /// Which pointer of the struct leads to `phones`, for `fields.get_pointer`.
+    pub const PHONES_POINTER: u16 = 2;
 
     pub mod employment {
         use capnp_frame::Result;
@@ -513,6 +531,8 @@ pub mod person {
             }
 
             /// Sets the field `employer`.
+            ///
+            /// An object that it led to before stays in the bytes of the message.
             pub fn set_employment_employer(&mut self, value: Orphan<text::Owned>)
                 ensures words { self.new.draft.words
                     ≡ (with_field self.old.draft.words 16 2 1) }
@@ -531,6 +551,8 @@ pub mod person {
             }
 
             /// Sets the field `school`.
+            ///
+            /// An object that it led to before stays in the bytes of the message.
             pub fn set_employment_school(&mut self, value: Orphan<text::Owned>)
                 ensures words { self.new.draft.words
                     ≡ (with_field self.old.draft.words 16 2 2) }
@@ -558,6 +580,12 @@ pub mod person {
                 self.draft.set_data_field::<u16>(2, 3);
             }
         }
+
+        /// Which pointer of the struct leads to `employer`, for `fields.get_pointer`.
+        pub const EMPLOYER_POINTER: u16 = 3;
+
+        /// Which pointer of the struct leads to `school`, for `fields.get_pointer`.
+        pub const SCHOOL_POINTER: u16 = 3;
     }
 
     pub mod phone_number {
@@ -757,6 +785,9 @@ pub mod person {
             /// copied, each object as an orphan, and null stays null. What a writer of another version of
             /// the type left out is zero and null, and what it had beyond this one is left out.
             ///
+            /// What a setter replaces after that was copied, and stays in the bytes of the message, where no
+            /// pointer leads to it. Canonical words of the message are without it.
+            ///
             /// It fails as `Orphanage::set` of the first pointer does that can't be copied.
             pub fn from_reader<R: ReaderSegments, S: GrowingSegment>(
                 read: &Reader<'_, R>,
@@ -833,6 +864,8 @@ pub mod person {
 
         impl Builder {
             /// Sets the field `number`.
+            ///
+            /// An object that it led to before stays in the bytes of the message.
             pub fn set_number(&mut self, value: Orphan<text::Owned>)
                 ensures words { self.new.draft.words ≡ self.old.draft.words }
                 ensures pointers { self.new.draft.pointers
@@ -876,6 +909,9 @@ pub mod person {
                 Type::from_number(self.draft.get_data_field(0))
             }
         }
+
+        /// Which pointer of the struct leads to `number`, for `fields.get_pointer`.
+        pub const NUMBER_POINTER: u16 = 0;
 
         #[derive(Clone, Copy, PartialEq, Eq, Debug)]
         pub enum Type {
@@ -1118,6 +1154,9 @@ pub mod address_book {
         /// copied, each object as an orphan, and null stays null. What a writer of another version of
         /// the type left out is zero and null, and what it had beyond this one is left out.
         ///
+        /// What a setter replaces after that was copied, and stays in the bytes of the message, where no
+        /// pointer leads to it. Canonical words of the message are without it.
+        ///
         /// It fails as `Orphanage::set` of the first pointer does that can't be copied.
         pub fn from_reader<R: ReaderSegments, S: GrowingSegment>(
             read: &Reader<'_, R>,
@@ -1191,6 +1230,8 @@ pub mod address_book {
 
     impl Builder {
         /// Sets the field `people`.
+        ///
+        /// An object that it led to before stays in the bytes of the message.
         pub fn set_people(&mut self, value: Orphan<super::person::OwnedList>)
             ensures words { self.new.draft.words ≡ self.old.draft.words }
             ensures pointers { self.new.draft.pointers
@@ -1206,4 +1247,7 @@ pub mod address_book {
             self.draft.has_pointer(0)
         }
     }
+
+    /// Which pointer of the struct leads to `people`, for `fields.get_pointer`.
+    pub const PEOPLE_POINTER: u16 = 0;
 }

@@ -228,6 +228,9 @@ pub mod point {
         /// copied, each object as an orphan, and null stays null. What a writer of another version of
         /// the type left out is zero and null, and what it had beyond this one is left out.
         ///
+        /// What a setter replaces after that was copied, and stays in the bytes of the message, where no
+        /// pointer leads to it. Canonical words of the message are without it.
+        ///
         /// It fails as `Orphanage::set` of the first pointer does that can't be copied.
         pub fn from_reader<R: ReaderSegments, S: GrowingSegment>(
             read: &Reader<'_, R>,
@@ -554,6 +557,9 @@ pub mod tree {
         /// copied, each object as an orphan, and null stays null. What a writer of another version of
         /// the type left out is zero and null, and what it had beyond this one is left out.
         ///
+        /// What a setter replaces after that was copied, and stays in the bytes of the message, where no
+        /// pointer leads to it. Canonical words of the message are without it.
+        ///
         /// It fails as `Orphanage::set` of the first pointer does that can't be copied.
         pub fn from_reader<R: ReaderSegments, S: GrowingSegment>(
             read: &Reader<'_, R>,
@@ -644,6 +650,8 @@ pub mod tree {
         }
 
         /// Sets the field `left`.
+        ///
+        /// An object that it led to before stays in the bytes of the message.
         pub fn set_left(&mut self, value: Orphan<super::tree::Owned>)
             ensures words { self.new.draft.words ≡ self.old.draft.words }
             ensures pointers { self.new.draft.pointers
@@ -660,6 +668,8 @@ pub mod tree {
         }
 
         /// Sets the field `right`.
+        ///
+        /// An object that it led to before stays in the bytes of the message.
         pub fn set_right(&mut self, value: Orphan<super::tree::Owned>)
             ensures words { self.new.draft.words ≡ self.old.draft.words }
             ensures pointers { self.new.draft.pointers
@@ -675,6 +685,12 @@ pub mod tree {
             self.draft.has_pointer(1)
         }
     }
+
+    /// Which pointer of the struct leads to `left`, for `fields.get_pointer`.
+    pub const LEFT_POINTER: u16 = 0;
+
+    /// Which pointer of the struct leads to `right`, for `fields.get_pointer`.
+    pub const RIGHT_POINTER: u16 = 1;
 }
 
 /// Colors of a lamp.
@@ -1207,6 +1223,9 @@ pub mod sample {
         /// copied, each object as an orphan, and null stays null. What a writer of another version of
         /// the type left out is zero and null, and what it had beyond this one is left out.
         ///
+        /// What a setter replaces after that was copied, and stays in the bytes of the message, where no
+        /// pointer leads to it. Canonical words of the message are without it.
+        ///
         /// It fails as `Orphanage::set` of the first pointer does that can't be copied.
         pub fn from_reader<R: ReaderSegments, S: GrowingSegment>(
             read: &Reader<'_, R>,
@@ -1332,6 +1351,8 @@ pub mod sample {
         }
 
         /// Sets the field `title`.
+        ///
+        /// An object that it led to before stays in the bytes of the message.
         pub fn set_title(&mut self, value: Orphan<text::Owned>)
             ensures words { self.new.draft.words ≡ self.old.draft.words }
             ensures pointers { self.new.draft.pointers
@@ -1348,6 +1369,8 @@ pub mod sample {
         }
 
         /// Sets the field `payload`.
+        ///
+        /// An object that it led to before stays in the bytes of the message.
         pub fn set_payload(&mut self, value: Orphan<capnp_wire::data::Owned>)
             ensures words { self.new.draft.words ≡ self.old.draft.words }
             ensures pointers { self.new.draft.pointers
@@ -1364,6 +1387,8 @@ pub mod sample {
         }
 
         /// Sets the field `points`.
+        ///
+        /// An object that it led to before stays in the bytes of the message.
         pub fn set_points(&mut self, value: Orphan<super::point::OwnedList>)
             ensures words { self.new.draft.words ≡ self.old.draft.words }
             ensures pointers { self.new.draft.pointers
@@ -1380,6 +1405,8 @@ pub mod sample {
         }
 
         /// Sets the field `numbers`.
+        ///
+        /// An object that it led to before stays in the bytes of the message.
         pub fn set_numbers(&mut self, value: Orphan<capnp_wire::primitive_list::Owned<u32>>)
             ensures words { self.new.draft.words ≡ self.old.draft.words }
             ensures pointers { self.new.draft.pointers
@@ -1396,6 +1423,8 @@ pub mod sample {
         }
 
         /// Sets the field `origin`.
+        ///
+        /// An object that it led to before stays in the bytes of the message.
         pub fn set_origin(&mut self, value: Orphan<super::point::Owned>)
             ensures words { self.new.draft.words ≡ self.old.draft.words }
             ensures pointers { self.new.draft.pointers
@@ -1467,6 +1496,8 @@ pub mod sample {
         }
 
         /// Sets the field `label`.
+        ///
+        /// An object that it led to before stays in the bytes of the message.
         pub fn set_label(&mut self, value: Orphan<text::Owned>)
             ensures words { self.new.draft.words
                 ≡ (with_field self.old.draft.words 16 7 2) }
@@ -1505,6 +1536,8 @@ pub mod sample {
         }
 
         /// Sets the field `note`.
+        ///
+        /// An object that it led to before stays in the bytes of the message.
         pub fn set_note(&mut self, value: Orphan<text::Owned>)
             ensures words { self.new.draft.words ≡ self.old.draft.words }
             ensures pointers { self.new.draft.pointers
@@ -1521,6 +1554,8 @@ pub mod sample {
         }
 
         /// Sets the field `target`.
+        ///
+        /// An object that it led to before stays in the bytes of the message.
         pub fn set_target(&mut self, value: Orphan<super::point::Owned>)
             ensures words { self.new.draft.words ≡ self.old.draft.words }
             ensures pointers { self.new.draft.pointers
@@ -1537,6 +1572,8 @@ pub mod sample {
         }
 
         /// Sets the field `anything`.
+        ///
+        /// An object that it led to before stays in the bytes of the message.
         pub fn set_anything<T>(&mut self, value: Orphan<T>)
             ensures words { self.new.draft.words ≡ self.old.draft.words }
             ensures pointers { self.new.draft.pointers
@@ -1552,6 +1589,33 @@ pub mod sample {
             self.draft.has_pointer(8)
         }
     }
+
+    /// Which pointer of the struct leads to `title`, for `fields.get_pointer`.
+    pub const TITLE_POINTER: u16 = 0;
+
+    /// Which pointer of the struct leads to `payload`, for `fields.get_pointer`.
+    pub const PAYLOAD_POINTER: u16 = 1;
+
+    /// Which pointer of the struct leads to `points`, for `fields.get_pointer`.
+    pub const POINTS_POINTER: u16 = 2;
+
+    /// Which pointer of the struct leads to `numbers`, for `fields.get_pointer`.
+    pub const NUMBERS_POINTER: u16 = 3;
+
+    /// Which pointer of the struct leads to `origin`, for `fields.get_pointer`.
+    pub const ORIGIN_POINTER: u16 = 4;
+
+    /// Which pointer of the struct leads to `label`, for `fields.get_pointer`.
+    pub const LABEL_POINTER: u16 = 5;
+
+    /// Which pointer of the struct leads to `note`, for `fields.get_pointer`.
+    pub const NOTE_POINTER: u16 = 6;
+
+    /// Which pointer of the struct leads to `target`, for `fields.get_pointer`.
+    pub const TARGET_POINTER: u16 = 7;
+
+    /// Which pointer of the struct leads to `anything`, for `fields.get_pointer`.
+    pub const ANYTHING_POINTER: u16 = 8;
 
     #[rattlefmt::skip]
     pub static NOTE_DEFAULT: Words<16> = Words { bytes: [
@@ -1877,6 +1941,9 @@ pub mod shape {
         /// copied, each object as an orphan, and null stays null. What a writer of another version of
         /// the type left out is zero and null, and what it had beyond this one is left out.
         ///
+        /// What a setter replaces after that was copied, and stays in the bytes of the message, where no
+        /// pointer leads to it. Canonical words of the message are without it.
+        ///
         /// It fails as `Orphanage::set` of the first pointer does that can't be copied.
         pub fn from_reader<R: ReaderSegments, S: GrowingSegment>(
             read: &Reader<'_, R>,
@@ -2103,6 +2170,8 @@ pub mod shape {
             }
 
             /// Sets the field `label`.
+            ///
+            /// An object that it led to before stays in the bytes of the message.
             pub fn set_rectangle_label(&mut self, value: Orphan<text::Owned>)
                 ensures words { self.new.draft.words
                     ≡ (with_field self.old.draft.words 16 4 1) }
@@ -2120,6 +2189,9 @@ pub mod shape {
                 self.draft.has_pointer(0)
             }
         }
+
+        /// Which pointer of the struct leads to `label`, for `fields.get_pointer`.
+        pub const LABEL_POINTER: u16 = 0;
     }
 }
 
@@ -2348,6 +2420,9 @@ pub mod palette {
         /// copied, each object as an orphan, and null stays null. What a writer of another version of
         /// the type left out is zero and null, and what it had beyond this one is left out.
         ///
+        /// What a setter replaces after that was copied, and stays in the bytes of the message, where no
+        /// pointer leads to it. Canonical words of the message are without it.
+        ///
         /// It fails as `Orphanage::set` of the first pointer does that can't be copied.
         pub fn from_reader<R: ReaderSegments, S: GrowingSegment>(
             read: &Reader<'_, R>,
@@ -2421,6 +2496,8 @@ pub mod palette {
 
     impl Builder {
         /// Sets the field `colors`.
+        ///
+        /// An object that it led to before stays in the bytes of the message.
         pub fn set_colors(&mut self, value: Orphan<capnp_wire::primitive_list::Owned<u16>>)
             ensures words { self.new.draft.words ≡ self.old.draft.words }
             ensures pointers { self.new.draft.pointers
@@ -2437,6 +2514,8 @@ pub mod palette {
         }
 
         /// Sets the field `names`.
+        ///
+        /// An object that it led to before stays in the bytes of the message.
         pub fn set_names(&mut self, value: Orphan<capnp_wire::list_list::Owned<text::Owned>>)
             ensures words { self.new.draft.words ≡ self.old.draft.words }
             ensures pointers { self.new.draft.pointers
@@ -2452,6 +2531,12 @@ pub mod palette {
             self.draft.has_pointer(1)
         }
     }
+
+    /// Which pointer of the struct leads to `colors`, for `fields.get_pointer`.
+    pub const COLORS_POINTER: u16 = 0;
+
+    /// Which pointer of the struct leads to `names`, for `fields.get_pointer`.
+    pub const NAMES_POINTER: u16 = 1;
 
     #[rattlefmt::skip]
     pub static NAMES_DEFAULT: Words<24> = Words { bytes: [

@@ -1,0 +1,129 @@
+//! Parts of lines of code, each of which stands on a line of its own if it is narrow enough.
+
+/// The most columns of a line that can be broken.
+pub const WIDTH: usize = 100;
+
+/// The most columns of a call of a field's method on one line.
+const METHOD_WIDTH: usize = 60;
+
+/// What the text of a part is.
+#[derive(Clone, Copy, PartialEq, Eq)]
+pub enum Kind {
+    Function,
+    Implementation,
+    Constant,
+    Import,
+    Arm,
+    /// An expression, a type or a pattern.
+    Expression,
+    /// What stays on one line.
+    Fixed,
+}
+
+/// A part of a line: a text that may be broken, with what comes before and after it.
+#[derive(Clone, Copy)]
+pub struct Part<'a> {
+    pub indent: usize,
+    pub head: &'a str,
+    pub text: &'a str,
+    pub tail: &'a str,
+    pub kind: Kind,
+}
+
+impl<'a> Part<'a> {
+    /// A part that has this text alone.
+    pub fn new(indent: usize, text: &'a str, kind: Kind) -> Part<'a> {
+        Part {
+            indent,
+            head: "",
+            text,
+            tail: "",
+            kind,
+        }
+    }
+
+    /// A part that stays on one line.
+    pub fn fixed(indent: usize, text: &'a str) -> Part<'a> {
+        Part::new(indent, text, Kind::Fixed)
+    }
+
+    /// A part that is a whole line.
+    pub fn of_line(indent: usize, line: &'a str) -> Part<'a> {
+        let kind = kind_of(line);
+        if kind != Kind::Expression {
+            return Part::new(indent, line, kind);
+        }
+        let part = match line.split_once(" = ") {
+            Some((name, value)) if line.starts_with("let ") => {
+                let head = line.get(..name.len().saturating_add(3)).unwrap_or("");
+                Part::new(indent, value, kind).after(head)
+            }
+            _ => match line.strip_prefix("match ") {
+                Some(value) => Part::new(indent, value, kind).after("match "),
+                None => Part::new(indent, line, kind),
+            },
+        };
+        part.with_end_apart()
+    }
+
+    /// The same part after something else.
+    pub fn after(mut self, head: &'a str) -> Part<'a> {
+        self.head = head;
+        self
+    }
+
+    /// The same part before something else.
+    pub fn before(mut self, tail: &'a str) -> Part<'a> {
+        self.tail = tail;
+        self
+    }
+
+    // With the end of a statement, an argument or a head as the tail.
+    fn with_end_apart(self) -> Part<'a> {
+        for end in [";", ",", " {"] {
+            if let Some(text) = self.text.strip_suffix(end) {
+                return Part { text, ..self }.before(end);
+            }
+        }
+        self
+    }
+
+    /// How many columns it has.
+    pub fn width(&self) -> usize {
+        self.indent
+            .saturating_add(self.head.chars().count())
+            .saturating_add(self.text.chars().count())
+            .saturating_add(self.tail.chars().count())
+    }
+
+    /// Whether it calls a method of a field.
+    pub fn is_method(&self) -> bool {
+        self.kind == Kind::Expression
+            && (self.text.starts_with("self.fields.") || self.text.starts_with("self.draft."))
+    }
+
+    /// Whether it stays on one line.
+    pub fn fits(&self) -> bool {
+        if self.is_method() && self.text.len() > METHOD_WIDTH {
+            return false;
+        }
+        self.kind == Kind::Fixed || self.width() <= WIDTH
+    }
+}
+
+// What a line is.
+fn kind_of(line: &str) -> Kind {
+    if line.starts_with("pub fn ") || line.starts_with("fn ") {
+        Kind::Function
+    } else if line.starts_with("impl") {
+        Kind::Implementation
+    } else if line.starts_with("pub const ") {
+        Kind::Constant
+    } else if line.starts_with("use ") {
+        Kind::Import
+    } else if line.contains(" => ") && line.ends_with(',') {
+        Kind::Arm
+    } else {
+        Kind::Expression
+    }
+}
