@@ -66,6 +66,18 @@ impl<'a, S: ReaderSegments> IndexMove for ListReader<'a, S> {
     }
 }
 
+impl<'l, 'a, S: ReaderSegments> IntoIterator for &'l ListReader<'a, S> {
+    type Item = Reader<'a, S>;
+
+    type IntoIter = ListIter<'l, ListReader<'a, S>>;
+
+    ghost into_iter_gives = { λ list elements. IsIterator list.now elements };
+
+    fn into_iter(self) -> ListIter<'l, ListReader<'a, S>> {
+        self.iter()
+    }
+}
+
 impl<'a, S: ReaderSegments> FromPointerReader<'a, S> for ListReader<'a, S> {
     ghost shows = { λ pointer view.
         IsUpgradedStructs pointer (upgraded_structs_of S.segments view.elements) };
