@@ -11,6 +11,7 @@ pub mod building;
 pub mod canonical;
 pub mod devices;
 pub mod entries;
+pub mod loops;
 pub mod packed_struct;
 pub mod packing;
 pub mod reading;

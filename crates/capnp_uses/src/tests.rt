@@ -14,6 +14,7 @@ mod large_limits;
 mod large_messages;
 mod large_trees;
 mod long_inputs;
+mod loops;
 mod message_streams;
 mod other_options;
 mod regions;
