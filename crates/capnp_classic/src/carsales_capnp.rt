@@ -12,6 +12,7 @@ ghost use Rattle.capnp_wire.specs.Lists.{FindsElement, IsIterator};
 ghost use Rattle.capnp_wire.specs.Object.{nothing};
 ghost use Rattle.capnp_wire.specs.Readers.{struct_of, pointer_of};
 ghost use Rattle.capnp_wire.specs.UpgradedReaders.{upgraded_structs_of};
+ghost use Rattle.capnp_wire.specs.UpgradedValues.{IsStructListValue, RefusesStructList, one_struct_list};
 ghost use Rattle.capnp_wire.specs.UpgradedViews.{IsUpgradedStructs, TakesRows, DeclinesRows};
 ghost use Rattle.capnp_wire.specs.Views.{Struct, IsViewOf, IsStruct, IsText, Accepts, Refuses, Declines, Denotes, Reads, TakesStruct, TakesText, DeclinesStruct, DeclinesText, pointer_in};
 
@@ -149,6 +150,18 @@ pub mod parking_lot {
         }
     }
 
+    impl<'l, 'a, S: ReaderSegments> IntoIterator for &'l ListReader<'a, S> {
+        type Item = Reader<'a, S>;
+
+        type IntoIter = ListIter<'l, ListReader<'a, S>>;
+
+        ghost into_iter_gives = { λ list elements. IsIterator list.now elements };
+
+        fn into_iter(self) -> ListIter<'l, ListReader<'a, S>> {
+            self.iter()
+        }
+    }
+
     impl<'a, S: ReaderSegments> FromPointerReader<'a, S> for ListReader<'a, S> {
         ghost shows = { λ pointer view.
             IsUpgradedStructs pointer (upgraded_structs_of S.segments view.elements) };
@@ -177,6 +190,33 @@ pub mod parking_lot {
 
     impl<'a, S: ReaderSegments + 'a> traits::Owned<'a, S> for OwnedList {
         type Reader = ListReader<'a, S>;
+    }
+
+    // The value is the list of the structs, with all below them.
+    impl<'a, S: ReaderSegments> traits::SetterInput<OwnedList> for ListReader<'a, S> {
+        ghost has_tree = { λ list trees. IsStructListValue S.segments list.elements trees };
+
+        ghost refuses = { λ list kind. RefusesStructList S.segments list.elements kind };
+
+        ghost one = { λ list trees is. one_struct_list S.segments list.elements trees is };
+
+        fn measure(&self, canonical: bool) -> Result<u32> {
+            traits::SetterInput::measure(&self.elements, canonical)
+        }
+
+        fn is_null(&self) -> bool {
+            false
+        }
+
+        fn write(
+            &self,
+            canonical: bool,
+            block: &mut [u8],
+            following: usize,
+            next: usize,
+        ) -> traits::Copied {
+            traits::SetterInput::write(&self.elements, canonical, block, following, next)
+        }
     }
 
     /// A struct of this type before it is written. What is not set has its default.
@@ -418,6 +458,18 @@ pub mod total_value {
         }
     }
 
+    impl<'l, 'a, S: ReaderSegments> IntoIterator for &'l ListReader<'a, S> {
+        type Item = Reader<'a, S>;
+
+        type IntoIter = ListIter<'l, ListReader<'a, S>>;
+
+        ghost into_iter_gives = { λ list elements. IsIterator list.now elements };
+
+        fn into_iter(self) -> ListIter<'l, ListReader<'a, S>> {
+            self.iter()
+        }
+    }
+
     impl<'a, S: ReaderSegments> FromPointerReader<'a, S> for ListReader<'a, S> {
         ghost shows = { λ pointer view.
             IsUpgradedStructs pointer (upgraded_structs_of S.segments view.elements) };
@@ -446,6 +498,33 @@ pub mod total_value {
 
     impl<'a, S: ReaderSegments + 'a> traits::Owned<'a, S> for OwnedList {
         type Reader = ListReader<'a, S>;
+    }
+
+    // The value is the list of the structs, with all below them.
+    impl<'a, S: ReaderSegments> traits::SetterInput<OwnedList> for ListReader<'a, S> {
+        ghost has_tree = { λ list trees. IsStructListValue S.segments list.elements trees };
+
+        ghost refuses = { λ list kind. RefusesStructList S.segments list.elements kind };
+
+        ghost one = { λ list trees is. one_struct_list S.segments list.elements trees is };
+
+        fn measure(&self, canonical: bool) -> Result<u32> {
+            traits::SetterInput::measure(&self.elements, canonical)
+        }
+
+        fn is_null(&self) -> bool {
+            false
+        }
+
+        fn write(
+            &self,
+            canonical: bool,
+            block: &mut [u8],
+            following: usize,
+            next: usize,
+        ) -> traits::Copied {
+            traits::SetterInput::write(&self.elements, canonical, block, following, next)
+        }
     }
 
     /// A struct of this type before it is written. What is not set has its default.
@@ -886,6 +965,18 @@ pub mod car {
         }
     }
 
+    impl<'l, 'a, S: ReaderSegments> IntoIterator for &'l ListReader<'a, S> {
+        type Item = Reader<'a, S>;
+
+        type IntoIter = ListIter<'l, ListReader<'a, S>>;
+
+        ghost into_iter_gives = { λ list elements. IsIterator list.now elements };
+
+        fn into_iter(self) -> ListIter<'l, ListReader<'a, S>> {
+            self.iter()
+        }
+    }
+
     impl<'a, S: ReaderSegments> FromPointerReader<'a, S> for ListReader<'a, S> {
         ghost shows = { λ pointer view.
             IsUpgradedStructs pointer (upgraded_structs_of S.segments view.elements) };
@@ -914,6 +1005,33 @@ pub mod car {
 
     impl<'a, S: ReaderSegments + 'a> traits::Owned<'a, S> for OwnedList {
         type Reader = ListReader<'a, S>;
+    }
+
+    // The value is the list of the structs, with all below them.
+    impl<'a, S: ReaderSegments> traits::SetterInput<OwnedList> for ListReader<'a, S> {
+        ghost has_tree = { λ list trees. IsStructListValue S.segments list.elements trees };
+
+        ghost refuses = { λ list kind. RefusesStructList S.segments list.elements kind };
+
+        ghost one = { λ list trees is. one_struct_list S.segments list.elements trees is };
+
+        fn measure(&self, canonical: bool) -> Result<u32> {
+            traits::SetterInput::measure(&self.elements, canonical)
+        }
+
+        fn is_null(&self) -> bool {
+            false
+        }
+
+        fn write(
+            &self,
+            canonical: bool,
+            block: &mut [u8],
+            following: usize,
+            next: usize,
+        ) -> traits::Copied {
+            traits::SetterInput::write(&self.elements, canonical, block, following, next)
+        }
     }
 
     /// A struct of this type before it is written. What is not set has its default.
@@ -1360,7 +1478,7 @@ pub mod car {
     pub const ENGINE_POINTER: u16 = 3;
 }
 
-#[derive(Clone, Copy, PartialEq, Eq, Debug)]
+#[derive(Clone, Copy, PartialEq, Eq, Hash, Debug)]
 pub enum Color {
     Black,
     White,
@@ -1407,6 +1525,8 @@ impl Color {
 }
 
 impl capnp_wire::upgraded::EnumElement for Color {
+    ghost named = { 9 };
+
     fn from_number(number: u16) -> Color {
         Color::from_number(number)
     }
@@ -1578,6 +1698,18 @@ pub mod wheel {
         }
     }
 
+    impl<'l, 'a, S: ReaderSegments> IntoIterator for &'l ListReader<'a, S> {
+        type Item = Reader<'a, S>;
+
+        type IntoIter = ListIter<'l, ListReader<'a, S>>;
+
+        ghost into_iter_gives = { λ list elements. IsIterator list.now elements };
+
+        fn into_iter(self) -> ListIter<'l, ListReader<'a, S>> {
+            self.iter()
+        }
+    }
+
     impl<'a, S: ReaderSegments> FromPointerReader<'a, S> for ListReader<'a, S> {
         ghost shows = { λ pointer view.
             IsUpgradedStructs pointer (upgraded_structs_of S.segments view.elements) };
@@ -1606,6 +1738,33 @@ pub mod wheel {
 
     impl<'a, S: ReaderSegments + 'a> traits::Owned<'a, S> for OwnedList {
         type Reader = ListReader<'a, S>;
+    }
+
+    // The value is the list of the structs, with all below them.
+    impl<'a, S: ReaderSegments> traits::SetterInput<OwnedList> for ListReader<'a, S> {
+        ghost has_tree = { λ list trees. IsStructListValue S.segments list.elements trees };
+
+        ghost refuses = { λ list kind. RefusesStructList S.segments list.elements kind };
+
+        ghost one = { λ list trees is. one_struct_list S.segments list.elements trees is };
+
+        fn measure(&self, canonical: bool) -> Result<u32> {
+            traits::SetterInput::measure(&self.elements, canonical)
+        }
+
+        fn is_null(&self) -> bool {
+            false
+        }
+
+        fn write(
+            &self,
+            canonical: bool,
+            block: &mut [u8],
+            following: usize,
+            next: usize,
+        ) -> traits::Copied {
+            traits::SetterInput::write(&self.elements, canonical, block, following, next)
+        }
     }
 
     /// A struct of this type before it is written. What is not set has its default.
@@ -1909,6 +2068,18 @@ pub mod engine {
         }
     }
 
+    impl<'l, 'a, S: ReaderSegments> IntoIterator for &'l ListReader<'a, S> {
+        type Item = Reader<'a, S>;
+
+        type IntoIter = ListIter<'l, ListReader<'a, S>>;
+
+        ghost into_iter_gives = { λ list elements. IsIterator list.now elements };
+
+        fn into_iter(self) -> ListIter<'l, ListReader<'a, S>> {
+            self.iter()
+        }
+    }
+
     impl<'a, S: ReaderSegments> FromPointerReader<'a, S> for ListReader<'a, S> {
         ghost shows = { λ pointer view.
             IsUpgradedStructs pointer (upgraded_structs_of S.segments view.elements) };
@@ -1937,6 +2108,33 @@ pub mod engine {
 
     impl<'a, S: ReaderSegments + 'a> traits::Owned<'a, S> for OwnedList {
         type Reader = ListReader<'a, S>;
+    }
+
+    // The value is the list of the structs, with all below them.
+    impl<'a, S: ReaderSegments> traits::SetterInput<OwnedList> for ListReader<'a, S> {
+        ghost has_tree = { λ list trees. IsStructListValue S.segments list.elements trees };
+
+        ghost refuses = { λ list kind. RefusesStructList S.segments list.elements kind };
+
+        ghost one = { λ list trees is. one_struct_list S.segments list.elements trees is };
+
+        fn measure(&self, canonical: bool) -> Result<u32> {
+            traits::SetterInput::measure(&self.elements, canonical)
+        }
+
+        fn is_null(&self) -> bool {
+            false
+        }
+
+        fn write(
+            &self,
+            canonical: bool,
+            block: &mut [u8],
+            following: usize,
+            next: usize,
+        ) -> traits::Copied {
+            traits::SetterInput::write(&self.elements, canonical, block, following, next)
+        }
     }
 
     /// A struct of this type before it is written. What is not set has its default.

@@ -12,6 +12,7 @@ ghost use Rattle.capnp_wire.specs.Lists.{FindsElement, IsIterator};
 ghost use Rattle.capnp_wire.specs.Object.{nothing};
 ghost use Rattle.capnp_wire.specs.Readers.{struct_of, pointer_of};
 ghost use Rattle.capnp_wire.specs.UpgradedReaders.{upgraded_structs_of};
+ghost use Rattle.capnp_wire.specs.UpgradedValues.{IsStructListValue, RefusesStructList, one_struct_list};
 ghost use Rattle.capnp_wire.specs.UpgradedViews.{IsUpgradedStructs, TakesRows, DeclinesRows};
 ghost use Rattle.capnp_wire.specs.Views.{Struct, IsViewOf, IsStruct, IsText, Accepts, Refuses, Declines, Denotes, Reads, TakesStruct, TakesText, DeclinesStruct, DeclinesText, pointer_in};
 
@@ -149,6 +150,18 @@ pub mod search_result_list {
         }
     }
 
+    impl<'l, 'a, S: ReaderSegments> IntoIterator for &'l ListReader<'a, S> {
+        type Item = Reader<'a, S>;
+
+        type IntoIter = ListIter<'l, ListReader<'a, S>>;
+
+        ghost into_iter_gives = { λ list elements. IsIterator list.now elements };
+
+        fn into_iter(self) -> ListIter<'l, ListReader<'a, S>> {
+            self.iter()
+        }
+    }
+
     impl<'a, S: ReaderSegments> FromPointerReader<'a, S> for ListReader<'a, S> {
         ghost shows = { λ pointer view.
             IsUpgradedStructs pointer (upgraded_structs_of S.segments view.elements) };
@@ -177,6 +190,33 @@ pub mod search_result_list {
 
     impl<'a, S: ReaderSegments + 'a> traits::Owned<'a, S> for OwnedList {
         type Reader = ListReader<'a, S>;
+    }
+
+    // The value is the list of the structs, with all below them.
+    impl<'a, S: ReaderSegments> traits::SetterInput<OwnedList> for ListReader<'a, S> {
+        ghost has_tree = { λ list trees. IsStructListValue S.segments list.elements trees };
+
+        ghost refuses = { λ list kind. RefusesStructList S.segments list.elements kind };
+
+        ghost one = { λ list trees is. one_struct_list S.segments list.elements trees is };
+
+        fn measure(&self, canonical: bool) -> Result<u32> {
+            traits::SetterInput::measure(&self.elements, canonical)
+        }
+
+        fn is_null(&self) -> bool {
+            false
+        }
+
+        fn write(
+            &self,
+            canonical: bool,
+            block: &mut [u8],
+            following: usize,
+            next: usize,
+        ) -> traits::Copied {
+            traits::SetterInput::write(&self.elements, canonical, block, following, next)
+        }
     }
 
     /// A struct of this type before it is written. What is not set has its default.
@@ -458,6 +498,18 @@ pub mod search_result {
         }
     }
 
+    impl<'l, 'a, S: ReaderSegments> IntoIterator for &'l ListReader<'a, S> {
+        type Item = Reader<'a, S>;
+
+        type IntoIter = ListIter<'l, ListReader<'a, S>>;
+
+        ghost into_iter_gives = { λ list elements. IsIterator list.now elements };
+
+        fn into_iter(self) -> ListIter<'l, ListReader<'a, S>> {
+            self.iter()
+        }
+    }
+
     impl<'a, S: ReaderSegments> FromPointerReader<'a, S> for ListReader<'a, S> {
         ghost shows = { λ pointer view.
             IsUpgradedStructs pointer (upgraded_structs_of S.segments view.elements) };
@@ -486,6 +538,33 @@ pub mod search_result {
 
     impl<'a, S: ReaderSegments + 'a> traits::Owned<'a, S> for OwnedList {
         type Reader = ListReader<'a, S>;
+    }
+
+    // The value is the list of the structs, with all below them.
+    impl<'a, S: ReaderSegments> traits::SetterInput<OwnedList> for ListReader<'a, S> {
+        ghost has_tree = { λ list trees. IsStructListValue S.segments list.elements trees };
+
+        ghost refuses = { λ list kind. RefusesStructList S.segments list.elements kind };
+
+        ghost one = { λ list trees is. one_struct_list S.segments list.elements trees is };
+
+        fn measure(&self, canonical: bool) -> Result<u32> {
+            traits::SetterInput::measure(&self.elements, canonical)
+        }
+
+        fn is_null(&self) -> bool {
+            false
+        }
+
+        fn write(
+            &self,
+            canonical: bool,
+            block: &mut [u8],
+            following: usize,
+            next: usize,
+        ) -> traits::Copied {
+            traits::SetterInput::write(&self.elements, canonical, block, following, next)
+        }
     }
 
     /// A struct of this type before it is written. What is not set has its default.

@@ -12,10 +12,11 @@ ghost use Rattle.capnp_wire.specs.Lists.{FindsElement, IsIterator};
 ghost use Rattle.capnp_wire.specs.Object.{nothing};
 ghost use Rattle.capnp_wire.specs.Readers.{struct_of, pointer_of};
 ghost use Rattle.capnp_wire.specs.UpgradedReaders.{upgraded_structs_of};
+ghost use Rattle.capnp_wire.specs.UpgradedValues.{IsStructListValue, RefusesStructList, one_struct_list};
 ghost use Rattle.capnp_wire.specs.UpgradedViews.{IsUpgradedStructs, TakesRows, DeclinesRows};
 ghost use Rattle.capnp_wire.specs.Views.{Struct, IsViewOf, IsStruct, Accepts, Refuses, Declines, Denotes, TakesStruct, DeclinesStruct, pointer_in};
 
-#[derive(Clone, Copy, PartialEq, Eq, Debug)]
+#[derive(Clone, Copy, PartialEq, Eq, Hash, Debug)]
 pub enum Operation {
     Add,
     Subtract,
@@ -50,6 +51,8 @@ impl Operation {
 }
 
 impl capnp_wire::upgraded::EnumElement for Operation {
+    ghost named = { 5 };
+
     fn from_number(number: u16) -> Operation {
         Operation::from_number(number)
     }
@@ -228,6 +231,18 @@ pub mod expression {
         }
     }
 
+    impl<'l, 'a, S: ReaderSegments> IntoIterator for &'l ListReader<'a, S> {
+        type Item = Reader<'a, S>;
+
+        type IntoIter = ListIter<'l, ListReader<'a, S>>;
+
+        ghost into_iter_gives = { λ list elements. IsIterator list.now elements };
+
+        fn into_iter(self) -> ListIter<'l, ListReader<'a, S>> {
+            self.iter()
+        }
+    }
+
     impl<'a, S: ReaderSegments> FromPointerReader<'a, S> for ListReader<'a, S> {
         ghost shows = { λ pointer view.
             IsUpgradedStructs pointer (upgraded_structs_of S.segments view.elements) };
@@ -256,6 +271,33 @@ pub mod expression {
 
     impl<'a, S: ReaderSegments + 'a> traits::Owned<'a, S> for OwnedList {
         type Reader = ListReader<'a, S>;
+    }
+
+    // The value is the list of the structs, with all below them.
+    impl<'a, S: ReaderSegments> traits::SetterInput<OwnedList> for ListReader<'a, S> {
+        ghost has_tree = { λ list trees. IsStructListValue S.segments list.elements trees };
+
+        ghost refuses = { λ list kind. RefusesStructList S.segments list.elements kind };
+
+        ghost one = { λ list trees is. one_struct_list S.segments list.elements trees is };
+
+        fn measure(&self, canonical: bool) -> Result<u32> {
+            traits::SetterInput::measure(&self.elements, canonical)
+        }
+
+        fn is_null(&self) -> bool {
+            false
+        }
+
+        fn write(
+            &self,
+            canonical: bool,
+            block: &mut [u8],
+            following: usize,
+            next: usize,
+        ) -> traits::Copied {
+            traits::SetterInput::write(&self.elements, canonical, block, following, next)
+        }
     }
 
     /// A struct of this type before it is written. What is not set has its default.
@@ -752,6 +794,18 @@ pub mod evaluation_result {
         }
     }
 
+    impl<'l, 'a, S: ReaderSegments> IntoIterator for &'l ListReader<'a, S> {
+        type Item = Reader<'a, S>;
+
+        type IntoIter = ListIter<'l, ListReader<'a, S>>;
+
+        ghost into_iter_gives = { λ list elements. IsIterator list.now elements };
+
+        fn into_iter(self) -> ListIter<'l, ListReader<'a, S>> {
+            self.iter()
+        }
+    }
+
     impl<'a, S: ReaderSegments> FromPointerReader<'a, S> for ListReader<'a, S> {
         ghost shows = { λ pointer view.
             IsUpgradedStructs pointer (upgraded_structs_of S.segments view.elements) };
@@ -780,6 +834,33 @@ pub mod evaluation_result {
 
     impl<'a, S: ReaderSegments + 'a> traits::Owned<'a, S> for OwnedList {
         type Reader = ListReader<'a, S>;
+    }
+
+    // The value is the list of the structs, with all below them.
+    impl<'a, S: ReaderSegments> traits::SetterInput<OwnedList> for ListReader<'a, S> {
+        ghost has_tree = { λ list trees. IsStructListValue S.segments list.elements trees };
+
+        ghost refuses = { λ list kind. RefusesStructList S.segments list.elements kind };
+
+        ghost one = { λ list trees is. one_struct_list S.segments list.elements trees is };
+
+        fn measure(&self, canonical: bool) -> Result<u32> {
+            traits::SetterInput::measure(&self.elements, canonical)
+        }
+
+        fn is_null(&self) -> bool {
+            false
+        }
+
+        fn write(
+            &self,
+            canonical: bool,
+            block: &mut [u8],
+            following: usize,
+            next: usize,
+        ) -> traits::Copied {
+            traits::SetterInput::write(&self.elements, canonical, block, following, next)
+        }
     }
 
     /// A struct of this type before it is written. What is not set has its default.

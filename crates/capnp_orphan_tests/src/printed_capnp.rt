@@ -367,6 +367,18 @@ pub mod printed {
         }
     }
 
+    impl<'l, 'a, S: ReaderSegments> IntoIterator for &'l ListReader<'a, S> {
+        type Item = Reader<'a, S>;
+
+        type IntoIter = ListIter<'l, ListReader<'a, S>>;
+
+        ghost into_iter_gives = { λ list elements. IsIterator list.now elements };
+
+        fn into_iter(self) -> ListIter<'l, ListReader<'a, S>> {
+            self.iter()
+        }
+    }
+
     impl<'a, S: ReaderSegments> FromPointerReader<'a, S> for ListReader<'a, S> {
         ghost shows = { λ pointer view.
             IsUpgradedStructs pointer (upgraded_structs_of S.segments view.elements) };
@@ -456,7 +468,7 @@ pub mod printed {
         }
     }
 
-    #[derive(Clone, Copy, PartialEq, Eq, Debug)]
+    #[derive(Clone, Copy, PartialEq, Eq, Hash, Debug)]
     pub enum Color {
         Red,
         DeepBlue,
@@ -482,6 +494,8 @@ pub mod printed {
     }
 
     impl capnp_wire::upgraded::EnumElement for Color {
+        ghost named = { 2 };
+
         fn from_number(number: u16) -> Color {
             Color::from_number(number)
         }
@@ -610,6 +624,18 @@ pub mod printed {
 
             fn index_move(&self, index: u32) -> Reader<'a, S> {
                 self.get(index)
+            }
+        }
+
+        impl<'l, 'a, S: ReaderSegments> IntoIterator for &'l ListReader<'a, S> {
+            type Item = Reader<'a, S>;
+
+            type IntoIter = ListIter<'l, ListReader<'a, S>>;
+
+            ghost into_iter_gives = { λ list elements. IsIterator list.now elements };
+
+            fn into_iter(self) -> ListIter<'l, ListReader<'a, S>> {
+                self.iter()
             }
         }
 

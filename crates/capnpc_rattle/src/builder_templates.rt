@@ -9,6 +9,33 @@ impl<'a, S: ReaderSegments + 'a> traits::Owned<'a, S> for OwnedList {
     type Reader = ListReader<'a, S>;
 }
 
+// The value is the list of the structs, with all below them.
+impl<'a, S: ReaderSegments> traits::SetterInput<OwnedList> for ListReader<'a, S> {
+    ghost has_tree = { λ list trees. IsStructListValue S.segments list.elements trees };
+
+    ghost refuses = { λ list kind. RefusesStructList S.segments list.elements kind };
+
+    ghost one = { λ list trees is. one_struct_list S.segments list.elements trees is };
+
+    fn measure(&self, canonical: bool) -> Result<u32> {
+        traits::SetterInput::measure(&self.elements, canonical)
+    }
+
+    fn is_null(&self) -> bool {
+        false
+    }
+
+    fn write(
+        &self,
+        canonical: bool,
+        block: &mut [u8],
+        following: usize,
+        next: usize,
+    ) -> traits::Copied {
+        traits::SetterInput::write(&self.elements, canonical, block, following, next)
+    }
+}
+
 /// A struct of this type before it is written. What is not set has its default.
 #[derive(Clone, Copy)]
 pub struct Builder {

@@ -37,7 +37,7 @@ pub fn rows_of(
     last: &str,
 ) -> Result<String, AllocError> {
     let mut rows = Code::new(alloc, 0);
-    let mut count: u32 = 0;
+    let mut count: usize = 0;
     for name in names {
         let holes = row_holes(alloc, type_name, count);
         rows.add(
@@ -51,8 +51,8 @@ pub fn rows_of(
     Ok(rows.text)
 }
 
-// What each row of an enum has.
-fn row_holes(alloc: Global, type_name: &str, count: u32) -> Holes {
+// What a row of an enum has, with the number of the row or of all of them.
+fn row_holes(alloc: Global, type_name: &str, count: usize) -> Holes {
     Holes::new(alloc)
         .with("type", type_name)
         .holding("count", format!(in alloc; "{count}"))
@@ -204,7 +204,7 @@ pub fn push_enum(
         .holding("cases", cases_of(alloc, request, node.id, type_name))
         .holding("arms", variant_arms(alloc, type_name, names));
     code.add(ENUM_END, &holes)?;
-    code.add_with(ENUM_ELEMENT, "type", type_name)?;
+    code.add(ENUM_ELEMENT, &row_holes(alloc, type_name, names.len()))?;
     if request.wanted.builders {
         push_to_number(alloc, code, type_name, names)?;
     }

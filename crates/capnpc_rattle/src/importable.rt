@@ -82,6 +82,10 @@ pub const DEFINITIONS: &[(&str, &[&str])] = &[
         ],
     ),
     (
+        "capnp_wire.specs.UpgradedValues",
+        &["IsStructListValue", "RefusesStructList", "one_struct_list"],
+    ),
+    (
         "capnp_wire.specs.UpgradedViews",
         &[
             "IsUpgradedStructs",

@@ -105,6 +105,8 @@ impl<'a, S: ReaderSegments> FromPointerReader<'a, S> for ListReader<'a, S> {
 /// How a list's element is read as a value of an enum.
 pub const ENUM_ELEMENT: &str = "
 impl capnp_wire::upgraded::EnumElement for @type@ {
+    ghost named = { @count@ };
+
     fn from_number(number: u16) -> @type@ {
         @type@::from_number(number)
     }

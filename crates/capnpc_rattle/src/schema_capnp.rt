@@ -348,6 +348,18 @@ pub mod node {
         }
     }
 
+    impl<'l, 'a, S: ReaderSegments> IntoIterator for &'l ListReader<'a, S> {
+        type Item = Reader<'a, S>;
+
+        type IntoIter = ListIter<'l, ListReader<'a, S>>;
+
+        ghost into_iter_gives = { λ list elements. IsIterator list.now elements };
+
+        fn into_iter(self) -> ListIter<'l, ListReader<'a, S>> {
+            self.iter()
+        }
+    }
+
     impl<'a, S: ReaderSegments> FromPointerReader<'a, S> for ListReader<'a, S> {
         ghost shows = { λ pointer view.
             IsUpgradedStructs pointer (upgraded_structs_of S.segments view.elements) };
@@ -956,6 +968,18 @@ pub mod node {
             }
         }
 
+        impl<'l, 'a, S: ReaderSegments> IntoIterator for &'l ListReader<'a, S> {
+            type Item = Reader<'a, S>;
+
+            type IntoIter = ListIter<'l, ListReader<'a, S>>;
+
+            ghost into_iter_gives = { λ list elements. IsIterator list.now elements };
+
+            fn into_iter(self) -> ListIter<'l, ListReader<'a, S>> {
+                self.iter()
+            }
+        }
+
         impl<'a, S: ReaderSegments> FromPointerReader<'a, S> for ListReader<'a, S> {
             ghost shows = { λ pointer view.
                 IsUpgradedStructs pointer (upgraded_structs_of S.segments view.elements) };
@@ -1121,6 +1145,18 @@ pub mod node {
 
             fn index_move(&self, index: u32) -> Reader<'a, S> {
                 self.get(index)
+            }
+        }
+
+        impl<'l, 'a, S: ReaderSegments> IntoIterator for &'l ListReader<'a, S> {
+            type Item = Reader<'a, S>;
+
+            type IntoIter = ListIter<'l, ListReader<'a, S>>;
+
+            ghost into_iter_gives = { λ list elements. IsIterator list.now elements };
+
+            fn into_iter(self) -> ListIter<'l, ListReader<'a, S>> {
+                self.iter()
             }
         }
 
@@ -1320,6 +1356,18 @@ pub mod node {
             }
         }
 
+        impl<'l, 'a, S: ReaderSegments> IntoIterator for &'l ListReader<'a, S> {
+            type Item = Reader<'a, S>;
+
+            type IntoIter = ListIter<'l, ListReader<'a, S>>;
+
+            ghost into_iter_gives = { λ list elements. IsIterator list.now elements };
+
+            fn into_iter(self) -> ListIter<'l, ListReader<'a, S>> {
+                self.iter()
+            }
+        }
+
         impl<'a, S: ReaderSegments> FromPointerReader<'a, S> for ListReader<'a, S> {
             ghost shows = { λ pointer view.
                 IsUpgradedStructs pointer (upgraded_structs_of S.segments view.elements) };
@@ -1476,6 +1524,18 @@ pub mod node {
 
                 fn index_move(&self, index: u32) -> Reader<'a, S> {
                     self.get(index)
+                }
+            }
+
+            impl<'l, 'a, S: ReaderSegments> IntoIterator for &'l ListReader<'a, S> {
+                type Item = Reader<'a, S>;
+
+                type IntoIter = ListIter<'l, ListReader<'a, S>>;
+
+                ghost into_iter_gives = { λ list elements. IsIterator list.now elements };
+
+                fn into_iter(self) -> ListIter<'l, ListReader<'a, S>> {
+                    self.iter()
                 }
             }
 
@@ -1741,6 +1801,18 @@ pub mod field {
 
         fn index_move(&self, index: u32) -> Reader<'a, S> {
             self.get(index)
+        }
+    }
+
+    impl<'l, 'a, S: ReaderSegments> IntoIterator for &'l ListReader<'a, S> {
+        type Item = Reader<'a, S>;
+
+        type IntoIter = ListIter<'l, ListReader<'a, S>>;
+
+        ghost into_iter_gives = { λ list elements. IsIterator list.now elements };
+
+        fn into_iter(self) -> ListIter<'l, ListReader<'a, S>> {
+            self.iter()
         }
     }
 
@@ -2106,6 +2178,18 @@ pub mod enumerant {
         }
     }
 
+    impl<'l, 'a, S: ReaderSegments> IntoIterator for &'l ListReader<'a, S> {
+        type Item = Reader<'a, S>;
+
+        type IntoIter = ListIter<'l, ListReader<'a, S>>;
+
+        ghost into_iter_gives = { λ list elements. IsIterator list.now elements };
+
+        fn into_iter(self) -> ListIter<'l, ListReader<'a, S>> {
+            self.iter()
+        }
+    }
+
     impl<'a, S: ReaderSegments> FromPointerReader<'a, S> for ListReader<'a, S> {
         ghost shows = { λ pointer view.
             IsUpgradedStructs pointer (upgraded_structs_of S.segments view.elements) };
@@ -2274,6 +2358,18 @@ pub mod superclass {
 
         fn index_move(&self, index: u32) -> Reader<'a, S> {
             self.get(index)
+        }
+    }
+
+    impl<'l, 'a, S: ReaderSegments> IntoIterator for &'l ListReader<'a, S> {
+        type Item = Reader<'a, S>;
+
+        type IntoIter = ListIter<'l, ListReader<'a, S>>;
+
+        ghost into_iter_gives = { λ list elements. IsIterator list.now elements };
+
+        fn into_iter(self) -> ListIter<'l, ListReader<'a, S>> {
+            self.iter()
         }
     }
 
@@ -2556,6 +2652,18 @@ pub mod method {
 
         fn index_move(&self, index: u32) -> Reader<'a, S> {
             self.get(index)
+        }
+    }
+
+    impl<'l, 'a, S: ReaderSegments> IntoIterator for &'l ListReader<'a, S> {
+        type Item = Reader<'a, S>;
+
+        type IntoIter = ListIter<'l, ListReader<'a, S>>;
+
+        ghost into_iter_gives = { λ list elements. IsIterator list.now elements };
+
+        fn into_iter(self) -> ListIter<'l, ListReader<'a, S>> {
+            self.iter()
         }
     }
 
@@ -2881,6 +2989,18 @@ pub mod type_ {
 
         fn index_move(&self, index: u32) -> Reader<'a, S> {
             self.get(index)
+        }
+    }
+
+    impl<'l, 'a, S: ReaderSegments> IntoIterator for &'l ListReader<'a, S> {
+        type Item = Reader<'a, S>;
+
+        type IntoIter = ListIter<'l, ListReader<'a, S>>;
+
+        ghost into_iter_gives = { λ list elements. IsIterator list.now elements };
+
+        fn into_iter(self) -> ListIter<'l, ListReader<'a, S>> {
+            self.iter()
         }
     }
 
@@ -3437,6 +3557,18 @@ pub mod brand {
         }
     }
 
+    impl<'l, 'a, S: ReaderSegments> IntoIterator for &'l ListReader<'a, S> {
+        type Item = Reader<'a, S>;
+
+        type IntoIter = ListIter<'l, ListReader<'a, S>>;
+
+        ghost into_iter_gives = { λ list elements. IsIterator list.now elements };
+
+        fn into_iter(self) -> ListIter<'l, ListReader<'a, S>> {
+            self.iter()
+        }
+    }
+
     impl<'a, S: ReaderSegments> FromPointerReader<'a, S> for ListReader<'a, S> {
         ghost shows = { λ pointer view.
             IsUpgradedStructs pointer (upgraded_structs_of S.segments view.elements) };
@@ -3653,6 +3785,18 @@ pub mod brand {
             }
         }
 
+        impl<'l, 'a, S: ReaderSegments> IntoIterator for &'l ListReader<'a, S> {
+            type Item = Reader<'a, S>;
+
+            type IntoIter = ListIter<'l, ListReader<'a, S>>;
+
+            ghost into_iter_gives = { λ list elements. IsIterator list.now elements };
+
+            fn into_iter(self) -> ListIter<'l, ListReader<'a, S>> {
+                self.iter()
+            }
+        }
+
         impl<'a, S: ReaderSegments> FromPointerReader<'a, S> for ListReader<'a, S> {
             ghost shows = { λ pointer view.
                 IsUpgradedStructs pointer (upgraded_structs_of S.segments view.elements) };
@@ -3845,6 +3989,18 @@ pub mod brand {
 
             fn index_move(&self, index: u32) -> Reader<'a, S> {
                 self.get(index)
+            }
+        }
+
+        impl<'l, 'a, S: ReaderSegments> IntoIterator for &'l ListReader<'a, S> {
+            type Item = Reader<'a, S>;
+
+            type IntoIter = ListIter<'l, ListReader<'a, S>>;
+
+            ghost into_iter_gives = { λ list elements. IsIterator list.now elements };
+
+            fn into_iter(self) -> ListIter<'l, ListReader<'a, S>> {
+                self.iter()
             }
         }
 
@@ -4266,6 +4422,18 @@ pub mod value {
         }
     }
 
+    impl<'l, 'a, S: ReaderSegments> IntoIterator for &'l ListReader<'a, S> {
+        type Item = Reader<'a, S>;
+
+        type IntoIter = ListIter<'l, ListReader<'a, S>>;
+
+        ghost into_iter_gives = { λ list elements. IsIterator list.now elements };
+
+        fn into_iter(self) -> ListIter<'l, ListReader<'a, S>> {
+            self.iter()
+        }
+    }
+
     impl<'a, S: ReaderSegments> FromPointerReader<'a, S> for ListReader<'a, S> {
         ghost shows = { λ pointer view.
             IsUpgradedStructs pointer (upgraded_structs_of S.segments view.elements) };
@@ -4473,6 +4641,18 @@ pub mod annotation {
         }
     }
 
+    impl<'l, 'a, S: ReaderSegments> IntoIterator for &'l ListReader<'a, S> {
+        type Item = Reader<'a, S>;
+
+        type IntoIter = ListIter<'l, ListReader<'a, S>>;
+
+        ghost into_iter_gives = { λ list elements. IsIterator list.now elements };
+
+        fn into_iter(self) -> ListIter<'l, ListReader<'a, S>> {
+            self.iter()
+        }
+    }
+
     impl<'a, S: ReaderSegments> FromPointerReader<'a, S> for ListReader<'a, S> {
         ghost shows = { λ pointer view.
             IsUpgradedStructs pointer (upgraded_structs_of S.segments view.elements) };
@@ -4505,7 +4685,7 @@ pub mod annotation {
 
 /// Possible element sizes for encoded lists.  These correspond exactly to the possible values of
 /// the 3-bit element size component of a list pointer.
-#[derive(Clone, Copy, PartialEq, Eq, Debug)]
+#[derive(Clone, Copy, PartialEq, Eq, Hash, Debug)]
 pub enum ElementSize {
     /// aka "void", but that's a keyword.
     Empty,
@@ -4550,6 +4730,8 @@ impl ElementSize {
 }
 
 impl capnp_wire::upgraded::EnumElement for ElementSize {
+    ghost named = { 8 };
+
     fn from_number(number: u16) -> ElementSize {
         ElementSize::from_number(number)
     }
@@ -4686,6 +4868,18 @@ pub mod capnp_version {
 
         fn index_move(&self, index: u32) -> Reader<'a, S> {
             self.get(index)
+        }
+    }
+
+    impl<'l, 'a, S: ReaderSegments> IntoIterator for &'l ListReader<'a, S> {
+        type Item = Reader<'a, S>;
+
+        type IntoIter = ListIter<'l, ListReader<'a, S>>;
+
+        ghost into_iter_gives = { λ list elements. IsIterator list.now elements };
+
+        fn into_iter(self) -> ListIter<'l, ListReader<'a, S>> {
+            self.iter()
         }
     }
 
@@ -4922,6 +5116,18 @@ pub mod code_generator_request {
         }
     }
 
+    impl<'l, 'a, S: ReaderSegments> IntoIterator for &'l ListReader<'a, S> {
+        type Item = Reader<'a, S>;
+
+        type IntoIter = ListIter<'l, ListReader<'a, S>>;
+
+        ghost into_iter_gives = { λ list elements. IsIterator list.now elements };
+
+        fn into_iter(self) -> ListIter<'l, ListReader<'a, S>> {
+            self.iter()
+        }
+    }
+
     impl<'a, S: ReaderSegments> FromPointerReader<'a, S> for ListReader<'a, S> {
         ghost shows = { λ pointer view.
             IsUpgradedStructs pointer (upgraded_structs_of S.segments view.elements) };
@@ -5119,6 +5325,18 @@ pub mod code_generator_request {
             }
         }
 
+        impl<'l, 'a, S: ReaderSegments> IntoIterator for &'l ListReader<'a, S> {
+            type Item = Reader<'a, S>;
+
+            type IntoIter = ListIter<'l, ListReader<'a, S>>;
+
+            ghost into_iter_gives = { λ list elements. IsIterator list.now elements };
+
+            fn into_iter(self) -> ListIter<'l, ListReader<'a, S>> {
+                self.iter()
+            }
+        }
+
         impl<'a, S: ReaderSegments> FromPointerReader<'a, S> for ListReader<'a, S> {
             ghost shows = { λ pointer view.
                 IsUpgradedStructs pointer (upgraded_structs_of S.segments view.elements) };
@@ -5288,6 +5506,18 @@ pub mod code_generator_request {
 
                 fn index_move(&self, index: u32) -> Reader<'a, S> {
                     self.get(index)
+                }
+            }
+
+            impl<'l, 'a, S: ReaderSegments> IntoIterator for &'l ListReader<'a, S> {
+                type Item = Reader<'a, S>;
+
+                type IntoIter = ListIter<'l, ListReader<'a, S>>;
+
+                ghost into_iter_gives = { λ list elements. IsIterator list.now elements };
+
+                fn into_iter(self) -> ListIter<'l, ListReader<'a, S>> {
+                    self.iter()
                 }
             }
 

@@ -230,7 +230,7 @@ pub const LEFT_OUT: &str =
 ";
 
 /// An enum, before its enumerants.
-pub const ENUM_HEAD: &str = "#[derive(Clone, Copy, PartialEq, Eq, Debug)]
+pub const ENUM_HEAD: &str = "#[derive(Clone, Copy, PartialEq, Eq, Hash, Debug)]
 pub enum @type@ {
 ";
 

@@ -11,6 +11,7 @@ ghost use Rattle.capnp_wire.specs.Lists.{FindsElement, IsIterator};
 ghost use Rattle.capnp_wire.specs.Object.{nothing};
 ghost use Rattle.capnp_wire.specs.Readers.{struct_of, pointer_of};
 ghost use Rattle.capnp_wire.specs.UpgradedReaders.{upgraded_structs_of};
+ghost use Rattle.capnp_wire.specs.UpgradedValues.{IsStructListValue, RefusesStructList, one_struct_list};
 ghost use Rattle.capnp_wire.specs.UpgradedViews.{IsUpgradedStructs, TakesRows, DeclinesRows};
 ghost use Rattle.capnp_wire.specs.Views.{Struct, IsViewOf, IsStruct, IsText, Accepts, Refuses, Declines, Denotes, Reads, TakesStruct, TakesText, DeclinesStruct, DeclinesText, pointer_in};
 
@@ -207,6 +208,18 @@ pub mod person {
         }
     }
 
+    impl<'l, 'a, S: ReaderSegments> IntoIterator for &'l ListReader<'a, S> {
+        type Item = Reader<'a, S>;
+
+        type IntoIter = ListIter<'l, ListReader<'a, S>>;
+
+        ghost into_iter_gives = { λ list elements. IsIterator list.now elements };
+
+        fn into_iter(self) -> ListIter<'l, ListReader<'a, S>> {
+            self.iter()
+        }
+    }
+
     impl<'a, S: ReaderSegments> FromPointerReader<'a, S> for ListReader<'a, S> {
         ghost shows = { λ pointer view.
             IsUpgradedStructs pointer (upgraded_structs_of S.segments view.elements) };
@@ -235,6 +248,33 @@ pub mod person {
 
     impl<'a, S: ReaderSegments + 'a> traits::Owned<'a, S> for OwnedList {
         type Reader = ListReader<'a, S>;
+    }
+
+    // The value is the list of the structs, with all below them.
+    impl<'a, S: ReaderSegments> traits::SetterInput<OwnedList> for ListReader<'a, S> {
+        ghost has_tree = { λ list trees. IsStructListValue S.segments list.elements trees };
+
+        ghost refuses = { λ list kind. RefusesStructList S.segments list.elements kind };
+
+        ghost one = { λ list trees is. one_struct_list S.segments list.elements trees is };
+
+        fn measure(&self, canonical: bool) -> Result<u32> {
+            traits::SetterInput::measure(&self.elements, canonical)
+        }
+
+        fn is_null(&self) -> bool {
+            false
+        }
+
+        fn write(
+            &self,
+            canonical: bool,
+            block: &mut [u8],
+            following: usize,
+            next: usize,
+        ) -> traits::Copied {
+            traits::SetterInput::write(&self.elements, canonical, block, following, next)
+        }
     }
 
     /// A struct of this type before it is written. What is not set has its default.
@@ -733,6 +773,18 @@ pub mod person {
             }
         }
 
+        impl<'l, 'a, S: ReaderSegments> IntoIterator for &'l ListReader<'a, S> {
+            type Item = Reader<'a, S>;
+
+            type IntoIter = ListIter<'l, ListReader<'a, S>>;
+
+            ghost into_iter_gives = { λ list elements. IsIterator list.now elements };
+
+            fn into_iter(self) -> ListIter<'l, ListReader<'a, S>> {
+                self.iter()
+            }
+        }
+
         impl<'a, S: ReaderSegments> FromPointerReader<'a, S> for ListReader<'a, S> {
             ghost shows = { λ pointer view.
                 IsUpgradedStructs pointer (upgraded_structs_of S.segments view.elements) };
@@ -761,6 +813,33 @@ pub mod person {
 
         impl<'a, S: ReaderSegments + 'a> traits::Owned<'a, S> for OwnedList {
             type Reader = ListReader<'a, S>;
+        }
+
+        // The value is the list of the structs, with all below them.
+        impl<'a, S: ReaderSegments> traits::SetterInput<OwnedList> for ListReader<'a, S> {
+            ghost has_tree = { λ list trees. IsStructListValue S.segments list.elements trees };
+
+            ghost refuses = { λ list kind. RefusesStructList S.segments list.elements kind };
+
+            ghost one = { λ list trees is. one_struct_list S.segments list.elements trees is };
+
+            fn measure(&self, canonical: bool) -> Result<u32> {
+                traits::SetterInput::measure(&self.elements, canonical)
+            }
+
+            fn is_null(&self) -> bool {
+                false
+            }
+
+            fn write(
+                &self,
+                canonical: bool,
+                block: &mut [u8],
+                following: usize,
+                next: usize,
+            ) -> traits::Copied {
+                traits::SetterInput::write(&self.elements, canonical, block, following, next)
+            }
         }
 
         /// A struct of this type before it is written. What is not set has its default.
@@ -913,7 +992,7 @@ pub mod person {
         /// Which pointer of the struct leads to `number`, for `fields.get_pointer`.
         pub const NUMBER_POINTER: u16 = 0;
 
-        #[derive(Clone, Copy, PartialEq, Eq, Debug)]
+        #[derive(Clone, Copy, PartialEq, Eq, Hash, Debug)]
         pub enum Type {
             Mobile,
             Home,
@@ -942,6 +1021,8 @@ pub mod person {
         }
 
         impl capnp_wire::upgraded::EnumElement for Type {
+            ghost named = { 3 };
+
             fn from_number(number: u16) -> Type {
                 Type::from_number(number)
             }
@@ -1102,6 +1183,18 @@ pub mod address_book {
         }
     }
 
+    impl<'l, 'a, S: ReaderSegments> IntoIterator for &'l ListReader<'a, S> {
+        type Item = Reader<'a, S>;
+
+        type IntoIter = ListIter<'l, ListReader<'a, S>>;
+
+        ghost into_iter_gives = { λ list elements. IsIterator list.now elements };
+
+        fn into_iter(self) -> ListIter<'l, ListReader<'a, S>> {
+            self.iter()
+        }
+    }
+
     impl<'a, S: ReaderSegments> FromPointerReader<'a, S> for ListReader<'a, S> {
         ghost shows = { λ pointer view.
             IsUpgradedStructs pointer (upgraded_structs_of S.segments view.elements) };
@@ -1130,6 +1223,33 @@ pub mod address_book {
 
     impl<'a, S: ReaderSegments + 'a> traits::Owned<'a, S> for OwnedList {
         type Reader = ListReader<'a, S>;
+    }
+
+    // The value is the list of the structs, with all below them.
+    impl<'a, S: ReaderSegments> traits::SetterInput<OwnedList> for ListReader<'a, S> {
+        ghost has_tree = { λ list trees. IsStructListValue S.segments list.elements trees };
+
+        ghost refuses = { λ list kind. RefusesStructList S.segments list.elements kind };
+
+        ghost one = { λ list trees is. one_struct_list S.segments list.elements trees is };
+
+        fn measure(&self, canonical: bool) -> Result<u32> {
+            traits::SetterInput::measure(&self.elements, canonical)
+        }
+
+        fn is_null(&self) -> bool {
+            false
+        }
+
+        fn write(
+            &self,
+            canonical: bool,
+            block: &mut [u8],
+            following: usize,
+            next: usize,
+        ) -> traits::Copied {
+            traits::SetterInput::write(&self.elements, canonical, block, following, next)
+        }
     }
 
     /// A struct of this type before it is written. What is not set has its default.

@@ -17,6 +17,7 @@ ghost use Rattle.capnp_wire.specs.Pointer.{words_of};
 ghost use Rattle.capnp_wire.specs.Readers.{struct_of, pointer_of};
 ghost use Rattle.capnp_wire.specs.Tree.{none as NoTrees, tree as TreeOf, struct as StructForm, numbers as NumbersForm, pointers as PointersForm};
 ghost use Rattle.capnp_wire.specs.UpgradedReaders.{upgraded_structs_of, upgraded_numbers_of, upgraded_pointers_of};
+ghost use Rattle.capnp_wire.specs.UpgradedValues.{IsStructListValue, RefusesStructList, one_struct_list};
 ghost use Rattle.capnp_wire.specs.UpgradedViews.{IsUpgradedStructs, IsUpgradedPointers, ReadsAsNumbers, TakesRows, TakesFields, TakesFirstPointers, DeclinesRows, DeclinesFields, DeclinesFirstPointers};
 ghost use Rattle.capnp_wire.specs.Views.{Struct, IsViewOf, IsStruct, IsText, IsData, Accepts, Refuses, Declines, Denotes, Reads, TakesStruct, TakesText, TakesNumbers, DeclinesStruct, DeclinesText, DeclinesNumbers, pointer_in};
 
@@ -176,6 +177,18 @@ pub mod point {
         }
     }
 
+    impl<'l, 'a, S: ReaderSegments> IntoIterator for &'l ListReader<'a, S> {
+        type Item = Reader<'a, S>;
+
+        type IntoIter = ListIter<'l, ListReader<'a, S>>;
+
+        ghost into_iter_gives = { λ list elements. IsIterator list.now elements };
+
+        fn into_iter(self) -> ListIter<'l, ListReader<'a, S>> {
+            self.iter()
+        }
+    }
+
     impl<'a, S: ReaderSegments> FromPointerReader<'a, S> for ListReader<'a, S> {
         ghost shows = { λ pointer view.
             IsUpgradedStructs pointer (upgraded_structs_of S.segments view.elements) };
@@ -204,6 +217,33 @@ pub mod point {
 
     impl<'a, S: ReaderSegments + 'a> traits::Owned<'a, S> for OwnedList {
         type Reader = ListReader<'a, S>;
+    }
+
+    // The value is the list of the structs, with all below them.
+    impl<'a, S: ReaderSegments> traits::SetterInput<OwnedList> for ListReader<'a, S> {
+        ghost has_tree = { λ list trees. IsStructListValue S.segments list.elements trees };
+
+        ghost refuses = { λ list kind. RefusesStructList S.segments list.elements kind };
+
+        ghost one = { λ list trees is. one_struct_list S.segments list.elements trees is };
+
+        fn measure(&self, canonical: bool) -> Result<u32> {
+            traits::SetterInput::measure(&self.elements, canonical)
+        }
+
+        fn is_null(&self) -> bool {
+            false
+        }
+
+        fn write(
+            &self,
+            canonical: bool,
+            block: &mut [u8],
+            following: usize,
+            next: usize,
+        ) -> traits::Copied {
+            traits::SetterInput::write(&self.elements, canonical, block, following, next)
+        }
     }
 
     /// A struct of this type before it is written. What is not set has its default.
@@ -505,6 +545,18 @@ pub mod tree {
         }
     }
 
+    impl<'l, 'a, S: ReaderSegments> IntoIterator for &'l ListReader<'a, S> {
+        type Item = Reader<'a, S>;
+
+        type IntoIter = ListIter<'l, ListReader<'a, S>>;
+
+        ghost into_iter_gives = { λ list elements. IsIterator list.now elements };
+
+        fn into_iter(self) -> ListIter<'l, ListReader<'a, S>> {
+            self.iter()
+        }
+    }
+
     impl<'a, S: ReaderSegments> FromPointerReader<'a, S> for ListReader<'a, S> {
         ghost shows = { λ pointer view.
             IsUpgradedStructs pointer (upgraded_structs_of S.segments view.elements) };
@@ -533,6 +585,33 @@ pub mod tree {
 
     impl<'a, S: ReaderSegments + 'a> traits::Owned<'a, S> for OwnedList {
         type Reader = ListReader<'a, S>;
+    }
+
+    // The value is the list of the structs, with all below them.
+    impl<'a, S: ReaderSegments> traits::SetterInput<OwnedList> for ListReader<'a, S> {
+        ghost has_tree = { λ list trees. IsStructListValue S.segments list.elements trees };
+
+        ghost refuses = { λ list kind. RefusesStructList S.segments list.elements kind };
+
+        ghost one = { λ list trees is. one_struct_list S.segments list.elements trees is };
+
+        fn measure(&self, canonical: bool) -> Result<u32> {
+            traits::SetterInput::measure(&self.elements, canonical)
+        }
+
+        fn is_null(&self) -> bool {
+            false
+        }
+
+        fn write(
+            &self,
+            canonical: bool,
+            block: &mut [u8],
+            following: usize,
+            next: usize,
+        ) -> traits::Copied {
+            traits::SetterInput::write(&self.elements, canonical, block, following, next)
+        }
     }
 
     /// A struct of this type before it is written. What is not set has its default.
@@ -694,7 +773,7 @@ pub mod tree {
 }
 
 /// Colors of a lamp.
-#[derive(Clone, Copy, PartialEq, Eq, Debug)]
+#[derive(Clone, Copy, PartialEq, Eq, Hash, Debug)]
 pub enum Color {
     Red,
     Green,
@@ -723,6 +802,8 @@ impl Color {
 }
 
 impl capnp_wire::upgraded::EnumElement for Color {
+    ghost named = { 3 };
+
     fn from_number(number: u16) -> Color {
         Color::from_number(number)
     }
@@ -1171,6 +1252,18 @@ pub mod sample {
         }
     }
 
+    impl<'l, 'a, S: ReaderSegments> IntoIterator for &'l ListReader<'a, S> {
+        type Item = Reader<'a, S>;
+
+        type IntoIter = ListIter<'l, ListReader<'a, S>>;
+
+        ghost into_iter_gives = { λ list elements. IsIterator list.now elements };
+
+        fn into_iter(self) -> ListIter<'l, ListReader<'a, S>> {
+            self.iter()
+        }
+    }
+
     impl<'a, S: ReaderSegments> FromPointerReader<'a, S> for ListReader<'a, S> {
         ghost shows = { λ pointer view.
             IsUpgradedStructs pointer (upgraded_structs_of S.segments view.elements) };
@@ -1199,6 +1292,33 @@ pub mod sample {
 
     impl<'a, S: ReaderSegments + 'a> traits::Owned<'a, S> for OwnedList {
         type Reader = ListReader<'a, S>;
+    }
+
+    // The value is the list of the structs, with all below them.
+    impl<'a, S: ReaderSegments> traits::SetterInput<OwnedList> for ListReader<'a, S> {
+        ghost has_tree = { λ list trees. IsStructListValue S.segments list.elements trees };
+
+        ghost refuses = { λ list kind. RefusesStructList S.segments list.elements kind };
+
+        ghost one = { λ list trees is. one_struct_list S.segments list.elements trees is };
+
+        fn measure(&self, canonical: bool) -> Result<u32> {
+            traits::SetterInput::measure(&self.elements, canonical)
+        }
+
+        fn is_null(&self) -> bool {
+            false
+        }
+
+        fn write(
+            &self,
+            canonical: bool,
+            block: &mut [u8],
+            following: usize,
+            next: usize,
+        ) -> traits::Copied {
+            traits::SetterInput::write(&self.elements, canonical, block, following, next)
+        }
     }
 
     /// A struct of this type before it is written. What is not set has its default.
@@ -1889,6 +2009,18 @@ pub mod shape {
         }
     }
 
+    impl<'l, 'a, S: ReaderSegments> IntoIterator for &'l ListReader<'a, S> {
+        type Item = Reader<'a, S>;
+
+        type IntoIter = ListIter<'l, ListReader<'a, S>>;
+
+        ghost into_iter_gives = { λ list elements. IsIterator list.now elements };
+
+        fn into_iter(self) -> ListIter<'l, ListReader<'a, S>> {
+            self.iter()
+        }
+    }
+
     impl<'a, S: ReaderSegments> FromPointerReader<'a, S> for ListReader<'a, S> {
         ghost shows = { λ pointer view.
             IsUpgradedStructs pointer (upgraded_structs_of S.segments view.elements) };
@@ -1917,6 +2049,33 @@ pub mod shape {
 
     impl<'a, S: ReaderSegments + 'a> traits::Owned<'a, S> for OwnedList {
         type Reader = ListReader<'a, S>;
+    }
+
+    // The value is the list of the structs, with all below them.
+    impl<'a, S: ReaderSegments> traits::SetterInput<OwnedList> for ListReader<'a, S> {
+        ghost has_tree = { λ list trees. IsStructListValue S.segments list.elements trees };
+
+        ghost refuses = { λ list kind. RefusesStructList S.segments list.elements kind };
+
+        ghost one = { λ list trees is. one_struct_list S.segments list.elements trees is };
+
+        fn measure(&self, canonical: bool) -> Result<u32> {
+            traits::SetterInput::measure(&self.elements, canonical)
+        }
+
+        fn is_null(&self) -> bool {
+            false
+        }
+
+        fn write(
+            &self,
+            canonical: bool,
+            block: &mut [u8],
+            following: usize,
+            next: usize,
+        ) -> traits::Copied {
+            traits::SetterInput::write(&self.elements, canonical, block, following, next)
+        }
     }
 
     /// A struct of this type before it is written. What is not set has its default.
@@ -2368,6 +2527,18 @@ pub mod palette {
         }
     }
 
+    impl<'l, 'a, S: ReaderSegments> IntoIterator for &'l ListReader<'a, S> {
+        type Item = Reader<'a, S>;
+
+        type IntoIter = ListIter<'l, ListReader<'a, S>>;
+
+        ghost into_iter_gives = { λ list elements. IsIterator list.now elements };
+
+        fn into_iter(self) -> ListIter<'l, ListReader<'a, S>> {
+            self.iter()
+        }
+    }
+
     impl<'a, S: ReaderSegments> FromPointerReader<'a, S> for ListReader<'a, S> {
         ghost shows = { λ pointer view.
             IsUpgradedStructs pointer (upgraded_structs_of S.segments view.elements) };
@@ -2396,6 +2567,33 @@ pub mod palette {
 
     impl<'a, S: ReaderSegments + 'a> traits::Owned<'a, S> for OwnedList {
         type Reader = ListReader<'a, S>;
+    }
+
+    // The value is the list of the structs, with all below them.
+    impl<'a, S: ReaderSegments> traits::SetterInput<OwnedList> for ListReader<'a, S> {
+        ghost has_tree = { λ list trees. IsStructListValue S.segments list.elements trees };
+
+        ghost refuses = { λ list kind. RefusesStructList S.segments list.elements kind };
+
+        ghost one = { λ list trees is. one_struct_list S.segments list.elements trees is };
+
+        fn measure(&self, canonical: bool) -> Result<u32> {
+            traits::SetterInput::measure(&self.elements, canonical)
+        }
+
+        fn is_null(&self) -> bool {
+            false
+        }
+
+        fn write(
+            &self,
+            canonical: bool,
+            block: &mut [u8],
+            following: usize,
+            next: usize,
+        ) -> traits::Copied {
+            traits::SetterInput::write(&self.elements, canonical, block, following, next)
+        }
     }
 
     /// A struct of this type before it is written. What is not set has its default.
