@@ -95,3 +95,18 @@ pub fn with_email<R: ReaderSegments, S: GrowingSegment>(
     made.set_email(objects.text(email)?);
     made.add_root(objects)
 }
+
+/// Writes a person with another email, and of what the old pointers lead to the name and the phones
+/// alone: the old email is nowhere in the message.
+pub fn with_email_alone<R: ReaderSegments, S: GrowingSegment>(
+    read: &person::Reader<'_, R>,
+    email: &str,
+    objects: &mut Orphanage<S>,
+) -> Result<()> {
+    let mut made = person::Builder::from_data_section(read);
+    made.set_name(objects.set(&read.get_name()?)?);
+    let phones = read.fields.get_pointer(person::PHONES_POINTER);
+    made.set_phones(objects.set(&phones)?.of_type());
+    made.set_email(objects.text(email)?);
+    made.add_root(objects)
+}

@@ -1,7 +1,7 @@
 //! What was read is changed, and written again.
 use crate::addressbook_capnp::person;
 use crate::addressbook_capnp::person::phone_number;
-use crate::calls::schema_types::address_book::{Job, with_email};
+use crate::calls::schema_types::address_book::{Job, with_email, with_email_alone};
 use crate::calls::schema_types::assertions::{expect, expect_bytes, expect_that};
 use crate::calls::schema_types::people::{email, has_job, name, person_of};
 use crate::calls::schema_types::read::FILLED;
@@ -212,4 +212,56 @@ fn sides<S: ReaderSegments>(read: &shape::Reader<'_, S>) -> (u32, u32) {
 fn fills<S: ReaderSegments>(read: &shape::Reader<'_, S>) -> (bool, bool) {
     let rectangle = read.get_rectangle();
     (rectangle.get_is_filled(), rectangle.has_label())
+}
+
+// A person with an email, and then with another one in its place, with the old one in the bytes or
+// without it.
+fn changed_twice(alloc: Global, is_alone: bool) -> Result<Orphanage> {
+    let before = changed(alloc, &alice(alloc)?)?;
+    let message = message_in(&before);
+    let read = person_of(&message)?;
+    let mut objects = Orphanage::new(alloc)?;
+    if is_alone {
+        with_email_alone(&read, "alice@new.example", &mut objects)?;
+    } else {
+        with_email(&read, "alice@new.example", &mut objects)?;
+    }
+    Ok(objects)
+}
+
+// Whether some bytes are among others.
+fn has(bytes: &[u8], part: &[u8]) -> bool {
+    bytes.windows(part.len()).any(|window| window == part)
+}
+
+#[test]
+fn an_old_text_stays_in_the_bytes_and_not_in_the_canonical_words(rt: HostRuntime) -> Result<()> {
+    let alloc = rt.alloc();
+    let objects = retried!(changed_twice(alloc, false))?;
+    let bytes = objects.get_segment(0).unwrap_or(&[]);
+    expect_that(&rt, "new in bytes", has(bytes, b"alice@new.example"));
+    expect_that(&rt, "old in bytes", has(bytes, b"alice@example.com"));
+    let words = retried!(message_in(&objects).canonical_segment(alloc))?;
+    expect_that(
+        &rt,
+        "new in words",
+        has(words.as_slice(), b"alice@new.example"),
+    );
+    expect_that(
+        &rt,
+        "old in words",
+        !has(words.as_slice(), b"alice@example.com"),
+    );
+    Ok(())
+}
+
+#[test]
+fn what_was_not_copied_is_not_there(rt: HostRuntime) -> Result<()> {
+    let objects = retried!(changed_twice(rt.alloc(), true))?;
+    let bytes = objects.get_segment(0).unwrap_or(&[]);
+    expect_that(&rt, "new email", has(bytes, b"alice@new.example"));
+    expect_that(&rt, "old email", !has(bytes, b"alice@example.com"));
+    expect_that(&rt, "name", has(bytes, b"Alice"));
+    expect_that(&rt, "phone", has(bytes, b"555-1212"));
+    Ok(())
 }
