@@ -4,7 +4,8 @@ use crate::broken_heads::{break_constant, break_function, break_implementation, 
 use crate::part::{Kind, Part, WIDTH};
 use std::alloc::{AllocError, Global};
 
-/// The most columns of the path of a struct that is opened in the line of a call around it.
+/// The most columns of the path of a struct or a call that is opened in the line of a call around
+/// it.
 const PATH_WIDTH: usize = 60;
 
 /// The lines, or parts of them that may be broken again, in which a part is broken that is too wide
@@ -56,10 +57,10 @@ pub fn break_expression<'a>(
     if items.is_empty() {
         return Ok(());
     }
-    if let Some((front, fields)) = opened_struct(part, front, items) {
+    if let Some((front, inner, ends)) = opened_argument(part, front, items) {
         parts.push(front)?;
-        push_items(alloc, parts, part.indent, fields)?;
-        parts.push(Part::fixed(part.indent, "})").before(part.tail))?;
+        push_items(alloc, parts, part.indent, inner)?;
+        parts.push(Part::fixed(part.indent, ends).before(part.tail))?;
         return Ok(());
     }
     parts.push(Part::fixed(part.indent, front).after(part.head))?;
@@ -68,14 +69,23 @@ pub fn break_expression<'a>(
     Ok(())
 }
 
-// A struct that is the only argument of a call, and is opened in the call's line, if its path is
-// short enough: that line, and the fields.
-fn opened_struct<'a>(part: Part<'a>, call: &'a str, items: &'a str) -> Option<(Part<'a>, &'a str)> {
-    let (path, fields, close) = last_group(items)?;
+// A struct or a call that is the only argument of a call, and is opened in the line of that, if its
+// path is short enough: that line, what is within, and the ends of both.
+fn opened_argument<'a>(
+    part: Part<'a>,
+    call: &'a str,
+    items: &'a str,
+) -> Option<(Part<'a>, &'a str, &'a str)> {
+    let (path, inner, close) = last_group(items)?;
+    let ends = match close {
+        "}" => "})",
+        ")" if !inner.is_empty() && !items.starts_with("self.") => "))",
+        _ => return None,
+    };
     let end = call.len().saturating_add(path.len());
     let front = Part::fixed(part.indent, part.text.get(..end)?).after(part.head);
-    if close == "}" && path.len() <= PATH_WIDTH && front.width() <= WIDTH {
-        Some((front, fields))
+    if path.len() <= PATH_WIDTH && front.width() <= WIDTH {
+        Some((front, inner, ends))
     } else {
         None
     }
@@ -98,7 +108,8 @@ fn break_method<'a>(parts: &mut Vec<Part<'a>>, part: Part<'a>) -> Result<(), All
         parts.push(Part::fixed(part.indent, "self").after(part.head))?;
         parts.push(Part::fixed(below, field).after("."))?;
     }
-    parts.push(Part::fixed(below, call).after(".").before(part.tail))?;
+    let call = Part::new(below, call, Kind::Expression);
+    parts.push(call.after(".").before(part.tail))?;
     Ok(())
 }
 

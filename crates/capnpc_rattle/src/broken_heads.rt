@@ -147,7 +147,7 @@ fn push_names<'a>(
     for name in items_of(alloc, names)? {
         let next = end.saturating_add(name.len());
         let longer = Part::fixed(indent, names.get(start..next).unwrap_or("")).before(",");
-        if end > start && longer.width() > WIDTH {
+        if end > start && longer.width() >= WIDTH {
             push_line_of(parts, indent, names, start, end)?;
             start = end;
         }

@@ -6,6 +6,9 @@ pub const WIDTH: usize = 100;
 /// The most columns of a call of a field's method on one line.
 const METHOD_WIDTH: usize = 60;
 
+/// The most columns of a line that imports names from one module.
+const IMPORT_WIDTH: usize = 98;
+
 /// What the text of a part is.
 #[derive(Clone, Copy, PartialEq, Eq)]
 pub enum Kind {
@@ -107,7 +110,11 @@ impl<'a> Part<'a> {
         if self.is_method() && self.text.len() > METHOD_WIDTH {
             return false;
         }
-        self.kind == Kind::Fixed || self.width() <= WIDTH
+        match self.kind {
+            Kind::Fixed => true,
+            Kind::Import => self.width() <= IMPORT_WIDTH,
+            _ => self.width() <= WIDTH,
+        }
     }
 }
 
