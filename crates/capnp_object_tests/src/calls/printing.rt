@@ -2,6 +2,19 @@
 use crate::fixtures::{expect, plain_arena, root_as, root_as_data};
 use capnp_frame::Result;
 use capnp_wire::{data, text};
+use std::alloc::Global;
+
+fn printed(alloc: Global, text: text::Reader<'_>) -> Result<String> {
+    Ok(format!(in alloc; "{text}")?)
+}
+
+fn at_width_3(alloc: Global, text: text::Reader<'_>) -> Result<String> {
+    Ok(format!(in alloc; "{text:>3}")?)
+}
+
+fn digits(alloc: Global, bytes: data::Reader<'_>) -> Result<String> {
+    Ok(format!(in alloc; "{}", data::Hex(bytes))?)
+}
 
 // A text of the bytes in table 3-8 of the Unicode Standard.
 const TRUNCATED: &[u8] = b"\x01\0\0\0\x72\0\0\0a\xf1\x80\x80\xe1\x80\xc2b\x80c\x80\xbfd\0\0\0";
@@ -14,7 +27,7 @@ fn bytes_that_are_no_text(rt: HostRuntime) -> Result<()> {
     let segments = [TRUNCATED];
     let arena = plain_arena(&segments);
     let text: text::Reader<'_> = root_as(&arena)?;
-    let printed = format!(in rt.alloc(); "{text}")?;
+    let printed = printed(rt.alloc(), text)?;
     expect(&rt, "replaced", printed.as_str(), REPLACED);
     Ok(())
 }
@@ -24,7 +37,7 @@ fn text_in_a_width(rt: HostRuntime) -> Result<()> {
     let segments = [b"\x01\0\0\0\x1a\0\0\0\xc3\xa9\0\0\0\0\0\0".as_slice()];
     let arena = plain_arena(&segments);
     let text: text::Reader<'_> = root_as(&arena)?;
-    let printed = format!(in rt.alloc(); "{text:>3}")?;
+    let printed = at_width_3(rt.alloc(), text)?;
     expect(&rt, "padded", printed.as_str(), "  \u{E9}");
     Ok(())
 }
@@ -33,8 +46,7 @@ fn text_in_a_width(rt: HostRuntime) -> Result<()> {
 fn data_as_digits(rt: HostRuntime) -> Result<()> {
     let segments = [b"\x01\0\0\0\x22\0\0\0\0\x0f\xf0\xab\0\0\0\0".as_slice()];
     let arena = plain_arena(&segments);
-    let digits = data::Hex(root_as_data(&arena)?);
-    let printed = format!(in rt.alloc(); "{digits}")?;
-    expect(&rt, "digits", printed.as_str(), "000ff0ab");
+    let digits = digits(rt.alloc(), root_as_data(&arena)?)?;
+    expect(&rt, "digits", digits.as_str(), "000ff0ab");
     Ok(())
 }
