@@ -9,7 +9,7 @@ use std::alloc::{AllocError, Global};
 #[derive(Clone, Copy, PartialEq, Eq)]
 enum State {
     Code,
-    /// Of a clause in which so many braces are open.
+    /// Of a clause in which this many braces are open.
     Clause(usize),
     /// Of an item that stays as it is.
     Skipped,

@@ -1,4 +1,4 @@
-//! Parts of lines of code, each of which stands on a line of its own if it is narrow enough.
+//! Parts of lines of code, each of which gets a line of its own where it is narrow enough.
 
 /// The most columns of a line that can be broken.
 pub const WIDTH: usize = 100;

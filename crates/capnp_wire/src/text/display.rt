@@ -8,7 +8,7 @@ use std::fmt;
 use std::fmt::{Display, Formatter, Write};
 
 // The text, with U+FFFD for each sequence of bytes that is no UTF-8, as `String::from_utf8_lossy`
-// makes it. Text that is UTF-8 is padded as a `str` is.
+// makes it. Text that is UTF-8 takes a width as a `str` does.
 impl<'a> Display for Reader<'a> {
     ghost output = { λ text. Some (utf8_lossy text.bytes.now) };
 

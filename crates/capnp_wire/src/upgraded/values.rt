@@ -2,8 +2,8 @@
 //! nesting depth left and the traversal limit.
 //!
 //! A view of numbers, or of pointers, whose elements another writer wrote as larger structs knows no
-//! more than their first fields, and what is lost would not be seen. So it is no value, and fails
-//! with `WrongPointerKind`: the pointer to the list, an `any_pointer::Reader`, is one in any case.
+//! more than their first fields, so the rest would be lost silently. It is no value, and fails with
+//! `WrongPointerKind`. The pointer to the list, an `any_pointer::Reader`, is a value in any case.
 use crate::layout::copy::Copied;
 use crate::layout::value;
 use crate::object_content::wrong_kind;
