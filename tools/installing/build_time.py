@@ -1,4 +1,4 @@
-"""Says how long it takes to prove and build crates, and those that they stand on: build_time.py ROOT CRATE..
+"""Says how long it takes to prove and build crates, and those that they stand on: build_time.py TOOL ROOT CRATE..
 
 The seconds of processor time of each crate's proof are those of the table in docs/PERF.md, "The gate". What a
 crate below has in its folder `out` already is left out.
@@ -17,7 +17,7 @@ def below(name, stands_on, found):
     return found
 
 
-root, *names = sys.argv[1:]
+tool, root, *names = sys.argv[1:]
 with open(os.path.join(root, "crates.txt")) as file:
     lines = [line.split(":") for line in file if ":" in line and not line.startswith("#")]
 stands_on = {left.split()[0]: right.split() for left, right in lines}
@@ -29,6 +29,6 @@ wanted = {name for name in wanted
           if name in names or not os.path.exists(os.path.join(root, "crates", name, "out/rlib", name + ".rlib"))}
 minutes = sum(int(seconds.get(name, 0)) for name in wanted) / 60
 unknown = sorted(wanted - set(seconds))
-print("install: first proves and builds %s, %d crates in all: some %d minutes of processor time%s"
-      % (", ".join(names), len(wanted), max(1, round(minutes)),
+print("%s: first proves and builds %s, %d crates in all: some %d minutes of processor time%s"
+      % (tool, ", ".join(names), len(wanted), max(1, round(minutes)),
          ", beside %s, of which no time is known" % ", ".join(unknown) if unknown else ""), flush=True)
