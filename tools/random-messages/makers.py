@@ -1,6 +1,8 @@
 """Makes random schemas."""
-from schemas import NUMBERS, Enum, Field, Group, Schema, Struct, fields, setter, snake
-from values import Values, is_pointer, text_of
+import string
+
+from schemas import NUMBERS, Constant, Enum, Field, Group, Schema, Struct, fields, setter, snake
+from values import Literals, groups_of, is_pointer, text_of
 
 # Beside plain names: words of the language, of clauses, and names that the module of a struct has.
 FIELD_NAMES = """type struct match self fn in new add addRoot addList draft words pointers fields which value
@@ -11,15 +13,23 @@ STRUCT_NAMES = """Type Struct Match Self Fn Box Owned Reader Builder Result Whic
 Orphanage ListReader OwnedList Draft StructDraft Super Crate Std Prim Upgraded AnyPointerReader Global""".split()
 ENUM_NAMES = "Type Result Option Some Owned Builder Which Copy Debug T Orphan".split()
 ENUMERANTS = "self none below notInSchema some ok type red green deepBlue newOne struct".split()
+# Constants that each schema has: the ends of what numbers can be, zero bytes.
+EDGES = [*((("number", name), text) for name in ("Float32", "Float64") for text in ("nan", "inf", "-inf", "-0.0", "0.1")),
+         *((("number", "%sInt%d" % (sign, width)), str(number))
+           for width in (8, 16, 32, 64) for sign, number in (("", -2**(width - 1)), ("U", 2**width - 1))),
+         (("number", "Bool"), "true"), (("number", "Void"), "void"), (("text", None), '"a\\x00b\\n\\"c\\""'), (("text", None), '""'),
+         (("data", None), '0x"61 00 62 ff 00"'), (("data", None), '""'),
+         (("list", ("list", ("number", "Int8"))), "[[1, -1], [], [-128]]"), (("list", ("text", None)), '["", "a\\x00"]')]
 
 
 class Maker:
     """Makes one schema. Of the struct that is made it has the names of fields and groups, of modules, and of
     setters, and how many fields are left to be made."""
 
-    def __init__(self, chance):
+    def __init__(self, chance, has_constants=False, has_long_names=False):
         self.chance, self.count = chance, 0
-        self.structs, self.enums = [], []
+        self.has_constants, self.has_long_names = has_constants, has_long_names
+        self.structs, self.enums, self.constants = [], [], []
 
     def schema(self):
         modules = set()
@@ -27,21 +37,35 @@ class Maker:
         outer = [self.struct([], modules) for _ in range(self.chance.randrange(1, 4))]
         for made in self.structs:
             self.fill(made)
-        return Schema(2**63 + self.chance.randrange(2**63), outer, self.structs, self.enums)
+        for made in self.structs:
+            for _, field in fields(made.members):
+                self.add_default(field)
+        if self.has_constants:
+            self.add_constants()
+        return Schema(2**63 + self.chance.randrange(2**63), outer, self.structs, self.enums, self.constants)
 
-    def name(self, special, plain, *taken):
+    def name(self, special, plain, *taken, key=snake):
         """A name that is in none of some sets, and then in all."""
         while True:
             self.count += 1
-            name = self.chance.choice(special) if self.chance.random() < 0.3 else "%s%d" % (plain, self.count)
-            if all(snake(name) not in names for names in taken):
+            name = self.chance.choice(special) if self.chance.random() < 0.3 else self.plain_name(plain)
+            if all(key(name) not in names for names in taken):
                 for names in taken:
-                    names.add(snake(name))
+                    names.add(key(name))
                 return name
+
+    def plain_name(self, plain):
+        """A name of one to sixty letters, or one that ends with a number."""
+        if not self.has_long_names:
+            return "%s%d" % (plain, self.count)
+        first = string.ascii_uppercase if plain[0].isupper() else string.ascii_lowercase
+        letters = string.ascii_lowercase * 4 + string.ascii_uppercase
+        length = self.chance.randrange(self.chance.choice([4, 20, 60]))
+        return self.chance.choice(first) + "".join(self.chance.choice(letters) for _ in range(length))
 
     def struct(self, scope, modules):
         parameter = self.pointer(1, []) if self.chance.random() < 0.15 else None
-        made = Struct(self.name(STRUCT_NAMES, "Struct", modules), scope, parameter)
+        made = Struct(self.name(STRUCT_NAMES, "Struct", modules), scope, parameter, len(self.structs))
         self.structs.append(made)
         while len(scope) < 2 and self.chance.random() < 0.25:
             made.structs.append(self.struct([*scope, made], made.modules))
@@ -51,8 +75,8 @@ class Maker:
 
     def enum(self, scope, modules):
         taken = set()
-        names = [self.name(ENUMERANTS, "name", taken) for _ in range(self.chance.randrange(1, 9))]
-        self.enums.append(Enum(self.name(ENUM_NAMES, "Enum", modules), names, scope))
+        names = [self.name(ENUMERANTS, "name", taken, key=str.lower) for _ in range(self.chance.randrange(1, 9))]
+        self.enums.append(Enum(self.name(ENUM_NAMES, "Enum", modules), names, scope, len(self.enums)))
         return self.enums[-1]
 
     def fill(self, made):
@@ -65,6 +89,8 @@ class Maker:
         self.chance.shuffle(numbered)
         for number, field in enumerate(numbered):
             field.number = number
+        for number, group in enumerate(groups_of(made.members)):
+            group.number = number
 
     def members(self, around, in_union, count):
         """Fields, groups and unions, of which one may have no name."""
@@ -92,7 +118,7 @@ class Maker:
         self.left -= 1
         kind = self.kind(in_union)
         while True:
-            field = Field(self.name(FIELD_NAMES, "field", self.names), kind, self.default(kind))
+            field = Field(self.name(FIELD_NAMES, "field", self.names), kind)
             if setter(around, field) not in self.setters:
                 self.setters.add(setter(around, field))
                 return field
@@ -134,9 +160,34 @@ class Maker:
             return "struct", self.chance.choice(structs)
         return self.pointer(depth, structs) if depth < 3 else ("text", None)
 
-    def default(self, kind):
-        """A default as the schema has it, or None."""
+    def add_default(self, field):
+        """Gives a field a default, or none."""
+        kind = field.kind
         odds = 0.2 if is_pointer(kind) else 0.4
         if self.chance.random() > odds or kind[0] in ("any", "parameter", "interface") or kind == ("number", "Void"):
-            return None
-        return text_of(kind, Values(self.chance).value(kind, 0))
+            return
+        field.default = self.literal(kind)
+        field.default_text = text_of(kind, field.default)
+
+    def literal(self, kind):
+        """A value that stands in the schema."""
+        return Literals(self.chance).value(kind, 2)
+
+    def add_constants(self):
+        """Those that each schema has, of each enum its last enumerant, and others, in the file and in structs."""
+        for kind, text in EDGES:
+            self.add_constant([], kind, text)
+        for made in self.enums:
+            self.add_constant(made.scope, ("enum", made), made.names[-1])
+        for made in self.structs:
+            self.add_constant([], ("struct", made), text_of(("struct", made), self.literal(("struct", made))))
+        for _ in range(self.chance.randrange(4, 9)):
+            kind = self.chance.choice([self.element(0, self.structs), ("list", self.element(1, self.structs))])
+            made = self.chance.choice([None, *self.structs])
+            self.add_constant([*made.scope, made] if made else [], kind, text_of(kind, self.literal(kind)))
+
+    def add_constant(self, scope, kind, text):
+        held = scope[-1].constants if scope else []
+        made = Constant("constant%d" % len(self.constants), scope, kind, text, len(self.constants))
+        held.append(made)
+        self.constants.append(made)

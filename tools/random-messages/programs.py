@@ -124,11 +124,11 @@ def roots(count):
 
 
 def taken_names(path):
-    """The names that the compiler adds a `_` to: of modules, of enums."""
+    """The names that the compiler adds a `_` to: of modules, of enums, of variants."""
     with open(path) as file:
         text = file.read()
-    lists = [text[text.index("const %s:" % name):].split("];")[0] for name in ("MODULES", "ENUMS")]
-    return [set(re.findall(r'"(\w+)"', names)) for names in lists]
+    lists = {name: text[text.index("const %s:" % name):].split("];")[0] for name in ("MODULES", "ENUMS", "VARIANTS")}
+    return {name: set(re.findall(r'"(\w+)"', names)) for name, names in lists.items()}
 
 
 class Program:
@@ -145,12 +145,15 @@ class Program:
         return head + "".join(parts + self.list_code)
 
     def path(self, made):
-        modules = [snake(part.name) for part in [*made.scope, made]]
-        return "::".join(["schema", *(name + "_" * (name in self.taken[0]) for name in modules)])
+        return "::".join(["schema", *(self.module_of(part.name) for part in [*made.scope, made])])
+
+    def module_of(self, name):
+        name = snake(name)
+        return name + "_" * (name in self.taken["MODULES"] or name.startswith("the_"))
 
     def enum_path(self, made):
         around = self.path(made.scope[-1]).split("::") if made.scope else ["schema"]
-        return "::".join([*around, made.name + "_" * (made.name in self.taken[1])])
+        return "::".join([*around, made.name + "_" * (made.name in self.taken["ENUMS"] or made.name.startswith("The"))])
 
     def struct(self, index, made):
         """The function that builds a struct, the one that reads it first, and those that call its setters."""

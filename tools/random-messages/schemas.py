@@ -12,7 +12,8 @@ A type is a pair of what it is and of what it is of:
     ("interface", None)     no such field is ever set
 
 The text of the C++ tool has no any pointers, so that is given a schema that has the types in their place, and in
-that of parameters."""
+that of parameters. A program in C++ has any pointers in the place of parameters, and names of its own (PEER), since
+any name may be a word of C++, or of the code that the C++ tool writes."""
 import math
 import re
 import struct
@@ -21,34 +22,64 @@ import struct
 UNSIGNED = {"UInt8": 8, "UInt16": 16, "UInt32": 32, "UInt64": 64}
 SIGNED = {"Int8": 8, "Int16": 16, "Int32": 32, "Int64": 64}
 FLOATS = {"Float32": "f", "Float64": "d"}
-OPAQUE = "opaque"
+OPAQUE, PEER = "opaque", "peer"
 NUMBERS = ["Bool", *UNSIGNED, *SIGNED, *FLOATS]
 
 
 class Field:
-    def __init__(self, name, kind, default):
-        self.name, self.kind, self.default, self.number = name, kind, default, None
+    """A field; `default` is its value, or None, and `default_text` that as the schema has it."""
+
+    def __init__(self, name, kind):
+        self.name, self.kind, self.number = name, kind, None
+        self.default, self.default_text = None, ""
+
+    def peer(self):
+        return "field%d" % self.number
 
 
 class Group:
     """A group, or a union: one without a name stands right in its struct or group."""
 
     def __init__(self, name, is_union, members):
-        self.name, self.is_union, self.members = name, is_union, members
+        self.name, self.is_union, self.members, self.number = name, is_union, members, None
+
+    def peer(self):
+        return "group%d" % self.number
 
 
 class Enum:
-    def __init__(self, name, names, scope):
-        self.name, self.names, self.scope = name, names, scope
+    def __init__(self, name, names, scope, number):
+        self.name, self.names, self.scope, self.number = name, names, scope, number
+
+    def peer(self):
+        return "Enum%d" % self.number
 
 
 class Struct:
     """A struct, with the structs around it and what its parameter stands for, if it has one; `modules` are the
     names of groups, and of what is declared in it."""
 
-    def __init__(self, name, scope, parameter):
-        self.name, self.scope, self.parameter, self.modules = name, scope, parameter, set()
-        self.members, self.structs, self.enums = [], [], []
+    def __init__(self, name, scope, parameter, number):
+        self.name, self.scope, self.parameter, self.modules, self.number = name, scope, parameter, set(), number
+        self.members, self.structs, self.enums, self.constants = [], [], [], []
+
+    def peer(self):
+        return "Struct%d" % self.number
+
+
+class Constant:
+    """A constant, with the structs around it, and its value as the schema has it."""
+
+    def __init__(self, name, scope, kind, text, number):
+        self.name, self.scope, self.kind, self.text, self.number = name, scope, kind, text, number
+
+    def peer(self):
+        return "constant%d" % self.number
+
+    def is_held(self):
+        """Whether it is a float for which the C++ tool 0.9.2 writes no code that can be compiled, or a `-0`, which is
+        the integer 0 in C++."""
+        return self.kind[1] in FLOATS and self.text in ("nan", "inf", "-inf", "-0.0")
 
 
 def snake(name):
@@ -98,60 +129,82 @@ def shown_number(number):
 
 
 class Schema:
-    def __init__(self, identity, outer, structs, enums):
+    def __init__(self, identity, outer, structs, enums, constants):
         self.identity, self.outer, self.structs, self.enums = identity, outer, structs, enums
+        self.constants = constants
 
-    def text(self, with_any):
-        """The schema, with any pointers (if OPAQUE, in the place of parameters, too), or with what they lead to in
-        their place."""
+    def text(self, mode, index=0):
+        """The schema, with any pointers (if OPAQUE or PEER, in the place of parameters, too), or with what they lead
+        to in their place; if PEER, of this index, in a namespace with it."""
         lines = ["@0x%016x;" % self.identity, "interface Called {}"]
-        for made in self.enums:
-            if not made.scope:
-                lines.append(enum_text(made))
+        if mode == PEER:
+            lines += ['using Cxx = import "/capnp/c++.capnp";', '$Cxx.namespace("schema%d");' % index]
+            lines += ["struct Held%s { value @0 : %s; }" % (name, name) for name in FLOATS]
+        lines += [enum_text(made, mode) for made in self.enums if not made.scope]
         for made in self.outer:
-            lines += struct_lines(made, with_any)
+            lines += struct_lines(made, mode)
+        lines += [constant_text(made, mode) for made in self.constants if mode == PEER or not made.scope]
         return "\n".join(lines) + "\n"
 
 
-def enum_text(made):
-    names = " ".join("%s @%d;" % (name, number) for number, name in enumerate(made.names))
-    return "enum %s { %s }" % (made.name, names)
+def name_in(made, mode):
+    return made.peer() if mode == PEER else made.name
 
 
-def struct_lines(made, with_any):
-    inner = [enum_text(enum) for enum in made.enums]
+def renamed(made, mode):
+    """What says that C++ has another name."""
+    return ' $Cxx.name("%s")' % made.peer() if mode == PEER else ""
+
+
+def enum_text(made, mode):
+    names = ["%s @%d%s;" % (name, number, ' $Cxx.name("name%d")' % number * (mode == PEER))
+             for number, name in enumerate(made.names)]
+    return "enum %s { %s }" % (name_in(made, mode), " ".join(names))
+
+
+def constant_text(made, mode):
+    if mode == PEER and made.is_held():
+        return "const %s : .Held%s = (value = %s);" % (made.peer(), made.kind[1], made.text)
+    return "const %s : %s = %s;" % (name_in(made, mode), kind_text(made.kind, mode), made.text)
+
+
+def struct_lines(made, mode):
+    inner = [enum_text(enum, mode) for enum in made.enums]
+    inner += [constant_text(constant, mode) for constant in made.constants if mode != PEER]
     for held in made.structs:
-        inner += struct_lines(held, with_any)
-    inner += member_lines(made.members, with_any)
-    parameter = "(Parameter)" if made.parameter and with_any is True else ""
-    return ["struct %s%s {" % (made.name, parameter), *("  " + line for line in inner), "}"]
+        inner += struct_lines(held, mode)
+    inner += member_lines(made.members, mode)
+    parameter = "(Parameter)" if made.parameter and mode is True else ""
+    return ["struct %s%s {" % (name_in(made, mode), parameter), *("  " + line for line in inner), "}"]
 
 
-def member_lines(members, with_any):
+def member_lines(members, mode):
     for member in members:
         if isinstance(member, Field):
-            default = "" if member.default is None else " = " + member.default
-            yield "%s @%d : %s%s;" % (member.name, member.number, kind_text(member.kind, with_any), default)
-        else:
-            kind = "union" if member.is_union else "group"
-            yield "%s {" % (member.name and "%s :%s" % (member.name, kind) or kind)
-            yield from ("  " + line for line in member_lines(member.members, with_any))
-            yield "}"
+            default = member.default_text and " = " + member.default_text
+            yield "%s @%d : %s%s%s;" % (member.name, member.number, kind_text(member.kind, mode), default,
+                                        renamed(member, mode))
+            continue
+        kind = "union" if member.is_union else "group"
+        yield "%s {" % (member.name and "%s :%s%s" % (member.name, kind, renamed(member, mode)) or kind)
+        yield from ("  " + line for line in member_lines(member.members, mode))
+        yield "}"
 
 
-def kind_text(kind, with_any):
+def kind_text(kind, mode):
     form, of = kind
     if form in ("struct", "enum"):
-        return "".join("." + applied(part, with_any) for part in [*of.scope, of])
+        return "".join("." + applied(part, mode) for part in [*of.scope, of])
     if form == "list":
-        return "List(%s)" % kind_text(of, with_any)
+        return "List(%s)" % kind_text(of, mode)
     if form in ("any", "parameter"):
-        is_parameter = form == "parameter" and with_any is True
-        return ("Parameter" if is_parameter else "AnyPointer") if with_any else kind_text(of, with_any)
+        is_parameter = form == "parameter" and mode is True
+        return ("Parameter" if is_parameter else "AnyPointer") if mode else kind_text(of, mode)
     return {"number": of, "text": "Text", "data": "Data", "interface": ".Called"}[form]
 
 
-def applied(part, with_any):
+def applied(part, mode):
     """The name of a struct or an enum, a struct with what its parameter stands for."""
     parameter = getattr(part, "parameter", None)
-    return "%s(%s)" % (part.name, kind_text(parameter, with_any)) if parameter and with_any is True else part.name
+    name = name_in(part, mode)
+    return "%s(%s)" % (name, kind_text(parameter, mode)) if parameter and mode is True else name

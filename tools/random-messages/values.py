@@ -27,6 +27,14 @@ def setters(made):
     return [(around, field) for around, field in fields(made.members) if has_setter(around, field)]
 
 
+def groups_of(members):
+    """All groups."""
+    for member in members:
+        if isinstance(member, Group):
+            yield member
+            yield from groups_of(member.members)
+
+
 def groups(members, around=(), in_union=False):
     """The groups that are members of unions, each with the groups around it: these can be selected."""
     for member in members:
@@ -55,14 +63,23 @@ class Made(list):
 
 class Selected(list):
     """The steps of a group that is selected, and cleared, before they are taken."""
+    mark = 0
+
+
+class Implied(Selected):
+    """A group that a setter of one of its fields selects, where the C++ library has to be told to select it."""
+    mark = 128
 
 
 class Values:
     def __init__(self, chance):
         self.chance, self.left = chance, 0
 
+    def can_set(self, member):
+        return can_set(member)
+
     def root(self, made):
-        self.left = 300  # about how many values a message has
+        self.left = self.chance.choice([100, 300, 300, 3000])  # about how many values a message has
         return self.struct(made, self.chance.randrange(6))
 
     def struct(self, made, depth):
@@ -96,7 +113,7 @@ class Values:
     def union(self, union, depth, odds):
         """Sets a member, or one and then another that takes its place. Where that is a group, the C++ tool clears
         it first, so it is selected. Of a union in it the tool clears the first member alone, and the builder all."""
-        members = [member for member in union.members if isinstance(member, Group) or can_set(member)]
+        members = [member for member in union.members if isinstance(member, Group) or self.can_set(member)]
         self.chance.shuffle(members)
         chosen = [(member, self.selected(member, depth, odds)) for member in members[:1]]
         if self.chance.random() < 0.2:
@@ -109,7 +126,7 @@ class Values:
 
     def selected(self, member, depth, odds):
         """What a member of a union is set to, a group by a field of it or by being selected."""
-        if can_set(member) and (isinstance(member, Field) or self.chance.random() < 0.5):
+        if self.can_set(member) and (isinstance(member, Field) or self.chance.random() < 0.5):
             return self.chosen(member, depth, odds)
         return Selected(self.held(member, depth, odds))
 
@@ -126,7 +143,7 @@ class Values:
             return self.value(member.kind, depth)
         if member.is_union:
             return self.union(member, depth, odds)
-        members = [held for held in member.members if can_set(held)]
+        members = [held for held in member.members if self.can_set(held)]
         first = self.chance.choice(members)
         others = self.steps([held for held in member.members if held is not first], depth, odds)
         return [(first, self.chosen(first, depth, odds)), *others]
@@ -161,6 +178,33 @@ class Values:
             return [self.value(of, depth) for _ in range(self.chance.choice([0, 1, 3, 17, 70]))]
         most = 0 if self.left < 0 or depth <= 0 else 5
         return [self.value(of, depth - 1) for _ in range(self.chance.randrange(most + 1))]
+
+
+class Literals(Values):
+    """Values that stand in a schema: there is no text of an any pointer, and a union is set once."""
+
+    def __init__(self, chance):
+        super().__init__(chance)
+        self.left = 30
+
+    def can_set(self, member):
+        held = [([], member)] if isinstance(member, Field) else fields(member.members)
+        return any(field.kind[0] not in ("interface", "any", "parameter") for _, field in held)
+
+    def struct(self, made, depth):
+        self.left -= 1
+        return Made(self.steps(made.members, depth, self.chance.choice([0.3, 0.8])))
+
+    def steps(self, members, depth, odds):
+        return super().steps([member for member in members if self.can_set(member)], depth, odds)
+
+    def union(self, union, depth, odds):
+        members = [member for member in union.members if self.can_set(member)]
+        member = self.chance.choice(members)
+        return [(member, self.chosen(member, depth, odds))]
+
+    def length(self, most):
+        return self.chance.choice([0, 1, 7, 8, most])
 
 
 def text_of(kind, value):
@@ -242,7 +286,7 @@ def calls_bytes(numbers, calls):
 
 def call_bytes(number, member, value):
     if isinstance(member, Group):
-        return bytes([number])
+        return bytes([number | value.mark])
     if not is_pointer(member.kind):
         return bytes([number]) + bytes_of(member.kind, value)
     return bytes([number]) + (b"\0" if value is NULL else b"\1" + bytes_of(member.kind, value))
@@ -255,5 +299,5 @@ def leaves(steps):
             yield member, value
             continue
         if isinstance(value, Selected):
-            yield member, None
+            yield member, value
         yield from leaves(value)
