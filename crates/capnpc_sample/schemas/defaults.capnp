@@ -28,6 +28,11 @@ struct Numbers {
   mode @13 :Mode = fancy;
 }
 
+struct Named {
+  label @0 :Text;
+  point @1 :Point;
+}
+
 struct Pointers {
   label @0 :Text = "none";
   payload @1 :Data = 0x"a1 40 33";
@@ -38,6 +43,7 @@ struct Pointers {
   flags @6 :List(Bool) = [true, false, true];
   grid @7 :List(List(Int8)) = [[1, -1], []];
   plain @8 :Text;
+  named @11 :Named = (label = "none", point = (x = 5));
   union {
     title @9 :Text = "untitled";
     place @10 :Point = (x = 9);

@@ -56,3 +56,25 @@ struct Kept {
     any @2 :AnyPointer;
   }
 }
+
+struct Nested {
+  # Unions in unions, and groups in these.
+  union {
+    number @0 :UInt64;
+    outer :union {
+      middle @1 :UInt32;
+      inner :union {
+        small @2 :UInt8;
+        label @3 :Text;
+        both :group {
+          left @4 :Int32 = -1;
+          right @5 :Text;
+          rest :group {
+            last @6 :UInt16;
+            more @7 :Data;
+          }
+        }
+      }
+    }
+  }
+}
