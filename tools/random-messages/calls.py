@@ -20,8 +20,9 @@ class Calls(Values):
     def set_to(self, field, depth, in_union):
         """What a field is set to. The tool prints the default of a struct or a list that is a member of a union and
         null, and the printing that the schema compiler writes an empty one (docs/COMPILER.md, "Printing")."""
-        value = self.null_or(field.kind, depth)
-        if value is NULL and in_union and field.default is not None and field.kind[0] in ("struct", "list"):
+        has_default = in_union and field.default is not None
+        value = NULL if has_default and self.chance.random() < 0.5 else self.null_or(field.kind, depth)
+        if value is NULL and has_default and field.kind[0] in ("struct", "list"):
             self.is_text_same = False
         return value
 

@@ -47,7 +47,7 @@ def rt(folder, crate, stream, *words):
 def take_schema(chance, folder, index, has_long_names):
     """A schema that the C++ tool takes, which refuses some orders of groups and unions. The types in C++ are made."""
     while True:
-        schema = Maker(chance, True, has_long_names).schema()
+        schema = Maker(chance, True, has_long_names, index == 0).schema()
         write("%s/schema%d.capnp" % (folder, index), schema.text(True))
         write("%s/peer/schema%d.capnp" % (folder, index), schema.text(PEER, index))
         done = subprocess.run(["capnp", "compile", "-oc++", "schema%d.capnp" % index], cwd=folder + "/peer",

@@ -1,8 +1,11 @@
 """Makes random schemas."""
+import math
 import string
 
-from schemas import NUMBERS, Constant, Enum, Field, Group, Schema, Struct, fields, setter, snake
-from values import Literals, groups_of, is_pointer, text_of
+from literals import Literals
+from schemas import (FLOATS, NUMBERS, SIGNED, UNSIGNED, Constant, Enum, Field, Group, Schema, Struct, fields, setter,
+                     snake)
+from values import Made, groups_of, is_pointer, text_of
 
 # Beside plain names: words of the language, of clauses, and names that the module of a struct has.
 FIELD_NAMES = """type struct match self fn in new add addRoot addList draft words pointers fields which value
@@ -14,25 +17,63 @@ Orphanage ListReader OwnedList Draft StructDraft Super Crate Std Prim Upgraded A
 ENUM_NAMES = "Type Result Option Some Owned Builder Which Copy Debug T Orphan".split()
 ENUMERANTS = "self none below notInSchema some ok type red green deepBlue newOne struct".split()
 # Constants that each schema has: the ends of what numbers can be, zero bytes.
-EDGES = [*((("number", name), text) for name in ("Float32", "Float64") for text in ("nan", "inf", "-inf", "-0.0", "0.1")),
-         *((("number", "%sInt%d" % (sign, width)), str(number))
-           for width in (8, 16, 32, 64) for sign, number in (("", -2**(width - 1)), ("U", 2**width - 1))),
-         (("number", "Bool"), "true"), (("number", "Void"), "void"), (("text", None), '"a\\x00b\\n\\"c\\""'), (("text", None), '""'),
-         (("data", None), '0x"61 00 62 ff 00"'), (("data", None), '""'),
-         (("list", ("list", ("number", "Int8"))), "[[1, -1], [], [-128]]"), (("list", ("text", None)), '["", "a\\x00"]')]
+EDGES = [
+    *((("number", name), text) for name in FLOATS for text in ("nan", "inf", "-inf", "-0.0", "0.1")),
+    *((("number", name), str(-2**(width - 1))) for name, width in SIGNED.items()),
+    *((("number", name), str(2**width - 1)) for name, width in UNSIGNED.items()),
+    (("number", "Bool"), "true"), (("number", "Void"), "void"),
+    (("text", None), '"a\\x00b\\n\\"c\\""'), (("text", None), '""'),
+    (("data", None), '0x"61 00 62 ff 00"'), (("data", None), '""'),
+    (("list", ("list", ("number", "Int8"))), "[[1, -1], [], [-128]]"), (("list", ("text", None)), '["", "a\\x00"]')]
+
+
+def field_of(name, kind, default=None):
+    field = Field(name, kind)
+    if default is not None:
+        field.default, field.default_text = default, text_of(kind, default)
+    return field
+
+
+def edges(number):
+    """A struct of what random ones seldom have: each default that a float prints in a word, data with a default in a
+    union, unions and groups in one another, and a default that sets a pointer."""
+    made = Struct("Edges", [], None, number)
+    text, data = ("text", None), ("data", None)
+    floats = [field_of("%s%d" % (name.lower(), index), ("number", name), default) for name in FLOATS
+              for index, default in enumerate((math.nan, math.inf, -math.inf, -0.0))]
+    label = field_of("label", text)
+    rest = Group("rest", False, [field_of("last", ("number", "UInt16")), field_of("more", data)])
+    both = Group("both", False, [field_of("left", ("number", "Int32"), -1), field_of("right", text, "none"), rest])
+    inner = Group("inner", True, [field_of("small", ("number", "UInt8")), both])
+    outer = Group("outer", True, [field_of("middle", ("number", "UInt32")), inner])
+    union = Group("", True, [field_of("number", ("number", "UInt64")), field_of("payload", data, b"a\0b"), outer])
+    made.members = [*floats, label, field_of("numbers", ("list", ("number", "Int8"))),
+                    field_of("place", ("struct", made), Made([(label, "none")])), union]
+    number_members(made, lambda numbered: None)
+    return made
+
+
+def number_members(made, shuffle):
+    """Numbers the fields in some order, and the groups."""
+    numbered = [field for _, field in fields(made.members)]
+    shuffle(numbered)
+    for index, field in enumerate(numbered):
+        field.number = index
+    for index, group in enumerate(groups_of(made.members)):
+        group.number = index
 
 
 class Maker:
     """Makes one schema. Of the struct that is made it has the names of fields and groups, of modules, and of
     setters, and how many fields are left to be made."""
 
-    def __init__(self, chance, has_constants=False, has_long_names=False):
+    def __init__(self, chance, has_constants=False, has_long_names=False, has_edges=False):
         self.chance, self.count = chance, 0
-        self.has_constants, self.has_long_names = has_constants, has_long_names
+        self.has_constants, self.has_long_names, self.has_edges = has_constants, has_long_names, has_edges
         self.structs, self.enums, self.constants = [], [], []
 
     def schema(self):
-        modules = set()
+        modules = {"edges"}
         self.enum([], modules)
         outer = [self.struct([], modules) for _ in range(self.chance.randrange(1, 4))]
         for made in self.structs:
@@ -40,6 +81,9 @@ class Maker:
         for made in self.structs:
             for _, field in fields(made.members):
                 self.add_default(field)
+        if self.has_edges:
+            outer.append(edges(len(self.structs)))
+            self.structs.append(outer[-1])
         if self.has_constants:
             self.add_constants()
         return Schema(2**63 + self.chance.randrange(2**63), outer, self.structs, self.enums, self.constants)
@@ -85,12 +129,7 @@ class Maker:
         self.parameter = made.parameter
         self.left = self.chance.choice([1, 4, 8, 8, 12, 20, 40])
         made.members = self.members([], False, self.left)
-        numbered = [field for _, field in fields(made.members)]
-        self.chance.shuffle(numbered)
-        for number, field in enumerate(numbered):
-            field.number = number
-        for number, group in enumerate(groups_of(made.members)):
-            group.number = number
+        number_members(made, self.chance.shuffle)
 
     def members(self, around, in_union, count):
         """Fields, groups and unions, of which one may have no name."""

@@ -71,7 +71,8 @@ inline void show(Shown& shown, uint32_t, capnp::Data::Reader data) { shown.bytes
 inline void show(Shown&, uint32_t, capnp::Void) {}
 
 template <typename N>
-typename std::enable_if<std::is_arithmetic<N>::value || std::is_enum<N>::value>::type show(Shown& shown, uint32_t, N number) {
+typename std::enable_if<std::is_arithmetic<N>::value || std::is_enum<N>::value>::type
+show(Shown& shown, uint32_t, N number) {
     if (number != number) return shown.word("nan");
     uint64_t bits = 0;
     std::memcpy(&bits, &number, sizeof number);

@@ -77,6 +77,13 @@ int main(int, char** words) {
     std::ofstream(words[2], std::ios::binary) << shown.text << '\\n';
 }
 """
+CONSTANTS = """\
+    shown.field("schema");
+    shown.left = %d;
+    schema%d::constants(shown);"""
+ROOT = """\
+        case %(number)d: return ::tell<%(type)s>(source, shown, %(depth)d, %(most)d, make%(number)d,
+            [](Shown& shown, %(type)s::Builder made) { hold(shown, made); });"""
 
 
 def main_text(count):
@@ -84,9 +91,9 @@ def main_text(count):
     return MAIN % {
         "declared": "\n".join("namespace schema%d { void tell(uint8_t, Source&, Shown&); void constants(Shown&); }" % at
                               for at in range(count)),
-        "constants": "\n".join('    shown.field("schema");\n    shown.left = %d;\n    schema%d::constants(shown);' % (MOST, at)
-                               for at in range(count)),
-        "cases": "\n".join("        case %d: schema%d::tell(index, source, shown); break;" % (at, at) for at in range(count))}
+        "constants": "\n".join(CONSTANTS % (MOST, at) for at in range(count)),
+        "cases": "\n".join("        case %d: schema%d::tell(index, source, shown); break;" % (at, at)
+                           for at in range(count))}
 
 
 def capital(name):
@@ -148,7 +155,8 @@ def call(around, field):
         return "%s.set%s(static_cast<%s>(source.number<uint16_t>()));" % (target, name, path(of))
     if form in ("any", "parameter"):
         return "{ auto any = %s.init%s(); if (!source.isNull()) any.adopt(%s); }" % (target, name, made(of))
-    return "%s.adopt%s(source.isNull() ? capnp::Orphan<%s>() : %s);" % (target, name, type_of(field.kind), made(field.kind))
+    return "%s.adopt%s(source.isNull() ? capnp::Orphan<%s>() : %s);" % (
+        target, name, type_of(field.kind), made(field.kind))
 
 
 def shown_field(read, field):
@@ -219,7 +227,8 @@ def held(members, around=(), in_union=False):
 
 def struct_text(made):
     calls = [call(around, field) for around, field in setters(made)]
-    calls += ["%s.init%s();" % (reached("made", around), capital(group.peer())) for around, group in groups(made.members)]
+    calls += ["%s.init%s();" % (reached("made", around), capital(group.peer()))
+              for around, group in groups(made.members)]
     yield MAKE % {"type": path(made), "number": made.number, "calls": "\n".join(
         "        case %d: %s break;" % pair for pair in enumerate(calls))}
     yield SHOW % {"type": path(made), "shown": "\n".join("    " + line for line in shown_members("read", made.members)),
@@ -239,8 +248,8 @@ def peer_text(index, schema):
     declared = ["capnp::Orphan<%s> make%d(Source& source, capnp::Orphanage objects);\n"
                 "void show(Shown& shown, uint32_t depth, %s::Reader read);" % (path(made), made.number, path(made))
                 for made in schema.structs]
-    roots = ["        case %d: return ::tell<%s>(source, shown, %d, %d, make%d, [](Shown& shown, %s::Builder made) { hold(shown, made); });"
-             % (made.number, path(made), DEPTH, MOST, made.number, path(made)) for made in schema.structs]
+    roots = [ROOT % {"number": made.number, "type": path(made), "depth": DEPTH, "most": MOST}
+             for made in schema.structs]
     return HEAD % {"index": index, "declared": "\n".join(declared), "roots": "\n".join(roots),
                    "structs": "".join(part for made in schema.structs for part in struct_text(made)),
                    "constants": "\n".join(constant_text(constant) for constant in schema.constants)}

@@ -19,8 +19,8 @@ def roots(count):
         "modules": each("mod making_%(at)d;\nmod schema%(at)d_capnp;"),
         "makes": each("        %(at)d => making_%(at)d::make_root(index, source, objects, shown),"),
         "shows": each("        %(at)d => making_%(at)d::show_root(index, message, shown),"),
-        "constants": each('    shown.field("schema")?;\n    shown.left = {};\n    making_%(at)d::show_constants(shown)?;'
-                          .replace("{}", str(MOST)))}
+        "constants": each('    shown.field("schema")?;\n    shown.left = %d;\n' % MOST
+                          + "    making_%(at)d::show_constants(shown)?;")}
 
 
 def named(member):
@@ -72,7 +72,8 @@ class Teller(Program):
         kind = "%s::Reader<'_, S>" % path
         calls = ["    show_%d_%d(shown, depth - 1, read)?;" % (made.number, part) for part in range(len(parts))]
         yield self.read("show_%d" % made.number, kind,
-                        ["    if !shown.enters(depth)? {", "        return Ok(());", "    }", *calls, '    shown.field("}")?;'])
+                        ["    if !shown.enters(depth)? {", "        return Ok(());", "    }", *calls,
+                         '    shown.field("}")?;'])
         for part, part_lines in enumerate(parts):
             yield self.read("show_%d_%d" % (made.number, part), kind, part_lines)
         yield from self.groups(made, made.members, [])
@@ -99,7 +100,8 @@ class Teller(Program):
     def members(self, made, members, around):
         for member in members:
             if not isinstance(member, Field):
-                yield from [self.group(made, member)] if member.name else self.union(made, member, [*around, member])
+                is_group = bool(member.name)
+                yield from [self.group(made, member)] if is_group else self.union(made, member, [*around, member])
             elif shown := self.field(made, around, member):
                 yield "    %s %s" % (named(member), shown)
 
@@ -109,11 +111,12 @@ class Teller(Program):
 
     def union(self, made, union, around):
         for member in union.members:
-            if isinstance(member, Field) and not is_pointer(member.kind) and (shown := self.field(made, around, member)):
+            is_number = isinstance(member, Field) and not is_pointer(member.kind)
+            if is_number and (shown := self.field(made, around, member)):
                 yield "    %s %s" % (named(member), shown)
         arms = [self.arm(made, around, member) for member in union.members]
-        yield "\n".join(["    match read.which() {", *arms, "        %s::Which::NotInSchema(number) => shown.number(number)?,"
-                         % self.group_path(made, around), "    }"])
+        others = "        %s::Which::NotInSchema(number) => shown.number(number)?," % self.group_path(made, around)
+        yield "\n".join(["    match read.which() {", *arms, others, "    }"])
 
     def arm(self, made, around, member):
         """The arm of a member of a union, which is shown by `which` or by its getter."""
@@ -137,8 +140,9 @@ class Teller(Program):
             return self.number_shown(field.kind, value)
         has = "shown.flag(read.has_%s())?;" % name
         if form in ("any", "parameter"):
-            return "%s let pointer = %s; if pointer.is_null() { shown.word(\"null\")?; } else { let view: Result<%s> = pointer.get_as(); %s }" % (
-                has, value, self.view(field.kind[1]), self.pointer_shown(field.kind[1], "view"))
+            view = "let view: Result<%s> = pointer.get_as();" % self.view(field.kind[1])
+            return '%s let pointer = %s; if pointer.is_null() { shown.word("null")?; } else { %s %s }' % (
+                has, value, view, self.pointer_shown(field.kind[1], "view"))
         if "%s::get_%s" % (self.group_path(made, around), name) not in self.either:
             return "%s %s" % (has, self.pointer_shown(field.kind, value))
         shown = self.pointer_shown(field.kind, "view")

@@ -180,33 +180,6 @@ class Values:
         return [self.value(of, depth - 1) for _ in range(self.chance.randrange(most + 1))]
 
 
-class Literals(Values):
-    """Values that stand in a schema: there is no text of an any pointer, and a union is set once."""
-
-    def __init__(self, chance):
-        super().__init__(chance)
-        self.left = 30
-
-    def can_set(self, member):
-        held = [([], member)] if isinstance(member, Field) else fields(member.members)
-        return any(field.kind[0] not in ("interface", "any", "parameter") for _, field in held)
-
-    def struct(self, made, depth):
-        self.left -= 1
-        return Made(self.steps(made.members, depth, self.chance.choice([0.3, 0.8])))
-
-    def steps(self, members, depth, odds):
-        return super().steps([member for member in members if self.can_set(member)], depth, odds)
-
-    def union(self, union, depth, odds):
-        members = [member for member in union.members if self.can_set(member)]
-        member = self.chance.choice(members)
-        return [(member, self.chosen(member, depth, odds))]
-
-    def length(self, most):
-        return self.chance.choice([0, 1, 7, 8, most])
-
-
 def text_of(kind, value):
     """A value as the text format has it."""
     form, of = kind
