@@ -7,11 +7,8 @@ use crate::owners::{Owner, is_member, owner_of};
 use crate::pointer_names::pointer_of;
 use crate::schema::{Base, Body, Field, Node, Place, Request, Slot, Struct};
 use crate::setters::{field_name, has_setter};
-use anyhow::{Result, bail};
+use anyhow::{Context, Result, bail};
 use std::alloc::{AllocError, Global};
-
-// What is said where names collide.
-const ANOTHER_NAME: &str = ": the annotation `name` of rattle.capnp gives one another name";
 
 /// Says what is wrong with a file of a request, where something is.
 pub fn check_file(alloc: Global, request: &Request, file: u64) -> Result<()> {
@@ -114,11 +111,18 @@ impl Names {
     fn expect_new(&self, name: &str, of: &str) -> Result<()> {
         for (other, one) in self.taken.as_slice() {
             if other.as_str().eq_ignore_ascii_case(name) {
-                bail!("`{one}` and `{of}` would both be named `{name}`{ANOTHER_NAME}");
+                return another_name().context(format_args!(
+                    "`{one}` and `{of}` would both be named `{name}`"
+                ));
             }
         }
         Ok(())
     }
+}
+
+// Fails with what can be done where names collide.
+fn another_name() -> Result<()> {
+    bail!("the annotation `name` of rattle.capnp gives one another name");
 }
 
 // Says which two declarations of a node would have the same name.
