@@ -60,7 +60,7 @@ impl<'a> Reader<'a> {
     }
 }
 
-impl<'a, S: ReaderSegments> FromPointerReader<'a, S> for Reader<'a> {
+impl<'a: 'v, 'v, S: ReaderSegments> FromPointerReader<'a, S> for Reader<'v> {
     ghost use Rattle.capnp_uses.specs.AnyNumbers.{any_numbers_of, IsAnyNumbers, TakesAnyNumbers, DeclinesAnyNumbers};
 
     ghost shows = { λ pointer view.
