@@ -3,6 +3,7 @@
 mod any_objects;
 mod canonical_messages;
 mod canonical_words;
+mod counts;
 mod empty_structs;
 mod fields;
 mod list_values;

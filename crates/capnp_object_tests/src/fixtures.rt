@@ -8,9 +8,20 @@ use capnp_frame_tests::refusals::refusal;
 use capnp_wire::any_struct::StructReader;
 use capnp_wire::arena::ReaderArena;
 use capnp_wire::traits::FromPointerReader;
+use capnp_wire::upgraded::EnumElement;
 use capnp_wire::{any_pointer, primitive_list, text};
 use std::fmt::Debug;
 use std::process::Abort;
+
+/// A value of an enum that names none of its numbers.
+#[derive(PartialEq, Debug, Drop)]
+pub struct Unnamed(pub u16);
+
+impl EnumElement for Unnamed {
+    fn from_number(number: u16) -> Unnamed {
+        Unnamed(number)
+    }
+}
 
 /// What is found at a row is what is wanted there.
 pub fn expect<R: Debug + Drop, T: PartialEq + Debug + Drop>(

@@ -1,0 +1,235 @@
+//! What each view counts against the traversal limit, by each way to it: the words of what leads
+//! there once, and the landing pads and the words of the object each time that it is viewed.
+mod views;
+
+use crate::calls::counts::views::{Limited, VIEWS, View, views};
+use crate::fixtures::{arena_of, expect};
+use capnp_frame::Result;
+use std::alloc::Global;
+use std::process::Abort;
+
+// An object as its pointer with the words right behind it, and how many words it counts: all that
+// it has, of a list of structs the tag and each word that the pointer counts, and the number of
+// elements of no words.
+#[rattlefmt::skip]
+const OBJECTS: [(&[u8], usize); 19] = [
+    // structs: of nothing, of two data words and a pointer
+    (b"\xfc\xff\xff\xff\0\0\0\0", 0),
+    (b"\0\0\0\0\x02\0\x01\0\x07\0\0\0\0\0\0\0\x08\0\0\0\0\0\0\0\0\0\0\0\0\0\0\0", 3),
+    // bytes: none, a text of 14, nine with no zero at their end
+    (b"\x01\0\0\0\x02\0\0\0", 0),
+    (b"\x01\0\0\0\x72\0\0\0Hello, World!\0\0\0", 2),
+    (b"\x01\0\0\0\x4a\0\0\0abcdefghi\0\0\0\0\0\0\0", 2),
+    // nothings: none, and five
+    (b"\x01\0\0\0\0\0\0\0", 0),
+    (b"\x01\0\0\0\x28\0\0\0", 5),
+    // 70 bits; five numbers of two bytes, three of four, and three of eight
+    (b"\x01\0\0\0\x31\x02\0\0\x03\0\0\0\0\0\0\0\x05\0\0\0\0\0\0\0", 2),
+    (b"\x01\0\0\0\x2b\0\0\0\x01\0\x02\0\x03\0\x04\0\x05\0\0\0\0\0\0\0", 2),
+    (b"\x01\0\0\0\x1c\0\0\0\x01\0\0\0\x02\0\0\0\x03\0\0\0\0\0\0\0", 2),
+    (b"\x01\0\0\0\x1d\0\0\0\x01\0\0\0\0\0\0\0\x02\0\0\0\0\0\0\0\x03\0\0\0\0\0\0\0", 3),
+    // pointers: none, and three that are null
+    (b"\x01\0\0\0\x06\0\0\0", 0),
+    (b"\x01\0\0\0\x1e\0\0\0\0\0\0\0\0\0\0\0\0\0\0\0\0\0\0\0\0\0\0\0\0\0\0\0", 3),
+    // lists of structs: none; two of a data word; two of a data word and a pointer; one of a data
+    // word, and a word after it
+    (b"\x01\0\0\0\x07\0\0\0\0\0\0\0\0\0\0\0", 1),
+    (b"\x01\0\0\0\x17\0\0\0\x08\0\0\0\x01\0\0\0\x01\0\0\0\0\0\0\0\x02\0\0\0\0\0\0\0", 3),
+    (b"\x01\0\0\0\x27\0\0\0\x08\0\0\0\x01\0\x01\0\x01\0\0\0\0\0\0\0\0\0\0\0\0\0\0\0\x02\0\0\0\0\0\0\0\0\0\0\0\0\0\0\0", 5),
+    (b"\x01\0\0\0\x17\0\0\0\x04\0\0\0\x01\0\0\0\x01\0\0\0\0\0\0\0\0\0\0\0\0\0\0\0", 3),
+    // three structs of nothing, and the same with a word after them
+    (b"\x01\0\0\0\x07\0\0\0\x0c\0\0\0\0\0\0\0", 4),
+    (b"\x01\0\0\0\x0f\0\0\0\x0c\0\0\0\0\0\0\0\0\0\0\0\0\0\0\0", 5),
+];
+
+// What leads to an object: the root pointer, and what is behind it up to the object's own pointer.
+// A struct of a pointer, a list of a pointer, a list of a struct of a pointer, and each of these
+// after a landing pad.
+const STRUCT: &[u8] = b"\0\0\0\0\0\0\x01\0";
+
+const LIST: &[u8] = b"\x01\0\0\0\x0e\0\0\0";
+
+const STRUCTS: &[u8] = b"\x01\0\0\0\x0f\0\0\0\x04\0\0\0\0\0\x01\0";
+
+const FAR_STRUCT: &[u8] = b"\x0a\0\0\0\0\0\0\0\0\0\0\0\0\0\x01\0";
+
+const FAR_LIST: &[u8] = b"\x0a\0\0\0\0\0\0\0\x01\0\0\0\x0e\0\0\0";
+
+#[rattlefmt::skip]
+const FAR_STRUCTS: &[u8] =
+    b"\x0a\0\0\0\0\0\0\0\x01\0\0\0\x0f\0\0\0\x04\0\0\0\0\0\x01\0";
+
+/// What the root is read as.
+#[derive(Clone, Copy, Debug)]
+pub enum Root {
+    Pointer,
+    Struct,
+    Structs,
+    Pointers,
+    Lists,
+    UpgradedStructs,
+    UpgradedPointers,
+    UpgradedLists,
+    Object,
+}
+
+/// How a view is asked for: of a pointer or as an element, or of a struct, in whose segment its
+/// pointer is.
+#[derive(Clone, Copy, Debug)]
+pub enum Asked {
+    Pointer,
+    Struct,
+}
+
+/// A way to an object.
+pub type Way = (Root, Asked);
+
+// Ways, what is before the object, and how many words are counted of it, once.
+#[rattlefmt::skip]
+const WAYS: [(Way, &[u8], usize); 26] = [
+    ((Root::Pointer, Asked::Pointer), b"", 0),
+    ((Root::Struct, Asked::Pointer), STRUCT, 1),
+    ((Root::Struct, Asked::Struct), STRUCT, 1),
+    ((Root::Structs, Asked::Pointer), STRUCTS, 2),
+    ((Root::Structs, Asked::Struct), STRUCTS, 2),
+    ((Root::Pointers, Asked::Pointer), LIST, 1),
+    ((Root::Lists, Asked::Pointer), LIST, 1),
+    ((Root::UpgradedStructs, Asked::Pointer), LIST, 1),
+    ((Root::UpgradedStructs, Asked::Struct), LIST, 1),
+    ((Root::UpgradedStructs, Asked::Pointer), STRUCTS, 2),
+    ((Root::UpgradedStructs, Asked::Struct), STRUCTS, 2),
+    ((Root::UpgradedPointers, Asked::Pointer), LIST, 1),
+    ((Root::UpgradedPointers, Asked::Pointer), STRUCTS, 2),
+    ((Root::UpgradedLists, Asked::Pointer), LIST, 1),
+    ((Root::UpgradedLists, Asked::Pointer), STRUCTS, 2),
+    ((Root::Object, Asked::Pointer), LIST, 1),
+    ((Root::Object, Asked::Struct), STRUCT, 1),
+    ((Root::Object, Asked::Struct), STRUCTS, 2),
+    ((Root::Struct, Asked::Struct), FAR_STRUCT, 2),
+    ((Root::Structs, Asked::Struct), FAR_STRUCTS, 3),
+    ((Root::Lists, Asked::Pointer), FAR_LIST, 2),
+    ((Root::UpgradedStructs, Asked::Struct), FAR_LIST, 2),
+    ((Root::UpgradedStructs, Asked::Struct), FAR_STRUCTS, 3),
+    ((Root::UpgradedPointers, Asked::Pointer), FAR_STRUCTS, 3),
+    ((Root::UpgradedLists, Asked::Pointer), FAR_LIST, 2),
+    ((Root::Object, Asked::Struct), FAR_STRUCT, 2),
+];
+
+// Where an object is: behind its pointer, or after a landing pad of one word or of two.
+#[derive(Clone, Copy, Debug)]
+enum Placed {
+    Here,
+    OnePad,
+    TwoPads,
+}
+
+// Places, and the words of the landing pad.
+const PLACES: [(Placed, usize); 3] = [(Placed::Here, 0), (Placed::OnePad, 1), (Placed::TwoPads, 2)];
+
+type Segments = (Vec<u8>, Vec<u8>, Vec<u8>);
+
+fn append(segment: &mut Vec<u8>, parts: [&[u8]; 2]) -> Result<()> {
+    segment.extend_from_slice(parts[0])?;
+    segment.extend_from_slice(parts[1])?;
+    Ok(())
+}
+
+// The words before an object, and it at a place.
+fn segments_of(alloc: Global, before: &[u8], object: &[u8], place: Placed) -> Result<Segments> {
+    let mut first = Vec::new(alloc);
+    let mut second = Vec::new(alloc);
+    let mut third = Vec::new(alloc);
+    match place {
+        Placed::Here => append(&mut first, [before, object])?,
+        Placed::OnePad => {
+            append(&mut first, [before, b"\x02\0\0\0\x01\0\0\0"])?;
+            append(&mut second, [object, b""])?;
+        }
+        Placed::TwoPads => {
+            let pointer = object.get(..8).unwrap_or(b"");
+            append(&mut first, [before, b"\x06\0\0\0\x01\0\0\0"])?;
+            append(&mut second, [b"\x02\0\0\0\x02\0\0\0", pointer])?;
+            append(&mut third, [object.get(8..).unwrap_or(b""), b""])?;
+        }
+    }
+    Ok((first, second, third))
+}
+
+// How often an object may be viewed, and which of three views are refused for the limit.
+const TIMES: [(usize, Limited); 4] = [
+    (0, [true, true, true]),
+    (1, [false, true, true]),
+    (2, [false, false, true]),
+    (3, [false, false, false]),
+];
+
+// Three views of one object, within a limit, are refused as is wanted.
+fn expect_within(
+    rt: &impl Abort,
+    segments: &Segments,
+    limit: usize,
+    (way, view): (Way, View),
+    wanted: Limited,
+) -> Result<()> {
+    let segments = [
+        segments.0.as_slice(),
+        segments.1.as_slice(),
+        segments.2.as_slice(),
+    ];
+    let arena = arena_of(&segments, Some(limit), 64);
+    expect(rt, (way, view, limit), views(&arena, way, view)?, wanted);
+    Ok(())
+}
+
+// At the sum of what is counted each view is read, and at one word less the last one is not. Where
+// nothing is counted all are read.
+fn expect_counted(
+    rt: &impl Abort,
+    segments: &Segments,
+    (before, words): (usize, usize),
+    call: (Way, View),
+) -> Result<()> {
+    if words == 0 {
+        return expect_within(rt, segments, before, call, [false; 3]);
+    }
+    for (times, wanted) in &TIMES {
+        let sum = before.saturating_add(words.saturating_mul(*times));
+        expect_within(rt, segments, sum, call, *wanted)?;
+        expect_within(rt, segments, sum.saturating_add(words - 1), call, *wanted)?;
+    }
+    Ok(())
+}
+
+// An object by each way, at each place, by each view.
+fn expect_object(rt: &(impl Abort + AllocGlobal), object: &[u8], words: usize) -> Result<()> {
+    for (way, before, counted) in &WAYS {
+        for (place, pad) in &PLACES {
+            let segments = segments_of(rt.alloc(), before, object, *place)?;
+            let counts = (*counted, words.saturating_add(*pad));
+            for view in &VIEWS {
+                expect_counted(rt, &segments, counts, (*way, *view))?;
+            }
+        }
+    }
+    Ok(())
+}
+
+#[test]
+fn what_each_view_counts(rt: HostRuntime) -> Result<()> {
+    for (object, words) in &OBJECTS {
+        expect_object(&rt, object, *words)?;
+    }
+    Ok(())
+}
+
+// A null pointer counts nothing, and is read where nothing is left.
+#[test]
+fn null_counts_nothing(rt: HostRuntime) -> Result<()> {
+    for (way, before, counted) in &WAYS {
+        let segments = segments_of(rt.alloc(), before, &[0; 8], Placed::Here)?;
+        for view in &VIEWS {
+            expect_counted(&rt, &segments, (*counted, 0), (*way, *view))?;
+        }
+    }
+    Ok(())
+}
