@@ -4,6 +4,7 @@ mod address_book;
 mod assertions;
 mod builders;
 mod changed;
+mod counts;
 mod fields;
 mod lists;
 mod people;

@@ -44,7 +44,7 @@ pub fn has_job<S: ReaderSegments>(read: &person::Reader<'_, S>, job: Job<'_>) ->
 
 // The C++ tool wrote these bytes of the same book: `capnp convert text:canonical`.
 #[rattlefmt::skip]
-const BOOK: &[u8] = &[
+pub(crate) const BOOK: &[u8] = &[
     0, 0, 0, 0, 0, 0, 1, 0,
     1, 0, 0, 0, 87, 0, 0, 0,
     8, 0, 0, 0, 1, 0, 4, 0,
