@@ -10,6 +10,9 @@ use crate::setters::{field_name, has_setter};
 use anyhow::{Context, Result, bail};
 use std::alloc::{AllocError, Global};
 
+// What is said of names that collide.
+const COLLIDES: &str = "names collide, for which rattle.capnp has an annotation";
+
 /// Says what is wrong with a file of a request, where something is.
 pub fn check_file(alloc: Global, request: &Request, file: u64) -> Result<()> {
     let mut left: Vec<u64> = Vec::new(alloc);
@@ -101,7 +104,7 @@ impl Names {
     // one.
     fn add(&mut self, alloc: Global, name: Result<String, AllocError>, of: &str) -> Result<()> {
         let name = name?;
-        self.expect_new(name.as_str(), of)?;
+        self.expect_new(name.as_str(), of).context(COLLIDES)?;
         let of = String::from_str(alloc, of)?;
         self.taken.push((name, of))?;
         Ok(())
@@ -111,18 +114,11 @@ impl Names {
     fn expect_new(&self, name: &str, of: &str) -> Result<()> {
         for (other, one) in self.taken.as_slice() {
             if other.as_str().eq_ignore_ascii_case(name) {
-                return another_name().context(format_args!(
-                    "`{one}` and `{of}` would both be named `{name}`"
-                ));
+                bail!("`{one}` and `{of}` would both be named `{name}`");
             }
         }
         Ok(())
     }
-}
-
-// Fails with what can be done where names collide.
-fn another_name() -> Result<()> {
-    bail!("the annotation `name` of rattle.capnp gives one another name");
 }
 
 // Says which two declarations of a node would have the same name.
