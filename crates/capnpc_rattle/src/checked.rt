@@ -11,7 +11,7 @@ use anyhow::{Context, Result, bail};
 use std::alloc::{AllocError, Global};
 
 // What is said of names that collide.
-const COLLIDES: &str = "names collide, for which rattle.capnp has an annotation";
+const COLLIDES: &str = "names collide (see rattle.capnp)";
 
 /// Says what is wrong with a file of a request, where something is.
 pub fn check_file(alloc: Global, request: &Request, file: u64) -> Result<()> {
