@@ -3,8 +3,8 @@
 use capnp_frame::Result;
 use std::alloc::Global;
 
-/// More elements than five thousand.
-pub const MANY: u32 = 5005;
+/// More elements than seventy thousand.
+pub const MANY: u32 = 70_005;
 
 /// Where the texts of a list are: after it, as in canonical form, or before it, as where a message
 /// is built from the bottom up.
@@ -58,7 +58,7 @@ impl Numbered for u8 {
 
 impl Numbered for i16 {
     fn at(index: u32) -> Self {
-        (number(index) % 32_768) as i16
+        ((number(index) % 65_536) as u16).cast_signed()
     }
 }
 

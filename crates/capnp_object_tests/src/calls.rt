@@ -5,6 +5,7 @@ mod canonical_messages;
 mod canonical_words;
 mod counts;
 mod empty_structs;
+mod enum_lists;
 mod fields;
 mod list_values;
 mod lists;

@@ -100,6 +100,75 @@ fn read_again(rt: &(impl Abort + AllocGlobal), call: Call, sample: &Sample) -> R
     Ok(())
 }
 
+// How many words a message has.
+#[derive(Clone, Copy)]
+enum Length {
+    // 153,600.
+    Long,
+    // 3,507,200.
+    Longest,
+}
+
+// The words, in 256.
+fn parts_in(length: Length) -> u32 {
+    match length {
+        Length::Long => 600,
+        Length::Longest => 13_700,
+    }
+}
+
+// A message of one segment, of which the last word alone isn't zero: packed, the words before it are
+// runs of 256, and one of 255.
+fn long_message(alloc: Global, format: Format, length: Length) -> Result<Vec<u8>> {
+    let mut text = Vec::new(alloc);
+    let parts = parts_in(length);
+    append_word(&mut text, format, (256 * parts as u64) << 32)?;
+    for _ in 1..parts {
+        match format {
+            Format::Framed => text.extend_from_slice(&[0; 2048])?,
+            Format::Packed => text.extend_from_slice(&[0, 255])?,
+        }
+    }
+    match format {
+        Format::Framed => text.extend_from_slice(&[0; 2040])?,
+        Format::Packed => text.extend_from_slice(&[0, 254])?,
+    }
+    append_word(&mut text, format, LAST)?;
+    Ok(text)
+}
+
+const LAST: u64 = 7;
+
+fn is_long(read: &OwnedSegments, length: Length) -> bool {
+    let bytes = read.as_bytes();
+    let wanted = 2048 * parts_in(length) as usize;
+    read.len() == 1 && bytes.len() == wanted && bytes.ends_with(&LAST.to_le_bytes())
+}
+
+#[test]
+fn long_messages_take_no_more_memory(rt: HostRuntime) -> Result<()> {
+    for call in &CALLS {
+        read_long(&rt, *call, Length::Long)?;
+    }
+    read_long(&rt, CALLS[1], Length::Longest)?;
+    read_long(&rt, CALLS[5], Length::Longest)
+}
+
+// After it smaller ones, and the same again, at the same place.
+fn read_long(rt: &(impl Abort + AllocGlobal), call: Call, length: Length) -> Result<()> {
+    let text = retried!(long_message(rt.alloc(), call.0, length))?;
+    let mut kept = retried!(read_text(call, &text, OwnedSegments::empty(rt.alloc())))?;
+    assert!(rt; is_long(&kept, length));
+    let place = kept.as_bytes().as_ptr();
+    for sample in &SAMPLES {
+        kept = read(call, sample, kept)?;
+        assert!(rt; has_segments(&kept, sample.segments));
+    }
+    kept = read_text(call, &text, kept)?;
+    assert!(rt; is_long(&kept, length) && kept.as_bytes().as_ptr() == place);
+    Ok(())
+}
+
 // A message of three segments, of 32, 32 and no words.
 fn large_message(alloc: Global, format: Format) -> Result<Vec<u8>> {
     let mut text = Vec::new(alloc);
@@ -123,7 +192,7 @@ fn smaller_messages_take_no_more_memory(rt: HostRuntime) -> Result<()> {
 
 fn read_smaller(rt: &(impl Abort + AllocGlobal), call: Call, large: &[u8]) -> Result<()> {
     let mut kept = retried!(read_text(call, large, OwnedSegments::empty(rt.alloc())))?;
-    for _ in 0..1005 {
+    for _ in 0..2105 {
         for sample in &SAMPLES {
             kept = read(call, sample, kept)?;
             assert!(rt; has_segments(&kept, sample.segments));

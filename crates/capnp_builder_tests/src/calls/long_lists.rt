@@ -1,4 +1,4 @@
-//! Lists of 5,005 elements, each told from the others by its index, that are set by values and by
+//! Lists of 70,005 elements, each told from the others by its index, that are set by values and by
 //! lists that were read, and objects of as many parts that are written in place.
 use crate::fixtures::expect;
 use crate::made_lists::{Entries, Names, PhoneEntry};
@@ -25,7 +25,7 @@ use std::str::from_utf8;
 
 // A message whose first segment has room for each of these lists.
 fn large_message(alloc: Global) -> Builder<HeapAllocator> {
-    let heap = HeapAllocator::new(alloc).first_segment_words(1 << 15);
+    let heap = HeapAllocator::new(alloc).first_segment_words(1 << 18);
     Builder::new(alloc, heap)
 }
 
@@ -196,15 +196,18 @@ fn write_numbers(message: &mut Builder<HeapAllocator>) -> Result<bool> {
     Ok(list.len() == MANY && (0..MANY).all(|index| list.get(index) == number(index)))
 }
 
-// A struct of as many words, whose segment differs from the list's in its root alone.
+// The most words that a struct has.
+const MOST: u16 = 65_535;
+
+// A struct of that many words.
 fn write_words(message: &mut Builder<HeapAllocator>) -> Result<bool> {
-    let mut fields = message.initn_root::<any_struct::Owned>(MANY)?;
-    for index in 0..MANY as u16 {
+    let mut fields = message.initn_root::<any_struct::Owned>(MOST as u32)?;
+    for index in 0..MOST {
         if index < fields.data_words() {
             fields.set_word(index, number(index as u32));
         }
     }
-    Ok((0..MANY as u16).all(|index| fields.get_word(index) == number(index as u32)))
+    Ok((0..MOST).all(|index| fields.get_word(index) == number(index as u32)))
 }
 
 fn write_bytes(message: &mut Builder<HeapAllocator>) -> Result<()> {
@@ -219,7 +222,7 @@ fn write_bytes(message: &mut Builder<HeapAllocator>) -> Result<()> {
 
 #[test]
 fn long_objects_in_place(rt: HostRuntime) -> Result<()> {
-    let mut segment = list_of_numbers(rt.alloc(), 8, MANY)?;
+    let segment = list_of_numbers(rt.alloc(), 8, MANY)?;
     let mut message = large_message(rt.alloc());
     let got = write_numbers(&mut message)?;
     expect(
@@ -228,9 +231,10 @@ fn long_objects_in_place(rt: HostRuntime) -> Result<()> {
         [got, has_segment(&message, &segment)],
         [true, true],
     );
-    // A struct of 5,005 data words and no pointers, right after its pointer.
+    // A struct of 65,535 data words and no pointers, right after its pointer.
+    let mut segment = list_of_numbers(rt.alloc(), 8, MOST as u32)?;
     assert!(rt; 8 <= segment.len());
-    segment[..8].copy_from_slice(&[0, 0, 0, 0, 0x8d, 0x13, 0, 0]);
+    segment[..8].copy_from_slice(&[0, 0, 0, 0, 0xff, 0xff, 0, 0]);
     let mut message = large_message(rt.alloc());
     let got = write_words(&mut message)?;
     expect(

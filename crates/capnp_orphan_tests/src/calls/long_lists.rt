@@ -1,5 +1,5 @@
-//! Lists of 5,005 elements, each told from the others by its index, that are built from the bottom
-//! up, and 1,005 messages that are built in the memory of the one before.
+//! Lists of 70,005 elements, each told from the others by its index, that are built from the bottom
+//! up, and 2,105 messages that are built in the memory of the one before.
 use crate::fixtures::{empty, expect};
 use capnp::any_struct;
 use capnp_frame::Result;
@@ -135,7 +135,7 @@ fn segment_of(alloc: Global, index: u32) -> Result<Vec<u8>> {
 #[test]
 fn many_messages_in_kept_memory(rt: HostRuntime) -> Result<()> {
     let mut objects = empty(&rt)?;
-    for index in 0..1005u32 {
+    for index in 0..2105u32 {
         objects.clear();
         let name = add_text(&mut objects, index)?;
         let root = objects.add(&draft_of(index, name))?;

@@ -1,4 +1,4 @@
-//! A stream of 1,005 messages, each told from the others by its words, by each call that reads the
+//! A stream of 2,105 messages, each told from the others by its words, by each call that reads the
 //! next one, and by those that go over a stream.
 use crate::assertions::{At, assert_bytes, assert_count, assert_holds};
 use crate::calls_declared::{assert_call, assert_unread};
@@ -23,7 +23,7 @@ use capnp_frame_tests::messages::shows;
 use std::alloc::Global;
 use std::process::Abort;
 
-const COUNT: u64 = 1005;
+const COUNT: u64 = 2105;
 
 // Message 1 has two segments of the word 1, message 2 three of the word 2, message 3 one of the
 // word 3, and so on. No word is zero, and each has a zero byte.

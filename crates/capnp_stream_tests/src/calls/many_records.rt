@@ -1,4 +1,4 @@
-//! A log of 1,005 records, each a struct of its index, which are appended by one call after another
+//! A log of 2,105 records, each a struct of its index, which are appended by one call after another
 //! and read at once.
 use crate::assertions::{At, assert_bytes, assert_count, assert_holds};
 use capnp::any_struct::{StructBuilder, StructReader};
@@ -10,7 +10,7 @@ use capnp_frame_tests::long_lists::append_packed;
 use std::alloc::Global;
 use std::process::Abort;
 
-const COUNT: u64 = 1005;
+const COUNT: u64 = 2105;
 
 // The records, the first of index 1: the table of a segment of two words, the root's pointer to a
 // struct of a data word after it, and the word.

@@ -9,7 +9,7 @@ use std::alloc::Global;
 use std::process::Abort;
 
 // How often a device was interrupted that gives two bytes a read.
-const INTERRUPTIONS: [u64; 2] = [3, 1000];
+const INTERRUPTIONS: [u64; 2] = [3, 5000];
 
 #[test]
 fn interrupted_and_short_reads_lose_nothing(rt: HostRuntime) -> Result<()> {

@@ -36,7 +36,7 @@ const WHOLE: [(usize, Ways); 8] = [
         0,
         Ways {
             most: 2,
-            interruptions: 1000,
+            interruptions: 5000,
             ..TAKES_ALL
         },
     ),
@@ -44,7 +44,7 @@ const WHOLE: [(usize, Ways); 8] = [
         64,
         Ways {
             most: 2,
-            interruptions: 1000,
+            interruptions: 5000,
             ..TAKES_ALL
         },
     ),
@@ -65,7 +65,7 @@ const WHOLE: [(usize, Ways); 8] = [
     (
         64,
         Ways {
-            flush_interruptions: 1000,
+            flush_interruptions: 5000,
             ..TAKES_ALL
         },
     ),

@@ -5,6 +5,7 @@ use capnp::io::{Read, Write};
 use capnp::message::DEFAULT_READER_OPTIONS;
 use capnp::streams::Format;
 use capnp::{Result, Way};
+use capnp_frame_tests::long_lists::list_of_numbers;
 use capnp_pack::{PackedRead, PackedWrite};
 use std::alloc::{AllocError, Global};
 
@@ -23,19 +24,31 @@ fn take(bytes: &[u8], part: &mut [u8]) -> Result<usize> {
     Ok(source.len())
 }
 
-// 65,537 bytes, which a vector takes twice.
+// How many bytes a chunk has, and two of them.
+const LENGTHS: [(usize, usize); 2] = [(65_537, 131_074), (2_000_003, 4_000_006)];
+
+// A chunk of at most 2,000,016 bytes, no two words of which are equal.
+fn chunk_of(alloc: Global, length: usize) -> Result<Vec<u8>> {
+    let mut bytes = list_of_numbers(alloc, 8, 250_001)?;
+    bytes.truncate(length);
+    Ok(bytes)
+}
+
+// A vector takes a chunk twice.
 #[test]
 fn long_chunks(rt: HostRuntime) -> Result<()> {
-    let chunk = filled(rt.alloc(), 7, 65537)?;
-    let mut sink = Vec::new(rt.alloc());
-    append(&mut sink, &chunk)?;
-    expect(&rt, "once", sink.len(), 65537);
-    append(&mut sink, &chunk)?;
-    expect(&rt, "twice", sink.len(), 131074);
-    assert!(rt; sink.starts_with(&chunk) && sink.ends_with(&chunk));
-    let mut read = filled(rt.alloc(), 0, 65537)?;
-    expect(&rt, "left", take(&sink, &mut read)?, 65537);
-    assert!(rt; read == chunk);
+    for (length, twice) in &LENGTHS {
+        let chunk = chunk_of(rt.alloc(), *length)?;
+        let mut sink = Vec::new(rt.alloc());
+        append(&mut sink, &chunk)?;
+        expect(&rt, "once", sink.len(), *length);
+        append(&mut sink, &chunk)?;
+        expect(&rt, "twice", sink.len(), *twice);
+        assert!(rt; sink.starts_with(&chunk) && sink.ends_with(&chunk));
+        let mut read = filled(rt.alloc(), 0, *length)?;
+        expect(&rt, "left", take(&sink, &mut read)?, *length);
+        assert!(rt; read == chunk);
+    }
     Ok(())
 }
 
@@ -49,10 +62,12 @@ fn put(room: &mut [u8], chunk: &[u8]) -> Result<usize> {
 // A caller-provided slice takes the same once.
 #[test]
 fn a_long_chunk_in_a_slice(rt: HostRuntime) -> Result<()> {
-    let chunk = filled(rt.alloc(), 7, 65537)?;
-    let mut room = filled(rt.alloc(), 0, 65540)?;
-    expect(&rt, "left", put(&mut room, &chunk)?, 3);
-    assert!(rt; room.starts_with(&chunk) && room.ends_with(&[7, 0, 0, 0]));
+    for (length, _) in &LENGTHS {
+        let chunk = chunk_of(rt.alloc(), *length)?;
+        let mut room = filled(rt.alloc(), 7, length.saturating_add(3))?;
+        expect(&rt, "left", put(&mut room, &chunk)?, 3);
+        assert!(rt; room.starts_with(&chunk) && room.ends_with(&[7, 7, 7]));
+    }
     Ok(())
 }
 
@@ -69,16 +84,21 @@ fn unpack_into(text: &[u8], part: &mut [u8]) -> Result<usize> {
     Ok(source.len())
 }
 
-// 8,193 words without a zero byte: 32 runs of 256 words, each with a tag and a count, and a word.
+// How many bytes there are, and how many packed: of 8,193 words without a zero byte 32 runs of 256
+// words, each with a tag and a count, and a word; of 250,113 such words 977 runs and a word.
+const PACKED_LENGTHS: [(usize, usize); 2] = [(65_544, 65_610), (2_000_904, 2_002_860)];
+
 #[test]
 fn long_packed_chunks(rt: HostRuntime) -> Result<()> {
-    let words = filled(rt.alloc(), 7, 65544)?;
-    let text = packed(rt.alloc(), &words)?;
-    expect(&rt, "the text", text.len(), 65610);
-    assert!(rt; text.ends_with(&[255, 7, 7, 7, 7, 7, 7, 7, 7, 0]));
-    let mut read = filled(rt.alloc(), 0, 65544)?;
-    expect(&rt, "left", unpack_into(&text, &mut read)?, 0);
-    assert!(rt; read == words);
+    for (length, packed_length) in &PACKED_LENGTHS {
+        let words = filled(rt.alloc(), 7, *length)?;
+        let text = packed(rt.alloc(), &words)?;
+        expect(&rt, "the text", text.len(), *packed_length);
+        assert!(rt; text.ends_with(&[255, 7, 7, 7, 7, 7, 7, 7, 7, 0]));
+        let mut read = filled(rt.alloc(), 0, *length)?;
+        expect(&rt, "left", unpack_into(&text, &mut read)?, 0);
+        assert!(rt; read == words);
+    }
     Ok(())
 }
 
@@ -95,23 +115,23 @@ const FRAMED: [u8; 16] = [0, 0, 0, 0, 1, 0, 0, 0, 0, 0, 0, 0, 0, 0, 0, 0];
 
 const PACKED: [u8; 4] = [0x10, 1, 0, 0];
 
-// 1,001 such messages.
+// 2,101 such messages.
 #[test]
-fn a_thousand_messages_and_one(rt: HostRuntime) -> Result<()> {
-    let framed = repeated(rt.alloc(), &FRAMED, 1001)?;
-    let packed = repeated(rt.alloc(), &PACKED, 1001)?;
+fn two_thousand_messages(rt: HostRuntime) -> Result<()> {
+    let framed = repeated(rt.alloc(), &FRAMED, 2101)?;
+    let packed = repeated(rt.alloc(), &PACKED, 2101)?;
     let options = DEFAULT_READER_OPTIONS;
     let found = declared_of(rt.alloc(), Format::Framed, &framed, options);
-    expect(&rt, "framed", found, (1001, 16016, 0));
+    expect(&rt, "framed", found, (2101, 33_616, 0));
     let found = declared_of_log(rt.alloc(), &packed, options);
-    expect(&rt, "packed", found, (1001, 4004, 0));
+    expect(&rt, "packed", found, (2101, 8404, 0));
     Ok(())
 }
 
 #[test]
-fn a_thousand_messages_are_transcoded(rt: HostRuntime) -> Result<()> {
-    let framed = repeated(rt.alloc(), &FRAMED, 1001)?;
-    let packed = repeated(rt.alloc(), &PACKED, 1001)?;
+fn two_thousand_messages_are_transcoded(rt: HostRuntime) -> Result<()> {
+    let framed = repeated(rt.alloc(), &FRAMED, 2101)?;
+    let packed = repeated(rt.alloc(), &PACKED, 2101)?;
     let (text, _) = transcoded(rt.alloc(), Way::Pack, &framed)?;
     assert!(rt; text == packed);
     let (text, _) = transcoded(rt.alloc(), Way::Unpack, &packed)?;
