@@ -8,7 +8,7 @@ use capnp_frame::Result;
 use std::alloc::Global;
 use std::process::Abort;
 
-// An object as its pointer with the words right behind it, and how many words it counts: all that
+// An object as its pointer with the words right after it, and how many words it counts: all that
 // it has, of a list of structs the tag and each word that the pointer counts, and the number of
 // elements of no words.
 #[rattlefmt::skip]
@@ -42,7 +42,7 @@ const OBJECTS: [(&[u8], usize); 19] = [
     (b"\x01\0\0\0\x0f\0\0\0\x0c\0\0\0\0\0\0\0\0\0\0\0\0\0\0\0", 5),
 ];
 
-// What leads to an object: the root pointer, and what is behind it up to the object's own pointer.
+// What leads to an object: the root pointer, and what is after it up to the object's own pointer.
 // A struct of a pointer, a list of a pointer, a list of a struct of a pointer, and each of these
 // after a landing pad.
 const STRUCT: &[u8] = b"\0\0\0\0\0\0\x01\0";
@@ -115,7 +115,7 @@ const WAYS: [(Way, &[u8], usize); 26] = [
     ((Root::Object, Asked::Struct), FAR_STRUCT, 2),
 ];
 
-// Where an object is: behind its pointer, or after a landing pad of one word or of two.
+// Where an object is: after its pointer, or after a landing pad of one word or of two.
 #[derive(Clone, Copy, Debug)]
 enum Placed {
     Here,
@@ -123,8 +123,12 @@ enum Placed {
     TwoPads,
 }
 
-// Places, and the words of the landing pad.
-const PLACES: [(Placed, usize); 3] = [(Placed::Here, 0), (Placed::OnePad, 1), (Placed::TwoPads, 2)];
+// Where it is, and the words of the landing pad.
+const PLACEMENTS: [(Placed, usize); 3] = [
+    (Placed::Here, 0),
+    (Placed::OnePad, 1),
+    (Placed::TwoPads, 2),
+];
 
 type Segments = (Vec<u8>, Vec<u8>, Vec<u8>);
 
@@ -155,7 +159,7 @@ fn segments_of(alloc: Global, before: &[u8], object: &[u8], place: Placed) -> Re
     Ok((first, second, third))
 }
 
-// How often an object may be viewed, and which of three views are refused for the limit.
+// How often an object may be viewed, and which of three views fail for the limit.
 const TIMES: [(usize, Limited); 4] = [
     (0, [true, true, true]),
     (1, [false, true, true]),
@@ -163,7 +167,7 @@ const TIMES: [(usize, Limited); 4] = [
     (3, [false, false, false]),
 ];
 
-// Three views of one object, within a limit, are refused as is wanted.
+// Of three views of one object, within a limit, those fail that are to fail.
 fn expect_within(
     rt: &impl Abort,
     segments: &Segments,
@@ -203,9 +207,9 @@ fn expect_counted(
 // An object by each way, at each place, by each view.
 fn expect_object(rt: &(impl Abort + AllocGlobal), object: &[u8], words: usize) -> Result<()> {
     for (way, before, counted) in &WAYS {
-        for (place, pad) in &PLACES {
-            let segments = segments_of(rt.alloc(), before, object, *place)?;
-            let counts = (*counted, words.saturating_add(*pad));
+        for (placed, landing_words) in &PLACEMENTS {
+            let segments = segments_of(rt.alloc(), before, object, *placed)?;
+            let counts = (*counted, words.saturating_add(*landing_words));
             for view in &VIEWS {
                 expect_counted(rt, &segments, counts, (*way, *view))?;
             }

@@ -19,7 +19,7 @@ type Struct<'a> = StructReader<'a, Segments<'a>>;
 
 type Object<'a> = any_object::Reader<'a, Segments<'a>>;
 
-/// Which of three views are refused for the limit.
+/// Which of three views fail for the limit.
 pub type Limited = [bool; 3];
 
 /// The kinds of views.

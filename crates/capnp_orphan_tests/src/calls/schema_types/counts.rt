@@ -133,7 +133,7 @@ fn phone_of<'a>(
     }
 }
 
-// Whether what a getter returns is refused for the limit.
+// Whether a getter fails for the limit.
 fn getter_is_limited(source: &Source<'_>, getter: Getter) -> bool {
     match source {
         Source::Sample(sample) => sample_is_limited(sample, getter),
@@ -174,7 +174,7 @@ fn person_is_limited(person: &person::Reader<'_, Segments<'_>>, getter: Getter) 
     }
 }
 
-// How often something may be viewed, and which of three calls are refused for the limit.
+// How often something may be viewed, and which of three calls fail for the limit.
 const TIMES: [(usize, [bool; 3]); 4] = [
     (0, [true, true, true]),
     (1, [false, true, true]),
@@ -182,7 +182,7 @@ const TIMES: [(usize, [bool; 3]); 4] = [
     (3, [false, false, false]),
 ];
 
-// Three calls of a getter, within a limit, are refused as is wanted.
+// Of three calls of a getter, within a limit, those fail that are to fail.
 fn expect_within(
     rt: &impl Abort,
     (getter, message): (Getter, &[u8]),
