@@ -14,10 +14,12 @@ use std::fmt::Debug;
 use std::process::Abort;
 
 /// A value of an enum that names none of its numbers.
-#[derive(PartialEq, Debug, Drop)]
+#[derive(PartialEq, Eq, Hash, Debug, Drop)]
 pub struct Unnamed(pub u16);
 
 impl EnumElement for Unnamed {
+    ghost named = { 0 };
+
     fn from_number(number: u16) -> Unnamed {
         Unnamed(number)
     }
