@@ -229,9 +229,9 @@ fn changed_twice(alloc: Global, is_alone: bool) -> Result<Orphanage> {
     Ok(objects)
 }
 
-// Whether some bytes are among others.
+// Whether some bytes, one or more, are among others.
 fn has(bytes: &[u8], part: &[u8]) -> bool {
-    bytes.windows(part.len()).any(|window| window == part)
+    !part.is_empty() && bytes.windows(part.len()).any(|window| window == part)
 }
 
 #[test]
