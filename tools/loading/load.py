@@ -102,13 +102,18 @@ def load(port, name, way):
     return ask(port, SUMS, b" "), ask(port, HASH, b" ")
 
 
-def fails(port, name):
-    """Whether the server fails where a stream is loaded in neither way."""
-    try:
-        load(port, name, insert)
-    except Fault:
-        return True
-    return False
+def probe(port, names):
+    """What to say of the streams that are loaded in neither way: the server's own fault there may also end it, after
+    which it answers nothing."""
+    failed = []
+    for name in names:
+        try:
+            load(port, name, insert)
+        except Fault:
+            failed.append(name)
+        except OSError as broken:
+            return f"{', '.join([*failed, name])}, and of the last it broke off the connection ({broken})"
+    return ", ".join(failed) or "none"
 
 
 def main():
@@ -125,8 +130,7 @@ def main():
                 print(f"try-clickhouse: {name}, {way.__name__}: {found}, wanted {(sums, first)}")
     print(f"try-clickhouse: ClickHouse {ask(port, 'SELECT version()')} takes {count} records of {', '.join(names)}:"
           f" {wrong} of {2 * len(names)} loads differ, hash {first}")
-    failed = [name for name in names if fails(port, name)]
-    print(f"try-clickhouse: in one piece and by its own buffer it fails of {', '.join(failed) or 'none'}")
+    print(f"try-clickhouse: in one piece and by its own buffer it fails of {probe(port, names)}")
     return 1 if wrong else 0
 
 
