@@ -1,7 +1,7 @@
 """Writes the manual page of a built program: manual.py ROOT CRATE NAME [PROGRAM]
 
-The page is made of what the program prints for `--help`, or of the comment at the head of its main.rt, where it
-has no such word. NAME is what it is installed as, and PROGRAM the file that is asked, if it isn't that in the
+The page is made of what the program prints for `--help`; that of the plugin is of the comment at the head of its
+main.rt, and has the words and what follows them from `--help`. NAME is what it is installed as, and PROGRAM the file that is asked, if it isn't that in the
 crate's folder.
 """
 import os
@@ -75,16 +75,24 @@ def page_of_comment(source):
     return about, [".SH SYNOPSIS", bold(usage), ".SH DESCRIPTION", "\n.PP\n".join(marked)]
 
 
+def page_of_words(text):
+    """What follows the line of usage in what --help prints: the words, and a paragraph."""
+    words, rest = re.search(r"^usage: .*\n\n((?:  .*\n)+)\n([\s\S]*)", text, re.MULTILINE).groups()
+    return section("Options", words.splitlines()) + [".PP", escaped(" ".join(rest.split()))]
+
+
 root, crate, name, *programs = sys.argv[1:]
 with open(os.path.join(root, "crates", crate, "src/main.rt")) as file:
     source = file.read()
 with open(os.path.join(root, "VERSION")) as file:
     version = file.read().strip()
+program = programs[0] if programs else os.path.join(root, "crates", crate, "out", crate)
+said = subprocess.run([program, "--help"], check=True, capture_output=True, text=True).stdout
 if crate == "capnpc_rattle":
     about, page = page_of_comment(source)
+    page += page_of_words(said)
 else:
-    program = programs[0] if programs else os.path.join(root, "crates", crate, "out", crate)
-    about, page = page_of_help(subprocess.run([program, "--help"], check=True, capture_output=True, text=True).stdout)
+    about, page = page_of_help(said)
 print('.TH "%s" 1 "" "linsjoar %s"' % (escaped(name.upper()), version))
 print(".SH NAME\n%s \\- %s" % (escaped(name), escaped(about[0].lower() + about[1:])))
 print("\n".join(page))
