@@ -112,7 +112,7 @@ def probe(port, names):
         except Fault:
             failed.append(name)
         except OSError as broken:
-            return f"{', '.join([*failed, name])}, and of the last it broke off the connection ({broken})"
+            return f"{', '.join([*failed, name])}, and at the last it broke off the connection ({broken})"
     return ", ".join(failed) or "none"
 
 
@@ -130,7 +130,7 @@ def main():
                 print(f"try-clickhouse: {name}, {way.__name__}: {found}, wanted {(sums, first)}")
     print(f"try-clickhouse: ClickHouse {ask(port, 'SELECT version()')} takes {count} records of {', '.join(names)}:"
           f" {wrong} of {2 * len(names)} loads differ, hash {first}")
-    print(f"try-clickhouse: in one piece and by its own buffer it fails of {probe(port, names)}")
+    print(f"try-clickhouse: in one piece and by its own buffer it fails on {probe(port, names)}")
     return 1 if wrong else 0
 
 
