@@ -132,9 +132,9 @@ const PLACEMENTS: [(Placed, usize); 3] = [
 
 type Segments = (Vec<u8>, Vec<u8>, Vec<u8>);
 
-fn append(segment: &mut Vec<u8>, parts: [&[u8]; 2]) -> Result<()> {
-    segment.extend_from_slice(parts[0])?;
-    segment.extend_from_slice(parts[1])?;
+fn append(segment: &mut Vec<u8>, first: &[u8], second: &[u8]) -> Result<()> {
+    segment.extend_from_slice(first)?;
+    segment.extend_from_slice(second)?;
     Ok(())
 }
 
@@ -144,16 +144,16 @@ fn segments_of(alloc: Global, before: &[u8], object: &[u8], place: Placed) -> Re
     let mut second = Vec::new(alloc);
     let mut third = Vec::new(alloc);
     match place {
-        Placed::Here => append(&mut first, [before, object])?,
+        Placed::Here => append(&mut first, before, object)?,
         Placed::OnePad => {
-            append(&mut first, [before, b"\x02\0\0\0\x01\0\0\0"])?;
-            append(&mut second, [object, b""])?;
+            append(&mut first, before, b"\x02\0\0\0\x01\0\0\0")?;
+            append(&mut second, object, b"")?;
         }
         Placed::TwoPads => {
             let pointer = object.get(..8).unwrap_or(b"");
-            append(&mut first, [before, b"\x06\0\0\0\x01\0\0\0"])?;
-            append(&mut second, [b"\x02\0\0\0\x02\0\0\0", pointer])?;
-            append(&mut third, [object.get(8..).unwrap_or(b""), b""])?;
+            append(&mut first, before, b"\x06\0\0\0\x01\0\0\0")?;
+            append(&mut second, b"\x02\0\0\0\x02\0\0\0", pointer)?;
+            append(&mut third, object.get(8..).unwrap_or(b""), b"")?;
         }
     }
     Ok((first, second, third))
