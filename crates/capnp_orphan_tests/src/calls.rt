@@ -4,6 +4,7 @@ mod callers;
 mod drafts;
 mod examples;
 mod long_lists;
+mod many_bytes;
 mod read_lists;
 mod rows;
 mod schema_types;
