@@ -1,0 +1,130 @@
+// Runs conformance files over the library for C: reads cases on standard input, and writes them with what it finds.
+// What the library doesn't tell, as the numbers in an error and what is unread after one, is left out.
+#include "capnp_c.h"
+#include "cases.h"
+
+static const uint8_t *of(const Bytes &bytes) { return reinterpret_cast<const uint8_t *>(bytes.data()); }
+
+static std::string error_of(uint8_t number) { return "error " + std::to_string(number) + " " + linsjoar_error_name(number); }
+
+static linsjoar_options options_of(const Case &c) {
+    linsjoar_options options = LINSJOAR_DEFAULT_OPTIONS;
+    options.traversal_limit_in_words = c.limit == ~0ull ? LINSJOAR_NO_LIMIT : c.limit;
+    options.nesting_limit = c.nesting;
+    return options;
+}
+
+// The segments of the message at the front of framed bytes.
+static std::string message_of(const linsjoar_options &options, const Bytes &framed, size_t &end) {
+    struct linsjoar_message message;
+    uint8_t number = linsjoar_message_with_options(of(framed), framed.size(), &options, &message);
+    if (number) return error_of(number);
+    std::vector<Bytes> segments;
+    size_t at = message.start;
+    for (uint32_t id = 0; id < message.segments; id++) {
+        size_t words;
+        number = linsjoar_segment_with_options(of(framed), framed.size(), &options, id, &words);
+        if (number) return error_of(number);
+        segments.push_back(framed.substr(at, 8 * words));
+        at += 8 * words;
+    }
+    end = message.end;
+    return at == end ? "message" + shown_segments(segments) : "error - the segments end elsewhere";
+}
+
+static Lines flat(const Case &c, const Bytes &bytes) {
+    size_t end = 0, next = 0;
+    auto options = options_of(c);
+    std::string line = message_of(options, bytes, end);
+    uint8_t number = linsjoar_next_message_with_options(of(bytes), bytes.size(), &options, &next);
+    if (bytes.size() && (number ? line != error_of(number) : next != end)) line = "error - the next message is elsewhere";
+    return {"fields: " + line + (line[0] == 'm' ? unread(bytes.size() - end) : "")};
+}
+
+// Packed messages one after another, until one fails.
+static Lines packed(const Case &c, Bytes bytes) {
+    Lines lines;
+    auto options = options_of(c);
+    for (bool done = false; !done && (c.calls < 0 || long(lines.size()) < c.calls);) {
+        Bytes framed(c.buffer < 0 ? 8192 : c.buffer, 0);
+        size_t written, read, end;
+        uint8_t number = linsjoar_unpack_message_with_options(of(bytes), bytes.size(), &options, reinterpret_cast<uint8_t *>(&framed[0]),
+            framed.size(), &written, &read);
+        done = number != 0;
+        if (number) {
+            lines.push_back(number == LINSJOAR_PREMATURE_END_OF_FILE ? "strict: end" : "strict: " + error_of(number));
+            continue;
+        }
+        bytes = bytes.substr(read);
+        lines.push_back("strict: " + message_of(options, framed.substr(0, written), end) + unread(bytes.size()));
+    }
+    return lines;
+}
+
+static Lines pack(const std::vector<Bytes> &chunks) {
+    Bytes all;
+    for (auto &chunk : chunks) {
+        Bytes text(2 * chunk.size() + 2, 0);
+        size_t written;
+        uint8_t number = linsjoar_pack(of(chunk), chunk.size(), reinterpret_cast<uint8_t *>(&text[0]), text.size(), &written);
+        if (number) return {error_of(number)};
+        all += text.substr(0, written);
+    }
+    return {"bytes" + shown(all)};
+}
+
+static Lines unpack(size_t length, const Bytes &text) {
+    Bytes words(length, 0);
+    size_t read;
+    uint8_t number = linsjoar_unpack(of(text), text.size(), reinterpret_cast<uint8_t *>(&words[0]), length, &read);
+    if (number) return {error_of(number)};
+    return {"bytes" + shown(words) + unread(text.size() - read)};
+}
+
+// The frame of segments, where it has one within the limits.
+static bool frame(const Case &c, const std::vector<Bytes> &segments, Bytes &framed) {
+    auto add = [&](uint32_t number) { framed.append(reinterpret_cast<char *>(&number), 4); };
+    size_t words = 0;
+    add(uint32_t(segments.size() - 1));
+    for (auto &segment : segments) {
+        if (segment.size() % 8) return false;
+        words += segment.size() / 8;
+        add(uint32_t(segment.size() / 8));
+    }
+    if (segments.size() % 2 == 0) add(0);
+    for (auto &segment : segments) framed += segment;
+    return !segments.empty() && segments.size() < 512 && words <= c.limit;
+}
+
+static Lines canonical(const Case &c, const std::vector<Bytes> &segments) {
+    Bytes framed;
+    if (!frame(c, segments, framed)) return {};
+    auto options = options_of(c);
+    size_t size, words;
+    uint8_t number = linsjoar_canonical_size_with_options(of(framed), framed.size(), &options, &size);
+    if (number) return {"form: " + error_of(number)};
+    Bytes form(8 * size, 0);
+    number = linsjoar_canonical_with_options(of(framed), framed.size(), &options, reinterpret_cast<uint8_t *>(&form[0]), form.size(), &words);
+    return {"form: " + (number ? error_of(number) : words == size ? "bytes" + shown(form) : "error - another size")};
+}
+
+static Lines write(const Case &c, const std::vector<Bytes> &segments) {
+    Bytes framed;
+    if (!frame(c, segments, framed)) return {};
+    Bytes text(2 * framed.size(), 0);
+    size_t written;
+    uint8_t number = linsjoar_pack_message(of(framed), framed.size(), reinterpret_cast<uint8_t *>(&text[0]), text.size(), &written);
+    return {"packed: " + (number ? error_of(number) : "bytes" + shown(text.substr(0, written)))};
+}
+
+static Lines results(const Case &c, const std::string &word, const std::string &rest) {
+    if (word == "unpack") return unpack(std::stoul(rest), segments_of(rest.substr(rest.find(' ') + 1))[0]);
+    if (word == "list" || word == "field" || word == "pointer" || word == "framed") return {};
+    auto segments = segments_of(rest);
+    if (word == "pack") return pack(segments);
+    if (word == "write") return write(c, segments);
+    if (word == "canonical") return canonical(c, segments);
+    return word == "flat" ? flat(c, segments[0]) : packed(c, segments[0]);
+}
+
+int main() { return run_cases(results); }
