@@ -96,7 +96,7 @@ fn message_of<S: ReaderSegments>(segments: S) -> String {
 }
 
 fn unread(count: usize) -> String {
-    if count > 0 { format!("; {} unread", count) } else { String::new() }
+    if count > 0 { format!("; {} unread", count) } else { "".into() }
 }
 
 fn tried<F: FnOnce() -> capnp::Result<String>>(call: F) -> String {
@@ -179,9 +179,7 @@ fn ask<F: Fn(PointerReader) -> capnp::Result<String>>(case: &Case, segments: &[&
     })
 }
 
-fn shown_pointer(pointer: PointerReader) -> String {
-    (if pointer.is_null() { "null" } else { "set" }).into()
-}
+fn shown_pointer(p: PointerReader) -> String { (if p.is_null() { "null" } else { "set" }).into() }
 
 // The data words of a struct, the last of which may be narrower, and which of its pointers are null.
 fn shown_struct(fields: StructReader) -> String {
@@ -204,17 +202,12 @@ fn shown_struct(fields: StructReader) -> String {
 }
 
 fn pointer(case: &Case, segments: &[&[u8]]) -> Vec<String> {
-    let null = ask(case, segments, |p| Ok(if p.is_null() { "yes" } else { "no" }.into()));
-    let text = ask(case, segments, |p| Ok("bytes".to_string() + &shown(p.get_text(None)?.as_bytes())));
-    let data = ask(case, segments, |p| Ok("bytes".to_string() + &shown(p.get_data(None)?)));
-    let fields = ask(case, segments, |p| Ok("struct ".to_string() + &shown_struct(p.get_struct(None)?)));
-    let size = ask(case, segments, |p| Ok(format!("{}", p.total_size()?.word_count)));
     vec![
-        format!("null: {}", null),
-        format!("text: {}", text),
-        format!("data: {}", data),
-        format!("struct: {}", fields),
-        format!("size: {}", size),
+        "null: ".to_string() + &ask(case, segments, |p| Ok(if p.is_null() { "yes" } else { "no" }.into())),
+        "text: ".to_string() + &ask(case, segments, |p| Ok("bytes".to_string() + &shown(p.get_text(None)?.as_bytes()))),
+        "data: ".to_string() + &ask(case, segments, |p| Ok("bytes".to_string() + &shown(p.get_data(None)?))),
+        "struct: ".to_string() + &ask(case, segments, |p| Ok("struct ".to_string() + &shown_struct(p.get_struct(None)?))),
+        "size: ".to_string() + &ask(case, segments, |p| Ok(format!("{}", p.total_size()?.word_count))),
     ]
 }
 
