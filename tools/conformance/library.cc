@@ -41,18 +41,19 @@ static Lines flat(const Case &c, const Bytes &bytes) {
     return {"fields: " + line + (line[0] == 'm' ? unread(bytes.size() - end) : "")};
 }
 
-// Packed messages one after another, until one fails.
+// Packed messages one after another, until one fails, after which it isn't told what is unread.
 static Lines packed(const Case &c, Bytes bytes) {
     Lines lines;
     auto options = options_of(c);
     for (bool done = false; !done && (c.calls < 0 || long(lines.size()) < c.calls);) {
-        Bytes framed(c.buffer < 0 ? 8192 : c.buffer, 0);
+        Bytes framed(c.buffer < 0 ? 1 << 16 : c.buffer, 0);
         size_t written, read, end;
         uint8_t number = linsjoar_unpack_message_with_options(of(bytes), bytes.size(), &options, reinterpret_cast<uint8_t *>(&framed[0]),
             framed.size(), &written, &read);
-        done = number != 0;
+        bool is_end = number == LINSJOAR_PREMATURE_END_OF_FILE;
+        done = number && !(is_end && c.calls >= 0);
         if (number) {
-            lines.push_back(number == LINSJOAR_PREMATURE_END_OF_FILE ? "strict: end" : "strict: " + error_of(number));
+            lines.push_back(is_end ? "strict: end" : "strict: " + error_of(number));
             continue;
         }
         bytes = bytes.substr(read);
