@@ -88,9 +88,9 @@ def expect_lists(program, framed, packed, lines):
 
 
 def try_long_streams(program):
-    # 11,000 messages of a null root, framed and packed.
-    framed, packed = 11000 * b"\0\0\0\0\x01\0\0\0\0\0\0\0\0\0\0\0", 11000 * b"\x10\x01\0\0"
-    expect_lists(program, framed, packed, b"".join(b"%d 1 1 1\n" % index for index in range(11000)))
+    # 70,005 messages of a null root, framed and packed.
+    framed, packed = 70005 * b"\0\0\0\0\x01\0\0\0\0\0\0\0\0\0\0\0", 70005 * b"\x10\x01\0\0"
+    expect_lists(program, framed, packed, b"".join(b"%d 1 1 1\n" % index for index in range(70005)))
     for words, given, printed in (("pack", framed, packed), ("unpack", packed, framed), ("canon", framed, framed),
                                   ("canon --packed", packed, framed)):
         program.expect(whole(printed), words, given)
