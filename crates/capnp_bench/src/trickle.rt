@@ -9,9 +9,9 @@ use crate::source::Trickle;
 use capnp::io::Write;
 use capnp::message::{DEFAULT_READER_OPTIONS, ReaderSegments};
 use capnp::{Result, Way, transcode};
-use capnp_frame::serialize::OwnedSegments;
+use capnp_frame::serialize::{OwnedSegments, Padding, TableRules};
 use capnp_pack::PackedWrite;
-use capnp_pack::stream::try_read_packed_segments_reusing;
+use capnp_pack::stream::try_read_packed_segments;
 use std::alloc::Global;
 
 /// How many messages a stream has.
@@ -128,16 +128,12 @@ fn add_unpacked(
     rounds: u32,
     digest: &mut Digest,
 ) -> Result<()> {
+    let rules = TableRules::new(Padding::Zero, DEFAULT_READER_OPTIONS);
     let mut spare = OwnedSegments::empty(alloc);
     for round in 0..rounds {
         let mut source = Trickle::new(packed, most);
         for _ in 0..MESSAGES {
-            let Some(segments) = try_read_packed_segments_reusing(
-                &mut source,
-                DEFAULT_READER_OPTIONS,
-                spare,
-            )?
-            else {
+            let Some(segments) = try_read_packed_segments(&mut source, rules, spare)? else {
                 return Ok(());
             };
             for segment in segments.get_segment(0) {

@@ -1,9 +1,10 @@
 -- Bytes that are skipped, and the messages whose segments they are.
 use Rattle.std.proofs.Common.{◌≡◌, ℕ, ◌+◌, ◌*◌, ◌<◌, ◌≤◌, ◌⊎◌, inl, inr, ◌↔◌, List, [], ◌++◌, length, take, drop, replicate, Option, Some, None, IfSome, Result, Ok, Err, lit<, refl, sym, ap, ◌∙◌, subst, arith, length-append}
 use Rattle.std.proofs.lemmas.List.{drop-drop, drop_at, take-append-drop, length-take-le, length-drop, length-replicate}
-use Rattle.std.specs.Prelude.{sum, IfOk}
+use Rattle.std.specs.Prelude.{sum}
 use Rattle.std.specs.List.{AllByRecursion}
-use Rattle.capnp_frame.specs.Asking.{FailsOr}
+use Rattle.std.specs.Result.{IsErrAnd}
+use Rattle.capnp_frame.specs.Asking.{Asked, FailsOr}
 use Rattle.capnp_frame.specs.declared.error.Error.{Error}
 use Rattle.capnp_frame.specs.declared.error.ErrorKind.{ErrorKind}
 use Rattle.capnp_frame.specs.declared.error.ErrorKind.TheVariants.{DeviceFailed, FailedToFillTheWholeBuffer}
@@ -11,15 +12,17 @@ use Rattle.capnp_frame.specs.declared.io.Read.{Ghosts}
 use Rattle.capnp_frame.specs.declared.serialize.segment_table.Padding.{Padding}
 use Rattle.capnp_frame.specs.Limits.{AreWithin}
 use Rattle.capnp_frame.specs.Message.{IsWholeWords, lengths}
-use Rattle.capnp_frame.specs.Refusals.{RefusesStream, TakesForLengths}
+use Rattle.capnp_frame.specs.Refusals.{TakesForLengths}
 use Rattle.capnp_frame.specs.Requests.{TableStands, MessageStands}
 use Rattle.capnp_frame.specs.SegmentLengths.{cut}
 use Rattle.capnp_frame.specs.Skipping.{SkipsMessage, LengthsStand, Drops}
-use Rattle.capnp_frame.specs.Source.{Giving, Refusing, Splits, RunsShort, IsSource, IfKnown, IsRefused}
-use Rattle.capnp_frame.specs.Steps.{AsksNext}
+use Rattle.capnp_frame.specs.Source.{Giving, Refusing, Splits, RunsShort, IsSource, IfKnown, IsRefused, Advances}
+use Rattle.capnp_frame.specs.Steps.{ReadsTable}
 use Rattle.capnp_frame.specs.Streams.{skipping_rules, ReadsStream}
 use Rattle.capnp_frame.proofs.SourceLemmas.{IfKnown-join, IfKnown-refl, IfKnown-weaker}
-use Rattle.capnp_frame.proofs.RequestLemmas.{lengths-cut, MessageStands-cut}
+use Rattle.capnp_frame.proofs.RequestLemmas.{lengths-cut, MessageStands-cut, table_not_empty}
+use Rattle.capnp_frame.proofs.MetRefusals.{reader_kind, source_kind, or_memory, table_met_skipping, segments_met}
+use Rattle.capnp_frame.proofs.StepLemmas.{asks_found, asks_failed, asks_passed}
 use Rattle.capnp_frame.proofs.ResultLemmas.{reads_taking}
 
 -- A source is plain, as every source is that shows what it gives.
@@ -105,38 +108,55 @@ standing rule gives ns None b found =
 standing rule gives ns (Some x) None found = absurd found
 standing rule gives ns (Some x) (Some y) (message, same, stands) = (message, same, stands.whole, stands)
 
--- what skips a message keeps all that a reader does, once these are known of its call
-pub skips_stream : {S : Type 0} (rule : Padding) (source : Ghosts S) (laws : IsSource source.gives source.refuses) (old new : S)
-    (kept : ℕ) (limit : Option ℕ) (r : Result (Option (List ℕ)) Error)
-    → IfOk r (λ found. IfSome found (λ ns. IfKnown (source.unread old) (source.unread new) (LengthsStand rule source.gives ns)))
-    → IfOk r (λ found. IfSome found (λ ns. AreWithin ns limit))
-    → AsksNext source old new rule (TakesForLengths kept source.gives) (RefusesStream rule source.gives source.refuses limit None) r
-    → SkipsMessage (ReadsStream source old new (skipping_rules rule source.gives source.refuses kept) limit) r
-skips_stream rule source laws old new kept limit (Err error) found within asks =
-    reads_taking rule source laws old new (λ most. TakesForLengths kept source.gives) limit (Err error) tt tt tt (record {
-      none = tt;
-      refused = asks.refused;
-      kinds = asks.kinds;
-      end = asks.end;
-      asked = record { failed = asks.asked.failed; advances = asks.asked.advances };
-    })
-skips_stream rule source laws old new kept limit (Ok None) found within asks =
+-- The exits of a call that skips a message, once its table is asked for: nothing is unread,
+pub skips_none : {S : Type 0} (rule : Padding) (source : Ghosts S) (laws : IsSource source.gives source.refuses) (old new : S) (kept : ℕ)
+    (limit : Option ℕ) → ReadsTable source old new rule limit kept (Ok None)
+    → SkipsMessage (ReadsStream source old new (skipping_rules rule source.gives source.refuses kept) limit) (Ok None)
+skips_none rule source laws old new kept limit table =
     reads_taking rule source laws old new (λ most. TakesForLengths kept source.gives) limit (Ok None) tt tt tt (record {
-      none = asks.none;
+      none = table.asks.none;
       refused = tt;
       kinds = tt;
       end = tt;
-      asked = record { failed = tt; advances = asks.asked.advances };
+      asked = record { failed = tt; advances = table.asks.asked.advances };
     })
-skips_stream rule source laws old new kept limit (Ok (Some ns)) found within asks =
-    let there = standing rule source.gives ns (source.unread old) (source.unread new) found in (
+
+-- the table is not read,
+pub skips_unread : {S : Type 0} (rule : Padding) (source : Ghosts S) (laws : IsSource source.gives source.refuses) (old new : S) (kept : ℕ)
+    (limit : Option ℕ) (error : Error) (result : Result (Option (List ℕ)) Error) → IsErrAnd result (λ own. own ≡ error)
+    → ReadsTable source old new rule limit kept (Err error)
+    → SkipsMessage (ReadsStream source old new (skipping_rules rule source.gives source.refuses kept) limit) result
+skips_unread rule source laws old new kept limit error (Ok found) is table = absurd is
+skips_unread rule source laws old new kept limit error (Err own) is table =
+    reads_taking rule source laws old new (λ most. TakesForLengths kept source.gives) limit (Err own) tt tt tt
+    (asks_passed source old new rule _ _ _ _ error (Err own) is (table_met_skipping rule _ _ source.gives source.refuses limit _ _ _) table.asks)
+
+-- the segments are not skipped,
+pub skips_cut : {S X : Type 0} (rule : Padding) (source : Ghosts S) (laws : IsSource source.gives source.refuses) (a b c : S) (kept : ℕ)
+    (limit : Option ℕ) (ns : List ℕ) (n : ℕ) (error : Error) (result : Result (Option (List ℕ)) Error)
+    → (source.same a b → source.same b c → source.same a c) → IsErrAnd result (λ own. own ≡ error)
+    → ReadsTable source a b rule limit kept (Ok (Some ns)) → n ≡ 8 * sum ns
+    → (error.kind ≡ DeviceFailed) ⊎ IsRefused source.refuses n (source.unread b) error.kind
+    → Asked {X = X} source.unread source.failures source.same b c (Err error)
+    → SkipsMessage (ReadsStream source a c (skipping_rules rule source.gives source.refuses kept) limit) result
+skips_cut rule source laws a b c kept limit ns n error (Ok found) join is table all failed asked = absurd is
+skips_cut rule source laws a b c kept limit ns n error (Err own) join is table all failed asked =
+    reads_taking rule source laws a c (λ most. TakesForLengths kept source.gives) limit (Err own) tt tt tt
+    (asks_failed source rule _ _ a b c error (Err own) join is
+    (or_memory (segments_met rule laws _ limit None _ _ _ _ ns n (λ x. x) table.found table.within asked.advances.tail all failed))
+    (reader_kind rule source.refuses _ (source_kind rule source.refuses _ _ _ failed))
+    (λ none. absurd (table_not_empty rule source.gives _ _ ns laws.none_from_nothing table.found none)) table.asks.asked.advances asked)
+
+-- or they are.
+pub skips_found : {S : Type 0} (rule : Padding) (source : Ghosts S) (laws : IsSource source.gives source.refuses) (a b c : S) (kept : ℕ)
+    (limit : Option ℕ) (ns : List ℕ) → (source.same a b → source.same b c → source.same a c)
+    → ReadsTable source a b rule limit kept (Ok (Some ns)) → IfKnown (source.unread a) (source.unread c) (LengthsStand rule source.gives ns)
+    → Advances source.unread source.failures source.same b c
+    → SkipsMessage (ReadsStream source a c (skipping_rules rule source.gives source.refuses kept) limit) (Ok (Some ns))
+skips_found rule source laws a b c kept limit ns join table stands second =
+    let there = standing rule source.gives ns (source.unread a) (source.unread c) stands in (
       there.0,
       there.1,
-      reads_taking rule source laws old new (λ most. TakesForLengths kept source.gives) limit (Ok (Some there.0)) there.3 (subst (λ l. AreWithin l limit) (sym there.1) within) there.2 (record {
-        none = tt;
-        refused = tt;
-        kinds = tt;
-        end = tt;
-        asked = record { failed = tt; advances = asks.asked.advances };
-      }),
+      reads_taking rule source laws a c (λ most. TakesForLengths kept source.gives) limit (Ok (Some there.0)) there.3
+          (subst (λ l. AreWithin l limit) (sym there.1) table.within) there.2 (asks_found source rule _ _ a b c there.0 join table.asks.asked.advances second),
     )

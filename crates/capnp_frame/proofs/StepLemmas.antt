@@ -1,5 +1,6 @@
 -- The private steps of the readers of streams, one after another.
-use Rattle.std.proofs.Common.{◌≡◌, ◌⊎◌, inl, inr, ℕ, ◌<◌, List, [], ◌∷◌, length, Option, Some, None, Result, Ok, Err, refl, sym, subst}
+use Rattle.std.proofs.Common.{◌≡◌, ◌⊎◌, inl, inr, ℕ, ◌<◌, ◌^◌, List, [], ◌∷◌, length, map, Option, Some, None, Result, Ok, Err, refl, sym, subst, ◌∙◌, arith}
+use Rattle.std.proofs.lemmas.List.{length-map}
 use Rattle.std.specs.Result.{IsErrAnd}
 use Rattle.capnp_frame.specs.declared.error.Error.{Error}
 use Rattle.capnp_frame.specs.declared.error.ErrorKind.{ErrorKind}
@@ -9,9 +10,11 @@ use Rattle.capnp_frame.specs.declared.io.Read.{Ghosts}
 use Rattle.capnp_frame.specs.Source.{Giving, Refusing, IsSource, IfKnown, IsTail, IsRefused, Advances}
 use Rattle.capnp_frame.specs.Asking.{Asked}
 use Rattle.capnp_frame.specs.Refusals.{DeclaresAccepted, TakesForLengths, RefusesTable, IsReaderKind, IsProvidedReaderKind}
-use Rattle.capnp_frame.specs.Steps.{StopsAtTable, ReadsLengths, AsksNext, AsksNextInto}
+use Rattle.capnp_frame.specs.Steps.{StopsAtTable, ReadsLengths, ReadsTable, AsksNext, AsksNextInto}
 use Rattle.capnp_frame.proofs.AskLemmas.{Asked-ok, Asked-err}
+use Rattle.capnp_frame.specs.SegmentLengths.{range_len}
 use Rattle.capnp_frame.proofs.RequestLemmas.{word_not_empty}
+use Rattle.capnp_frame.proofs.TableReading.{table_stands}
 use Rattle.capnp_frame.proofs.MetRefusals.{or_memory, rest_met, reader_kind, source_kind, lengths_taken}
 
 -- a step that finds what comes next, after one that succeeded
@@ -117,6 +120,12 @@ asks_passed_into {Y = Y} source old new rule room lines others error (Err own) i
       asked = record { failed = declared.asked.failed; advances = declared.asked.advances };
     })
 
+-- a table that is not read
+unread_table : {S : Type 0} (source : Ghosts S) (rule : Padding) (limit : Option ℕ) (kept : ℕ) (a b : S) (error : Error)
+    → AsksNext {X = List ℕ} source a b rule (TakesForLengths kept source.gives) (RefusesTable rule source.gives source.refuses limit None) (Err error)
+    → ReadsTable source a b rule limit kept (Err error)
+unread_table source rule limit kept a b error asks = record { found = tt; within = tt; bound = tt; asks = asks }
+
 -- a table's first word is not given
 first_line : (rule : Padding) (gives : Giving) (refuses : Refusing) (limit : Option ℕ) (kind : ErrorKind) (old new : Option (List ℕ))
     → IfKnown old new IsTail → (old ≡ Some [] → kind ≡ DeviceFailed) → (kind ≡ DeviceFailed) ⊎ IsRefused refuses 8 old kind
@@ -127,48 +136,68 @@ first_line rule gives refuses limit kind (Some raw) None tail end (inr refused) 
 first_line rule gives refuses limit kind (Some []) (Some left) tail end (inr refused) = inl (end refl)
 first_line rule gives refuses limit kind (Some (x ∷ raw)) (Some left) tail end (inr refused) = inr (inr (λ lacks. lacks, (λ none. cc, inl refused)))
 
-pub first_failed : {S X Y : Type 0} (source : Ghosts S) (rule : Padding) (takes : List ℕ → List ℕ → Type 0) (limit : Option ℕ)
-    (a b : S) (error : Error) (result : Result (Option Y) Error) → IsErrAnd result (λ own. own ≡ error)
+-- A table that is not read: its first word is not there,
+pub first_failed : {S X : Type 0} (source : Ghosts S) (rule : Padding) (limit : Option ℕ) (kept : ℕ)
+    (a b : S) (error : Error) (result : Result (Option (List ℕ)) Error) → IsErrAnd result (λ own. own ≡ error)
     → (error.kind ≡ DeviceFailed) ⊎ IsRefused source.refuses 8 (source.unread a) error.kind
     → (source.unread a ≡ Some [] → error.kind ≡ DeviceFailed)
     → Asked {X = X} source.unread source.failures source.same a b (Err error)
-    → AsksNext source a b rule takes (RefusesTable rule source.gives source.refuses limit None) result
-first_failed source rule takes limit a b error (Ok found) is refused end asked = absurd is
-first_failed {Y = Y} source rule takes limit a b error (Err own) is refused end asked =
-    subst (λ e. AsksNext {X = Y} source a b rule takes (RefusesTable rule source.gives source.refuses limit None) (Err e)) (sym is) (record {
+    → ReadsTable source a b rule limit kept result
+first_failed source rule limit kept a b error (Ok found) is refused end asked = absurd is
+first_failed source rule limit kept a b error (Err own) is refused end asked =
+    subst (λ e. ReadsTable source a b rule limit kept (Err e)) (sym is) (unread_table source rule limit kept a b error (record {
       none = tt;
       refused = or_memory (first_line rule source.gives source.refuses limit error.kind _ _ asked.advances.tail end refused);
       kinds = reader_kind rule source.refuses _ (source_kind rule source.refuses _ _ _ refused);
       end = end;
       asked = record { failed = asked.failed; advances = asked.advances };
-    })
+    }))
 
--- after its first word is, memory is lacking for the lengths, more than are kept
-pub memory_failed : {S Y : Type 0} (source : Ghosts S) (rule : Padding) (kept : ℕ) (lines : ErrorKind → List ℕ → List ℕ → Type 0)
-    (laws : IsSource source.gives source.refuses) (a b : S) (word : List ℕ) (count : ℕ) (result : Result (Option Y) Error)
+-- memory is lacking for the lengths, more than are kept,
+pub memory_failed : {S : Type 0} (source : Ghosts S) (rule : Padding) (limit : Option ℕ) (kept : ℕ)
+    (laws : IsSource source.gives source.refuses) (a b : S) (word : List ℕ) (count : ℕ) (result : Result (Option (List ℕ)) Error)
     → IsErrAnd result (λ own. own.kind ≡ OutOfMemory) → IfKnown (source.unread a) (source.unread b) (λ raw rest. source.gives raw 8 word rest)
     → DeclaresAccepted word count → kept < count → Advances source.unread source.failures source.same a b
-    → AsksNext source a b rule (TakesForLengths kept source.gives) lines result
-memory_failed source rule kept lines laws a b word count (Ok found) is given accepted more advances = absurd is
-memory_failed source rule kept lines laws a b word count (Err own) is given accepted more advances = record {
+    → ReadsTable source a b rule limit kept result
+memory_failed source rule limit kept laws a b word count (Ok found) is given accepted more advances = absurd is
+memory_failed source rule limit kept laws a b word count (Err own) is given accepted more advances = unread_table source rule limit kept a b own (record {
   none = tt;
   refused = inr (inl (is, lengths_taken source.gives kept count word _ _ accepted more given));
   kinds = inr (inl is);
   end = λ none. absurd (word_not_empty source.gives _ _ word laws.none_from_nothing given none);
   asked = record { failed = λ device. cc; advances = advances };
-}
+})
 
 -- or its lengths are not read
-pub lengths_failed : {S Y : Type 0} (source : Ghosts S) (rule : Padding) (takes : List ℕ → List ℕ → Type 0) (limit : Option ℕ)
+pub lengths_failed : {S : Type 0} (source : Ghosts S) (rule : Padding) (limit : Option ℕ) (kept : ℕ)
     (laws : IsSource source.gives source.refuses) (a b c : S) (word : List ℕ) (count : ℕ) (indices : List (ℕ × ℕ)) (error : Error)
-    (result : Result (Option Y) Error) → (source.same a b → source.same b c → source.same a c) → IsErrAnd result (λ own. own ≡ error)
+    (result : Result (Option (List ℕ)) Error) → (source.same a b → source.same b c → source.same a c) → IsErrAnd result (λ own. own ≡ error)
     → IfKnown (source.unread a) (source.unread b) (λ raw rest. source.gives raw 8 word rest) → DeclaresAccepted word count
     → length indices ≡ count → Advances source.unread source.failures source.same a b
     → ReadsLengths source b c rule limit word indices (Err error)
-    → AsksNext source a c rule takes (RefusesTable rule source.gives source.refuses limit None) result
-lengths_failed source rule takes limit laws a b c word count indices error result join is given accepted many first read =
+    → ReadsTable source a c rule limit kept result
+lengths_failed source rule limit kept laws a b c word count indices error (Ok found) join is given accepted many first read = absurd is
+lengths_failed source rule limit kept laws a b c word count indices error (Err own) join is given accepted many first read =
     let stops = subst (λ k. (error.kind ≡ DeviceFailed) ⊎ IfKnown (source.unread b) (source.unread c) (StopsAtTable rule source.gives source.refuses limit error.kind word k)) many read.refused in
-    asks_failed source rule takes _ a b c error result join is
+    unread_table source rule limit kept a c own (asks_failed source rule _ _ a b c error (Err own) join is
     (or_memory (rest_met rule laws _ limit None error.kind _ _ _ word count (λ lacks. lacks) given accepted stops))
     (reader_kind rule source.refuses _ read.kinds)
-    (λ none. absurd (word_not_empty source.gives _ _ word laws.none_from_nothing given none)) first read.asked
+    (λ none. absurd (word_not_empty source.gives _ _ word laws.none_from_nothing given none)) first read.asked)
+
+-- and one that is, whose lengths are between these indices
+pub lengths_found : {S : Type 0} (source : Ghosts S) (rule : Padding) (limit : Option ℕ) (kept : ℕ) (a b c : S) (word : List ℕ) (count : ℕ)
+    (indices : List (ℕ × ℕ)) (total : ℕ) (ns : List ℕ) → (source.same a b → source.same b c → source.same a c)
+    → IfKnown (source.unread a) (source.unread b) (λ raw rest. source.gives raw 8 word rest) → DeclaresAccepted word count
+    → length indices ≡ count → Advances source.unread source.failures source.same a b
+    → ReadsLengths source b c rule limit word indices (Ok total) → ns ≡ map range_len indices
+    → ReadsTable source a c rule limit kept (Ok (Some ns))
+lengths_found source rule limit kept a b c word count indices total ns join given accepted many first read is =
+    let long : length (map range_len indices) ≡ count = length-map range_len indices ∙ many in
+    let some = accepted.some in
+    let few = accepted.few in
+    subst (λ l. ReadsTable source a c rule limit kept (Ok (Some l))) (sym is) (record {
+      found = table_stands rule source.gives word _ _ _ _ given read.table;
+      within = record { some = omega (arith, long); few = omega (arith, long); each = read.each; size = read.within };
+      bound = subst (λ k. k < 2 ^ 42) read.ranges.total_is read.bound;
+      asks = asks_found source rule _ _ a b c _ join first read.asked.advances;
+    })

@@ -8,14 +8,14 @@ use Rattle.capnp_frame.specs.declared.error.ErrorKind.TheVariants.{DeviceFailed,
 use Rattle.capnp_frame.specs.declared.serialize.segment_table.Padding.{Padding}
 use Rattle.capnp_frame.specs.declared.io.Read.{Ghosts}
 use Rattle.capnp_frame.specs.Message.{size_in_words}
-use Rattle.capnp_frame.specs.Refusals.{Outgrows, TakesMemory, TakesForLengths}
+use Rattle.capnp_frame.specs.Refusals.{Outgrows, TakesForLengths}
 use Rattle.capnp_frame.specs.Requests.{TableStands}
 use Rattle.capnp_frame.specs.SegmentLengths.{cut}
 use Rattle.capnp_frame.specs.Skipping.{SkipsMessage, LengthsStand}
 use Rattle.capnp_frame.specs.Source.{IfKnown}
 use Rattle.capnp_frame.proofs.RequestLemmas.{lengths-cut, MessageStands-cut}
 use Rattle.capnp_frame.proofs.SourceLemmas.{IfKnown-join}
-use Rattle.capnp_frame.specs.Steps.{AsksNext}
+use Rattle.capnp_frame.specs.Steps.{ReadsTable}
 use Rattle.capnp_frame.specs.SegmentTable.{table_size}
 use Rattle.capnp_frame.specs.Streams.{framed_rules, reusing_rules, skipping_rules, ReadsStream, ReadsStreamInto}
 use Rattle.capnp_pack.specs.PackedSource.{Unpacks, RefusesChunk}
@@ -52,17 +52,10 @@ packed_reads_taking rule takes following source same old new limit r same_source
 }
 
 pub packed_reads : {S T : Type 0} (rule : Padding) (following : T → S) (source : Ghosts S) (same : T → T → Type 0) (old new : T)
-    (limit : Option ℕ) (r : Result (Option (List (List ℕ))) Error) → source.same (following old) (following new)
-    → ReadsStream (unpacked following source same) old new (framed_rules rule Unpacks RefusesChunk) limit r
-    → ReadsStream source (following old) (following new) (packed_rules rule) limit r
-packed_reads rule following source same old new limit r same_source declared =
-    packed_reads_taking rule (TakesMemory rule Unpacks) following source same old new limit r same_source declared
-
-pub packed_reads_reusing : {S T : Type 0} (rule : Padding) (following : T → S) (source : Ghosts S) (same : T → T → Type 0) (old new : T)
     (kept : List (List ℕ)) (limit : Option ℕ) (r : Result (Option (List (List ℕ))) Error) → source.same (following old) (following new)
     → ReadsStream (unpacked following source same) old new (reusing_rules rule Unpacks RefusesChunk kept) limit r
     → ReadsStream source (following old) (following new) (packed_reusing_rules rule kept) limit r
-packed_reads_reusing rule following source same old new kept limit r same_source declared =
+packed_reads rule following source same old new kept limit r same_source declared =
     packed_reads_taking rule (Outgrows (length kept) (length (concat kept)) rule Unpacks) following source same old new limit r same_source declared
 
 pub packed_reads_into : {S T : Type 0} (rule : Padding) (following : T → S) (source : Ghosts S) (same : T → T → Type 0) (old new : T)
@@ -87,19 +80,24 @@ packed_reads_into rule following source same old new limit room r same_source de
 
 -- Skipping
 
--- a step over what unpacks a source is one of the source's packed requests
-pub packed_asks : {S T X : Type 0} (following : T → S) (source : Ghosts S) (same : T → T → Type 0) (old new : T) (rule : Padding)
-    (takes : List ℕ → List ℕ → Type 0) (lines : ErrorKind → List ℕ → List ℕ → Type 0) (r : Result (Option X) Error)
-    → source.same (following old) (following new) → AsksNext (unpacked following source same) old new rule takes lines r
-    → AsksNext (packed_source source) (following old) (following new) rule takes lines r
-packed_asks following source same old new rule takes lines r same_source declared = record {
-  none = declared.none;
-  refused = declared.refused;
-  kinds = declared.kinds;
-  end = declared.end;
-  asked = record {
-    failed = declared.asked.failed;
-    advances = record { tail = declared.asked.advances.tail; counted = declared.asked.advances.counted; same_source = same_source };
+-- a table that is read over what unpacks a source is read by packed requests of the source
+pub packed_table : {S T : Type 0} (following : T → S) (source : Ghosts S) (same : T → T → Type 0) (old new : T) (rule : Padding)
+    (limit : Option ℕ) (kept : ℕ) (r : Result (Option (List ℕ)) Error) → source.same (following old) (following new)
+    → ReadsTable (unpacked following source same) old new rule limit kept r
+    → ReadsTable (packed_source source) (following old) (following new) rule limit kept r
+packed_table following source same old new rule limit kept r same_source declared = record {
+  found = declared.found;
+  within = declared.within;
+  bound = declared.bound;
+  asks = record {
+    none = declared.asks.none;
+    refused = declared.asks.refused;
+    kinds = declared.asks.kinds;
+    end = declared.asks.end;
+    asked = record {
+      failed = declared.asks.asked.failed;
+      advances = record { tail = declared.asks.asked.advances.tail; counted = declared.asks.asked.advances.counted; same_source = same_source };
+    };
   };
 }
 

@@ -2,7 +2,7 @@
 use Rattle.std.proofs.Common.{refl, ap}
 use Rattle.capnp_frame.proofs.HeldLemmas.{moved}
 use Rattle.capnp_frame.proofs.FlatReaderLemmas.{reads_none, reads_held}
-use Rattle.capnp_frame.proofs.serialize.no_alloc_buffer_segments.NoAllocBufferSegments+ref+slice+u8.from_slice_with_padding.Goals as goal
+use Rattle.capnp_frame.proofs.serialize.no_alloc_buffer_segments.NoAllocBufferSegments+ref+slice+u8.from_slice_with_rules.Goals as goal
 
 pub returns-in_err-info : goal.returns-in_err-info
 returns-in_err-info c = reads_none _ _ _ _ _ _ c.from_residual.ensures.1 refl c.in_err-info.ensures.refused
