@@ -192,7 +192,7 @@ pub lengths_found : {S : Type 0} (source : Ghosts S) (rule : Padding) (limit : O
     → ReadsLengths source b c rule limit word indices (Ok total) → ns ≡ map range_len indices
     → ReadsTable source a c rule limit kept (Ok (Some ns))
 lengths_found source rule limit kept a b c word count indices total ns join given accepted many first read is =
-    let long : length (map range_len indices) ≡ count = length-map range_len indices ∙ many in
+    let long : length (map range_len indices) ≡ count = length-map indices range_len ∙ many in
     let some = accepted.some in
     let few = accepted.few in
     subst (λ l. ReadsTable source a c rule limit kept (Ok (Some l))) (sym is) (record {

@@ -1,13 +1,10 @@
 -- Some message of these lengths is there.
 use Rattle.std.proofs.Common.{rules, ◌*◌}
-use Rattle.capnp_frame.proofs.SkippingLemmas.{LengthsStand-skipped, skips_none, skips_unread, skips_cut, skips_found}
+use Rattle.capnp_frame.proofs.SkippingLemmas.{LengthsStand-skipped, skips_unread, skips_cut, skips_found}
 use Rattle.capnp_frame.proofs.serialize.skipping.try_skip_segments.Goals as goal
 
 pub returns-in_err-found : goal.returns-in_err-found
 returns-in_err-found g c = skips_unread c.args.rules.padding g.R.Read g.met.R.Read.lawful _ _ _ _ _ _ c.from_residual.ensures.1 c.in_err-found.ensures
-
-pub returns-else-found : goal.returns-else-found
-returns-else-found g c = skips_none c.args.rules.padding g.R.Read g.met.R.Read.lawful _ _ _ _ c.in_ok-found.ensures
 
 pub returns-in_err-skip_bytes : goal.returns-in_err-skip_bytes
 returns-in_err-skip_bytes g c =

@@ -1,5 +1,6 @@
 -- The table that is read is the only one that is there.
-use Rattle.std.proofs.Common.{rules, ◌≡◌, ◌∙◌, ◌<◌, max, length, map, sym, arith}
+use Rattle.std.proofs.Common.{rules, ◌≡◌, ◌∙◌, ◌<◌, max, length, map, sym, ap, arith}
+use Rattle.std.proofs.lemmas.Grind.{common_steps}
 use Rattle.capnp_frame.specs.SegmentLengths.{range_len}
 use Rattle.capnp_frame.proofs.Ranges.{width_alone}
 use Rattle.capnp_frame.proofs.StepLemmas.{first_failed, memory_failed, lengths_failed, lengths_found}
@@ -49,6 +50,7 @@ returns-in_err-total-2 g c =
 pub returns : goal.returns
 returns g c =
     let first = rw c.in-Some.is at c.in_ok-first.ensures.found in
+    let are : c.from_several.result ≡ map range_len c.read_lengths-2.new.indices = rw c.from_several.ensures (ap (map range_len) (grind (arith, common_steps))) in
     lengths_found g.R.Read c.args.rules.padding c.args.rules.limit_in_words _ _ _ _ c.in-Some.first c.in_ok-count.count _ _ _
     (g.met.R.Read.keeps.transitive _ _ _) first c.in_ok-count.ensures.accepted (search rules)
-    c.read_first.ensures.asked.advances c.in_ok-total-2.ensures c.from_several.ensures
+    c.read_first.ensures.asked.advances c.in_ok-total-2.ensures are

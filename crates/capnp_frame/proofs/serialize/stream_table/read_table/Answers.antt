@@ -1,5 +1,7 @@
 -- The table that is read is the only one that is there.
-use Rattle.std.proofs.Common.{rules, ◌≡◌, ◌∙◌, ◌<◌, length, ap, arith}
+use Rattle.std.proofs.Common.{rules, ◌≡◌, ◌∙◌, ◌<◌, length, map, ap, arith}
+use Rattle.std.proofs.lemmas.Grind.{common_steps}
+use Rattle.capnp_frame.specs.SegmentLengths.{range_len}
 use Rattle.capnp_frame.proofs.Ranges.{length-ranges}
 use Rattle.capnp_frame.proofs.StepLemmas.{first_failed, memory_failed, lengths_failed, lengths_found}
 use Rattle.capnp_frame.proofs.serialize.stream_table.read_table.Goals as goal
@@ -28,6 +30,7 @@ returns-in_err-total g c =
 pub returns : goal.returns
 returns g c =
     let first = rw c.in-Some.is at c.in_ok-first.ensures.found in
+    let are : c.from_indices.result ≡ map range_len c.read_lengths.new.indices = rw c.from_indices.ensures (ap (map range_len) (grind (arith, common_steps))) in
     lengths_found g.R.Read c.args.rules.padding c.args.rules.limit_in_words _ _ _ _ c.in-Some.first c.in_ok-count.count _ _ _
     (g.met.R.Read.keeps.transitive _ _ _) first c.in_ok-count.ensures.accepted (search rules)
-    c.read_first.ensures.asked.advances c.in_ok-total.ensures c.from_indices.ensures
+    c.read_first.ensures.asked.advances c.in_ok-total.ensures are
