@@ -7,6 +7,7 @@ mod skipping;
 mod stream;
 mod writing;
 
+pub use capnp_pack::{PackedRead, PackedWrite};
 pub use lenient::{
     read_message_lenient, read_message_no_alloc_lenient, try_read_message_lenient,
     try_read_message_no_alloc_lenient, try_read_message_reusing_lenient,
