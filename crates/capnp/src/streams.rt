@@ -12,9 +12,11 @@ ghost use Rattle.capnp_frame.specs.Streams.{ReadsStream};
 ghost use Rattle.capnp.specs.Streams.{refuses_of, rules_of};
 ghost use Rattle.capnp.specs.Runs.{Writing, DecliningWriting, IsWritingFault, BreaksOffOr, IsRunFault, HasRun, WritesEach};
 
+mod appended;
 mod message_stream;
 mod reading;
 
+pub use appended::{read_messages, write_message, write_messages};
 use capnp_frame::io::{BufRead, Write};
 use capnp_frame::message::ReaderOptions;
 use capnp_frame::serialize::{OwnedSegments, Padding, try_read_segments_reusing_with_padding};

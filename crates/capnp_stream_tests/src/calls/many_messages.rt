@@ -8,12 +8,11 @@ use crate::flat::RULES;
 use crate::samples::append_word;
 use crate::streams::{Call, READERS, Wanted, is_returned};
 use crate::{framed, packed};
-use capnp::appended::read_messages;
 use capnp::devices::Input;
 use capnp::io::BufRead;
 use capnp::message::{DEFAULT_READER_OPTIONS, Reader};
 use capnp::serialize::SegmentLengthsBuilder;
-use capnp::streams::{Format, MessageStream, every_message, write_each_message};
+use capnp::streams::{Format, MessageStream, every_message, read_messages, write_each_message};
 use capnp::{Way, serialize, serialize_packed};
 use capnp_frame::message::ReaderSegments;
 use capnp_frame::serialize::{OwnedSegments, Padding};
@@ -224,7 +223,7 @@ fn read_all(
     assert_count(rt, read.end, stream.len(), at);
     assert_holds(rt, read.refusal.is_none(), at);
     let mut source = stream;
-    let messages = read_messages(rt.alloc(), format, &mut source, COUNT as usize, options)?;
+    let messages = read_messages(rt.alloc(), &mut source, format, COUNT as usize, options)?;
     assert_all(rt, &messages, "as many");
     assert_count(rt, source.len(), 0, At::row("as many"));
     Ok(())

@@ -3,10 +3,10 @@ use capnp::io::{Read, Write};
 use capnp::message::{
     Builder, DEFAULT_READER_OPTIONS, HeapAllocator, SegmentArray, SingleSegmentAllocator,
 };
-use capnp::serialize::Padding;
+use capnp::serialize::{self, Padding};
+use capnp::serialize_packed::{self, PackedRead, PackedWrite};
 use capnp::streams::{Format, MessageStream};
-use capnp::{Way, primitive_list, record_log, serialize, serialize_packed, text, transcode};
-use capnp_pack::{PackedRead, PackedWrite};
+use capnp::{Way, primitive_list, record_log, text, transcode};
 use std::test::Fail;
 
 // A message of three words whose root is the text "Hello, World!", framed.

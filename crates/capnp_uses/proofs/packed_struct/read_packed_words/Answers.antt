@@ -6,7 +6,7 @@ use Rattle.capnp_frame.specs.Source.{Fails}
 use Rattle.capnp_wire.specs.Tree.{struct}
 use Rattle.capnp_wire.specs.Views.{DeclinesStruct}
 use Rattle.capnp_message.specs.Seen.{root_of}
-use Rattle.capnp.proofs.AppendedLemmas.{memory_only}
+use Rattle.capnp_uses.proofs.AppendedLemmas.{memory_only}
 use Rattle.capnp_frame.specs.Limits.{default_limit}
 use Rattle.capnp_uses.proofs.ReadingLemmas.{default_depth, root_is_default}
 use Rattle.capnp_uses.proofs.RootLemmas.{read_at_root, root_meets_limit, struct_is_taken}

@@ -8,7 +8,7 @@ use Rattle.capnp_frame.specs.declared.error.ErrorKind.TheVariants.{DeviceFailed,
 use Rattle.capnp.specs.Headline.{IsFault}
 use Rattle.capnp.proofs.AppendedLemmas.{texts_next, accepted_later, accepted_at_memory, AllByRecursion-push}
 use Rattle.capnp.proofs.FormatLemmas.{or_fails_advances, or_fails_failed}
-use Rattle.capnp.proofs.appended.read_messages.Goals as goal
+use Rattle.capnp.proofs.streams.appended.read_messages.Goals as goal
 
 pub returns-in_err-reader : goal.returns-in_err-reader
 returns-in_err-reader g c =

@@ -5,7 +5,7 @@ use Rattle.capnp_frame.specs.Source.{IfKnown}
 use Rattle.capnp_frame.specs.Sink.{Adds, Grows}
 use Rattle.capnp_frame.specs.Writing.{IsWithinSegmentLimit}
 use Rattle.capnp.specs.Written.{IsPlainSink, IsTextOf, AppendsMessage, AppendsEach}
-use Rattle.capnp.proofs.appended.write_messages.Given as goal
+use Rattle.capnp.proofs.streams.appended.write_messages.Given as goal
 
 abbrev pub invariant-loop-message : goal.invariant-loop-message
 invariant-loop-message g l = let W = g.W.Write in let before = map g.S.ReaderSegments.segments (take l.message-index l.messages) in record {

@@ -5,7 +5,7 @@ use Rattle.capnp_frame.specs.Source.{IfKnown, Advances}
 use Rattle.capnp_frame.specs.declared.serialize.segment_table.Padding.TheVariants.{Zero}
 use Rattle.capnp_frame.specs.Texts.{AreEncodings}
 use Rattle.capnp.specs.Streams.{grammar_of}
-use Rattle.capnp.proofs.appended.read_messages.Given as goal
+use Rattle.capnp.proofs.streams.appended.read_messages.Given as goal
 
 abbrev pub invariant-loop-index : goal.invariant-loop-index
 invariant-loop-index g l = let R = g.R.Read in record {

@@ -6,7 +6,7 @@ use Rattle.capnp_frame.proofs.SourceLemmas.{Grows-join}
 use Rattle.capnp.specs.Written.{IsTextOf, AppendsMessage, StopsMessage, DeclinesAs}
 use Rattle.capnp.proofs.AppendedLemmas.{appended_next, writable_at, few_next}
 use Rattle.capnp.proofs.StoppedLemmas.{refused_at, stops_message, stops_at}
-use Rattle.capnp.proofs.appended.write_messages.Goals as goal
+use Rattle.capnp.proofs.streams.appended.write_messages.Goals as goal
 
 pub write_message-requires : goal.write_message-requires
 write_message-requires g c = writable_at g.S.ReaderSegments.segments c.args.messages.now c.loop-message.message-index c.message-item.result c.loop-message-test.true c.message-item.is c.requires

@@ -1,5 +1,5 @@
 -- A message that was written and is read back.
-use Rattle.std.proofs.Common.{◌≡◌, ◌⊎◌, inl, inr, false, ℕ, ◌+◌, ◌-◌, ◌^◌, ◌<◌, ◌≤◌, Option, Some, None, Result, Ok, Err, IfOk, IfErr, OnOk, List, [], ◌∷◌, ◌++◌, length, map, min, refl, sym, ap, ◌∙◌, subst, arith}
+use Rattle.std.proofs.Common.{◌≡◌, ◌⊎◌, inl, inr, false, ℕ, ◌+◌, ◌-◌, ◌^◌, ◌<◌, ◌≤◌, Option, Some, None, Result, Ok, Err, IfOk, IfErr, OnOk, List, [], ◌∷◌, ◌++◌, length, min, sym, ap, ◌∙◌, subst, arith}
 use Rattle.std.proofs.lemmas.List.{append-nil, length-map}
 use Rattle.capnp_frame.specs.declared.serialize.segment_table.Padding.{Padding}
 use Rattle.capnp_frame.specs.declared.error.Error.{Error}
@@ -12,7 +12,7 @@ use Rattle.capnp_frame.specs.Message.{word_count, lengths, size_in_words}
 use Rattle.capnp_frame.specs.declared.io.Read.{Ghosts}
 use Rattle.capnp_frame.specs.Sink.{Adds}
 use Rattle.capnp_frame.specs.Streams.{message_in, ReadsStream}
-use Rattle.capnp_frame.specs.Writing.{IsWritable, IsWithinSegmentLimit, RefusesMany}
+use Rattle.capnp_frame.specs.Writing.{IsWritable, IsWithinSegmentLimit}
 use Rattle.capnp_frame.proofs.AgreementLemmas.{limit_cases}
 use Rattle.capnp_frame.proofs.LimitLemmas.{past_limit}
 use Rattle.capnp_layout.specs.Tree.{Trees}
@@ -23,42 +23,21 @@ use Rattle.capnp_build.specs.Bytes.{Space}
 use Rattle.capnp_build.specs.declared.allocator.Allocator as allocator
 use Rattle.capnp_build.specs.Built.{Built, message, IsSet}
 use Rattle.capnp_build.specs.Placed.{IsPut}
-use Rattle.capnp_build.specs.BuilderState.{used_of}
 use Rattle.capnp_build.proofs.NullLemmas.{root_stands}
 use Rattle.capnp.specs.declared.streams.Format.{Format}
 use Rattle.capnp.specs.Headline.{IsFault, ReturnsEncodings, OrFailsAtEnd}
-use Rattle.capnp.specs.Roots.{HasRootTree, HasRootOf, RefusesSize, ReadsWritten, StaysUnset, StaysUnread}
 use Rattle.capnp.specs.Streams.{grammar_of, rules_of, StandsNext}
 use Rattle.capnp.specs.Written.{IsTextOf, output_of}
-use Rattle.capnp.proofs.AppendedLemmas.{text_is, memory_only}
+use Rattle.capnp.proofs.AppendedLemmas.{text_stands}
 use Rattle.capnp.proofs.FormatLemmas.{or_fails_failed}
 use Rattle.capnp.proofs.RunLemmas.{format_lawful, format_requested, format_parts}
-use Rattle.capnp.proofs.WriterLemmas.{IsWithin-written}
+use Rattle.capnp_uses.specs.Roots.{HasRootOf, ReadsWritten, RefusesAgain, StaysUnset, StaysUnread}
+use Rattle.capnp_uses.proofs.AppendedLemmas.{memory_only}
 
 -- where there is a tree at the root, there is a segment
 pub has_segment : (spaces : List Space) (trees : Trees) (traversed : ℕ) → At (message spaces) (root ∷ []) trees traversed → 0 < length spaces
 has_segment spaces trees traversed (at points inside following) =
     let word = word_stands (message spaces) root _ points in (root_stands spaces word.0 word.1).0
-
--- the encoding of a message is one whatever follows it
-text_stands : (rule : Padding) (format : Format) (limit : Option ℕ) (m : List (List ℕ)) (text rest : List ℕ) → IsWritable m → IsWithinSegmentLimit m → KeepsLimit (lengths m) limit
-    → IsTextOf format m text → StandsNext rule format limit m (text ++ rest) rest
-text_stands rule format limit m text rest writable few size here =
-    record { text = text; is_text = text_is rule format m text writable here; within = IsWithin-written m limit writable few size; spelled = refl }
-
--- so what is read of it is the message
-pub written_is_read : (rule : Padding) (format : Format) (limit : Option ℕ) (m read : List (List ℕ)) (text rest left : List ℕ) → IsWritable m → IsWithinSegmentLimit m
-    → KeepsLimit (lengths m) limit → IsTextOf format m text → StandsNext rule format limit read (text ++ rest) left → (read ≡ m) × (left ≡ rest)
-written_is_read rule format limit m read text rest left writable few size here stands =
-    (format_parts rule format limit).begins_once read m (text ++ rest) left rest stands (text_stands rule format limit m text rest writable few size here)
-
-pub root_is_read : (rule : Padding) (format : Format) (limit : Option ℕ) (spaces : List Space) (trees : Trees) (text rest left : List ℕ) (read : List (List ℕ))
-    → HasRootTree (map used_of spaces) trees → IsWritable (map used_of spaces) → IsWithinSegmentLimit (map used_of spaces)
-    → KeepsLimit (lengths (map used_of spaces)) limit → IsTextOf format (map used_of spaces) text
-    → StandsNext rule format limit read (text ++ rest) left → HasRootTree read trees × (left ≡ rest)
-root_is_read rule format limit spaces trees text rest left read root writable few size here stands =
-    let same = written_is_read rule format limit (map used_of spaces) read text rest left writable few size here stands in
-    (subst (λ (segments : List (List ℕ)). HasRootTree segments trees) (sym same.0) root, same.1)
 
 -- what was added to nothing is its encoding, and no more
 added_stands : (rule : Padding) (format : Format) (limit : Option ℕ) (m : List (List ℕ)) (shown : List ℕ) → IsWritable m
@@ -113,7 +92,7 @@ refused_again : {S : Type 0} (rule : Padding) (format : Format) (limit : Option 
     → IsTextOf format m shown → IsWritable m → IsWithinSegmentLimit m → source.unread old ≡ Some shown → source.failures old ≡ 0 → source.failures new ≡ 0
     → (StandsNext rule format limit m shown [] → IsFault e.kind)
     → OrFailsAtEnd (ReadsStream source old new (rules_of rule format) limit) (Err e)
-    → RefusesMany m e.kind ⊎ RefusesSize m limit e.kind ⊎ (e.kind ≡ OutOfMemory)
+    → RefusesAgain m limit e.kind
 refused_again rule format limit source old new m e shown here writable few unread none still accepted reads = elim (limit_cases (lengths m) limit) [
   | inr keeps ↦ inr (inr (memory_only e.kind (accepted (added_stands rule format limit m shown writable here few keeps)) never))
   | inl over ↦ elim (reads_too_many rule format limit source old new m e shown (added_stands rule format None m shown writable here few tt) unread over reads) [
@@ -157,7 +136,7 @@ tree_again has_tree segments (Ok x) m stands back = subst (HasRootOf has_tree) (
 
 -- a message whose root is set, and that is not read back
 pub unread : {A S X : Type 0} (alloc : allocator.Ghosts A S) (has_tree : Trees → Type 0) (refuses : ErrorKind → Type 0) (limit : Option ℕ) (old new : Built A) (r : Result X Error) → IsSet has_tree false new.spaces
-    → IsPut alloc (HasWords has_tree false) old new → IfErr r (λ error. RefusesMany (output_of new) error.kind ⊎ RefusesSize (output_of new) limit error.kind ⊎ (error.kind ≡ OutOfMemory))
+    → IsPut alloc (HasWords has_tree false) old new → IfErr r (λ error. RefusesAgain (output_of new) limit error.kind)
     → IfErr r (λ error. StaysUnset alloc has_tree refuses old new error.kind ⊎ StaysUnread alloc has_tree limit old new error.kind)
 unread alloc has_tree refuses limit old new (Ok x) set placed refused = tt
 unread alloc has_tree refuses limit old new (Err error) set placed refused = inr (record { set = set; placed = placed; refused = refused })
