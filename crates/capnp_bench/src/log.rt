@@ -6,9 +6,8 @@ use capnp::any_struct::{self, StructReader};
 use capnp::message::{
     Allocator, Builder, DEFAULT_READER_OPTIONS, Reader, ReaderSegments, SingleSegmentAllocator,
 };
+use capnp::serialize::OwnedSegments;
 use capnp::{Result, primitive_list, serialize, serialize_packed, text};
-use capnp_frame::serialize::{OwnedSegments, Padding, TableRules, try_read_segments_reusing};
-use capnp_pack::stream::try_read_packed_segments;
 use capnp_values::{Field, NoFields, NumberList, StructValue};
 use std::alloc::Global;
 
@@ -134,13 +133,12 @@ fn read_framed(alloc: Global, framed: &[u8], digest: &mut Digest) -> Result<()> 
 fn read_packed_reusing(alloc: Global, packed: &[u8], digest: &mut Digest) -> Result<()> {
     let mut source = packed;
     let options = DEFAULT_READER_OPTIONS;
-    let rules = TableRules::new(Padding::Zero, options);
     let mut spare = OwnedSegments::empty(alloc);
     for _ in 0..u64::MAX {
-        let Some(segments) = try_read_packed_segments(&mut source, rules, spare)? else {
+        let next = serialize_packed::try_read_message_reusing(&mut source, options, spare)?;
+        let Some(message) = next else {
             break;
         };
-        let message = Reader::new(segments, options);
         add_number(&message, digest)?;
         spare = message.into_segments();
     }
@@ -150,13 +148,12 @@ fn read_packed_reusing(alloc: Global, packed: &[u8], digest: &mut Digest) -> Res
 fn read_framed_reusing(alloc: Global, framed: &[u8], digest: &mut Digest) -> Result<()> {
     let mut source = framed;
     let options = DEFAULT_READER_OPTIONS;
-    let rules = TableRules::new(Padding::Zero, options);
     let mut spare = OwnedSegments::empty(alloc);
     for _ in 0..u64::MAX {
-        let Some(segments) = try_read_segments_reusing(&mut source, rules, spare)? else {
+        let next = serialize::try_read_message_reusing(&mut source, options, spare)?;
+        let Some(message) = next else {
             break;
         };
-        let message = Reader::new(segments, options);
         add_number(&message, digest)?;
         spare = message.into_segments();
     }

@@ -8,10 +8,9 @@ use crate::roots::is_wanted;
 use crate::source::Trickle;
 use capnp::io::Write;
 use capnp::message::{DEFAULT_READER_OPTIONS, ReaderSegments};
+use capnp::serialize::OwnedSegments;
+use capnp::serialize_packed::{PackedWrite, try_read_message_reusing};
 use capnp::{Result, Way, transcode};
-use capnp_frame::serialize::{OwnedSegments, Padding, TableRules};
-use capnp_pack::PackedWrite;
-use capnp_pack::stream::try_read_packed_segments;
 use std::alloc::Global;
 
 /// How many messages a stream has.
@@ -128,21 +127,21 @@ fn add_unpacked(
     rounds: u32,
     digest: &mut Digest,
 ) -> Result<()> {
-    let rules = TableRules::new(Padding::Zero, DEFAULT_READER_OPTIONS);
     let mut spare = OwnedSegments::empty(alloc);
     for round in 0..rounds {
         let mut source = Trickle::new(packed, most);
         for _ in 0..MESSAGES {
-            let Some(segments) = try_read_packed_segments(&mut source, rules, spare)? else {
+            let next = try_read_message_reusing(&mut source, DEFAULT_READER_OPTIONS, spare)?;
+            let Some(message) = next else {
                 return Ok(());
             };
-            for segment in segments.get_segment(0) {
+            for segment in message.get_segments().get_segment(0) {
                 digest.add(segment.len() as u64);
                 if round == 0 {
                     digest.add_bytes(segment);
                 }
             }
-            spare = segments;
+            spare = message.into_segments();
         }
     }
     Ok(())

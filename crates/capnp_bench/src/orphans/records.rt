@@ -1,11 +1,9 @@
 //! Records of three numbers, a text, and in some of them a list of numbers: a message each, in the
 //! memory of the one before.
-use crate::job::Job;
-use crate::output::Output;
+use crate::orphans::{Job, Output};
 use crate::random::Random;
-use capnp_frame::Result;
+use capnp::{Result, any_struct};
 use capnp_orphans::{Orphanage, StructDraft};
-use capnp_wire::any_struct;
 use std::alloc::Global;
 
 const NAMES: [&str; 4] = ["Ada", "Grace", "Barbara", "Margaret"];

@@ -1,10 +1,8 @@
 //! A table: one message, a list of structs of a number, a flag and a text, which rows share.
-use crate::job::Job;
-use crate::output::Output;
+use crate::orphans::{Job, Output};
 use crate::random::Random;
-use capnp_frame::Result;
+use capnp::{Result, any_struct, text};
 use capnp_orphans::{Orphanage, StructDraft};
-use capnp_wire::{any_struct, text};
 use std::alloc::Global;
 
 type Row = StructDraft<any_struct::Owned, 2, 1>;

@@ -1,10 +1,8 @@
 //! A binary tree of as many nodes as are asked for, up to a full row of leaves.
-use crate::job::Job;
-use crate::output::Output;
+use crate::orphans::{Job, Output};
 use crate::random::Random;
-use capnp_frame::Result;
+use capnp::{Result, any_struct};
 use capnp_orphans::{Orphan, Orphanage, StructDraft};
-use capnp_wire::any_struct;
 use std::alloc::Global;
 
 pub fn build(alloc: Global, job: Job, output: &mut Output) -> Result<()> {

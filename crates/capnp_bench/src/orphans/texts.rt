@@ -1,10 +1,8 @@
 //! A list of texts, of which some are null.
-use crate::job::Job;
-use crate::output::Output;
+use crate::orphans::{Job, Output};
 use crate::random::Random;
-use capnp_frame::Result;
+use capnp::{Result, text};
 use capnp_orphans::{Orphan, Orphanage};
-use capnp_wire::text;
 use std::alloc::Global;
 
 const WORDS: [&str; 4] = ["", "segment", "landing pad", "canonical form of a message"];

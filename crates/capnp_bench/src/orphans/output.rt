@@ -1,6 +1,6 @@
 //! What becomes of the messages that a job builds.
 use crate::digest::Digest;
-use capnp_frame::Result;
+use capnp::Result;
 use std::alloc::Global;
 
 /// Where the messages of a job go: into a digest of their bytes, or into a stream, framed.
