@@ -1,5 +1,5 @@
 -- Messages one after the other.
-use Rattle.std.proofs.Common.{◌≡◌, inl, inr, ℕ, ◌+◌, ◌-◌, ◌<◌, Option, Some, None, IfSome, Err, List, [], ◌∷◌, ◌++◌, length, map, take, refl, sym, ap, ◌∙◌, subst, arith, append_assoc, zero, suc}
+use Rattle.std.proofs.Common.{◌≡◌, inr, ℕ, ◌+◌, ◌-◌, ◌<◌, Option, Some, None, IfSome, Err, List, [], ◌∷◌, ◌++◌, length, map, take, refl, sym, ap, ◌∙◌, subst, arith, append_assoc, zero, suc}
 use Rattle.std.proofs.Math.ListN.{get_or}
 use Rattle.std.proofs.lemmas.List.{map-append, take_more, append-nil}
 use Rattle.std.specs.List.{AllByRecursion}
@@ -15,7 +15,6 @@ use Rattle.capnp_frame.specs.Frame.{IsFrame}
 use Rattle.capnp_frame.specs.Limits.{KeepsLimit}
 use Rattle.capnp_frame.specs.Message.{lengths}
 use Rattle.capnp_frame.specs.Source.{Giving, Refusing, IfKnown, Advances}
-use Rattle.capnp_frame.specs.Streams.{ReadsStream}
 use Rattle.capnp_frame.specs.Texts.{Grammar, BeginsWith, AreEncodings}
 use Rattle.capnp_frame.specs.Writing.{IsWritable, IsWithinSegmentLimit}
 use Rattle.capnp_frame.proofs.SourceLemmas.{IfKnown-join, IfKnown-refl, Advances-join, Fails-join}
@@ -31,12 +30,12 @@ use Rattle.capnp.specs.declared.streams.Format.{Format}
 use Rattle.capnp.specs.declared.streams.Format.TheVariants.{Framed, Packed}
 use Rattle.capnp.specs.Appended.{ReadsMessages}
 use Rattle.capnp.specs.Streams.{grammar_of, rules_of, StandsNext, IsStream}
-use Rattle.capnp.specs.Headline.{IsFault, OrFailsAtEnd}
+use Rattle.capnp.specs.Headline.{IsFault, by_format, ReadsMessage, OrFailsAtEnd}
 use Rattle.capnp.specs.Roots.{HasRootTree}
 use Rattle.capnp.specs.Written.{IsTextOf, AppendsEach}
 use Rattle.capnp.proofs.FormatLemmas.{or_fails_advances, or_fails_failed}
-use Rattle.capnp.proofs.ReaderLemmas.{returns_texts, ends_texts}
-use Rattle.capnp.proofs.RunLemmas.{format_lawful, format_requested, format_parts}
+use Rattle.capnp.proofs.ReaderLemmas.{or_fails_accepted, or_fails_reads}
+use Rattle.capnp.proofs.RunLemmas.{format_parts}
 use Rattle.capnp.proofs.WriterLemmas.{IsWithin-written}
 
 -- what holds of each holds with one more
@@ -78,33 +77,25 @@ accepted_later rule format limit F ns count (Some raw) (Some left) few had accep
     let next = texts_further (format_parts rule format limit) ns ms raw left rest had texts (omega arith) in
     accepted next.0 next.1 next.2
 
--- what the reader of the next message fails with where one is there
-accepted_next : {S : Type 0} (rule : Padding) (format : Format) (limit : Option ℕ) (source : Ghosts S) (old new : S) (e : Error)
-    → OrFailsAtEnd (ReadsStream source old new (rules_of rule format) limit) (Err e)
-    → IfSome (source.unread old) (λ raw. (m : List (List ℕ)) (rest : List ℕ) → StandsNext rule format limit m raw rest → IsFault e.kind)
-accepted_next rule format limit source old new e (inl reads) =
-    (returns_texts source old new (rules_of rule format) (grammar_of rule format) limit (Err e) (λ m raw rest. (λ x. x, λ x. x)) reads).accepted
-accepted_next rule format limit source old new e (inr (kind, reads)) =
-    (ends_texts rule (format_lawful format) (format_requested rule format) limit (source.unread old) (source.unread new) e reads.none).accepted
-
--- so a list ends where that reader fails
+-- so a list ends where the reader of the next message fails
 pub stops_reading : {S V X : Type 0} (source : Ghosts S) (old mid new : S) (format : Format) (options : ReaderOptions) (count : ℕ)
     (readers : V → List X) (segments : X → List (List ℕ)) (options_of : X → ReaderOptions) (ms : List (List (List ℕ))) (e : Error)
     → (source.same old mid → source.same mid new → source.same old new) → length ms < count
     → IfKnown (source.unread old) (source.unread mid) (AreEncodings (grammar_of Zero format) options.traversal_limit_in_words ms)
     → Advances source.unread source.failures source.same old mid
-    → OrFailsAtEnd (ReadsStream source mid new (rules_of Zero format) options.traversal_limit_in_words) (Err e)
+    → OrFailsAtEnd (ReadsMessage source mid new (by_format Zero format) options) (Err e)
     → ReadsMessages source old new format options count readers segments options_of (Err e)
 stops_reading source old mid new format options count readers segments options_of ms e join fewer texts advances next =
-    let limit = options.traversal_limit_in_words in record {
+    let limit = options.traversal_limit_in_words in
+    let reads = or_fails_reads source mid new (by_format Zero format) options e next in record {
       counted = tt;
       found = tt;
       options_are = tt;
       accepted = accepted_later Zero format limit (IsFault e.kind) ms count (source.unread old) (source.unread mid) fewer texts
-          (accepted_next Zero format limit source mid new e next);
-      stops = inr (record { between = mid; messages = ms; fewer = fewer; texts = texts; next = next });
-      failed = λ device. Fails-join _ _ _ advances.counted (or_fails_failed source mid new (rules_of Zero format) limit (Err e) next device);
-      advances = Advances-join old mid new join advances (or_fails_advances source mid new (rules_of Zero format) limit (Err e) next);
+          (or_fails_accepted source mid new (by_format Zero format) options e tt next);
+      stops = inr (record { between = mid; messages = ms; fewer = fewer; texts = texts; next = reads });
+      failed = λ device. Fails-join _ _ _ advances.counted (or_fails_failed source mid new (rules_of Zero format) limit e reads device);
+      advances = Advances-join old mid new join advances (or_fails_advances source mid new (rules_of Zero format) limit e reads);
     }
 
 -- and want of memory is a fault

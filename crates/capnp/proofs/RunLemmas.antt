@@ -19,7 +19,9 @@ use Rattle.capnp.specs.declared.streams.Format.TheVariants.{Framed, Packed}
 use Rattle.capnp.specs.declared.streams.StoppedAt.{StoppedAt}
 use Rattle.capnp.specs.Streams.{grammar_of, gives_of, refuses_of, rules_of}
 use Rattle.capnp.specs.Runs.{Writing, DecliningWriting, WritesFrom, WritesAll, HasWrittenNext, HasWritten, IsReadingFault, IsWritingFault, BreaksOffOr, IsRunFault, most_messages, HasRun}
+use Rattle.capnp.specs.Headline.{by_format}
 use Rattle.capnp.proofs.FormatLemmas.{stands_next}
+use Rattle.capnp.proofs.ReaderLemmas.{AreRead, are_read}
 use Rattle.capnp.proofs.WriterLemmas.{IsWritable-within}
 
 -- Both formats.
@@ -34,6 +36,9 @@ format_requested rule Packed = packed_requests rule
 
 pub format_parts : (rule : Padding) (format : Format) (limit : Option ℕ) → PartsStreams (grammar_of rule format) rule (gives_of format) (refuses_of format) limit
 format_parts rule format limit = parts_streams rule (format_lawful format) (format_requested rule format) limit
+
+pub format_read : (rule : Padding) (format : Format) → AreRead (by_format rule format)
+format_read rule format plain = (λ m raw rest. (λ x. x, λ x. x), are_read rule (format_lawful format) (format_requested rule format))
 
 -- What is written, message by message.
 

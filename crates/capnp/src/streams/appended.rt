@@ -3,14 +3,15 @@ ghost use Rattle.std.specs.Prelude.{map};
 ghost use Rattle.std.specs.List.{AllByRecursion};
 ghost use Rattle.capnp_frame.specs.Writing.{IsWritable};
 ghost use Rattle.capnp.specs.Appended.{ReadsMessages};
+ghost use Rattle.capnp.specs.Headline.{by_format, ReadsMessage, OrFailsAtEnd};
 ghost use Rattle.capnp.specs.Written.{WritesMessage, WritesMessages};
 
-use crate::streams::{Format, next_message};
+use crate::streams::{Format, next_message, required};
 use crate::{serialize, serialize_packed};
+use capnp_frame::Result;
 use capnp_frame::io::{BufRead, Write};
 use capnp_frame::message::{ReaderOptions, ReaderSegments};
 use capnp_frame::serialize::{OwnedSegments, Padding};
-use capnp_frame::{Error, ErrorKind, Result};
 use capnp_message::Reader;
 use std::alloc::Global;
 
@@ -68,10 +69,21 @@ pub fn read_messages<R: BufRead>(
 {
     let mut readers = Vec::new(alloc);
     for index in 0..count {
-        match next_message(alloc, format, Padding::Zero, options, source)? {
-            Some(reader) => readers.push(reader)?,
-            None => return Err(Error::from_kind(ErrorKind::PrematureEndOfFile)),
-        }
+        let reader = read_message(alloc, source, format, options)?;
+        readers.push(reader)?;
     }
     Ok(readers)
+}
+
+// Reads the next message, of zero padding, and fails where nothing is unread.
+fn read_message<R: BufRead>(
+    alloc: Global,
+    source: &mut R,
+    format: Format,
+    options: ReaderOptions,
+) -> Result<Reader<OwnedSegments>>
+    ensures { OrFailsAtEnd (ReadsMessage R.Read source.old source.new
+        (by_format Padding.Zero format) options) result }
+{
+    required(next_message(alloc, source, format, Padding::Zero, options))
 }

@@ -2,7 +2,7 @@
 use Rattle.capnp_frame.specs.Source.{IfKnown, Advances}
 use Rattle.capnp_frame.specs.Sink.{Grows}
 use Rattle.capnp.specs.Runs.{HasWritten}
-use Rattle.capnp.proofs.streams.write_all.Given as goal
+use Rattle.capnp.proofs.streams.write_each_message.Given as goal
 
 abbrev pub invariant-loop-message : goal.invariant-loop-message
 invariant-loop-message g l = let R = g.R.Read in let W = g.W.Write in record {
