@@ -3,7 +3,7 @@ use Rattle.capnp.specs.Passed.{IfKnown, Advances, Grows, default_limit}
 use Rattle.capnp.specs.Runs.{HasWritten}
 use Rattle.capnp_ls.specs.declared.command.Command.TheVariants.{Listing}
 use Rattle.capnp_ls.specs.Output.{Prints}
-use Rattle.capnp_ls.proofs.lines.list_all.Given as goal
+use Rattle.capnp_ls.proofs.lines.list_each.Given as goal
 
 abbrev pub invariant-loop-message : goal.invariant-loop-message
 invariant-loop-message g l = let R = g.R.Read in let W = g.W.Write in record {
