@@ -6,7 +6,7 @@ use capnp::any_struct::{self, StructReader};
 use capnp::message::{
     Allocator, Builder, DEFAULT_READER_OPTIONS, Reader, ReaderSegments, SingleSegmentAllocator,
 };
-use capnp::serialize::OwnedSegments;
+use capnp::serialize::{OwnedSegments, Padding};
 use capnp::{Result, primitive_list, serialize, serialize_packed, text};
 use capnp_values::{Field, NoFields, NumberList, StructValue};
 use std::alloc::Global;
@@ -135,7 +135,12 @@ fn read_packed_reusing(alloc: Global, packed: &[u8], digest: &mut Digest) -> Res
     let options = DEFAULT_READER_OPTIONS;
     let mut spare = OwnedSegments::empty(alloc);
     for _ in 0..u64::MAX {
-        let next = serialize_packed::try_read_message_reusing(&mut source, options, spare)?;
+        let next = serialize_packed::try_read_message_reusing(
+            &mut source,
+            Padding::Zero,
+            options,
+            spare,
+        )?;
         let Some(message) = next else {
             break;
         };
@@ -150,7 +155,7 @@ fn read_framed_reusing(alloc: Global, framed: &[u8], digest: &mut Digest) -> Res
     let options = DEFAULT_READER_OPTIONS;
     let mut spare = OwnedSegments::empty(alloc);
     for _ in 0..u64::MAX {
-        let next = serialize::try_read_message_reusing(&mut source, options, spare)?;
+        let next = serialize::try_read_message_reusing(&mut source, Padding::Zero, options, spare)?;
         let Some(message) = next else {
             break;
         };

@@ -8,7 +8,7 @@ use crate::roots::is_wanted;
 use crate::source::Trickle;
 use capnp::io::Write;
 use capnp::message::{DEFAULT_READER_OPTIONS, ReaderSegments};
-use capnp::serialize::OwnedSegments;
+use capnp::serialize::{OwnedSegments, Padding};
 use capnp::serialize_packed::{PackedWrite, try_read_message_reusing};
 use capnp::{Result, Way, transcode};
 use std::alloc::Global;
@@ -131,7 +131,8 @@ fn add_unpacked(
     for round in 0..rounds {
         let mut source = Trickle::new(packed, most);
         for _ in 0..MESSAGES {
-            let next = try_read_message_reusing(&mut source, DEFAULT_READER_OPTIONS, spare)?;
+            let options = DEFAULT_READER_OPTIONS;
+            let next = try_read_message_reusing(&mut source, Padding::Zero, options, spare)?;
             let Some(message) = next else {
                 return Ok(());
             };

@@ -11,7 +11,8 @@ use Rattle.capnp_frame.specs.Refusals.{IsTooLarge}
 use Rattle.capnp_frame.specs.Message.{word_count, lengths, size_in_words}
 use Rattle.capnp_frame.specs.declared.io.Read.{Ghosts}
 use Rattle.capnp_frame.specs.Sink.{Adds}
-use Rattle.capnp_frame.specs.Streams.{message_in, ReadsStream}
+use Rattle.capnp_frame.specs.Source.{IfKnown}
+use Rattle.capnp_frame.specs.Streams.{ReadsStream}
 use Rattle.capnp_frame.specs.Writing.{IsWritable, IsWithinSegmentLimit}
 use Rattle.capnp_frame.proofs.AgreementLemmas.{limit_cases}
 use Rattle.capnp_frame.proofs.LimitLemmas.{past_limit}
@@ -24,12 +25,14 @@ use Rattle.capnp_build.specs.declared.allocator.Allocator as allocator
 use Rattle.capnp_build.specs.Built.{Built, message, IsSet}
 use Rattle.capnp_build.specs.Placed.{IsPut}
 use Rattle.capnp_build.proofs.NullLemmas.{root_stands}
+use Rattle.capnp_message.specs.Seen.{ReadMessage}
 use Rattle.capnp.specs.declared.streams.Format.{Format}
-use Rattle.capnp.specs.Headline.{IsFault, ReturnsEncodings, OrFailsAtEnd}
-use Rattle.capnp.specs.Streams.{grammar_of, rules_of, StandsNext}
+use Rattle.capnp.specs.Headline.{IsFault, by_format, ReadsMessage, OrFailsAtEnd}
+use Rattle.capnp.specs.Streams.{rules_of, StandsNext}
 use Rattle.capnp.specs.Written.{IsTextOf, output_of}
 use Rattle.capnp.proofs.AppendedLemmas.{text_stands}
 use Rattle.capnp.proofs.FormatLemmas.{or_fails_failed}
+use Rattle.capnp.proofs.ReaderLemmas.{or_fails_accepted, or_fails_reads}
 use Rattle.capnp.proofs.RunLemmas.{format_lawful, format_requested, format_parts}
 use Rattle.capnp_uses.specs.Roots.{HasRootOf, ReadsWritten, RefusesAgain, StaysUnset, StaysUnread}
 use Rattle.capnp_uses.proofs.AppendedLemmas.{memory_only}
@@ -61,14 +64,11 @@ unlimited rule format limit m raw rest stands = let within = stands.within in re
 }
 
 -- what is read of it is the message, which is within the limit
-read_again : {X : Type 0} (rule : Padding) (format : Format) (limit : Option ℕ) (segments : X → List (List ℕ)) (x : X) (m : List (List ℕ)) (shown : List ℕ)
-    (left : Option (List ℕ)) → StandsNext rule format None m shown []
-    → ReturnsEncodings (grammar_of rule format) limit (Some shown) left (message_in segments (Ok x))
-    → (segments x ≡ m) × KeepsLimit (lengths m) limit
-read_again rule format limit segments x m shown None stands texts = absurd texts.found
-read_again rule format limit segments x m shown (Some rest) stands texts =
-    let found : StandsNext rule format limit (segments x) shown rest = texts.found in
-    let same = ((format_parts rule format None).begins_once (segments x) m shown rest [] (unlimited rule format limit (segments x) shown rest found) stands).0 in
+read_again : (rule : Padding) (format : Format) (limit : Option ℕ) (read m : List (List ℕ)) (shown : List ℕ) (left : Option (List ℕ))
+    → StandsNext rule format None m shown [] → IfKnown (Some shown) left (StandsNext rule format limit read) → (read ≡ m) × KeepsLimit (lengths m) limit
+read_again rule format limit read m shown None stands found = absurd found
+read_again rule format limit read m shown (Some rest) stands found =
+    let same = ((format_parts rule format None).begins_once read m shown rest [] (unlimited rule format limit read shown rest found) stands).0 in
     (same, subst (λ m. KeepsLimit (lengths m) limit) same found.within.size)
 
 -- past the limit of words it fails with that line of the table of errors
@@ -103,29 +103,29 @@ refused_again rule format limit source old new m e shown here writable few unrea
 ]
   where
     never : e.kind ≡ DeviceFailed → min (0 + 1) (2 ^ 64 - 1) ≤ 0
-    never device = let fails = or_fails_failed source old new (rules_of rule format) limit (Err e) reads device in omega (arith, fails, none, still)
+    never device = let fails = or_fails_failed source old new (rules_of rule format) limit e reads device in omega (arith, fails, none, still)
 
 -- what is returned of a message that is written and read
-pub written_and_read : {S X : Type 0} (rule : Padding) (format : Format) (options : ReaderOptions) (source : Ghosts S) (old new : S) (m : List (List ℕ))
-    (segments : X → List (List ℕ)) (options_of : X → ReaderOptions) (r : Result X Error) (shown : List ℕ)
+pub written_and_read : {S : Type 0} (rule : Padding) (format : Format) (options : ReaderOptions) (source : Ghosts S) (old new : S) (m : List (List ℕ))
+    (r : Result (ReadMessage (List (List ℕ))) Error) (shown : List ℕ)
     → IsTextOf format m shown → IsWritable m → IsWithinSegmentLimit m → source.unread old ≡ Some shown → source.failures old ≡ 0 → source.failures new ≡ 0
-    → ReturnsEncodings (grammar_of rule format) options.traversal_limit_in_words (source.unread old) (source.unread new) (message_in segments r)
-    → OrFailsAtEnd (ReadsStream source old new (rules_of rule format) options.traversal_limit_in_words) (message_in segments r)
-    → IfOk r (λ reader. options_of reader ≡ options) → ReadsWritten m options segments options_of r
-written_and_read rule format options source old new m segments options_of (Ok x) shown here writable few unread none still texts reads are =
+    → OrFailsAtEnd (ReadsMessage source old new (by_format rule format) options) r
+    → ReadsWritten m options (λ reader. reader.segments) (λ reader. reader.options) r
+written_and_read rule format options source old new m (Ok x) shown here writable few unread none still reads =
     let limit = options.traversal_limit_in_words in
-    let again = read_again rule format limit segments x m shown (source.unread new) (added_stands rule format None m shown writable here few tt) (rw unread at texts) in
-    record { back = again.0; size = again.1; few = few; options_are = are; refused = tt }
-written_and_read rule format options source old new m segments options_of (Err e) shown here writable few unread none still texts reads are =
-    let limit = options.traversal_limit_in_words in
-    let accepted : (raw : List ℕ) → source.unread old ≡ Some raw → (message : List (List ℕ)) (rest : List ℕ) → StandsNext rule format limit message raw rest → IsFault e.kind
-    = λ raw is. rw is at texts.accepted in
+    let again = read_again rule format limit x.segments m shown (source.unread new) (added_stands rule format None m shown writable here few tt) (rw unread at (reads.texts tt).found) in
+    record { back = again.0; size = again.1; few = few; options_are = reads.options_are; refused = tt }
+written_and_read rule format options source old new m (Err e) shown here writable few unread none still reads =
+    let accepted : (raw : List ℕ) → source.unread old ≡ Some raw → (message : List (List ℕ)) (rest : List ℕ)
+    → StandsNext rule format options.traversal_limit_in_words message raw rest → IsFault e.kind
+    = λ raw is. rw is at (or_fails_accepted source old new (by_format rule format) options e tt reads) in
     record {
       back = tt;
       size = tt;
       few = tt;
       options_are = tt;
-      refused = refused_again rule format limit source old new m e shown here writable few unread none still (accepted shown unread m []) reads;
+      refused = refused_again rule format options.traversal_limit_in_words source old new m e shown here writable few unread none still (accepted shown unread m [])
+          (or_fails_reads source old new (by_format rule format) options e reads);
     }
 
 -- the root of what is read is that of what was built

@@ -45,6 +45,6 @@ pub fn write_and_read_back<S: ReaderSegments>(
     write_messages(alloc, &mut text, format, messages)?;
     let mut source: &[u8] = &text;
     let readers = read_messages(alloc, &mut source, format, messages.len(), options)?;
-    let end = next_message(alloc, format, Padding::Zero, options, &mut source)?;
+    let end = next_message(alloc, &mut source, format, Padding::Zero, options)?;
     Ok(ReadBack { text, readers, end })
 }

@@ -14,10 +14,10 @@ ghost use Rattle.capnp.specs.Written.{output_of};
 ghost use Rattle.capnp_uses.specs.Roots.{HasRootOf, ReadsWritten, RefusesRoot, StaysUnset, StaysUnread};
 
 use capnp::message::{Allocator, Builder, Reader, ReaderOptions, ReaderSegments};
-use capnp::serialize::{self, OwnedSegments};
-use capnp::streams::{Format, write_message};
+use capnp::serialize::{OwnedSegments, Padding};
+use capnp::streams::{Format, next_message, write_message};
 use capnp::traits::SetterInput;
-use capnp::{Result, any_pointer, serialize_packed, text};
+use capnp::{Error, ErrorKind, Result, any_pointer, text};
 use std::alloc::Global;
 
 /// Sets the root to the root tree of a message that is read, an object with all below it.
@@ -71,9 +71,9 @@ pub fn write_and_read_back<S: ReaderSegments>(
     let mut text: Vec<u8> = Vec::new(alloc);
     write_message(alloc, &mut text, format, message)?;
     let mut source: &[u8] = &text;
-    match format {
-        Format::Framed => serialize::read_message(alloc, &mut source, options),
-        Format::Packed => serialize_packed::read_message(alloc, &mut source, options),
+    match next_message(alloc, &mut source, format, Padding::Zero, options)? {
+        Some(reader) => Ok(reader),
+        None => Err(Error::from_kind(ErrorKind::PrematureEndOfFile)),
     }
 }
 

@@ -100,7 +100,7 @@ fn reads_each_message_of_a_stream(rt: HostRuntime) -> Result<(), Fail> {
     let alloc = rt.alloc();
     let source = PACKED.as_slice();
     let options = DEFAULT_READER_OPTIONS;
-    for message in MessageStream::new(alloc, Format::Packed, Padding::Zero, options, source) {
+    for message in MessageStream::new(alloc, source, Format::Packed, Padding::Zero, options) {
         let message = message?;
         let greeting: text::Reader<'_> = message.get_root()?;
         assert_eq!(rt; greeting.as_bytes(), b"Hello, World!".as_slice());
