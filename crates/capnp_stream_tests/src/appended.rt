@@ -3,7 +3,7 @@ use crate::assertions::{At, assert_bytes, assert_calls, assert_count, assert_hol
 use crate::faults::FORMATS;
 use crate::framed_rows::{FLATTEN, THREE};
 use crate::packed_rows::PACKED_THREE;
-use crate::streams::with_limit;
+use crate::readers::with_limit;
 use capnp::message::Reader;
 use capnp::streams::{Format, read_messages, write_messages};
 use capnp_frame::io::Write;

@@ -2,15 +2,13 @@
 use crate::assertions::{At, assert_bytes, assert_count, assert_kind};
 use crate::built_messages::{size_of, words_of, write};
 use crate::faults::FORMATS;
-use crate::packed;
 use capnp::any_struct::{self, StructBuilder, StructReader};
 use capnp::message::{
     AllocationStrategy, Builder, DEFAULT_READER_OPTIONS, HeapAllocator, ReaderSegments,
     TypedBuilder, TypedReader,
 };
 use capnp::streams::{Format, read_messages};
-use capnp::{primitive_list, serialize, text};
-use capnp_frame::serialize::Padding;
+use capnp::{primitive_list, serialize, serialize_packed, text};
 use capnp_frame::{ErrorKind, Result};
 use capnp_frame_tests::refusals::kind_of;
 use capnp_frame_tests::retried;
@@ -61,7 +59,7 @@ fn build_struct(rt: &(impl Abort + AllocGlobal)) -> Result<()> {
 fn read_struct(rt: &(impl Abort + AllocGlobal)) -> Result<()> {
     let mut source = PACKED_WORDS.as_slice();
     let options = DEFAULT_READER_OPTIONS;
-    let reader = packed::needed_message(rt.alloc(), Padding::Zero, &mut source, options)?;
+    let reader = serialize_packed::read_message(rt.alloc(), &mut source, options)?;
     let typed: TypedReader<serialize::OwnedSegments, any_struct::Owned> = TypedReader::new(reader);
     let fields: StructReader<'_, serialize::OwnedSegments> = typed.get()?;
     assert!(rt; fields.get_word(0) == 10 && fields.get_word(1) == 20);
