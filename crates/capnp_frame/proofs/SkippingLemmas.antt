@@ -108,20 +108,7 @@ standing rule gives ns None b found =
 standing rule gives ns (Some x) None found = absurd found
 standing rule gives ns (Some x) (Some y) (message, same, stands) = (message, same, stands.whole, stands)
 
--- The exits of a call that skips a message, once its table is asked for: nothing is unread,
-pub skips_none : {S : Type 0} (rule : Padding) (source : Ghosts S) (laws : IsSource source.gives source.refuses) (old new : S) (kept : ℕ)
-    (limit : Option ℕ) → ReadsTable source old new rule limit kept (Ok None)
-    → SkipsMessage (ReadsStream source old new (skipping_rules rule source.gives source.refuses kept) limit) (Ok None)
-skips_none rule source laws old new kept limit table =
-    reads_taking rule source laws old new (λ most. TakesForLengths kept source.gives) limit (Ok None) tt tt tt (record {
-      none = table.asks.none;
-      refused = tt;
-      kinds = tt;
-      end = tt;
-      asked = record { failed = tt; advances = table.asks.asked.advances };
-    })
-
--- the table is not read,
+-- The exits of a call that skips a message, once its table is asked for: the table is not read,
 pub skips_unread : {S : Type 0} (rule : Padding) (source : Ghosts S) (laws : IsSource source.gives source.refuses) (old new : S) (kept : ℕ)
     (limit : Option ℕ) (error : Error) (result : Result (Option (List ℕ)) Error) → IsErrAnd result (λ own. own ≡ error)
     → ReadsTable source old new rule limit kept (Err error)

@@ -1,5 +1,5 @@
 //! Segments that stay in the buffer that holds their message.
-ghost use Rattle.std.specs.Prelude.{◌≡◌, ◌+◌, ◌*◌, ◌≤◌, length, drop, sum, ◌⊎◌, IfOk, IfErr, Some, None};
+ghost use Rattle.std.specs.Prelude.{◌≡◌, ◌+◌, ◌*◌, ◌≤◌, length, drop, sum, ◌⊎◌, IfOk, IfErr};
 ghost use Rattle.capnp_frame.specs.SegmentLengths.{cut};
 ghost use Rattle.capnp_frame.specs.Limits.{AreWithin};
 ghost use Rattle.capnp_frame.specs.SegmentTable.{table_size, KeepsPadding};

@@ -1,5 +1,4 @@
 //! Reading the framed encoding of a message from a source into a caller-provided buffer.
-ghost use Rattle.std.specs.Prelude.{◌≡◌, ◌+◌, ◌≤◌, length, drop, IfOk, IfSome};
 ghost use Rattle.capnp_frame.specs.Streams.{framed_rules};
 ghost use Rattle.capnp_frame.specs.FramedInto.{ReadsFramedInto};
 

@@ -1,5 +1,5 @@
 //! Skipping messages of a source, of which only the lengths of the segments are returned.
-ghost use Rattle.std.specs.Prelude.{◌≡◌, ◌-◌, ◌*◌, ◌<◌, ◌≤◌, [], length, OnOk, IfOk, IfErr, IfSome};
+ghost use Rattle.std.specs.Prelude.{◌≡◌, ◌-◌, ◌*◌, ◌<◌, ◌≤◌, [], length, IfOk, IfErr, IfSome};
 ghost use Rattle.capnp_frame.specs.Source.{IfKnown};
 ghost use Rattle.capnp_frame.specs.Asking.{Asked};
 ghost use Rattle.capnp_frame.specs.Streams.{skipping_rules, ReadsStream};
