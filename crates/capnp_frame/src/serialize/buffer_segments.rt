@@ -202,7 +202,7 @@ fn find_message(
 {
     let mut rest = bytes;
     let spare = SegmentIndices::empty(alloc);
-    let Some(indices) = read_indices(&mut rest, rules, spare)? else {
+    let Some(indices) = read_indices(&mut rest, &rules, spare)? else {
         return Err(Error::from_kind(empty));
     };
     let total = indices.total_words();

@@ -89,7 +89,7 @@ fn read_segments<R: Read>(
         rules.limit_in_words)
         (RefusesStream rules.padding R.gives R.refuses rules.limit_in_words None) result }
 {
-    let Some(indices) = read_indices(source, rules, spare_indices)? else {
+    let Some(indices) = read_indices(source, &rules, spare_indices)? else {
         return Ok(None);
     };
     let mut bytes = spare_bytes;

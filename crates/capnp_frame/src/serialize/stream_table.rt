@@ -26,10 +26,10 @@ const SHORT_TABLE: usize = 256;
 // only for more segments than one, and than `spare` has.
 pub(crate) fn read_indices<R: Read>(
     source: &mut R,
-    rules: TableRules,
+    rules: &TableRules,
     spare: SegmentIndices,
 ) -> Result<Option<SegmentIndices>>
-    ensures { ReadsTable R.Read source.old source.new rules.padding rules.limit_in_words
+    ensures { ReadsTable R.Read source.old source.new rules.now.padding rules.now.limit_in_words
         (max 1 (length spare)) result }
 {
     let Some(first) = read_first(source)? else {
@@ -72,7 +72,7 @@ pub fn read_table<R: Read>(
     let count = accepted_count(&first)?;
     let mut indices = lengths.to_segment_indices();
     indices.resize(count, (0, 0))?;
-    let total = read_lengths(source, &first, &mut indices, rules)?;
+    let total = read_lengths(source, &first, &mut indices, &rules)?;
     Ok(Some(SegmentLengthsBuilder::from_indices(indices, total)))
 }
 
@@ -85,11 +85,11 @@ fn read_lengths<R: Read>(
     source: &mut R,
     first: &[u8; 8],
     indices: &mut [(usize, usize)],
-    rules: TableRules,
+    rules: &TableRules,
 ) -> Result<usize>
     requires accepted { DeclaresAccepted first.now (length indices.old) }
-    ensures { ReadsLengths R.Read source.old source.new rules.padding
-        rules.limit_in_words first.now indices.new result }
+    ensures { ReadsLengths R.Read source.old source.new rules.now.padding
+        rules.now.limit_in_words first.now indices.new result }
 {
     let size = table_len(indices.len());
     if size == 8 {
@@ -113,12 +113,12 @@ fn read_lengths_by<R: Read>(
     first: &[u8; 8],
     indices: &mut [(usize, usize)],
     table: &mut [u8],
-    rules: TableRules,
+    rules: &TableRules,
 ) -> Result<usize>
     requires accepted { DeclaresAccepted first.now (length indices.old) }
     requires size { length table.old ≡ table_size (length indices.old) }
-    ensures { ReadsLengths R.Read source.old source.new rules.padding
-        rules.limit_in_words first.now indices.new result }
+    ensures { ReadsLengths R.Read source.old source.new rules.now.padding
+        rules.now.limit_in_words first.now indices.new result }
 {
     complete_table(source, first, table)?;
     fill_lengths(indices, table, rules)
@@ -126,7 +126,7 @@ fn read_lengths_by<R: Read>(
 
 // Fills in where each segment begins and ends by a table that is complete, tests the limit and the
 // padding, and returns the sum of the lengths.
-fn fill_lengths(indices: &mut [(usize, usize)], table: &[u8], rules: TableRules) -> Result<usize>
+fn fill_lengths(indices: &mut [(usize, usize)], table: &[u8], rules: &TableRules) -> Result<usize>
     requires accepted { DeclaresAccepted (take 8 table.now) (length indices.old) }
     requires size { length table.now ≡ table_size (length indices.old) }
     ensures declared { map range_len indices.new ≡ declared_lengths (length indices.new) table.now }
@@ -134,10 +134,10 @@ fn fill_lengths(indices: &mut [(usize, usize)], table: &[u8], rules: TableRules)
     ensures ranges { IfOk result (AreRanges indices.new) }
     ensures bound { IfOk result (λ total. total < 2 ^ 42) }
     ensures padding { OnOk result
-        (KeepsPadding rules.padding (declared_padding (length indices.new) table.now)) }
-    ensures within { OnOk result (KeepsLimit (map range_len indices.new) rules.limit_in_words) }
+        (KeepsPadding rules.now.padding (declared_padding (length indices.new) table.now)) }
+    ensures within { OnOk result (KeepsLimit (map range_len indices.new) rules.now.limit_in_words) }
     ensures refused { IfErr result (λ error.
-        RefusesComplete rules.padding rules.limit_in_words error.kind table.now) }
+        RefusesComplete rules.now.padding rules.now.limit_in_words error.kind table.now) }
 {
     let total = fill_segment_ranges(indices, table);
     check_limit(total, rules.limit_in_words)?;

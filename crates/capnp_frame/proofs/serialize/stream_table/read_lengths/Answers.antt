@@ -27,16 +27,16 @@ returns-then-size-eq8 g c =
     let declared = c.fill_lengths.ensures in
     let read = c.fill_lengths.result in
     record {
-      table = on_ok_weaker read (λ kept. rw declared.declared (rest_stands c.args.rules.padding g.R.Read.gives word word _ _ _ front size declared.tells kept given)) declared.padding;
+      table = on_ok_weaker read (λ kept. rw declared.declared (rest_stands c.args.rules.now.padding g.R.Read.gives word word _ _ _ front size declared.tells kept given)) declared.padding;
       ranges = declared.ranges;
       bound = declared.bound;
       each = on_ok_weaker read (λ kept. rw declared.declared declared.tells.lengths.each) declared.padding;
       within = declared.within;
-      refused = IfErr-weaker read _ _ (λ error met. inr (complete_stops c.args.rules.padding g.R.Read.gives g.R.Read.refuses c.args.rules.limit_in_words error.kind word word _ _ _
+      refused = IfErr-weaker read _ _ (λ error met. inr (complete_stops c.args.rules.now.padding g.R.Read.gives g.R.Read.refuses c.args.rules.now.limit_in_words error.kind word word _ _ _
           front size given met)) declared.refused;
-      kinds = IfErr-weaker read _ _ (λ error met. (complete_kind c.args.rules.padding g.R.Read.refuses c.args.rules.limit_in_words error.kind word met).0) declared.refused;
+      kinds = IfErr-weaker read _ _ (λ error met. (complete_kind c.args.rules.now.padding g.R.Read.refuses c.args.rules.now.limit_in_words error.kind word met).0) declared.refused;
       asked = record {
-        failed = IfErr-weaker read _ _ (λ error met device. absurd ((complete_kind c.args.rules.padding g.R.Read.refuses c.args.rules.limit_in_words error.kind word met).1 device)) declared.refused;
+        failed = IfErr-weaker read _ _ (λ error met device. absurd ((complete_kind c.args.rules.now.padding g.R.Read.refuses c.args.rules.now.limit_in_words error.kind word met).1 device)) declared.refused;
         advances = record {
           tail = IfKnown-refl IsTail _ (λ raw. ([], refl));
           counted = omega arith;
