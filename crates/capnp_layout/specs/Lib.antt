@@ -13,3 +13,4 @@ pub mod Layout
 pub mod Block
 pub mod Rows
 pub mod Output
+pub mod Limits
