@@ -15,7 +15,8 @@ use Rattle.capnp_layout.specs.Output.{output_body_of, pointer_of_body}
 use Rattle.capnp_wire.specs.Copy.{put_own, IsCopied, CopiesAll}
 use Rattle.capnp_wire.specs.declared.layout.copy.Copied.{Copied}
 use Rattle.capnp_layout.specs.Rows.{row_size, kept_in, slots_of}
-use Rattle.capnp_wire.specs.Values.{HasWords, LacksWords, HasRoomAt, IsTreeOf, StopsInside, HoldsPointers, fields_at, too_large}
+use Rattle.capnp_wire.specs.Values.{HasWords, LacksWords, HasRoomAt, IsTreeOf, StopsInside, HoldsPointers, fields_at}
+use Rattle.capnp_layout.specs.Limits.{too_large}
 use Rattle.capnp_layout.specs.declared.place.Place.{Place}
 use Rattle.capnp_layout.specs.declared.pointer.StructSize.{StructSize}
 use Rattle.capnp_layout.specs.declared.object.Body.{Body}

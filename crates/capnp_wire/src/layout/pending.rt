@@ -19,7 +19,7 @@ use capnp_layout::object::{Body, Object, object_there};
 use capnp_layout::output_size::output_body;
 use capnp_layout::place::Place;
 use capnp_layout::pointer_run::PointerRun;
-use capnp_layout::pointer_word::list_word;
+use capnp_layout::pointer_word::{POINTER_LIST, list_word};
 
 /// An object whose copy is in progress, the body of the copy, and the pointer to it.
 #[derive(Drop)]
@@ -174,7 +174,7 @@ pub(crate) fn begin_list(list: &PointerRun<'_>, following: usize, next: usize) -
         (next - following) next old old result }
 {
     PendingPointers {
-        pointer: list_word((next - following) as u64, 6, list.count as u64),
+        pointer: list_word((next - following) as u64, POINTER_LIST, list.count as u64),
         first: list.first,
         count: list.count,
         slot: next,
