@@ -5,6 +5,7 @@ pub mod Trim
 pub mod Object
 pub mod PointerWord
 pub mod Landing
+pub mod Body
 pub mod Local
 pub mod Reached
 pub mod Traversed
