@@ -6,7 +6,7 @@ use Rattle.capnp_frame.specs.declared.error.Error.{Error}
 use Rattle.capnp_layout.specs.Pointer.{words_from}
 use Rattle.capnp_layout.specs.Tree.{struct, Trees, none, tree, object_size, total_words}
 use Rattle.capnp_layout.specs.Object.{places}
-use Rattle.capnp_layout.specs.Landing.{words_in}
+use Rattle.capnp_layout.specs.Body.{words_in}
 use Rattle.capnp_layout.specs.Reached.{At}
 use Rattle.capnp_wire.specs.Traversed.{WalkedAll}
 use Rattle.capnp_layout.specs.Layout.{output, AllHaveRoom}

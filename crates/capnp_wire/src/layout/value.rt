@@ -1,6 +1,7 @@
 //! Trees of a message as values that are measured; lists of bytes and of numbers, which are written
 //! as well.
 ghost use Rattle.std.specs.Prelude.{◌≡◌, ◌<◌, ◌≤◌, ◌+◌, ◌-◌, ◌++◌, ◌*◌, ◌/◌, ◌^◌, ℕ, All, [], ◌∷◌, length, min, MatchResult};
+ghost use Rattle.capnp_frame.specs.declared.error.ErrorKind.TheVariants.{AllocationTooLarge};
 ghost use Rattle.capnp_layout.specs.Pointer.{digits, number_of, words_of};
 ghost use Rattle.capnp_layout.specs.Element.{code_of, width, words_for};
 ghost use Rattle.capnp_layout.specs.Tree.{numbers, none, tree};
@@ -101,7 +102,7 @@ pub(crate) fn measure_text(bytes: &[u8]) -> Result<u32>
     ensures words { MatchResult result
         (λ words. (length bytes.now + 1 < 2 ^ 29) × (words ≡ words_for (length bytes.now + 1) 8))
         (λ error. (2 ^ 29 ≤ length bytes.now + 1)
-        × (error.kind ≡ ErrorKind.AllocationTooLarge
+        × (error.kind ≡ AllocationTooLarge
         (min (words_for (length bytes.now + 1) 8) (2 ^ 32 - 1)))) }
     ensures bytes { All (λ byte. byte < 2 ^ 8) bytes.now }
 {
@@ -133,7 +134,7 @@ pub(crate) fn write_text(bytes: &[u8], block: &mut [u8], following: usize, next:
 pub(crate) fn measure_numbers(size: ElementSize, count: u32) -> Result<u32>
     ensures { MatchResult result
         (λ words. (count < 2 ^ 29) × (words ≡ words_for count (width (code_of size))))
-        (λ error. (2 ^ 29 ≤ count) × (error.kind ≡ ErrorKind.AllocationTooLarge
+        (λ error. (2 ^ 29 ≤ count) × (error.kind ≡ AllocationTooLarge
         (min (words_for count (width (code_of size))) (2 ^ 32 - 1)))) }
 {
     let words = size.words_of_list(count);

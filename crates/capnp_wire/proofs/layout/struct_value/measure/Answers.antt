@@ -2,7 +2,7 @@
 use Rattle.std.proofs.Common.{◌≡◌, ◌+◌, ◌≤◌, ◌∙◌, ap, refl, length, arith}
 use Rattle.capnp_layout.specs.Pointer.{words_of}
 use Rattle.capnp_layout.specs.Object.{message_of}
-use Rattle.capnp_layout.specs.Landing.{words_in}
+use Rattle.capnp_layout.specs.Body.{words_in}
 use Rattle.capnp_layout.specs.Output.{output_body_of}
 use Rattle.capnp_layout.specs.declared.object.Body.TheVariants.{Struct}
 use Rattle.capnp_layout.proofs.words.WordLemmas.{length-words_of}

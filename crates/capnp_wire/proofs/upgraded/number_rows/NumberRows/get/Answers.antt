@@ -14,7 +14,7 @@ use Rattle.capnp_layout.proofs.words.WordLemmas.{length-words_of}
 use Rattle.capnp_wire.proofs.objects.NumberLemmas.{element_read}
 use Rattle.capnp_layout.proofs.objects.PartLemmas.{one_from, element_fits}
 use Rattle.capnp_wire.proofs.views.UpgradedRowLemmas.{number_row_at}
-use Rattle.capnp_wire.proofs.upgraded.struct_list.NumberRows.get.Goals as goal
+use Rattle.capnp_wire.proofs.upgraded.number_rows.NumberRows.get.Goals as goal
 
 pub invariant_of-result : goal.invariant_of-result
 invariant_of-result g c =
