@@ -5,7 +5,7 @@ ghost use Rattle.capnp_layout.specs.Limits.{too_large};
 
 use capnp_frame::{Error, ErrorKind, Result};
 
-/// The most words that an object may have, with all that it leads to where this is one block.
+/// The most words that an object may have, and a value that is laid out as one block.
 pub const MAX_WORDS: u32 = (1 << 29) - 1;
 
 /// The most elements that a list may have: a list pointer has their number in 29 bits.
