@@ -36,7 +36,7 @@ pub(crate) trait ObjectView<'a, S: ReaderSegments>: Sized {
         ensures { let pointer = pointer_of S.segments reader.now in MatchResult result
             (λ view. shows pointer view) (λ error. refuses pointer error.kind) };
 
-    /// What can't be read is refused.
+    /// A pointer that can't be read fails with such an error.
     ghost unread: { (pointer : Pointer) (kind : ErrorKind) → RejectsReading pointer kind →
         refuses pointer kind };
 }
