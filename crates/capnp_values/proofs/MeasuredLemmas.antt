@@ -5,7 +5,8 @@ use Rattle.capnp_frame.specs.declared.error.Error.{Error}
 use Rattle.capnp_frame.specs.declared.error.ErrorKind.{ErrorKind}
 use Rattle.capnp_layout.specs.Tree.{Trees, total_words}
 use Rattle.capnp_layout.specs.Layout.{output, AllHaveRoom}
-use Rattle.capnp_wire.specs.Values.{HasWords, LacksWords, HasPart, too_large}
+use Rattle.capnp_wire.specs.Values.{HasWords, LacksWords, HasPart}
+use Rattle.capnp_layout.specs.Limits.{too_large}
 use Rattle.capnp_wire.specs.declared.traits.PartWords.{PartWords}
 use Rattle.capnp_wire.proofs.views.PartWordLemmas.{output_less, same_part}
 use Rattle.capnp_values.specs.Measured.{tree_words, Measures}

@@ -1,7 +1,7 @@
 //! Sums of words, and how many words a value may have.
 ghost use Rattle.std.specs.Prelude.{◌≡◌, ◌-◌, ◌≤◌, ◌<◌, ◌^◌, min, false, MatchResult};
 ghost use Rattle.capnp_frame.specs.declared.error.ErrorKind.TheVariants.{AllocationTooLarge};
-ghost use Rattle.capnp_wire.specs.Values.{too_large};
+ghost use Rattle.capnp_layout.specs.Limits.{too_large};
 
 use capnp_frame::{Error, ErrorKind, Result};
 use capnp_wire::traits::PartWords;

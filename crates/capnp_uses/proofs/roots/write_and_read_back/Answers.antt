@@ -26,7 +26,6 @@ encoding : (g : given.Over) (c : goal.After-next_message g) → IsTextOf c.args.
 encoding g c = added_alone c.args.format (g.S.ReaderSegments.segments c.args.message.now) c.new-text.result.items _ c.deref-source.result.now c.new-text.ensures.items
     c.deref-source.ensures.value (c.in_ok-write_message.ensures.text (λ chunk text same. same))
 
-<<<<<<< ours
 pub returns-in_err-reader : goal.returns-in_err-reader
 returns-in_err-reader g c =
     let p = err_from_is_err_and c.from_residual-in_err-reader.result c.from_residual-in_err-reader.ensures.1 in
@@ -40,13 +39,3 @@ returns-in-Some g c = written_and_read Zero c.args.format c.args.options _ _ _ (
 pub returns-in-None : goal.returns-in-None
 returns-in-None g c = written_and_read Zero c.args.format c.args.options _ _ _ (g.S.ReaderSegments.segments c.args.message.now) (Err c.from_kind.result) c.deref-source.result.now
     (encoding g c) c.requires c.in_ok-write_message.ensures.count.few refl refl refl (inr (c.from_kind.ensures, rw c.in-None.is at c.in_ok-reader.ensures))
-=======
-pub returns : goal.returns
-returns g c =
-    let written = c.in_ok-write_message.ensures in
-    let message = g.S.ReaderSegments.segments c.args.message.now in
-    let alone = added_alone c.args.format message c.new-text.result.items _ c.deref-source.result.now c.new-text.ensures.items c.deref-source.ensures.value (written.text (λ chunk text same. same)) in
-    let read = c.read_message-in-Packed in
-    written_and_read Zero Packed c.args.options _ _ _ message (λ reader. reader.segments) (λ reader. reader.options) read.result c.deref-source.result.now
-    (rw c.in-Packed.is at alone) c.requires written.count.few refl refl refl read.ensures.texts read.ensures.reads read.ensures.options
->>>>>>> theirs

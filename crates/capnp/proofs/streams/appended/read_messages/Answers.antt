@@ -1,70 +1,43 @@
 -- Each turn reads one more message.
-<<<<<<< ours
 use Rattle.std.proofs.Common.{◌≡◌, ◌+◌, ◌<◌, ◌++◌, ◌∷◌, [], inl, length, map, arith, ap, refl, sym, ◌∙◌}
-=======
-use Rattle.std.proofs.Common.{◌≡◌, ◌+◌, ◌<◌, ◌++◌, ◌∷◌, [], inl, inr, length, map, arith, ap, refl, sym, ◌∙◌}
->>>>>>> theirs
 use Rattle.std.proofs.lemmas.List.{length-map, length_push}
 use Rattle.std.proofs.lemmas.Result.{err_from_is_err_and}
 use Rattle.capnp_frame.proofs.SourceLemmas.{Advances-join}
 use Rattle.capnp_frame.specs.declared.serialize.segment_table.Padding.TheVariants.{Zero}
 use Rattle.capnp_frame.specs.declared.error.ErrorKind.TheVariants.{DeviceFailed, OutOfMemory}
 use Rattle.capnp.proofs.AppendedLemmas.{texts_next, stops_reading, accepted_at_memory, AllByRecursion-push}
-<<<<<<< ours
-=======
-use Rattle.capnp.proofs.FormatLemmas.{stands_next}
->>>>>>> theirs
 use Rattle.capnp.proofs.streams.appended.read_messages.Goals as goal
 
 pub returns-in_err-reader : goal.returns-in_err-reader
 returns-in_err-reader g c =
     let p = err_from_is_err_and c.from_residual.result c.from_residual.ensures.1 in
-<<<<<<< ours
     let messages = map (λ reader. reader.segments) c.loop-index.readers.items in
     let declared = c.loop-index.invariant in
     let fewer : length messages < c.args.count = omega (arith, length-map c.loop-index.readers.items (λ reader. reader.segments), declared.counted, c.loop-index-test.true) in
     rw (p.1, p.2) (stops_reading g.R.Read _ _ _ c.args.format c.args.options c.args.count (λ readers. readers.items) (λ reader. reader.segments)
     (λ reader. reader.options) messages c.in_err-reader.field-0.0 (g.met.R.Read.keeps.transitive _ _ _) fewer declared.texts declared.advances c.in_err-reader.ensures)
-=======
-    let before = c.loop-index.invariant in
-    rw (p.1, p.2) (stops_reading g.R.Read _ _ _ c.args.format c.args.options c.args.count _ _ _
-    (map (λ reader. reader.segments) c.loop-index.readers.items) c.in_err-reader.field-0.0 (g.met.R.Read.keeps.transitive _ _ _)
-    (omega (arith, length-map c.loop-index.readers.items (λ reader. reader.segments), before.counted, c.loop-index-test.true))
-    before.texts before.advances (inl c.in_err-reader.ensures.reads))
 
-pub returns-in-None : goal.returns-in-None
-returns-in-None g c =
-    let before = c.loop-index.invariant in
-    stops_reading g.R.Read _ _ _ c.args.format c.args.options c.args.count _ _ _
-    (map (λ reader. reader.segments) c.loop-index.readers.items) c.from_kind.result (g.met.R.Read.keeps.transitive _ _ _)
-    (omega (arith, length-map c.loop-index.readers.items (λ reader. reader.segments), before.counted, c.loop-index-test.true))
-    before.texts before.advances (inr (c.from_kind.ensures, rw c.in-None.is at c.in_ok-reader.ensures.reads))
->>>>>>> theirs
-
-pub returns-in_err-push-in-Some : goal.returns-in_err-push-in-Some
-returns-in_err-push-in-Some g c =
-    let p = err_from_is_err_and c.from_residual-in_err-push-in-Some.result c.from_residual-in_err-push-in-Some.ensures.1 in
-    let limit = c.args.options.traversal_limit_in_words in
-    let reads = (rw c.in-Some.is at c.in_ok-reader.ensures.reads) in
-    let more = c.loop-index.readers.items ++ c.in-Some.reader ∷ [] in
+pub returns-in_err-push : goal.returns-in_err-push
+returns-in_err-push g c =
+    let p = err_from_is_err_and c.from_residual-in_err-push.result c.from_residual-in_err-push.ensures.1 in
+    let more = c.loop-index.readers.items ++ c.in_ok-reader.reader ∷ [] in
     rw p.1 (record {
       counted = tt;
       found = tt;
       options_are = tt;
-      accepted = accepted_at_memory Zero c.args.format limit c.args.count p.0.kind _ p.2;
+      accepted = accepted_at_memory Zero c.args.format c.args.options.traversal_limit_in_words c.args.count p.0.kind _ p.2;
       stops = inl (record {
         memory = p.2;
         messages = map (λ reader. reader.segments) more;
-        some = omega (arith, length-map more (λ reader. reader.segments), length_push c.loop-index.readers.items c.in-Some.reader);
+        some = omega (arith, length-map more (λ reader. reader.segments), length_push c.loop-index.readers.items c.in_ok-reader.reader);
         within = omega (
           arith,
           length-map more (λ reader. reader.segments),
-          length_push c.loop-index.readers.items c.in-Some.reader,
+          length_push c.loop-index.readers.items c.in_ok-reader.reader,
           c.loop-index.invariant.counted,
           length-map c.loop-index.readers.items (λ reader. reader.segments),
           c.loop-index-test.true,
         );
-<<<<<<< ours
         texts = texts_next Zero c.args.format c.args.options.traversal_limit_in_words (λ reader. reader.segments) c.loop-index.readers.items
             more c.in_ok-reader.reader _ _ _ refl c.loop-index.invariant.texts (c.in_ok-reader.ensures.texts tt).found;
       });
@@ -82,24 +55,3 @@ loop-index-preserved g c = record {
       c.in_ok-push.ensures.items c.loop-index.invariant.options c.in_ok-reader.ensures.options_are;
   advances = Advances-join _ _ _ (g.met.R.Read.keeps.transitive _ _ _) c.loop-index.invariant.advances c.in_ok-reader.ensures.reads.advances;
 }
-=======
-        texts = texts_next Zero c.args.format limit (λ reader. reader.segments) c.loop-index.readers.items more c.in-Some.reader _ _ _ refl
-            c.loop-index.invariant.texts (stands_next Zero c.args.format limit c.in-Some.reader.segments _ _ reads.within reads.found);
-      });
-      failed = λ device. let never : OutOfMemory ≡ DeviceFailed = sym p.2 ∙ device in cc;
-      advances = Advances-join _ _ _ (g.met.R.Read.keeps.transitive _ _ _) c.loop-index.invariant.advances reads.advances;
-    })
-
-pub loop-index-preserved : goal.loop-index-preserved
-loop-index-preserved g c =
-    let limit = c.args.options.traversal_limit_in_words in
-    let read = rw c.in-Some.is at c.in_ok-reader.ensures in record {
-      counted = ap length c.in_ok-push-in-Some.ensures.items ∙ length_push c.loop-index.readers.items c.in-Some.reader ∙ ap (λ k. k + 1) c.loop-index.invariant.counted;
-      texts = texts_next Zero c.args.format limit (λ reader. reader.segments) c.loop-index.readers.items
-          c.push.new.self.items c.in-Some.reader _ _ _ c.in_ok-push-in-Some.ensures.items c.loop-index.invariant.texts
-          (stands_next Zero c.args.format limit c.in-Some.reader.segments _ _ read.reads.within read.reads.found);
-      options = AllByRecursion-push (λ reader. reader.options ≡ c.args.options) c.loop-index.readers.items c.push.new.self.items c.in-Some.reader
-          c.in_ok-push-in-Some.ensures.items c.loop-index.invariant.options read.options;
-      advances = Advances-join _ _ _ (g.met.R.Read.keeps.transitive _ _ _) c.loop-index.invariant.advances read.reads.advances;
-    }
->>>>>>> theirs
