@@ -3,8 +3,8 @@ use Rattle.std.proofs.Common.{rules, ◌≡◌, Err, Result, false, subst, sym, 
 use Rattle.capnp_frame.specs.declared.error.Error.{Error}
 use Rattle.capnp_wire.proofs.views.PartWordLemmas.{output_words}
 use Rattle.capnp_values.specs.declared.measured.TreeWords.{TreeWords}
-use Rattle.capnp_values.proofs.ItemLemmas.{MeasuresItems, measuring_begins, measuring_goes_on, measuring_stops, measuring_ends}
-use Rattle.capnp_values.proofs.SourceLemmas.{part_declared, part_made, lacks_declared, lacks_made}
+use Rattle.capnp_values.proofs.lists.ItemLemmas.{MeasuresItems, measuring_begins, measuring_goes_on, measuring_stops, measuring_ends}
+use Rattle.capnp_values.proofs.values.SourceLemmas.{part_declared, part_made, lacks_declared, lacks_made}
 use Rattle.capnp_values.proofs.items.measure_items.Goals as goal
 
 pub loop-index-init : goal.loop-index-init

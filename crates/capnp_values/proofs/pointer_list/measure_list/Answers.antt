@@ -5,8 +5,8 @@ use Rattle.capnp_frame.specs.declared.error.ErrorKind.TheVariants.{AllocationToo
 use Rattle.capnp_values.specs.Measured.{Measures}
 use Rattle.capnp_values.specs.Lists.{IsPointerList, RefusesPointerList}
 use Rattle.capnp_values.specs.declared.measured.TreeWords.{TreeWords}
-use Rattle.capnp_values.proofs.ItemLemmas.{items_few}
-use Rattle.capnp_values.proofs.PointerListLemmas.{list_measured, list_too_long, list_refused}
+use Rattle.capnp_values.proofs.lists.ItemLemmas.{items_few}
+use Rattle.capnp_values.proofs.lists.PointerListLemmas.{list_measured, list_too_long, list_refused}
 use Rattle.capnp_values.proofs.pointer_list.measure_list.Goals as goal
 
 pub returns-then-count : goal.returns-then-count

@@ -4,9 +4,9 @@ use Rattle.std.proofs.Common.{rules, ◌<◌, ◌^◌, ◌∙◌, ℕ, List, len
 use Rattle.capnp_frame.specs.declared.error.Error.{Error}
 use Rattle.capnp_values.specs.StructLists.{ReachesRows}
 use Rattle.capnp_values.specs.declared.rows.Reach.{Reach}
-use Rattle.capnp_values.proofs.RowMeasureLemmas.{same_reach, measuring_goes_on, measuring_stops, measuring_ends}
-use Rattle.capnp_values.proofs.AsIsLemmas.{as_extent, as_extents, row_extent, row_found, row_refused}
-use Rattle.capnp_values.proofs.SourceLemmas.{extent_declared}
+use Rattle.capnp_values.proofs.struct_lists.RowMeasureLemmas.{same_reach, measuring_goes_on, measuring_stops, measuring_ends}
+use Rattle.capnp_values.proofs.values.AsIsLemmas.{as_extent, as_extents, row_extent, row_found, row_refused}
+use Rattle.capnp_values.proofs.values.SourceLemmas.{extent_declared}
 use Rattle.capnp_values.proofs.rows.as_is_rows.Goals as goal
 
 pub loop-index-preserved : goal.loop-index-preserved

@@ -7,8 +7,8 @@ use Rattle.capnp_layout.specs.Tree.{none}
 use Rattle.capnp_values.specs.Structs.{kept_words}
 use Rattle.capnp_values.specs.StructLists.{reach_of, ReachesRows}
 use Rattle.capnp_values.specs.declared.rows.Reach.{Reach}
-use Rattle.capnp_values.proofs.RowMeasureLemmas.{RowsMeasured, extent_few, measuring_begins, measuring_goes_on, measuring_stops, measuring_ends}
-use Rattle.capnp_values.proofs.SourceLemmas.{extent_declared}
+use Rattle.capnp_values.proofs.struct_lists.RowMeasureLemmas.{RowsMeasured, extent_few, measuring_begins, measuring_goes_on, measuring_stops, measuring_ends}
+use Rattle.capnp_values.proofs.values.SourceLemmas.{extent_declared}
 use Rattle.capnp_values.proofs.rows.measure_rows.Goals as goal
 
 pub loop-index-init : goal.loop-index-init

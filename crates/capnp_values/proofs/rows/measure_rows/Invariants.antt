@@ -2,7 +2,7 @@
 use Rattle.std.proofs.Common.{[]}
 use Rattle.capnp_layout.specs.Tree.{none}
 use Rattle.capnp_values.specs.StructLists.{reach_of}
-use Rattle.capnp_values.proofs.RowMeasureLemmas.{RowsMeasured}
+use Rattle.capnp_values.proofs.struct_lists.RowMeasureLemmas.{RowsMeasured}
 use Rattle.capnp_values.proofs.rows.measure_rows.Given as goal
 
 abbrev pub invariant-loop-index : goal.invariant-loop-index

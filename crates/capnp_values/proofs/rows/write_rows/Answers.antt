@@ -4,8 +4,8 @@ use Rattle.capnp_layout.specs.Pointer.{words_of}
 use Rattle.capnp_layout.specs.Block.{put}
 use Rattle.capnp_values.specs.Fields.{IsRowWritten}
 use Rattle.capnp_layout.proofs.words.WordLemmas.{length-words_of}
-use Rattle.capnp_values.proofs.StructRowLemmas.{RowsWritten, writing_begins, row_room, writing_goes_on, writing_ends}
-use Rattle.capnp_values.proofs.SourceLemmas.{row_made, row_declared}
+use Rattle.capnp_values.proofs.struct_lists.StructRowLemmas.{RowsWritten, writing_begins, row_room, writing_goes_on, writing_ends}
+use Rattle.capnp_values.proofs.values.SourceLemmas.{row_made, row_declared}
 use Rattle.capnp_values.proofs.rows.write_rows.Goals as goal
 
 pub overflow_add-width : goal.overflow_add-width

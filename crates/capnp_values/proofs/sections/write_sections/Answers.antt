@@ -3,7 +3,7 @@ use Rattle.std.proofs.Common.{◌+◌, ◌-◌, ◌*◌, ◌∙◌, ℕ, List, l
 use Rattle.capnp_layout.specs.Pointer.{words_of}
 use Rattle.capnp_layout.proofs.words.WordLemmas.{length-words_of}
 use Rattle.capnp_values.specs.Fields.{CanWriteRow, IsRowWritten}
-use Rattle.capnp_values.proofs.SectionLemmas.{data_is_put}
+use Rattle.capnp_values.proofs.structs.SectionLemmas.{data_is_put}
 use Rattle.capnp_values.proofs.sections.write_sections.Goals as goal
 
 pub slice_bounds-put_words-end : goal.slice_bounds-put_words-end

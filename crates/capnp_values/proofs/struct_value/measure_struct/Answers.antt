@@ -4,8 +4,8 @@ use Rattle.capnp_frame.specs.declared.error.Error.{Error}
 use Rattle.capnp_values.specs.Measured.{Measures}
 use Rattle.capnp_values.specs.Structs.{IsStruct, RefusesStruct}
 use Rattle.capnp_values.specs.declared.measured.TreeWords.{TreeWords}
-use Rattle.capnp_values.proofs.ReachLemmas.{bounded}
-use Rattle.capnp_values.proofs.StructLemmas.{not_fitting, struct_too_large, struct_refused, struct_measured}
+use Rattle.capnp_values.proofs.structs.ReachLemmas.{bounded}
+use Rattle.capnp_values.proofs.structs.StructLemmas.{not_fitting, struct_too_large, struct_refused, struct_measured}
 use Rattle.capnp_values.proofs.struct_value.measure_struct.Goals as goal
 
 pub returns-then-not-fits : goal.returns-then-not-fits

@@ -5,8 +5,8 @@ use Rattle.capnp_values.specs.Measured.{Measures}
 use Rattle.capnp_values.specs.StructLists.{IsStructList, RefusesStructList, TooManyStructs}
 use Rattle.capnp_values.specs.StructListPlaces.{AreDeclared}
 use Rattle.capnp_values.specs.declared.measured.TreeWords.{TreeWords}
-use Rattle.capnp_values.proofs.RowMeasureLemmas.{reach_few}
-use Rattle.capnp_values.proofs.StructListValueLemmas.{told, declared_size, declared_many, declared_kept, reach_declared, list_measured, list_too_large, list_refused}
+use Rattle.capnp_values.proofs.struct_lists.RowMeasureLemmas.{reach_few}
+use Rattle.capnp_values.proofs.struct_lists.StructListValueLemmas.{told, declared_size, declared_many, declared_kept, reach_declared, list_measured, list_too_large, list_refused}
 use Rattle.capnp_values.proofs.tagged.measure_list.Goals as goal
 
 pub returns-in_err-elements_fit : goal.returns-in_err-elements_fit

@@ -1,6 +1,6 @@
 -- A value is in front of a row, or is left out with it.
 use Rattle.std.proofs.Common.{◌+◌, ◌∙◌, sym, ap}
-use Rattle.capnp_values.proofs.ReachLemmas.{left_out, left_in, front_null, front_kept}
+use Rattle.capnp_values.proofs.structs.ReachLemmas.{left_out, left_in, front_null, front_kept}
 use Rattle.capnp_values.proofs.fields.field.front.Goals as goal
 
 pub returns-then-is_left_out : goal.returns-then-is_left_out

@@ -1,6 +1,6 @@
 -- The words of a list are those of its tree.
 use Rattle.capnp_values.specs.Lists.{IsPointerList, RefusesPointerList}
-use Rattle.capnp_values.proofs.MeasuredLemmas.{measured_less, part_returned, part_found, part_exact}
+use Rattle.capnp_values.proofs.values.MeasuredLemmas.{measured_less, part_returned, part_found, part_exact}
 use Rattle.capnp_values.proofs.pointer_list.PointerListSetterInputOwned.measure_part.Goals as goal
 
 pub checked_part_words-requires : goal.checked_part_words-requires

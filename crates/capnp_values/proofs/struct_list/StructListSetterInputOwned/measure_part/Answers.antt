@@ -7,7 +7,7 @@ use Rattle.capnp_layout.specs.Tree.{Trees}
 use Rattle.capnp_wire.specs.Values.{HasPart, LacksWords}
 use Rattle.capnp_wire.specs.declared.traits.PartWords.{PartWords}
 use Rattle.capnp_values.specs.StructLists.{IsStructList, RefusesStructList}
-use Rattle.capnp_values.proofs.MeasuredLemmas.{measured_less, part_returned, part_found, part_exact}
+use Rattle.capnp_values.proofs.values.MeasuredLemmas.{measured_less, part_returned, part_found, part_exact}
 use Rattle.capnp_values.proofs.struct_list.StructListSetterInputOwned.measure_part.Goals as goal
 
 pub checked_part_words-requires : goal.checked_part_words-requires

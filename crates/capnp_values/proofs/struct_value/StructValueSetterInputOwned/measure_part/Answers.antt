@@ -1,7 +1,7 @@
 -- The words of a struct are those of its tree.
 use Rattle.std.proofs.Common.{length}
 use Rattle.capnp_values.specs.Structs.{IsStruct, RefusesStruct}
-use Rattle.capnp_values.proofs.MeasuredLemmas.{measured_less, part_returned, part_found, part_exact}
+use Rattle.capnp_values.proofs.values.MeasuredLemmas.{measured_less, part_returned, part_found, part_exact}
 use Rattle.capnp_values.proofs.struct_value.StructValueSetterInputOwned.measure_part.Goals as goal
 
 pub checked_part_words-requires : goal.checked_part_words-requires

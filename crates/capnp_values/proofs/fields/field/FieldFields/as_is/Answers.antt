@@ -2,9 +2,9 @@
 use Rattle.std.proofs.Common.{rules, ◌≡◌, ap, Ok, Err, ℕ, false}
 use Rattle.capnp_layout.specs.Tree.{tree, none, total_words}
 use Rattle.capnp_wire.proofs.views.PartWordLemmas.{as_is_words}
-use Rattle.capnp_values.proofs.PartLemmas.{part_sizes, has_part}
-use Rattle.capnp_values.proofs.ResultLemmas.{ok_not_err, err_kind, refused_first, refused_rest}
-use Rattle.capnp_values.proofs.AsIsLemmas.{as_part, as_parts, part_found, part_refused, front_total, front_found}
+use Rattle.capnp_values.proofs.values.PartLemmas.{part_sizes, has_part}
+use Rattle.capnp_values.proofs.values.ResultLemmas.{ok_not_err, err_kind, refused_first, refused_rest}
+use Rattle.capnp_values.proofs.values.AsIsLemmas.{as_part, as_parts, part_found, part_refused, front_total, front_found}
 use Rattle.capnp_values.proofs.fields.field.FieldFields.as_is.Goals as goal
 
 pub returns-in_err-own-clause-found : goal.returns-in_err-own-clause-found

@@ -5,10 +5,10 @@ use Rattle.capnp_wire.specs.declared.traits.PartWords.{PartWords}
 use Rattle.capnp_wire.proofs.views.PartWordLemmas.{as_is_words}
 use Rattle.capnp_values.specs.Fields.{RefusesRow, extent_of}
 use Rattle.capnp_values.specs.declared.fields.Extent.{Extent}
-use Rattle.capnp_values.proofs.PartLemmas.{part_sizes, has_part, part_of}
-use Rattle.capnp_values.proofs.ReachLemmas.{bounded}
-use Rattle.capnp_values.proofs.ResultLemmas.{ok_not_err, err_kind, refused_first, refused_rest, same_parts}
-use Rattle.capnp_values.proofs.StructLemmas.{same_extents}
+use Rattle.capnp_values.proofs.values.PartLemmas.{part_sizes, has_part, part_of}
+use Rattle.capnp_values.proofs.structs.ReachLemmas.{bounded}
+use Rattle.capnp_values.proofs.values.ResultLemmas.{ok_not_err, err_kind, refused_first, refused_rest, same_parts}
+use Rattle.capnp_values.proofs.structs.StructLemmas.{same_extents}
 use Rattle.capnp_values.proofs.fields.field.FieldFields.measure.Goals as goal
 
 pub returns-in_err-own-clause-found : goal.returns-in_err-own-clause-found
