@@ -11,10 +11,11 @@ use Rattle.capnp_wire.specs.Copy.{IsCopied}
 use Rattle.capnp_wire.specs.Values.{HasRoomAt}
 use Rattle.capnp_layout.proofs.trees.TrimLemmas.{count-trim}
 use Rattle.capnp_wire.proofs.layouts.OpenLemmas.{room_output}
+use Rattle.capnp_wire.proofs.views.PartWordLemmas.{same_tree_words}
 use Rattle.capnp_values.specs.Measured.{tree_words, Measures}
 use Rattle.capnp_values.specs.Lists.{AreItems, HasRoomForItems, IsPointerList, RefusesPointerList}
-use Rattle.capnp_values.specs.declared.measured.TreeWords.{TreeWords}
-use Rattle.capnp_values.proofs.lists.ItemLemmas.{items_settled, same_tree_words, MeasuresItems}
+use Rattle.capnp_wire.specs.declared.traits.TreeWords.{TreeWords}
+use Rattle.capnp_values.proofs.lists.ItemLemmas.{items_settled, MeasuresItems}
 use Rattle.capnp_values.proofs.layouts.FilledLemmas.{list_filled}
 
 list_output : (c : Bool) (children : Trees) → output c (tree pointers children none) ≡ tree pointers (output c children) none

@@ -1,4 +1,4 @@
--- Lists of structs: the rows of trees of their elements, as they are or in canonical form, and how far these reach.
+-- Lists of structs: the rows of trees of their elements, as they are or in canonical form, and the words of these.
 use Rattle.std.proofs.Common.{◌≡◌, ℕ, suc, ◌+◌, ◌*◌, ◌<◌, ◌^◌, Bool, true, false, max, List, [], ◌∷◌, length, map, take, refl, sym, ◌∙◌, ap, subst, arith}
 use Rattle.std.specs.Prelude.{All}
 use Rattle.std.proofs.lemmas.List.{take_all, length-map}
@@ -9,7 +9,7 @@ use Rattle.capnp_layout.specs.Layout.{output, AllHaveRoom}
 use Rattle.capnp_layout.proofs.trees.FrontLemmas.{trim_before}
 use Rattle.capnp_layout.proofs.trees.NarrowLemmas.{first-before, following-before, first_all}
 use Rattle.capnp_layout.proofs.trees.ChunkLemmas.{count-first, count-before, count-following, total-before, before_chunks}
-use Rattle.capnp_layout.proofs.trees.StoodLemmas.{total_cut, total_narrowed}
+use Rattle.capnp_layout.proofs.trees.StoodLemmas.{total_narrowed}
 use Rattle.capnp_layout.proofs.trees.TrimLemmas.{room_trim}
 use Rattle.capnp_values.specs.Fields.{IsSettled, kept_row}
 use Rattle.capnp_values.specs.Structs.{kept_words}
@@ -17,7 +17,7 @@ use Rattle.capnp_values.specs.StructLists.{AreRows, element_data, element_pointe
 use Rattle.capnp_values.proofs.lists.PointerListLemmas.{count_output}
 
 -- the rows of some structs
-rooms_before : (a b : Trees) → AllHaveRoom a → AllHaveRoom b → AllHaveRoom (before a b)
+pub rooms_before : (a b : Trees) → AllHaveRoom a → AllHaveRoom b → AllHaveRoom (before a b)
 rooms_before none b x y = y
 rooms_before (tree form children rest) b x y = (x.0, x.1, rooms_before rest b x.2 y)
 
@@ -74,15 +74,8 @@ pub data_front : (c : Bool) (d : ℕ) (ws : List ℕ) (rows : List (List ℕ)) �
 data_front true d ws rows long = refl
 data_front false d ws rows long = omega (arith, long)
 
--- a row has the words of the pointers that are kept of it
-pub row_total : (c : Bool) (row : Trees) → AllHaveRoom row → total_words (kept_row c row) ≡ total_words (output c row)
-row_total true row rooms = total_cut (trim row) (room_trim row rooms)
-row_total false row rooms = refl
-
-pub total_front : (c : Bool) (row rest children : Trees) → children ≡ before row rest → AllHaveRoom row → total_words (output c children) ≡ total_words (kept_row c row) + total_words (output c rest)
-total_front c row rest children whole rooms =
-    let t : output c children ≡ before (output c row) (output c rest) = ap (output c) whole ∙ output_before c row rest in
-    ap total_words t ∙ total-before (output c row) (output c rest) ∙ ap (λ (n : ℕ). n + total_words (output c rest)) (sym (row_total c row rooms))
+pub total_front : (c : Bool) (row rest children : Trees) → children ≡ before row rest → total_words (output c children) ≡ total_words (output c row) + total_words (output c rest)
+total_front c row rest children whole = ap total_words (ap (output c) whole ∙ output_before c row rest) ∙ total-before (output c row) (output c rest)
 
 -- a list in the form that is written
 take_even : (d : ℕ) (rows : List (List ℕ)) → AreEven d rows → map (take d) rows ≡ rows

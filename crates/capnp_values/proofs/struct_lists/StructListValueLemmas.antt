@@ -10,13 +10,13 @@ use Rattle.capnp_layout.specs.Tree.{structs, Trees, none, tree, count, total_wor
 use Rattle.capnp_layout.specs.Layout.{output, AllHaveRoom}
 use Rattle.capnp_layout.proofs.words.CutLemmas.{least_data_within}
 use Rattle.capnp_layout.proofs.layouts.SizeLemmas.{rows_even}
+use Rattle.capnp_wire.proofs.views.PartWordLemmas.{same_tree_words}
 use Rattle.capnp_values.specs.Measured.{tree_words, Measures}
 use Rattle.capnp_values.specs.Fields.{IsSettled}
-use Rattle.capnp_values.specs.declared.rows.Reach.{Reach}
-use Rattle.capnp_values.specs.declared.measured.TreeWords.{TreeWords}
-use Rattle.capnp_values.specs.StructLists.{AreRows, IsStructList, TooManyStructs, RefusesStructList, element_data, element_pointers, reach_of, AreEven, ReachesRows}
+use Rattle.capnp_wire.specs.declared.traits.TreeWords.{TreeWords}
+use Rattle.capnp_values.specs.StructLists.{AreRows, IsStructList, TooManyStructs, RefusesStructList, element_data, element_pointers, AreEven, MeasuresRows}
 use Rattle.capnp_values.specs.StructListPlaces.{AreDeclared, IsDeclared}
-use Rattle.capnp_values.proofs.lists.ItemLemmas.{same_tree_words}
+use Rattle.capnp_values.proofs.lists.ItemLemmas.{measured_few}
 use Rattle.capnp_values.proofs.struct_lists.StructListLemmas.{rows_settled, structs_total}
 use Rattle.capnp_values.proofs.struct_lists.StructRowLemmas.{pointers_within}
 
@@ -53,10 +53,6 @@ pub declared_kept : (n d p x y e m : ℕ) → x ≡ d → y ≡ min p (2 ^ 16) �
 declared_kept n d p x y e m x_is y_is t k =
     record { words_within = omega (arith, k.words_within, x_is); pointers_within = omega (arith, k.pointers_within, y_is, t.few_pointers); elements = k.elements }
 
-pub reach_declared : (c : Bool) (n d p : ℕ) (rows : List (List ℕ)) (children : Trees) (reach : Reach) → AreDeclared n d p → AreEven d rows → reach ≡ reach_of c d p rows children → IsDeclared n d p reach.data_words reach.pointers
-reach_declared c n d p rows children reach t even is =
-    size_declared c n d p reach.data_words reach.pointers rows children t even (ap (λ (x : Reach). x.data_words) is) (ap (λ (x : Reach). x.pointers) is)
-
 -- its words
 pub list_total : {V : Type 0} (w : V → List ℕ) (h : V → Trees → Type 0) (c : Bool) (d p e m : ℕ) → ((v : V) (t : Trees) → h v t → IsSettled p t) → (vs : List V) (children : Trees) → AreRows h vs children
     → e ≡ element_data c d (map w vs) → m ≡ element_pointers c p (map w vs) children → total_words (output c (tree (structs d p (map w vs)) children none)) ≡ 1 + length vs * (e + m) + total_words (output c children)
@@ -79,44 +75,48 @@ list_rooms w h d p s vs children is t even =
     ((t.few_words, t.few_pointers, omega (arith, same, t.few), omega (arith, area, t.small), many, even), settled.rooms, tt)
 
 -- what is measured of it
-list_words : {V : Type 0} (w : V → List ℕ) (h : V → Trees → Type 0) (c : Bool) (d p : ℕ) → ((v : V) (t : Trees) → h v t → IsSettled p t) → (vs : List V) (children trees : Trees) (reach : Reach)
-    → AreRows h vs children → reach ≡ reach_of c d p (map w vs) children → trees ≡ tree (structs d p (map w vs)) children none
-    → record { as_is = 1 + length vs * (d + p) + reach.as_is; output = 1 + length vs * (reach.data_words + reach.pointers) + reach.words } ≡ tree_words c trees
-list_words w h c d p s vs children trees reach is reach_is whole =
-    let a : reach.words ≡ total_words (output c children) = ap (λ (x : Reach). x.words) reach_is in
-    let b : reach.as_is ≡ total_words children = ap (λ (x : Reach). x.as_is) reach_is in
+list_words : {V : Type 0} (w : V → List ℕ) (h : V → Trees → Type 0) (c : Bool) (d p e m : ℕ) → ((v : V) (t : Trees) → h v t → IsSettled p t) → (vs : List V) (children trees : Trees) (words : TreeWords)
+    → AreRows h vs children → e ≡ element_data c d (map w vs) → m ≡ element_pointers c p (map w vs) children → words ≡ tree_words c children → trees ≡ tree (structs d p (map w vs)) children none
+    → record { as_is = 1 + length vs * (d + p) + words.as_is; output = 1 + length vs * (e + m) + words.output } ≡ tree_words c trees
+list_words w h c d p e m s vs children trees words is e_is m_is words_is whole =
+    let a : words.output ≡ total_words (output c children) = ap (λ (x : TreeWords). x.output) words_is in
+    let b : words.as_is ≡ total_words children = ap (λ (x : TreeWords). x.as_is) words_is in
     let same : length (map w vs) * (d + p) ≡ length vs * (d + p) = ap (λ (n : ℕ). n * (d + p)) (length-map vs w) in
-    same_tree_words (record { as_is = 1 + length vs * (d + p) + reach.as_is; output = 1 + length vs * (reach.data_words + reach.pointers) + reach.words })
-    (tree_words c (tree (structs d p (map w vs)) children none))
-    (omega (arith, b, same))
-    (omega (arith, a, list_total w h c d p reach.data_words reach.pointers s vs children is (ap (λ (x : Reach). x.data_words) reach_is) (ap (λ (x : Reach). x.pointers) reach_is)))
+    same_tree_words (record { as_is = 1 + length vs * (d + p) + words.as_is; output = 1 + length vs * (e + m) + words.output }) (tree_words c (tree (structs d p (map w vs)) children none))
+    (omega (arith, b, same)) (omega (arith, a, list_total w h c d p e m s vs children is e_is m_is))
     ∙ sym (ap (tree_words c) whole)
 
-pub list_measured : {V : Type 0} (w : V → List ℕ) (h : V → Trees → Type 0) (r : V → ErrorKind → Type 0) (c : Bool) (d p : ℕ) → ((v : V) (t : Trees) → h v t → IsSettled p t) → (vs : List V) (reach : Reach)
-    (returned : Result Reach Error) (as_is output_words : ℕ) → AreDeclared (length vs) d p → returned ≡ Ok reach → ReachesRows w h r c d p vs returned
-    → as_is ≡ 1 + length vs * (d + p) + reach.as_is → output_words ≡ 1 + length vs * (reach.data_words + reach.pointers) + reach.words
+-- what each of some structs keeps
+pub record KeepsOf {V : Type 0} (w : V → List ℕ) (h : V → Trees → Type 0) (c : Bool) (d p e m : ℕ) (vs : List V) : Type 0 where
+  pub words : (children : Trees) → AreRows h vs children → e ≡ element_data c d (map w vs)
+  pub pointers : (children : Trees) → AreRows h vs children → m ≡ element_pointers c p (map w vs) children
+
+pub list_measured : {V : Type 0} (w : V → List ℕ) (h : V → Trees → Type 0) (r : V → ErrorKind → Type 0) (c : Bool) (d p e m : ℕ) → ((v : V) (t : Trees) → h v t → IsSettled p t) → (vs : List V)
+    (words : TreeWords) (returned : Result TreeWords Error) (as_is output_words : ℕ) → AreDeclared (length vs) d p → returned ≡ Ok words → MeasuresRows w h r c d vs returned → KeepsOf w h c d p e m vs
+    → as_is ≡ 1 + length vs * (d + p) + words.as_is → output_words ≡ 1 + length vs * (e + m) + words.output
     → Measures (λ t. IsStructList w h d p vs t) (λ k. RefusesStructList h r d p vs k) c (Ok (record { as_is = as_is; output = output_words }))
-list_measured w h r c d p s vs reach returned as_is output_words t was m as_is_same output_is =
-    let m_ok : ReachesRows w h r c d p vs (Ok reach) = subst (λ (x : Result Reach Error). ReachesRows w h r c d p vs x) was m in
-    let a = m_ok.returned in
-    let own : record { as_is = as_is; output = output_words } ≡ record { as_is = 1 + length vs * (d + p) + reach.as_is; output = 1 + length vs * (reach.data_words + reach.pointers) + reach.words } =
+list_measured w h r c d p e m s vs words returned as_is output_words t was rows kept as_is_same output_is =
+    let ok : MeasuresRows w h r c d vs (Ok words) = subst (λ (x : Result TreeWords Error). MeasuresRows w h r c d vs x) was rows in
+    let a = ok.measured.returned in
+    let own : record { as_is = as_is; output = output_words } ≡ record { as_is = 1 + length vs * (d + p) + words.as_is; output = 1 + length vs * (e + m) + words.output } =
     same_tree_words (record { as_is = as_is; output = output_words })
-    (record { as_is = 1 + length vs * (d + p) + reach.as_is; output = 1 + length vs * (reach.data_words + reach.pointers) + reach.words }) as_is_same output_is in
-    let whole : Trees = tree (structs d p (map w vs)) a.1.0 none in
+    (record { as_is = 1 + length vs * (d + p) + words.as_is; output = 1 + length vs * (e + m) + words.output }) as_is_same output_is in
+    let whole : Trees = tree (structs d p (map w vs)) a.0 none in
     record {
       returned = (
         whole,
-        record { children = a.1.0; children_is = a.1.1; few_words = t.few_words; few_pointers = t.few_pointers; few = t.few; small = t.small; whole = refl },
-        list_rooms w h d p s vs a.1.0 a.1.1 t a.0,
-        own ∙ list_words w h c d p s vs a.1.0 whole reach a.1.1 a.1.2 refl,
+        record { children = a.0; children_is = a.1; few_words = t.few_words; few_pointers = t.few_pointers; few = t.few; small = t.small; whole = refl },
+        list_rooms w h d p s vs a.0 a.1 t ok.even,
+        own ∙ list_words w h c d p e m s vs a.0 whole words a.1 (kept.words a.0 a.1) (kept.pointers a.0 a.1) a.3 refl,
       );
       found = λ trees is.
-          let there : Ok reach ≡ Ok (reach_of c d p (map w vs) is.children) = m_ok.found is.children is.children_is in
-          let same : reach ≡ reach_of c d p (map w vs) is.children = cc in
-          ap (λ (x : TreeWords). Ok x) (own ∙ list_words w h c d p s vs is.children trees reach is.children_is same is.whole);
+          let there : Ok words ≡ Ok (tree_words c is.children) = ok.measured.found is.children is.children_is in
+          let same : words ≡ tree_words c is.children = cc in
+          ap (λ (x : TreeWords). Ok x)
+          (own ∙ list_words w h c d p e m s vs is.children trees words is.children_is (kept.words is.children is.children_is) (kept.pointers is.children is.children_is) same is.whole);
       exact = λ kind refused. elim refused [
         | inl many ↦ absurd (not_too_many (length vs) d p kind t many)
-        | inr rows ↦ m_ok.exact kind rows.4
+        | inr others ↦ ok.measured.exact kind others.4
       ];
     }
 
@@ -158,15 +158,23 @@ list_too_large w h r c d p vs error many = record {
   ];
 }
 
-pub list_refused : {V : Type 0} (w : V → List ℕ) (h : V → Trees → Type 0) (r : V → ErrorKind → Type 0) (c : Bool) (d p : ℕ) (vs : List V) (returned : Result Reach Error) (error : Error)
-    → AreDeclared (length vs) d p → returned ≡ Err error → ReachesRows w h r c d p vs returned → Measures (λ t. IsStructList w h d p vs t) (λ k. RefusesStructList h r d p vs k) c (Err error)
-list_refused w h r c d p vs returned error t was m =
-    let m_err : ReachesRows w h r c d p vs (Err error) = subst (λ (x : Result Reach Error). ReachesRows w h r c d p vs x) was m in
+pub list_refused : {V : Type 0} (w : V → List ℕ) (h : V → Trees → Type 0) (r : V → ErrorKind → Type 0) (c : Bool) (d p : ℕ) (vs : List V) (returned : Result TreeWords Error) (error : Error)
+    → AreDeclared (length vs) d p → returned ≡ Err error → MeasuresRows w h r c d vs returned → Measures (λ t. IsStructList w h d p vs t) (λ k. RefusesStructList h r d p vs k) c (Err error)
+list_refused w h r c d p vs returned error t was rows =
+    let m = (subst (λ (x : Result TreeWords Error). MeasuresRows w h r c d vs x) was rows).measured in
     record {
-      returned = inr (t.few_words, t.few_pointers, t.few, t.small, m_err.returned);
-      found = λ trees is. let ok : Err error ≡ Ok (reach_of c d p (map w vs) is.children) = m_err.found is.children is.children_is in absurd (cc);
+      returned = inr (t.few_words, t.few_pointers, t.few, t.small, m.returned);
+      found = λ trees is. let ok : Err error ≡ Ok (tree_words c is.children) = m.found is.children is.children_is in absurd (cc);
       exact = λ kind refused. elim refused [
         | inl many ↦ absurd (not_too_many (length vs) d p kind t many)
-        | inr rows ↦ m_err.exact kind rows.4
+        | inr others ↦ m.exact kind others.4
       ];
     }
+
+-- what its elements lead to has few words
+pub rows_few : {V : Type 0} (w : V → List ℕ) (h : V → Trees → Type 0) (r : V → ErrorKind → Type 0) (c : Bool) (d p n : ℕ) → ((v : V) (t : Trees) → h v t → IsSettled p t) → (vs : List V) (words : TreeWords)
+    → MeasuresRows w h r c d vs (Ok words) → n ≡ length vs → n * (d + p) < 2 ^ 29 → words.as_is + words.output < 2 ^ 59
+rows_few w h r c d p n s vs words rows same few =
+    let one = measured_few (λ t. AreRows h vs t) c (length vs * p) words (rows_settled h p s vs) rows.measured.returned in
+    let area : n * (d + p) ≡ length vs * (d + p) = ap (λ (k : ℕ). k * (d + p)) same in
+    omega (arith, one.0, one.1, area, few)

@@ -1,7 +1,6 @@
 -- Structs of data words and of rows.
 use Rattle.std.proofs.Common.{◌≡◌, ℕ, ◌+◌, ◌≤◌, ◌<◌, ◌^◌, Bool, true, false, List, length, take, Result, Ok, Err, inl, inr, refl, sym, ◌∙◌, ap, subst, arith}
 use Rattle.std.specs.Prelude.{All, IsTrue, min, ◌↔◌, ◌==◌, if◌then◌else◌, ◌⊎◌}
-use Rattle.std.specs.Result.{IsErrAnd}
 use Rattle.std.proofs.lemmas.Bool.{cases_lt}
 use Rattle.std.proofs.lemmas.List.{take_all}
 use Rattle.capnp_frame.specs.declared.error.Error.{Error}
@@ -16,16 +15,16 @@ use Rattle.capnp_wire.specs.Values.{HasRoomAt}
 use Rattle.capnp_layout.proofs.trees.FrontLemmas.{first_cut, cut_front}
 use Rattle.capnp_layout.proofs.trees.NarrowLemmas.{first_all}
 use Rattle.capnp_layout.proofs.words.CutLemmas.{length-cut}
-use Rattle.capnp_layout.proofs.trees.TrimLemmas.{count-trim}
+use Rattle.capnp_layout.proofs.trees.TrimLemmas.{count-trim, room_trim}
+use Rattle.capnp_layout.proofs.trees.StoodLemmas.{total_cut}
+use Rattle.capnp_wire.proofs.views.PartWordLemmas.{same_tree_words}
 use Rattle.capnp_layout.proofs.trees.ChunkLemmas.{count-cut}
 use Rattle.capnp_wire.proofs.layouts.OpenLemmas.{room_output}
 use Rattle.capnp_values.specs.Measured.{tree_words, Measures}
-use Rattle.capnp_values.specs.Fields.{IsSettled, kept_row, extent_of, HasExtent, CanWriteRow}
+use Rattle.capnp_values.specs.Fields.{IsSettled, kept_row, CanWriteRow}
 use Rattle.capnp_values.specs.Structs.{IsStruct, RefusesStruct, kept_words}
-use Rattle.capnp_values.specs.declared.fields.Extent.{Extent}
-use Rattle.capnp_values.specs.declared.measured.TreeWords.{TreeWords}
-use Rattle.capnp_values.proofs.values.ResultLemmas.{ok_not_err, err_kind}
-use Rattle.capnp_values.proofs.lists.ItemLemmas.{same_tree_words}
+use Rattle.capnp_wire.specs.declared.traits.TreeWords.{TreeWords}
+use Rattle.capnp_values.proofs.values.ResultLemmas.{ok_not_err, same_words}
 use Rattle.capnp_values.proofs.layouts.FilledLemmas.{struct_filled}
 
 pub kept_first : (c : Bool) (t : Trees) → first (count (kept_row c t)) (output c t) ≡ kept_row c t
@@ -54,44 +53,46 @@ pub struct_total : (c : Bool) (words : List ℕ) (children : Trees)
 struct_total true words children = omega arith
 struct_total false words children = omega arith
 
--- what is measured of it
-pub same_extents : (r : Result Extent Error) (a b : Extent) → r ≡ Ok a → r ≡ Ok b → a ≡ b
-same_extents r a b x y = cc
+-- a row has the words of the pointers that are kept of it
+row_total : (c : Bool) (row : Trees) → AllHaveRoom row → total_words (kept_row c row) ≡ total_words (output c row)
+row_total true row rooms = total_cut (trim row) (room_trim row rooms)
+row_total false row rooms = refl
 
-struct_words : (c : Bool) (words : List ℕ) (size : ℕ) (children trees : Trees) (extent : Extent) (as_is output_words : ℕ) → trees ≡ tree (struct words) children none → IsSettled size children
-    → extent ≡ extent_of c children → as_is ≡ length words + size + extent.as_is → output_words ≡ length (kept_words c words) + extent.pointers + extent.words
+-- what is measured of it
+struct_words : (c : Bool) (words : List ℕ) (size : ℕ) (children trees : Trees) (row : TreeWords) (kept as_is output_words : ℕ) → trees ≡ tree (struct words) children none → IsSettled size children
+    → row ≡ tree_words c children → kept ≡ count (kept_row c children) → as_is ≡ length words + size + row.as_is → output_words ≡ length (kept_words c words) + kept + row.output
     → record { as_is = as_is; output = output_words } ≡ tree_words c trees
-struct_words c words size children trees extent as_is output_words whole s e as_is_same output_is =
-    let a : extent.pointers ≡ count (kept_row c children) = ap (λ (x : Extent). x.pointers) e in
-    let b : extent.words ≡ total_words (kept_row c children) = ap (λ (x : Extent). x.words) e in
-    let d : extent.as_is ≡ total_words children = ap (λ (x : Extent). x.as_is) e in
-    same_tree_words (record { as_is = as_is; output = output_words }) (tree_words c (tree (struct words) children none)) (omega (arith, as_is_same, d, s.many))
-    (omega (arith, output_is, a, b, struct_total c words children)) ∙ sym (ap (tree_words c) whole)
+struct_words c words size children trees row kept as_is output_words whole s row_is kept_is as_is_same output_is =
+    let a : row.as_is ≡ total_words children = ap (λ (w : TreeWords). w.as_is) row_is in
+    let b : row.output ≡ total_words (output c children) = ap (λ (w : TreeWords). w.output) row_is in
+    same_tree_words (record { as_is = as_is; output = output_words }) (tree_words c (tree (struct words) children none)) (omega (arith, as_is_same, a, s.many))
+    (omega (arith, output_is, b, kept_is, row_total c children s.rooms, struct_total c words children)) ∙ sym (ap (tree_words c) whole)
 
 allocation_too_large : (d p : ℕ) → d < 2 ^ 16 → p < 2 ^ 16 → (2 ^ 16 ≤ d ⊎ 2 ^ 16 ≤ p) → ⊥
 allocation_too_large d p a b (inl many) = omega (arith, a, many)
 allocation_too_large d p a b (inr many) = omega (arith, b, many)
 
-pub struct_measured : (c : Bool) (words : List ℕ) (size : ℕ) (hs : Trees → Type 0) (rs : ErrorKind → Type 0) (returned : Result Extent Error) (extent : Extent) (as_is output_words : ℕ)
-    → ((t : Trees) → hs t → IsSettled size t) → returned ≡ Ok extent → HasExtent hs c extent → ((t : Trees) → hs t → returned ≡ Ok (extent_of c t))
-    → ((kind : ErrorKind) → rs kind → IsErrAnd returned (λ e. e.kind ≡ kind)) → length words < 2 ^ 16 → size < 2 ^ 16 → All (λ w. w < 2 ^ 64) words
-    → as_is ≡ length words + size + extent.as_is → output_words ≡ length (kept_words c words) + extent.pointers + extent.words
+pub struct_measured : (c : Bool) (words : List ℕ) (size : ℕ) (hs : Trees → Type 0) (rs : ErrorKind → Type 0) (returned : Result TreeWords Error) (row : TreeWords) (kept as_is output_words : ℕ)
+    → ((t : Trees) → hs t → IsSettled size t) → returned ≡ Ok row → Measures hs rs c returned → ((t : Trees) → hs t → kept ≡ count (kept_row c t)) → length words < 2 ^ 16 → size < 2 ^ 16
+    → All (λ w. w < 2 ^ 64) words → as_is ≡ length words + size + row.as_is → output_words ≡ length (kept_words c words) + kept + row.output
     → Measures (λ t. IsStruct words size hs t) (λ k. RefusesStruct (length words) size rs k) c (Ok (record { as_is = as_is; output = output_words }))
-struct_measured c words size hs rs returned extent as_is output_words settled was has found exact few_words few_pointers small as_is_same output_is =
-    let s = settled has.0 has.1 in
+struct_measured c words size hs rs returned row kept as_is output_words settled was m kept_is few_words few_pointers small as_is_same output_is =
+    let a = (subst (λ (x : Result TreeWords Error). Measures hs rs c x) was m).returned in
+    let s = settled a.0 a.1 in
     record {
       returned = (
-        tree (struct words) has.0 none,
-        record { children = has.0; children_is = has.1; few_words = few_words; few_pointers = few_pointers; whole = refl },
+        tree (struct words) a.0 none,
+        record { children = a.0; children_is = a.1; few_words = few_words; few_pointers = few_pointers; whole = refl },
         ((few_words, omega (arith, s.many, few_pointers), small), s.rooms, tt),
-        struct_words c words size has.0 (tree (struct words) has.0 none) extent as_is output_words refl s has.2 as_is_same output_is,
+        struct_words c words size a.0 (tree (struct words) a.0 none) row kept as_is output_words refl s a.3 (kept_is a.0 a.1) as_is_same output_is,
       );
       found = λ trees is.
-          let same : extent ≡ extent_of c is.children = same_extents returned extent (extent_of c is.children) was (found is.children is.children_is) in
-          ap (λ (w : TreeWords). Ok w) (struct_words c words size is.children trees extent as_is output_words is.whole (settled is.children is.children_is) same as_is_same output_is);
+          let same : row ≡ tree_words c is.children = same_words returned row (tree_words c is.children) was (m.found is.children is.children_is) in
+          ap (λ (w : TreeWords). Ok w)
+          (struct_words c words size is.children trees row kept as_is output_words is.whole (settled is.children is.children_is) same (kept_is is.children is.children_is) as_is_same output_is);
       exact = λ kind refused. elim refused [
         | inl many ↦ absurd (allocation_too_large (length words) size few_words few_pointers many.0)
-        | inr others ↦ absurd (ok_not_err returned extent (λ e. e.kind ≡ kind) was (exact kind others.2))
+        | inr others ↦ absurd (ok_not_err returned row (λ e. e.kind ≡ kind) was (m.exact kind others.2))
       ];
     }
 
@@ -107,17 +108,18 @@ struct_too_large c words size hs rs error many is = record {
   ];
 }
 
-pub struct_refused : (c : Bool) (words : List ℕ) (size : ℕ) (hs : Trees → Type 0) (rs : ErrorKind → Type 0) (returned : Result Extent Error) (error : Error) → returned ≡ Err error → rs error.kind
-    → ((t : Trees) → hs t → returned ≡ Ok (extent_of c t)) → ((kind : ErrorKind) → rs kind → IsErrAnd returned (λ e. e.kind ≡ kind)) → length words < 2 ^ 16 → size < 2 ^ 16
-    → Measures (λ t. IsStruct words size hs t) (λ k. RefusesStruct (length words) size rs k) c (Err error)
-struct_refused c words size hs rs returned error was refused found exact few_words few_pointers = record {
-  returned = inr (few_words, few_pointers, refused);
-  found = λ trees is. let ok : returned ≡ Ok (extent_of c is.children) = found is.children is.children_is in absurd (cc);
-  exact = λ kind there. elim there [
-    | inl many ↦ absurd (allocation_too_large (length words) size few_words few_pointers many.0)
-    | inr others ↦ err_kind returned error kind was (exact kind others.2)
-  ];
-}
+pub struct_refused : (c : Bool) (words : List ℕ) (size : ℕ) (hs : Trees → Type 0) (rs : ErrorKind → Type 0) (returned : Result TreeWords Error) (error : Error) → returned ≡ Err error
+    → Measures hs rs c returned → length words < 2 ^ 16 → size < 2 ^ 16 → Measures (λ t. IsStruct words size hs t) (λ k. RefusesStruct (length words) size rs k) c (Err error)
+struct_refused c words size hs rs returned error was m few_words few_pointers =
+    let m_err : Measures hs rs c (Err error) = subst (λ (x : Result TreeWords Error). Measures hs rs c x) was m in
+    record {
+      returned = inr (few_words, few_pointers, m_err.returned);
+      found = λ trees is. let ok : Err error ≡ Ok (tree_words c is.children) = m_err.found is.children is.children_is in absurd (cc);
+      exact = λ kind there. elim there [
+        | inl many ↦ absurd (allocation_too_large (length words) size few_words few_pointers many.0)
+        | inr others ↦ m_err.exact kind others.2
+      ];
+    }
 
 -- a pointer can't say a size for which it fails
 pub not_fitting : (a b size : ℕ) (fits : Bool) → (IsTrue fits ↔ ((a < 2 ^ 16) × (b < 2 ^ 16))) → fits ≡ false → b ≡ min size (2 ^ 16) → (2 ^ 16 ≤ a ⊎ 2 ^ 16 ≤ size)
@@ -161,7 +163,7 @@ struct_place c words size hs next d n room w d_is kept_is =
 -- what is written of it
 pub struct_copied : (c : Bool) (words : List ℕ) (children trees : Trees) (gap next d n free tag : ℕ) (old new : List ℕ) → trees ≡ tree (struct words) children none → d ≡ length (kept_words c words)
     → n ≡ count (kept_row c children) → AllHaveRoom trees → tag ≡ struct_pointer (if d + n == 0 then minus_one else gap) d n → free ≤ length old
-    → new ≡ fill (run (next + length (take d words)) n) (next + d + n) (first n (output c children)) (put next (take d words) old)
+    → new ≡ fill (run (next + d) n) (next + d + n) (first n (output c children)) (put next (take d words) old)
     → free ≡ next + d + n + total_words (first n (output c children)) → IsCopied (output c trees) gap next old new (record { pointer = tag; next = free })
 struct_copied c words children trees gap next d n free tag old new whole d_is n_is rooms tag_is fits new_is free_is =
     let ws : List ℕ = kept_words c words in
@@ -175,9 +177,10 @@ struct_copied c words children trees gap next d n free tag old new whole d_is n_
     let filled = struct_filled next ws row old all.0 all.1 (omega (arith, fits, free_is, ap total_words row_there, d_is, n_is)) in
     subst (λ (t : Trees). IsCopied t gap next old new (record { pointer = tag; next = free })) (sym form_is) (record {
       words_are = new_is
-          ∙ ap (λ (l : List ℕ). fill (run (next + length l) n) (next + d + n) (first n (output c children)) (put next l old)) words_there
-          ∙ ap (λ (t : Trees). fill (run (next + length ws) n) (next + d + n) t (put next ws old)) row_there
-          ∙ ap (λ (k : ℕ). fill (run (next + length ws) k) (next + d + k) row (put next ws old)) n_is
+          ∙ ap (λ (l : List ℕ). fill (run (next + d) n) (next + d + n) (first n (output c children)) (put next l old)) words_there
+          ∙ ap (λ (t : Trees). fill (run (next + d) n) (next + d + n) t (put next ws old)) row_there
+          ∙ ap (λ (k : ℕ). fill (run (next + d) k) (next + d + k) row (put next ws old)) n_is
+          ∙ ap (λ (k : ℕ). fill (run (next + k) (count row)) (next + d + count row) row (put next ws old)) d_is
           ∙ ap (λ (k : ℕ). fill (run (next + length ws) (count row)) k row (put next ws old)) on
           ∙ filled;
       pointer_is = tag_is ∙ ap (λ (k : ℕ). tag_of k n) d_is ∙ ap (λ (k : ℕ). tag_of (length ws) k) n_is;

@@ -4,8 +4,9 @@ use Rattle.capnp_layout.specs.Tree.{Form, Trees, none, tree, count, total_words}
 use Rattle.capnp_layout.specs.Trim.{trim, trim_form, trim_children}
 use Rattle.capnp_layout.specs.Layout.{output, AllHaveRoom}
 use Rattle.capnp_wire.specs.Values.{HasPart}
-use Rattle.capnp_wire.specs.declared.traits.PartWords.{PartWords}
+use Rattle.capnp_wire.specs.declared.traits.TreeWords.{TreeWords}
 use Rattle.capnp_layout.proofs.trees.TrimLemmas.{total-trim}
+use Rattle.capnp_values.specs.Measured.{tree_words}
 use Rattle.capnp_values.specs.Fields.{IsPart}
 
 -- a tree as it is, or in canonical form, in two parts
@@ -25,8 +26,8 @@ output_tree false form children rest = refl
 abbrev pub part_total : Bool → Form → Trees → ℕ
 part_total c form children = total_words (output c (tree form children none))
 
-abbrev pub part_sizes : Bool → Form → Trees → PartWords
-part_sizes c form children = record { as_is = total_words (tree form children none); output = part_total c form children }
+abbrev pub own_words : Bool → Form → Trees → TreeWords
+own_words c form children = tree_words c (tree form children none)
 
 pub part_less : (c : Bool) (form : Form) (children : Trees) → AllHaveRoom (tree form children none) → part_total c form children ≤ total_words (tree form children none)
 part_less true form children rooms = total-trim (tree form children none) rooms
@@ -36,7 +37,7 @@ pub more_total : (c : Bool) (form : Form) (children rest : Trees) → total_word
 more_total true form children rest = omega arith
 more_total false form children rest = omega arith
 
-pub has_part : (h : Trees → Type 0) (c : Bool) (form : Form) (children : Trees) → IsPart h form children → HasPart h c (part_sizes c form children)
+pub has_part : (h : Trees → Type 0) (c : Bool) (form : Form) (children : Trees) → IsPart h form children → HasPart h c (own_words c form children)
 has_part h c form children p = record {
   trees = tree form children none;
   tree_is = p.tree_is;
@@ -53,14 +54,14 @@ one_tree (tree form children none) one = (form, children, refl)
 one_tree (tree form children (tree f h rest)) one = absurd (omega (arith, one))
 
 -- its tree, and its words
-pub record IsMeasuredPart (h : Trees → Type 0) (c : Bool) (words : PartWords) : Type 0 where
+pub record IsMeasuredPart (h : Trees → Type 0) (c : Bool) (words : TreeWords) : Type 0 where
   pub form : Form
   pub children : Trees
   pub part : IsPart h form children
   pub as_is_same : words.as_is ≡ total_words (tree form children none)
   pub output_is : words.output ≡ part_total c form children
 
-pub part_of : (h : Trees → Type 0) (c : Bool) (words : PartWords) → ((trees : Trees) → h trees → count trees ≡ 1) → HasPart h c words → IsMeasuredPart h c words
+pub part_of : (h : Trees → Type 0) (c : Bool) (words : TreeWords) → ((trees : Trees) → h trees → count trees ≡ 1) → HasPart h c words → IsMeasuredPart h c words
 part_of h c words one w =
     let t = one_tree w.trees (one w.trees w.tree_is) in
     record {

@@ -1,19 +1,20 @@
 -- Values that are made only when they are needed: their trees are those that the source declares,
 -- and the other way round.
-use Rattle.std.proofs.Common.{◌≡◌, ℕ, Bool, List, inl, inr, sym, subst, get_or}
+use Rattle.std.proofs.Common.{◌≡◌, ℕ, Bool, List, Result, Ok, Err, inl, inr, sym, subst, get_or}
+use Rattle.capnp_frame.specs.declared.error.Error.{Error}
 use Rattle.capnp_frame.specs.declared.error.ErrorKind.{ErrorKind}
 use Rattle.capnp_layout.specs.Tree.{Trees}
 use Rattle.capnp_wire.specs.Values.{LacksWords, HasPart, HasRoomAt}
-use Rattle.capnp_wire.specs.declared.traits.PartWords.{PartWords}
-use Rattle.capnp_values.specs.Fields.{HasExtent, CanWriteRow, IsRowWritten}
+use Rattle.capnp_wire.specs.declared.traits.TreeWords.{TreeWords}
+use Rattle.capnp_values.specs.Measured.{Measures}
+use Rattle.capnp_values.specs.Fields.{CanWriteRow, IsRowWritten}
 use Rattle.capnp_values.specs.Sources.{IsAsDeclared}
-use Rattle.capnp_values.specs.declared.fields.Extent.{Extent}
 
 -- a part
-pub part_declared : {a b : Trees → Type 0} {r s : ErrorKind → Type 0} → IsAsDeclared a b r s → (c : Bool) (words : PartWords) → HasPart a c words → HasPart b c words
+pub part_declared : {a b : Trees → Type 0} {r s : ErrorKind → Type 0} → IsAsDeclared a b r s → (c : Bool) (words : TreeWords) → HasPart a c words → HasPart b c words
 part_declared m c words p = record { trees = p.trees; tree_is = m.trees_declared p.trees p.tree_is; rooms = p.rooms; as_is_same = p.as_is_same; output_is = p.output_is; few = p.few }
 
-pub part_made : {a b : Trees → Type 0} {r s : ErrorKind → Type 0} → IsAsDeclared a b r s → (c : Bool) (words : PartWords) → HasPart b c words → HasPart a c words
+pub part_made : {a b : Trees → Type 0} {r s : ErrorKind → Type 0} → IsAsDeclared a b r s → (c : Bool) (words : TreeWords) → HasPart b c words → HasPart a c words
 part_made m c words p = record { trees = p.trees; tree_is = m.trees_are p.trees p.tree_is; rooms = p.rooms; as_is_same = p.as_is_same; output_is = p.output_is; few = p.few }
 
 pub lacks_declared : {a b : Trees → Type 0} {r s : ErrorKind → Type 0} → IsAsDeclared a b r s → (c : Bool) (kind : ErrorKind) → LacksWords a r c kind → LacksWords b s c kind
@@ -28,8 +29,12 @@ pub room_made : {a b : Trees → Type 0} {r s : ErrorKind → Type 0} → IsAsDe
 room_made m c next room p = record { trees = p.trees; tree_is = m.trees_are p.trees p.tree_is; rooms = p.rooms; fits = p.fits }
 
 -- a row
-pub extent_declared : {a b : Trees → Type 0} {r s : ErrorKind → Type 0} → IsAsDeclared a b r s → (c : Bool) (extent : Extent) → HasExtent a c extent → HasExtent b c extent
-extent_declared m c extent (trees, is, extent_is) = (trees, m.trees_declared trees is, extent_is)
+pub row_measured : {a b : Trees → Type 0} {r s : ErrorKind → Type 0} → IsAsDeclared a b r s → (c : Bool) (res : Result TreeWords Error) → Measures a r c res → Measures b s c res
+row_measured m c (Ok words) x =
+    let t = x.returned in
+    record { returned = (t.0, m.trees_declared t.0 t.1, t.2, t.3); found = λ trees is. x.found trees (m.trees_are trees is); exact = λ kind is. x.exact kind (m.reasons_are kind is) }
+row_measured m c (Err error) x =
+    record { returned = m.reasons_declared error.kind x.returned; found = λ trees is. x.found trees (m.trees_are trees is); exact = λ kind is. x.exact kind (m.reasons_are kind is) }
 
 pub row_made : {a b : Trees → Type 0} {r s : ErrorKind → Type 0} → IsAsDeclared a b r s → (c : Bool) (n next room : ℕ) → CanWriteRow b c n next room → CanWriteRow a c n next room
 row_made m c n next room p = record { trees = p.trees; trees_are = m.trees_are p.trees p.trees_are; some = p.some; fits = p.fits }

@@ -1,13 +1,9 @@
--- How far rows reach.
-use Rattle.std.proofs.Common.{◌≡◌, ℕ, zero, suc, ◌+◌, ◌<◌, ◌≤◌, ◌^◌, Bool, true, false, refl, sym, ◌∙◌, ap, arith}
-use Rattle.capnp_layout.specs.Tree.{Form, null, struct, numbers, pointers, structs, Trees, none, tree, count, is_null, total_words}
+-- How many pointers of a row are kept.
+use Rattle.std.proofs.Common.{◌≡◌, ℕ, zero, suc, ◌+◌, ◌<◌, ◌≤◌, Bool, true, false, refl, sym, ◌∙◌, ap, arith}
+use Rattle.capnp_layout.specs.Tree.{Form, null, struct, numbers, pointers, structs, Trees, none, tree, count, is_null}
 use Rattle.capnp_layout.specs.Trim.{keep_tree, cut_nulls, trim, trim_form, trim_children}
-use Rattle.capnp_layout.specs.Layout.{AllHaveRoom}
-use Rattle.capnp_layout.proofs.trees.TrimLemmas.{total-trim, count-trim}
-use Rattle.capnp_layout.proofs.trees.ChunkLemmas.{total-cut, count-cut}
-use Rattle.capnp_values.specs.Fields.{IsSettled, kept_row, is_left_out, extent_of, IsBounded}
-use Rattle.capnp_values.specs.declared.fields.Extent.{Extent}
-use Rattle.capnp_values.proofs.values.PartLemmas.{part_total, no_trees}
+use Rattle.capnp_values.specs.Fields.{kept_row, is_left_out}
+use Rattle.capnp_values.proofs.values.PartLemmas.{no_trees}
 
 kept_null : (form : Form) (children others : Trees) → count (cut_nulls (trim others)) ≡ 0 → is_null form ≡ true → cut_nulls (trim (tree form children others)) ≡ none
 kept_null null children others e n = ap (λ (t : Trees). keep_tree t null (trim children)) (no_trees (cut_nulls (trim others)) e)
@@ -82,52 +78,3 @@ pub kept_left_in : (c : Bool) (form : Form) (children others trees : Trees) (n :
     → n + 1 ≡ count (kept_row c trees)
 kept_left_in c form children others trees n whole is e =
     kept_of_some c form children others n is (left_in c n form e) ∙ sym (ap (λ (t : Trees). count (kept_row c t)) whole)
-
-same_extent : (a b : Extent) → a.pointers ≡ b.pointers → a.words ≡ b.words → a.as_is ≡ b.as_is → a ≡ b
-same_extent a b p w s =
-    let f : ℕ → ℕ → ℕ → Extent = λ x y z. record { pointers = x; words = y; as_is = z } in
-    ap (λ (x : ℕ). f x a.words a.as_is) p ∙ ap (λ (y : ℕ). f b.pointers y a.as_is) w ∙ ap (λ (z : ℕ). f b.pointers b.words z) s
-
-pub front_null : (c : Bool) (form : Form) (children others : Trees) (rest : Extent) (as_is : ℕ) → c ≡ true → rest.pointers ≡ 0 → is_null form ≡ true → rest ≡ extent_of c others
-    → as_is ≡ total_words (tree form children none) + rest.as_is → record { pointers = 0; words = 0; as_is = as_is } ≡ extent_of c (tree form children others)
-front_null false form children others rest as_is is zero_is n e s = absurd (cc)
-front_null true form children others rest as_is is zero_is n e s =
-    let a : rest.pointers ≡ count (cut_nulls (trim others)) = ap (λ (x : Extent). x.pointers) e in
-    let b : rest.as_is ≡ total_words others = ap (λ (x : Extent). x.as_is) e in
-    let whole : cut_nulls (trim (tree form children others)) ≡ none = kept_null form children others (omega (arith, a, zero_is)) n in
-    same_extent (record { pointers = 0; words = 0; as_is = as_is }) (extent_of true (tree form children others)) (sym (ap count whole)) (sym (ap total_words whole)) (omega (arith, s, b))
-
-pub front_kept : (c : Bool) (form : Form) (children others : Trees) (rest : Extent) (words as_is : ℕ) → (c ≡ true → rest.pointers ≡ 0 → is_null form ≡ true → ⊥) → words ≡ part_total c form children
-    → rest ≡ extent_of c others → as_is ≡ total_words (tree form children none) + rest.as_is
-    → record { pointers = rest.pointers + 1; words = words + rest.words; as_is = as_is } ≡ extent_of c (tree form children others)
-front_kept false form children others rest words as_is some words_is e s =
-    let a : rest.pointers ≡ count others = ap (λ (x : Extent). x.pointers) e in
-    let b : rest.words ≡ total_words others = ap (λ (x : Extent). x.words) e in
-    let d : rest.as_is ≡ total_words others = ap (λ (x : Extent). x.as_is) e in
-    same_extent (record { pointers = rest.pointers + 1; words = words + rest.words; as_is = as_is }) (extent_of false (tree form children others)) (omega (arith, a)) (omega (arith, b, words_is)) (omega (arith, d, s))
-front_kept true form children others rest words as_is some words_is e s =
-    let a : rest.pointers ≡ count (cut_nulls (trim others)) = ap (λ (x : Extent). x.pointers) e in
-    let b : rest.words ≡ total_words (cut_nulls (trim others)) = ap (λ (x : Extent). x.words) e in
-    let d : rest.as_is ≡ total_words others = ap (λ (x : Extent). x.as_is) e in
-    let whole = kept_some form children others (λ z n. some refl (a ∙ z) n) in
-    same_extent (record { pointers = rest.pointers + 1; words = words + rest.words; as_is = as_is }) (extent_of true (tree form children others)) (omega (arith, a, ap count whole))
-    (omega (arith, b, words_is, ap total_words whole)) (omega (arith, d, s))
-
-pub kept_total : (c : Bool) (t : Trees) → AllHaveRoom t → total_words (kept_row c t) ≤ total_words t
-kept_total true t rooms = omega (arith, total-cut (trim t), total-trim t rooms)
-kept_total false t rooms = omega arith
-
-pub kept_count : (c : Bool) (t : Trees) → count (kept_row c t) ≤ count t
-kept_count true t = omega (arith, count-cut (trim t), count-trim t)
-kept_count false t = omega arith
-
-pub bounded : (c : Bool) (size : ℕ) (t : Trees) (rest : Extent) → size < 2 ^ 16 → IsSettled size t → rest ≡ extent_of c t → IsBounded rest
-bounded c size t rest small s e =
-    let a : rest.pointers ≡ count (kept_row c t) = ap (λ (x : Extent). x.pointers) e in
-    let b : rest.words ≡ total_words (kept_row c t) = ap (λ (x : Extent). x.words) e in
-    let d : rest.as_is ≡ total_words t = ap (λ (x : Extent). x.as_is) e in
-    record {
-      pointers_few = omega (arith, kept_count c t, s.many, a);
-      words_few = omega (arith, kept_total c t s.rooms, s.few, b);
-      as_is_few = omega (arith, s.few, d);
-    }
