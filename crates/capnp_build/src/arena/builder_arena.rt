@@ -64,7 +64,8 @@ impl<A: Allocator> BuilderArena<A> {
         self.zero_root()
     }
 
-    // Makes the root's word and its object zero.
+    // What `clear_root` does. For the prover: each of these clauses is found by itself, and its record
+    // is made of them.
     fn zero_root(&mut self) -> Result<()>
         ensures leaves { LeavesNull A.Allocator self.old self.new }
         ensures null_word { HasNullRoot self.new.spaces }
