@@ -79,7 +79,7 @@ impl<S: SegmentSpace> BuilderSegment<S> {
         self.words = self.words + words;
     }
 
-    /// Writes a value after the used words, in this many words, and returns the pointer to it from the
+    /// Writes a value after the used words, in this many words. Returns the pointer to it from the
     /// word just before it.
     pub fn append<T, V: SetterInput<T>>(&mut self, canonical: bool, value: &V, words: u32) -> Word
         requires room { words ≤ min (self.old.size / 8) (2 ^ 29) - length self.old.used / 8 }

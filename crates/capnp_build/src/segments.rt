@@ -209,8 +209,8 @@ impl<A: Allocator> Segments<A> {
         }
     }
 
-    /// Writes a value after the used words of a segment, in this many words. Returns the pointer to it
-    /// from the word just before it.
+    /// Writes a value after the used words of a segment, in this many words. Returns the pointer to
+    /// it from the word just before it.
     pub fn append<T, V: SetterInput<T>>(
         &mut self,
         index: u32,
