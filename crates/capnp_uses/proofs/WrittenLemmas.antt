@@ -24,7 +24,7 @@ use Rattle.capnp_build.specs.Bytes.{Space}
 use Rattle.capnp_build.specs.declared.allocator.Allocator as allocator
 use Rattle.capnp_build.specs.Built.{Built, message, IsSet}
 use Rattle.capnp_build.specs.Placed.{IsPut}
-use Rattle.capnp_build.proofs.NullLemmas.{root_stands}
+use Rattle.capnp_build.proofs.roots.NullLemmas.{root_stands}
 use Rattle.capnp_message.specs.Seen.{ReadMessage}
 use Rattle.capnp.specs.declared.streams.Format.{Format}
 use Rattle.capnp.specs.Headline.{IsFault, by_format, ReadsMessage, OrFailsAtEnd}

@@ -17,7 +17,7 @@ use Rattle.capnp_layout.specs.Traversed.{Within}
 use Rattle.capnp_layout.specs.Limits.{too_large}
 use Rattle.capnp_layout.specs.Faults.{StopsWalk}
 use Rattle.capnp_layout.specs.declared.place.Place.{Place}
-use Rattle.capnp_wire.specs.declared.traits.PartWords.{PartWords}
+use Rattle.capnp_wire.specs.declared.traits.TreeWords.{TreeWords}
 use Rattle.capnp_layout.specs.declared.pointer.StructSize.{StructSize}
 
 -- the tree at a place, within the nesting depth left and a limit
@@ -58,7 +58,7 @@ starts_with_null (tree form children rest) = is_null form
 
 -- The words of a value as a part of another one: of its tree as it is, fewer than 2 ^ 29, and of
 -- its tree in the form that is written.
-pub record HasPart (has_tree : Trees → Type 0) (canonical : Bool) (words : PartWords) : Type 0 where
+pub record HasPart (has_tree : Trees → Type 0) (canonical : Bool) (words : TreeWords) : Type 0 where
   pub trees : Trees
   pub tree_is : has_tree trees
   pub rooms : AllHaveRoom trees
