@@ -17,15 +17,15 @@ use Rattle.capnp_frame.specs.Message.{lengths}
 use Rattle.capnp_frame.specs.Source.{Giving, Refusing, IfKnown, Advances}
 use Rattle.capnp_frame.specs.Texts.{Grammar, BeginsWith, AreEncodings}
 use Rattle.capnp_frame.specs.Writing.{IsWritable, IsWithinSegmentLimit}
-use Rattle.capnp_frame.proofs.SourceLemmas.{IfKnown-join, IfKnown-refl, Advances-join, Fails-join}
-use Rattle.capnp_frame.proofs.FrameLemmas.{frame_bytes_are}
-use Rattle.capnp_frame.proofs.SizeLemmas.{HasTable-writable}
-use Rattle.capnp_frame.proofs.TextLemmas.{PartsStreams, AreEncodings-push}
+use Rattle.capnp_frame.proofs.sources.SourceLemmas.{IfKnown-join, IfKnown-refl, Advances-join, Fails-join}
+use Rattle.capnp_frame.proofs.encodings.FrameLemmas.{frame_bytes_are}
+use Rattle.capnp_frame.proofs.encodings.SizeLemmas.{HasTable-writable}
+use Rattle.capnp_frame.proofs.encodings.TextLemmas.{PartsStreams, AreEncodings-push}
 use Rattle.capnp_layout.specs.Tree.{Trees}
 use Rattle.capnp_build.specs.Bytes.{Space}
 use Rattle.capnp_build.specs.BuilderState.{used_of}
-use Rattle.capnp_pack.proofs.AllLemmas.{AllByRecursion-append}
-use Rattle.capnp_pack.proofs.PackedFrameLemmas.{packed_text_is}
+use Rattle.capnp_pack.proofs.words.AllLemmas.{AllByRecursion-append}
+use Rattle.capnp_pack.proofs.encodings.PackedFrameLemmas.{packed_text_is}
 use Rattle.capnp.specs.declared.streams.Format.{Format}
 use Rattle.capnp.specs.declared.streams.Format.TheVariants.{Framed, Packed}
 use Rattle.capnp.specs.Appended.{ReadsMessages}

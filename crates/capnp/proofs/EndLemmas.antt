@@ -9,7 +9,7 @@ use Rattle.capnp_frame.specs.Refusals.{IsReaderKind}
 use Rattle.capnp_frame.specs.Source.{IfKnown, Advances, Fails}
 use Rattle.capnp_frame.specs.Sink.{Grows}
 use Rattle.capnp_frame.specs.Texts.{AreEncodings}
-use Rattle.capnp_frame.proofs.TextLemmas.{AreEncodings-once, AreEncodings-most, EndsEncodings-once}
+use Rattle.capnp_frame.proofs.encodings.TextLemmas.{AreEncodings-once, AreEncodings-most, EndsEncodings-once}
 use Rattle.capnp.specs.declared.streams.Format.{Format}
 use Rattle.capnp.specs.declared.streams.StoppedAt.{StoppedAt}
 use Rattle.capnp.specs.Streams.{grammar_of, refuses_of, StandsNext, RefusesNext, EndsBy, IsStream}

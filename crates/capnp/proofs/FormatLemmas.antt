@@ -12,8 +12,8 @@ use Rattle.capnp_frame.specs.Refusals.{CountStands, RefusesStream, Outgrows, Tak
 use Rattle.capnp_frame.specs.Requests.{MessageStands}
 use Rattle.capnp_frame.specs.Skipping.{SkipsMessage}
 use Rattle.capnp_frame.specs.Streams.{StreamRules, framed_rules, reusing_rules, skipping_rules, ReadsStream}
-use Rattle.capnp_frame.proofs.SourceLemmas.{IfKnown-weaker}
-use Rattle.capnp_frame.proofs.RefusalLemmas.{RefusesStream-map}
+use Rattle.capnp_frame.proofs.sources.SourceLemmas.{IfKnown-weaker}
+use Rattle.capnp_frame.proofs.errors.RefusalLemmas.{RefusesStream-map}
 use Rattle.capnp.specs.declared.streams.Format.{Format}
 use Rattle.capnp.specs.declared.streams.Format.TheVariants.{Framed}
 use Rattle.capnp.specs.Headline.{OrFailsAtEnd}

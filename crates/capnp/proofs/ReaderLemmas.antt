@@ -12,13 +12,13 @@ use Rattle.capnp_frame.specs.Requests.{MessageStands}
 use Rattle.capnp_frame.specs.Streams.{StreamRules, next_in, ReadsStream, ReadsStreamInto}
 use Rattle.capnp_frame.specs.Texts.{Grammar, BeginsWith}
 use Rattle.capnp_frame.specs.Views.{SeenBuffer}
-use Rattle.capnp_frame.proofs.RefusalLemmas.{given_some}
-use Rattle.capnp_frame.proofs.SourceLemmas.{IfKnown-weaker}
-use Rattle.capnp_frame.proofs.RequestLemmas.{MessageStands-map}
-use Rattle.capnp_frame.proofs.FrameLemmas.{plain_requests}
-use Rattle.capnp_frame.proofs.TextLemmas.{AreRequested}
+use Rattle.capnp_frame.proofs.errors.RefusalLemmas.{given_some}
+use Rattle.capnp_frame.proofs.sources.SourceLemmas.{IfKnown-weaker}
+use Rattle.capnp_frame.proofs.encodings.RequestLemmas.{MessageStands-map}
+use Rattle.capnp_frame.proofs.encodings.FrameLemmas.{plain_requests}
+use Rattle.capnp_frame.proofs.encodings.TextLemmas.{AreRequested}
 use Rattle.capnp_pack.specs.RefusingLaws.{unpacking}
-use Rattle.capnp_pack.proofs.PackedFrameLemmas.{packed_requests}
+use Rattle.capnp_pack.proofs.encodings.PackedFrameLemmas.{packed_requests}
 use Rattle.capnp.specs.Streams.{IsPlainSource}
 use Rattle.capnp.specs.Headline.{IsFault, MessageRules, framed, packed, reader_of, ReadsMessage, ReadsMessageInto, OrFailsAtEnd}
 

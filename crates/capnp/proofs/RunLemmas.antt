@@ -9,11 +9,11 @@ use Rattle.capnp_frame.specs.Message.{IsWholeWords}
 use Rattle.capnp_frame.specs.Source.{IsSource, IfKnown, IsTail}
 use Rattle.capnp_frame.specs.Sink.{Adds}
 use Rattle.capnp_frame.specs.SplittingLaws.{splitting}
-use Rattle.capnp_frame.proofs.SourceLemmas.{IfKnown-join, IfKnown-refl, IfKnown-weaker}
-use Rattle.capnp_frame.proofs.FrameLemmas.{plain_requests}
-use Rattle.capnp_frame.proofs.TextLemmas.{AreRequested, PartsStreams, parts_streams, AreEncodings-push}
+use Rattle.capnp_frame.proofs.sources.SourceLemmas.{IfKnown-join, IfKnown-refl, IfKnown-weaker}
+use Rattle.capnp_frame.proofs.encodings.FrameLemmas.{plain_requests}
+use Rattle.capnp_frame.proofs.encodings.TextLemmas.{AreRequested, PartsStreams, parts_streams, AreEncodings-push}
 use Rattle.capnp_pack.specs.RefusingLaws.{unpacking}
-use Rattle.capnp_pack.proofs.PackedFrameLemmas.{packed_requests}
+use Rattle.capnp_pack.proofs.encodings.PackedFrameLemmas.{packed_requests}
 use Rattle.capnp.specs.declared.streams.Format.{Format}
 use Rattle.capnp.specs.declared.streams.Format.TheVariants.{Framed, Packed}
 use Rattle.capnp.specs.declared.streams.StoppedAt.{StoppedAt}

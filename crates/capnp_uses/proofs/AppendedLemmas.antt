@@ -13,8 +13,8 @@ use Rattle.capnp_frame.specs.Source.{Giving, Refusing, Fails}
 use Rattle.capnp_frame.specs.Streams.{next_in, ReadsStream}
 use Rattle.capnp_frame.specs.Texts.{Grammar, AreEncodings}
 use Rattle.capnp_frame.specs.Writing.{IsWritable, IsWithinSegmentLimit}
-use Rattle.capnp_frame.proofs.SourceLemmas.{IfKnown-weaker}
-use Rattle.capnp_frame.proofs.TextLemmas.{PartsStreams}
+use Rattle.capnp_frame.proofs.sources.SourceLemmas.{IfKnown-weaker}
+use Rattle.capnp_frame.proofs.encodings.TextLemmas.{PartsStreams}
 use Rattle.capnp.specs.declared.streams.Format.{Format}
 use Rattle.capnp.specs.Streams.{grammar_of, rules_of}
 use Rattle.capnp.specs.Written.{IsTextOf, DeclinesAs, AppendsEach, RefusesManyOf, RefusesOneOf}

@@ -14,8 +14,8 @@ use Rattle.capnp_frame.specs.Sink.{Adds}
 use Rattle.capnp_frame.specs.Source.{IfKnown}
 use Rattle.capnp_frame.specs.Streams.{ReadsStream}
 use Rattle.capnp_frame.specs.Writing.{IsWritable, IsWithinSegmentLimit}
-use Rattle.capnp_frame.proofs.AgreementLemmas.{limit_cases}
-use Rattle.capnp_frame.proofs.LimitLemmas.{past_limit}
+use Rattle.capnp_frame.proofs.slices.AgreementLemmas.{limit_cases}
+use Rattle.capnp_frame.proofs.tables.LimitLemmas.{past_limit}
 use Rattle.capnp_layout.specs.Tree.{Trees}
 use Rattle.capnp_layout.specs.Reached.{At, at, root}
 use Rattle.capnp_wire.specs.Values.{HasWords}

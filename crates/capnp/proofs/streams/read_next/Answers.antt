@@ -2,7 +2,7 @@
 use Rattle.std.proofs.Common.{length}
 use Rattle.std.specs.List.{concat}
 use Rattle.capnp_frame.specs.Refusals.{Outgrows, TakesMemory}
-use Rattle.capnp_frame.proofs.ResultLemmas.{reads_with_less}
+use Rattle.capnp_frame.proofs.sources.ResultLemmas.{reads_with_less}
 use Rattle.capnp_pack.specs.PackedSource.{Unpacks}
 use Rattle.capnp_pack.specs.PackedStreams.{packed_rules}
 use Rattle.capnp.specs.Streams.{IsPlainSource}

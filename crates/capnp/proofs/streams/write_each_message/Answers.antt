@@ -1,6 +1,6 @@
 -- Each turn writes one more message, or ends the run.
 use Rattle.std.proofs.Common.{rules, refl, inl, inr}
-use Rattle.capnp_frame.proofs.SourceLemmas.{IfKnown-join, Advances-join, Fails-join, Grows-join}
+use Rattle.capnp_frame.proofs.sources.SourceLemmas.{IfKnown-join, Advances-join, Fails-join, Grows-join}
 use Rattle.capnp.proofs.EndLemmas.{writes_each}
 use Rattle.capnp.proofs.FormatLemmas.{reading_fault}
 use Rattle.capnp.proofs.RunLemmas.{HasWritten-next, written_next, all_written, most_written, stopped_reading, stopped_at_message, left_as_written, message_faulted}

@@ -1,14 +1,14 @@
 -- The buffer takes the front of what is left, and then a call packs more of it or hands the buffer on.
 use Rattle.std.proofs.Common.{arith, ◌-◌, ap, length, length-drop, take, drop, refl, []}
 use Rattle.std.proofs.lemmas.List.{nil_from_length}
-use Rattle.capnp_frame.proofs.SourceLemmas.{Grows-join}
-use Rattle.capnp_pack.proofs.BufferedLemmas.{handed_on, taken_on, words_from}
-use Rattle.capnp_pack.proofs.CallLemmas.{hands_last, hands_stopped}
-use Rattle.capnp_pack.proofs.Chunks.{whole_words}
-use Rattle.capnp_pack.proofs.GrantingLemmas.{granted_kept, granted_last, granted_on}
-use Rattle.capnp_pack.proofs.LeavingLemmas.{left_last, left_rest}
-use Rattle.capnp_pack.proofs.PackerLemmas.{Packs-of-words}
-use Rattle.capnp_pack.proofs.PackingLemmas.{packed_all}
+use Rattle.capnp_frame.proofs.sources.SourceLemmas.{Grows-join}
+use Rattle.capnp_pack.proofs.packing.BufferedLemmas.{handed_on, taken_on, words_from}
+use Rattle.capnp_pack.proofs.packing.CallLemmas.{hands_last, hands_stopped}
+use Rattle.capnp_pack.proofs.words.Chunks.{whole_words}
+use Rattle.capnp_pack.proofs.packing.GrantingLemmas.{granted_kept, granted_last, granted_on}
+use Rattle.capnp_pack.proofs.packing.LeavingLemmas.{left_last, left_rest}
+use Rattle.capnp_pack.proofs.packing.PackerLemmas.{Packs-of-words}
+use Rattle.capnp_pack.proofs.packing.PackingLemmas.{packed_all}
 use Rattle.capnp_pack.proofs.packed_write.pack.Goals as goal
 
 pub loop-left-preserved : goal.loop-left-preserved

@@ -4,7 +4,7 @@ use Rattle.std.proofs.lemmas.List.{length-map}
 use Rattle.std.proofs.lemmas.Result.{err_from_is_err_and}
 use Rattle.capnp_frame.specs.declared.error.ErrorKind.TheVariants.{DeviceFailed, OutOfMemory}
 use Rattle.capnp_frame.specs.declared.serialize.segment_table.Padding.TheVariants.{Zero}
-use Rattle.capnp_frame.proofs.SourceLemmas.{Fails-join}
+use Rattle.capnp_frame.proofs.sources.SourceLemmas.{Fails-join}
 use Rattle.capnp.proofs.AppendedLemmas.{texts_next, AllByRecursion-push}
 use Rattle.capnp_uses.proofs.DeviceLemmas.{reads_all, fails_after, fails_to_list, fails_past_full}
 use Rattle.capnp_uses.proofs.devices.all_of_source.Goals as goal

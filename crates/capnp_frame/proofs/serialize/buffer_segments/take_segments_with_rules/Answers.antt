@@ -1,8 +1,8 @@
 -- The message at the front is the one that is found.
 use Rattle.std.proofs.Common.{rules, ◌*◌, ◌∙◌, length, refl, sym, ap}
 use Rattle.std.specs.Prelude.{sum}
-use Rattle.capnp_frame.proofs.HeldLemmas.{moved, parts_are, keeps_declared}
-use Rattle.capnp_frame.proofs.FlatReaderLemmas.{reads_none, reads_held}
+use Rattle.capnp_frame.proofs.slices.HeldLemmas.{moved, parts_are, keeps_declared}
+use Rattle.capnp_frame.proofs.slices.FlatReaderLemmas.{reads_none, reads_held}
 use Rattle.capnp_frame.proofs.serialize.buffer_segments.take_segments_with_rules.Goals as goal
 
 pub returns-in_err-segment_indices : goal.returns-in_err-segment_indices

@@ -3,9 +3,9 @@ use Rattle.std.proofs.Common.{rules, ◌≡◌, ◌-◌, length, arith}
 use Rattle.std.proofs.lemmas.Result.{on_ok_weaker}
 use Rattle.capnp_frame.specs.Skipping.{Drops}
 use Rattle.capnp_frame.specs.Source.{IfKnown}
-use Rattle.capnp_frame.proofs.AskLemmas.{passed_on, Asked-err, Asked-after}
-use Rattle.capnp_frame.proofs.SourceLemmas.{Advances-join}
-use Rattle.capnp_frame.proofs.SkippingLemmas.{Drops-join, read_dropped, short_after, fails_after}
+use Rattle.capnp_frame.proofs.sources.AskLemmas.{passed_on, Asked-err, Asked-after}
+use Rattle.capnp_frame.proofs.sources.SourceLemmas.{Advances-join}
+use Rattle.capnp_frame.proofs.sources.SkippingLemmas.{Drops-join, read_dropped, short_after, fails_after}
 use Rattle.capnp_frame.proofs.serialize.skipping.skip_parts.Goals as goal
 
 pub returns-in_err-read_exact : goal.returns-in_err-read_exact

@@ -1,9 +1,9 @@
 -- Which test of a complete table fails.
 use Rattle.std.proofs.Common.{◌≡◌, length, rules}
 use Rattle.capnp_frame.specs.SegmentTable.{table_size}
-use Rattle.capnp_frame.proofs.AskLemmas.{passed_on}
-use Rattle.capnp_frame.proofs.MetRefusals.{limit_refuses, padding_refuses}
-use Rattle.capnp_frame.proofs.TableReading.{tells_complete}
+use Rattle.capnp_frame.proofs.sources.AskLemmas.{passed_on}
+use Rattle.capnp_frame.proofs.errors.MetRefusals.{limit_refuses, padding_refuses}
+use Rattle.capnp_frame.proofs.tables.TableReading.{tells_complete}
 use Rattle.capnp_frame.proofs.serialize.stream_table.fill_lengths.Goals as goal
 
 pub returns-in_err-check_limit-clause-refused : goal.returns-in_err-check_limit-clause-refused

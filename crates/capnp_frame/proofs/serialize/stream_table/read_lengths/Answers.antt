@@ -4,9 +4,9 @@ use Rattle.std.proofs.lemmas.List.{take_all, length-drop, nil_from_length}
 use Rattle.std.proofs.lemmas.Result.{on_ok_weaker, IfErr-weaker}
 use Rattle.capnp_frame.specs.SegmentTable.{table_size}
 use Rattle.capnp_frame.specs.Source.{Giving, Refusing, IsSource, IsTail, IfKnown}
-use Rattle.capnp_frame.proofs.SourceLemmas.{IfKnown-refl}
-use Rattle.capnp_frame.proofs.MetRefusals.{complete_stops, complete_kind}
-use Rattle.capnp_frame.proofs.TableReading.{rest_stands}
+use Rattle.capnp_frame.proofs.sources.SourceLemmas.{IfKnown-refl}
+use Rattle.capnp_frame.proofs.errors.MetRefusals.{complete_stops, complete_kind}
+use Rattle.capnp_frame.proofs.tables.TableReading.{rest_stands}
 use Rattle.capnp_frame.proofs.serialize.stream_table.read_lengths.Goals as goal
 
 no_more : {gives : Giving} {refuses : Refusing} → IsSource gives refuses → (word : List ℕ) → length word ≡ 8

@@ -2,9 +2,9 @@
 use Rattle.std.proofs.Common.{◌≡◌, ◌*◌, ◌/◌, ◌-◌, length, inr, rules, arith}
 use Rattle.std.proofs.lemmas.Result.{on_ok_weaker, IfErr-weaker}
 use Rattle.capnp_frame.specs.SegmentTable.{table_size}
-use Rattle.capnp_frame.proofs.AskLemmas.{passed_on}
-use Rattle.capnp_frame.proofs.MetRefusals.{others_stop, complete_stops, complete_kind, source_kind}
-use Rattle.capnp_frame.proofs.TableReading.{rest_stands}
+use Rattle.capnp_frame.proofs.sources.AskLemmas.{passed_on}
+use Rattle.capnp_frame.proofs.errors.MetRefusals.{others_stop, complete_stops, complete_kind, source_kind}
+use Rattle.capnp_frame.proofs.tables.TableReading.{rest_stands}
 use Rattle.capnp_frame.proofs.serialize.stream_table.read_lengths_by.Goals as goal
 
 pub returns-in_err-complete_table : goal.returns-in_err-complete_table
