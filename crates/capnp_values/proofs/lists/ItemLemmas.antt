@@ -13,7 +13,7 @@ use Rattle.capnp_values.specs.Fields.{IsSettled, IsRow, RefusesRow}
 use Rattle.capnp_values.specs.FieldLaws.{settled_none, settled_more}
 use Rattle.capnp_values.specs.Measured.{tree_words, both_words, Measures}
 use Rattle.capnp_values.specs.Lists.{AreItems, RefusesItems}
-use Rattle.capnp_values.proofs.values.PartLemmas.{own_words, has_part, part_of, part_less, more_total}
+use Rattle.capnp_values.proofs.values.PartLemmas.{words_of_part, has_part, part_of, part_less, more_total}
 use Rattle.capnp_values.proofs.values.ResultLemmas.{same_words, refused_first, refused_rest}
 use Rattle.capnp_values.proofs.values.MeasuredLemmas.{AreMeasured}
 
@@ -67,7 +67,7 @@ pub first_refused : (h hs : Trees → Type 0) (r rs : ErrorKind → Type 0) (c :
     → ((words : TreeWords) → HasPart h c words → returned ≡ Ok words) → ((k : ErrorKind) → LacksWords h r false k → IsErrAnd returned (λ e. e.kind ≡ k)) → MeasuresRow h hs r rs c (Err error)
 first_refused h hs r rs c returned error was lacks found exact = record {
   returned = inl lacks;
-  found = λ trees is. let ok : returned ≡ Ok (own_words c is.form is.children) = found (own_words c is.form is.children) (has_part h c is.form is.children is.part) in absurd (cc);
+  found = λ trees is. let ok : returned ≡ Ok (words_of_part c is.form is.children) = found (words_of_part c is.form is.children) (has_part h c is.form is.children is.part) in absurd (cc);
   exact = λ kind refused. refused_first h r rs c returned error kind was found exact refused;
 }
 
@@ -84,8 +84,8 @@ row_words : (h hs : Trees → Type 0) (rs : ErrorKind → Type 0) (c : Bool) (re
 row_words h hs rs c returned own words was found m trees is =
     let there : Ok words ≡ Ok (tree_words c is.rest) = m.found is.rest is.others in
     let same : words ≡ tree_words c is.rest = cc in
-    let own_is : own ≡ own_words c is.form is.children =
-    same_words returned own (own_words c is.form is.children) was (found (own_words c is.form is.children) (has_part h c is.form is.children is.part)) in
+    let own_is : own ≡ words_of_part c is.form is.children =
+    same_words returned own (words_of_part c is.form is.children) was (found (words_of_part c is.form is.children) (has_part h c is.form is.children is.part)) in
     same_tree_words (both_words own words) (tree_words c (tree is.form is.children is.rest))
     (omega (arith, ap (λ (w : TreeWords). w.as_is) same, ap (λ (w : TreeWords). w.as_is) own_is))
     (omega (arith, ap (λ (w : TreeWords). w.output) same, ap (λ (w : TreeWords). w.output) own_is, more_total c is.form is.children is.rest))

@@ -9,7 +9,7 @@ use Rattle.capnp_wire.specs.declared.traits.TreeWords.{TreeWords}
 use Rattle.capnp_wire.proofs.views.PartWordLemmas.{as_is_words, same_tree_words}
 use Rattle.capnp_values.specs.Measured.{Measures}
 use Rattle.capnp_values.specs.Fields.{IsRow, IsSettled, HasTotal}
-use Rattle.capnp_values.proofs.values.PartLemmas.{own_words, has_part, part_of}
+use Rattle.capnp_values.proofs.values.PartLemmas.{words_of_part, has_part, part_of}
 
 -- the words of a part, and what is measured of it
 abbrev pub as_part : ℕ → TreeWords
@@ -55,7 +55,7 @@ front_total h hs own rest one w total =
 pub front_found : (h hs : Trees → Type 0) (measured others : Result ℕ Error) (own rest : ℕ) → measured ≡ Ok own → others ≡ Ok rest → ((n : ℕ) → HasWords h false n → measured ≡ Ok n)
     → ((trees : Trees) → hs trees → others ≡ Ok (total_words trees)) → (trees : Trees) → IsRow h hs trees → own + rest ≡ total_words trees
 front_found h hs measured others own rest was was_rest found found_rest trees is =
-    let w = as_is_words h false (own_words false is.form is.children) (has_part h false is.form is.children is.part) in
+    let w = as_is_words h false (words_of_part false is.form is.children) (has_part h false is.form is.children is.part) in
     let a : own ≡ total_words (tree is.form is.children none) = same_ok measured own (total_words (tree is.form is.children none)) was (found (total_words (tree is.form is.children none)) w) in
     let b : rest ≡ total_words is.rest = same_ok others rest (total_words is.rest) was_rest (found_rest is.rest is.others) in
     omega (arith, a, b, ap total_words is.whole)

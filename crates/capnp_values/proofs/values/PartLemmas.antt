@@ -26,8 +26,8 @@ output_tree false form children rest = refl
 abbrev pub part_total : Bool → Form → Trees → ℕ
 part_total c form children = total_words (output c (tree form children none))
 
-abbrev pub own_words : Bool → Form → Trees → TreeWords
-own_words c form children = tree_words c (tree form children none)
+abbrev pub words_of_part : Bool → Form → Trees → TreeWords
+words_of_part c form children = tree_words c (tree form children none)
 
 pub part_less : (c : Bool) (form : Form) (children : Trees) → AllHaveRoom (tree form children none) → part_total c form children ≤ total_words (tree form children none)
 part_less true form children rooms = total-trim (tree form children none) rooms
@@ -37,7 +37,7 @@ pub more_total : (c : Bool) (form : Form) (children rest : Trees) → total_word
 more_total true form children rest = omega arith
 more_total false form children rest = omega arith
 
-pub has_part : (h : Trees → Type 0) (c : Bool) (form : Form) (children : Trees) → IsPart h form children → HasPart h c (own_words c form children)
+pub has_part : (h : Trees → Type 0) (c : Bool) (form : Form) (children : Trees) → IsPart h form children → HasPart h c (words_of_part c form children)
 has_part h c form children p = record {
   trees = tree form children none;
   tree_is = p.tree_is;
