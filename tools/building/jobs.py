@@ -1,4 +1,4 @@
-"""Compares and times programs that do the jobs of crates/capnp_built: NAME=PROGRAM .., ours first."""
+"""Compares and times programs that do the jobs `orphans` of crates/capnp_bench: NAME=PROGRAM .., ours first."""
 import hashlib, os, re, shutil, struct, subprocess, sys
 
 JOBS = ["records", "table", "tree", "texts"]

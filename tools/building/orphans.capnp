@@ -1,5 +1,5 @@
 @0xd3f1c7a98b5e2604;
-# The messages that the jobs of crates/capnp_built build. The roots of a table, a list, and of texts, a list
+# The messages that the jobs `orphans` of crates/capnp_bench build. The roots of a table, a list, and of texts, a list
 # too, have no struct around them.
 
 struct Record {

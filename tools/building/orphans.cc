@@ -1,4 +1,4 @@
-// As crates/capnp_built, over the builders that the C++ library makes of orphans.capnp, from the root down.
+// As the jobs `orphans` of crates/capnp_bench, over the builders that the C++ library makes of orphans.capnp, from the root down.
 // Each message stands in one region that is used again, and that the library makes zero after each. It takes
 // the same words, and prints nothing but the messages, where `write` follows. With `alone` it builds nothing.
 #include "orphans.capnp.h"

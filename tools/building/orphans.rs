@@ -1,4 +1,4 @@
-// As crates/capnp_built, over the untyped builders of the Rust crate `capnp` 0.14.11, as what its compiler makes
+// As the jobs `orphans` of crates/capnp_bench, over the untyped builders of the Rust crate `capnp` 0.14.11, as what its compiler makes
 // calls them, from the root down. Each message stands in one region that is used again. It takes the same words,
 // and prints nothing but the messages, where `write` follows.
 use capnp::message::{Allocator, Builder, ScratchSpaceHeapAllocator};

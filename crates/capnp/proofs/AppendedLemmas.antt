@@ -1,33 +1,41 @@
 -- Messages one after the other.
-use Rattle.std.proofs.Common.{◌≡◌, ◌⊎◌, inl, inr, ℕ, ◌+◌, ◌-◌, ◌^◌, ◌<◌, ◌≤◌, min, Option, Some, None, IfSome, List, [], ◌∷◌, ◌++◌, length, map, take, refl, sym, ap, ◌∙◌, subst, arith, append_assoc, zero, suc}
+use Rattle.std.proofs.Common.{◌≡◌, inr, ℕ, ◌+◌, ◌-◌, ◌<◌, Option, Some, None, IfSome, Err, List, [], ◌∷◌, ◌++◌, length, map, take, refl, sym, ap, ◌∙◌, subst, arith, append_assoc, zero, suc}
 use Rattle.std.proofs.Math.ListN.{get_or}
-use Rattle.std.proofs.lemmas.List.{map-append, length-map, take_more, append-nil}
+use Rattle.std.proofs.lemmas.List.{map-append, take_more, append-nil}
 use Rattle.std.specs.List.{AllByRecursion}
-use Rattle.std.specs.Option.{option_map}
 use Rattle.capnp_frame.specs.declared.serialize.segment_table.Padding.{Padding}
+use Rattle.capnp_frame.specs.declared.error.Error.{Error}
 use Rattle.capnp_frame.specs.declared.error.ErrorKind.{ErrorKind}
-use Rattle.capnp_frame.specs.declared.error.ErrorKind.TheVariants.{DeviceFailed, OutOfMemory}
-use Rattle.capnp_frame.specs.Sink.{Adds, ByKind}
+use Rattle.capnp_frame.specs.declared.error.ErrorKind.TheVariants.{OutOfMemory}
+use Rattle.capnp_frame.specs.declared.io.Read.{Ghosts}
+use Rattle.capnp_frame.specs.declared.message.options.ReaderOptions.{ReaderOptions}
+use Rattle.capnp_frame.specs.declared.serialize.segment_table.Padding.TheVariants.{Zero}
+use Rattle.capnp_frame.specs.Sink.{Adds}
 use Rattle.capnp_frame.specs.Frame.{IsFrame}
 use Rattle.capnp_frame.specs.Limits.{KeepsLimit}
 use Rattle.capnp_frame.specs.Message.{lengths}
-use Rattle.capnp_frame.specs.Source.{Giving, Refusing, IfKnown, Fails}
+use Rattle.capnp_frame.specs.Source.{Giving, Refusing, IfKnown, Advances}
 use Rattle.capnp_frame.specs.Texts.{Grammar, BeginsWith, AreEncodings}
 use Rattle.capnp_frame.specs.Writing.{IsWritable, IsWithinSegmentLimit}
-use Rattle.capnp_frame.proofs.SourceLemmas.{IfKnown-join, IfKnown-refl}
-use Rattle.capnp_frame.proofs.FrameLemmas.{frame_bytes_are}
-use Rattle.capnp_frame.proofs.SizeLemmas.{HasTable-writable}
-use Rattle.capnp_frame.proofs.TextLemmas.{PartsStreams, AreEncodings-push}
-use Rattle.capnp_pack.proofs.AllLemmas.{AllByRecursion-append}
-use Rattle.capnp_pack.proofs.PackedFrameLemmas.{packed_text_is}
+use Rattle.capnp_frame.proofs.sources.SourceLemmas.{IfKnown-join, IfKnown-refl, Advances-join, Fails-join}
+use Rattle.capnp_frame.proofs.encodings.FrameLemmas.{frame_bytes_are}
+use Rattle.capnp_frame.proofs.encodings.SizeLemmas.{HasTable-writable}
+use Rattle.capnp_frame.proofs.encodings.TextLemmas.{PartsStreams, AreEncodings-push}
+use Rattle.capnp_layout.specs.Tree.{Trees}
+use Rattle.capnp_build.specs.Bytes.{Space}
+use Rattle.capnp_build.specs.BuilderState.{used_of}
+use Rattle.capnp_pack.proofs.words.AllLemmas.{AllByRecursion-append}
+use Rattle.capnp_pack.proofs.encodings.PackedFrameLemmas.{packed_text_is}
 use Rattle.capnp.specs.declared.streams.Format.{Format}
 use Rattle.capnp.specs.declared.streams.Format.TheVariants.{Framed, Packed}
-use Rattle.capnp.specs.Streams.{grammar_of, StandsNext, IsStream}
-use Rattle.capnp.specs.Headline.{IsFault}
-use Rattle.capnp.specs.Written.{IsTextOf, DeclinesAs, AppendsEach, RefusesManyOf, RefusesOneOf}
-use Rattle.capnp.proofs.ChunkLemmas.{format_memory}
-use Rattle.capnp.proofs.RunLemmas.{format_lawful, format_requested, format_parts}
-use Rattle.capnp.proofs.ReaderLemmas.{nothing_begins_known}
+use Rattle.capnp.specs.Appended.{ReadsMessages}
+use Rattle.capnp.specs.Streams.{grammar_of, rules_of, StandsNext, IsStream}
+use Rattle.capnp.specs.Headline.{IsFault, by_format, ReadsMessage, OrFailsAtEnd}
+use Rattle.capnp.specs.Roots.{HasRootTree}
+use Rattle.capnp.specs.Written.{IsTextOf, AppendsEach}
+use Rattle.capnp.proofs.FormatLemmas.{or_fails_advances, or_fails_failed}
+use Rattle.capnp.proofs.ReaderLemmas.{or_fails_accepted, or_fails_reads}
+use Rattle.capnp.proofs.RunLemmas.{format_parts}
 use Rattle.capnp.proofs.WriterLemmas.{IsWithin-written}
 
 -- what holds of each holds with one more
@@ -58,7 +66,7 @@ texts_further {IsText} {limit = limit} parts (n ∷ ns) (m ∷ ms) raw mid rest 
     texts_further parts ns ms texts.0 mid rest (subst (λ l. AreEncodings IsText limit ns l mid) same.1 had.2) texts.2 (omega arith)
 
 -- so where there are as many as are asked for, an error is a fault
-pub accepted_later : (rule : Padding) (format : Format) (limit : Option ℕ) (F : Type 0) (ns : List (List (List ℕ))) (count : ℕ)
+accepted_later : (rule : Padding) (format : Format) (limit : Option ℕ) (F : Type 0) (ns : List (List (List ℕ))) (count : ℕ)
     (old mid : Option (List ℕ)) → length ns < count → IfKnown old mid (AreEncodings (grammar_of rule format) limit ns)
     → IfSome mid (λ raw. (m : List (List ℕ)) (rest : List ℕ) → StandsNext rule format limit m raw rest → F)
     → IfSome old (λ raw. (ms : List (List (List ℕ))) (rest : List ℕ) → AreEncodings (grammar_of rule format) limit ms raw rest
@@ -69,24 +77,32 @@ accepted_later rule format limit F ns count (Some raw) (Some left) few had accep
     let next = texts_further (format_parts rule format limit) ns ms raw left rest had texts (omega arith) in
     accepted next.0 next.1 next.2
 
+-- so a list ends where the reader of the next message fails
+pub stops_reading : {S V X : Type 0} (source : Ghosts S) (old mid new : S) (format : Format) (options : ReaderOptions) (count : ℕ)
+    (readers : V → List X) (segments : X → List (List ℕ)) (options_of : X → ReaderOptions) (ms : List (List (List ℕ))) (e : Error)
+    → (source.same old mid → source.same mid new → source.same old new) → length ms < count
+    → IfKnown (source.unread old) (source.unread mid) (AreEncodings (grammar_of Zero format) options.traversal_limit_in_words ms)
+    → Advances source.unread source.failures source.same old mid
+    → OrFailsAtEnd (ReadsMessage source mid new (by_format Zero format) options) (Err e)
+    → ReadsMessages source old new format options count readers segments options_of (Err e)
+stops_reading source old mid new format options count readers segments options_of ms e join fewer texts advances next =
+    let limit = options.traversal_limit_in_words in
+    let reads = or_fails_reads source mid new (by_format Zero format) options e next in record {
+      counted = tt;
+      found = tt;
+      options_are = tt;
+      accepted = accepted_later Zero format limit (IsFault e.kind) ms count (source.unread old) (source.unread mid) fewer texts
+          (or_fails_accepted source mid new (by_format Zero format) options e tt next);
+      stops = inr (record { between = mid; messages = ms; fewer = fewer; texts = texts; next = reads });
+      failed = λ device. Fails-join _ _ _ advances.counted (or_fails_failed source mid new (rules_of Zero format) limit e reads device);
+      advances = Advances-join old mid new join advances (or_fails_advances source mid new (rules_of Zero format) limit e reads);
+    }
+
 -- and want of memory is a fault
 pub accepted_at_memory : (rule : Padding) (format : Format) (limit : Option ℕ) (count : ℕ) (kind : ErrorKind) (old : Option (List ℕ)) → kind ≡ OutOfMemory
     → IfSome old (λ raw. (ms : List (List (List ℕ))) (rest : List ℕ) → AreEncodings (grammar_of rule format) limit ms raw rest → length ms ≡ count → IsFault kind)
 accepted_at_memory rule format limit count kind None memory = tt
 accepted_at_memory rule format limit count kind (Some raw) memory = λ ms rest texts counted. inr memory
-
--- encodings of as many messages are those of the same messages
-texts_same : {IsText : Grammar} {rule : Padding} {gives : Giving} {refuses : Refusing} {limit : Option ℕ}
-    → PartsStreams IsText rule gives refuses limit
-    → (ns ms : List (List (List ℕ))) (raw left rest : List ℕ) → AreEncodings IsText limit ns raw left
-    → AreEncodings IsText limit ms raw rest → length ns ≡ length ms → (ns ≡ ms) × (left ≡ rest)
-texts_same parts [] [] raw left rest had texts many = (refl, had ∙ sym texts)
-texts_same parts [] (m ∷ ms) raw left rest had texts many = absurd (omega arith)
-texts_same parts (n ∷ ns) [] raw left rest had texts many = absurd (omega arith)
-texts_same {IsText} {limit = limit} parts (n ∷ ns) (m ∷ ms) raw left rest had texts many =
-    let same = parts.begins_once n m raw had.0 texts.0 had.1 texts.1 in
-    let inner = texts_same parts ns ms texts.0 left rest (subst (λ l. AreEncodings IsText limit ns l left) same.1 had.2) texts.2 (omega arith) in
-    (ap (λ x. x ∷ ns) same.0 ∙ ap (λ l. m ∷ l) inner.0, inner.1)
 
 -- what is written of a message is an encoding of it
 pub text_is : (rule : Padding) (format : Format) (m : List (List ℕ)) (text : List ℕ) → IsWritable m → IsTextOf format m text → grammar_of rule format text m
@@ -94,7 +110,7 @@ text_is rule Framed m text writable e = subst (λ t. IsFrame rule t m) (sym e) (
 text_is rule Packed m text writable p = packed_text_is rule text m (HasTable-writable m writable) p
 
 -- so what is written of messages is their encodings
-appended_texts : (rule : Padding) (format : Format) (limit : Option ℕ) (ms : List (List (List ℕ))) (text : List ℕ)
+pub appended_texts : (rule : Padding) (format : Format) (limit : Option ℕ) (ms : List (List (List ℕ))) (text : List ℕ)
     → AllByRecursion IsWritable ms → AllByRecursion IsWithinSegmentLimit ms → AllByRecursion (λ m. KeepsLimit (lengths m) limit) ms
     → AppendsEach (IsTextOf format) ms text → AreEncodings (grammar_of rule format) limit ms text []
 appended_texts rule format limit [] text writable few size all = sym all
@@ -147,49 +163,22 @@ pub few_next : {S : Type 0} (segments : S → List (List ℕ)) (xs : List S) (in
 few_next segments xs index x here is before few = subst (AllByRecursion IsWithinSegmentLimit) (sym (map-next segments xs index x here is))
     (AllByRecursion-append IsWithinSegmentLimit (map segments (take index xs)) (segments x ∷ []) before (few, tt))
 
--- what was appended to nothing is what was written
-pub appended_alone : (P : List ℕ → Type 0) (start new : List ℕ) → start ≡ [] → Adds P start new → P new
-appended_alone P start new none (text, holds, e) = subst P (sym (e ∙ ap (λ l. l ++ text) none)) holds
+-- the encoding of a message is one whatever follows it
+pub text_stands : (rule : Padding) (format : Format) (limit : Option ℕ) (m : List (List ℕ)) (text rest : List ℕ) → IsWritable m → IsWithinSegmentLimit m → KeepsLimit (lengths m) limit
+    → IsTextOf format m text → StandsNext rule format limit m (text ++ rest) rest
+text_stands rule format limit m text rest writable few size here =
+    record { text = text; is_text = text_is rule format m text writable here; within = IsWithin-written m limit writable few size; spelled = refl }
 
--- what was appended to nothing is encodings
-pub read_texts : (rule : Padding) (format : Format) (limit : Option ℕ) (ms : List (List (List ℕ))) (start new shown : List ℕ)
-    → start ≡ [] → shown ≡ new → AllByRecursion IsWritable ms → AllByRecursion IsWithinSegmentLimit ms
-    → AllByRecursion (λ m. KeepsLimit (lengths m) limit) ms → Adds (AppendsEach (IsTextOf format) ms) start new
-    → AreEncodings (grammar_of rule format) limit ms shown []
-read_texts rule format limit ms start new shown none same writable few size (text, all, e) =
-    subst (λ l. AreEncodings (grammar_of rule format) limit ms l []) (ap (λ l. l ++ text) (sym none) ∙ sym e ∙ sym same)
-    (appended_texts rule format limit ms text writable few size all)
+-- so what is read of it is the message
+pub written_is_read : (rule : Padding) (format : Format) (limit : Option ℕ) (m read : List (List ℕ)) (text rest left : List ℕ) → IsWritable m → IsWithinSegmentLimit m
+    → KeepsLimit (lengths m) limit → IsTextOf format m text → StandsNext rule format limit read (text ++ rest) left → (read ≡ m) × (left ≡ rest)
+written_is_read rule format limit m read text rest left writable few size here stands =
+    (format_parts rule format limit).begins_once read m (text ++ rest) left rest stands (text_stands rule format limit m text rest writable few size here)
 
--- and just these are read of it
-pub read_same : {X S : Type 0} (rule : Padding) (format : Format) (limit : Option ℕ) (segments : X → List (List ℕ))
-    (of : S → List (List ℕ)) (xs : List X) (ms : List S) (raw left : List ℕ)
-    → AreEncodings (grammar_of rule format) limit (map segments xs) raw left
-    → AreEncodings (grammar_of rule format) limit (map of ms) raw [] → length xs ≡ length ms
-    → (map segments xs ≡ map of ms) × (left ≡ [])
-read_same rule format limit segments of xs ms raw left had texts many =
-    texts_same (format_parts rule format limit) (map segments xs) (map of ms) raw left [] had texts
-    (length-map xs segments ∙ many ∙ sym (length-map ms of))
-
--- after them none is
-pub none_left : {X : Type 0} (rule : Padding) (format : Format) (limit : Option ℕ) (segments : X → List (List ℕ)) (end : Option X)
-    (left : List ℕ) (new : Option (List ℕ)) → left ≡ []
-    → IfSome (option_map segments end) (λ m. IfKnown (Some left) new (StandsNext rule format limit m)) → end ≡ None
-none_left rule format limit segments None left new none begins = refl
-none_left rule format limit segments (Some x) left new none begins = absurd (nothing_begins_known rule (format_lawful format) (format_requested rule format) limit (segments x) (Some left) new (ap Some none) begins)
-
--- what is appended to a vector fails for too many segments, or for want of memory
-pub appending_memory : (format : Format) (ms : List (List (List ℕ))) (kind : ErrorKind) → AllByRecursion IsWritable ms → (kind ≡ DeviceFailed → Fails 0 0)
-    → RefusesOneOf (DeclinesAs format (ByKind OutOfMemory)) ms kind → RefusesManyOf ms kind ⊎ (kind ≡ OutOfMemory)
-appending_memory format [] kind writable failed refused = absurd refused
-appending_memory format (m ∷ ms) kind writable failed (inl refused) = elim (format_memory format m kind writable.0 refused failed) [
-  | inl many ↦ inl (inl many)
-  | inr memory ↦ inr memory
-]
-appending_memory format (m ∷ ms) kind writable failed (inr later) = elim (appending_memory format ms kind writable.1 failed later) [
-  | inl many ↦ inl (inr many)
-  | inr memory ↦ inr memory
-]
-
-pub memory_only : (kind : ErrorKind) → (kind ≡ DeviceFailed) ⊎ (kind ≡ OutOfMemory) → (kind ≡ DeviceFailed → min (0 + 1) (2 ^ 64 - 1) ≤ 0) → kind ≡ OutOfMemory
-memory_only kind (inl device) failed = let fails = failed device in absurd (omega arith)
-memory_only kind (inr memory) failed = memory
+pub root_is_read : (rule : Padding) (format : Format) (limit : Option ℕ) (spaces : List Space) (trees : Trees) (text rest left : List ℕ) (read : List (List ℕ))
+    → HasRootTree (map used_of spaces) trees → IsWritable (map used_of spaces) → IsWithinSegmentLimit (map used_of spaces)
+    → KeepsLimit (lengths (map used_of spaces)) limit → IsTextOf format (map used_of spaces) text
+    → StandsNext rule format limit read (text ++ rest) left → HasRootTree read trees × (left ≡ rest)
+root_is_read rule format limit spaces trees text rest left read root writable few size here stands =
+    let same = written_is_read rule format limit (map used_of spaces) read text rest left writable few size here stands in
+    (subst (λ (segments : List (List ℕ)). HasRootTree segments trees) (sym same.0) root, same.1)

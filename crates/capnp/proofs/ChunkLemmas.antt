@@ -12,10 +12,10 @@ use Rattle.capnp_frame.specs.Writing.{IsWritable, RefusesMany, chunks, table_chu
 use Rattle.capnp_frame.specs.Sink.{Declining, ByKind, DeclinesAny, DeclinesSome}
 use Rattle.capnp_frame.specs.Source.{Fails}
 use Rattle.capnp_frame.specs.declared.serialize.segment_table.Padding.TheVariants.{Zero}
-use Rattle.capnp_frame.proofs.AskLemmas.{never_fails}
-use Rattle.capnp_frame.proofs.FrameLemmas.{zero_padded_is, length-table}
-use Rattle.capnp_frame.proofs.SizeLemmas.{HasTable-writable}
-use Rattle.capnp_pack.proofs.AllLemmas.{AllByRecursion-append}
+use Rattle.capnp_frame.proofs.sources.AskLemmas.{never_fails}
+use Rattle.capnp_frame.proofs.encodings.FrameLemmas.{zero_padded_is, length-table}
+use Rattle.capnp_frame.proofs.encodings.SizeLemmas.{HasTable-writable}
+use Rattle.capnp_pack.proofs.words.AllLemmas.{AllByRecursion-append}
 use Rattle.capnp_pack.specs.PackedSink.{DeclinesPacked}
 use Rattle.capnp.specs.declared.streams.Format.{Format}
 use Rattle.capnp.specs.declared.streams.Format.TheVariants.{Framed, Packed}

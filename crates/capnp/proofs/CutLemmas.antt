@@ -10,10 +10,10 @@ use Rattle.capnp_frame.specs.declared.error.ErrorKind.TheVariants.{BufferNotLarg
 use Rattle.capnp_frame.specs.SegmentTable.{table_size}
 use Rattle.capnp_frame.specs.Texts.{BeginsWith}
 use Rattle.capnp_frame.specs.Writing.{IsWritable, IsWithinSegmentLimit}
-use Rattle.capnp_frame.proofs.SizeLemmas.{HasTable-writable}
+use Rattle.capnp_frame.proofs.encodings.SizeLemmas.{HasTable-writable}
 use Rattle.capnp_pack.specs.PackedFrame.{IsPackedFrame}
 use Rattle.capnp_pack.specs.PackedSource.{head_encoding, Unpacks, Overruns, MeetsFault, RefusesChunk}
-use Rattle.capnp_pack.proofs.PackedFrameLemmas.{packed_text_is}
+use Rattle.capnp_pack.proofs.encodings.PackedFrameLemmas.{packed_text_is}
 use Rattle.capnp.specs.declared.streams.Format.TheVariants.{Packed}
 use Rattle.capnp.specs.Streams.{RefusesNext}
 use Rattle.capnp.specs.Written.{IsPackedEncodingOf}

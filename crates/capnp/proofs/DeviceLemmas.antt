@@ -4,7 +4,7 @@ use Rattle.std.proofs.lemmas.List.{append-nil, take-append-drop, length-drop, le
 use Rattle.std.specs.Io.KnownBytes.{Keeps, Appends, Consumes, IsAtEnd}
 use Rattle.capnp_frame.specs.SplittingLaws.{same_front}
 use Rattle.capnp_frame.specs.Source.{IsTail}
-use Rattle.capnp_frame.proofs.SourceLemmas.{IfKnown-weaker}
+use Rattle.capnp_frame.proofs.sources.SourceLemmas.{IfKnown-weaker}
 use Rattle.capnp.specs.Passed.{IfKnown, Adds, LeavesFront, Splits, RunsShort, ReturnsPart}
 use Rattle.capnp.specs.Devices.{if_known}
 

@@ -1,14 +1,19 @@
 -- How the stream of a run ends, by what the run returns.
-use Rattle.std.proofs.Common.{◌≡◌, ◌⊎◌, inl, inr, ℕ, ◌<◌, Option, Some, None, IfSome, Result, Ok, Err, List, [], ◌∷◌, ◌++◌, ◌≤◌, length, sym, ap, ◌∙◌, subst, arith}
+use Rattle.std.proofs.Common.{◌≡◌, ◌⊎◌, inl, inr, ℕ, ◌<◌, Option, Some, None, IfSome, IfErr, Result, Ok, Err, List, [], ◌∷◌, ◌++◌, ◌≤◌, length, sym, ap, ◌∙◌, subst, arith}
 use Rattle.capnp_frame.specs.declared.serialize.segment_table.Padding.{Padding}
 use Rattle.capnp_frame.specs.declared.error.ErrorKind.{ErrorKind}
-use Rattle.capnp_frame.specs.Source.{IfKnown}
+use Rattle.capnp_frame.specs.declared.error.ErrorKind.TheVariants.{DeviceFailed}
+use Rattle.capnp_frame.specs.declared.io.Read.{Ghosts}
+use Rattle.capnp_frame.specs.declared.io.Write.{Ghosts as SinkGhosts}
+use Rattle.capnp_frame.specs.Refusals.{IsReaderKind}
+use Rattle.capnp_frame.specs.Source.{IfKnown, Advances, Fails}
+use Rattle.capnp_frame.specs.Sink.{Grows}
 use Rattle.capnp_frame.specs.Texts.{AreEncodings}
-use Rattle.capnp_frame.proofs.TextLemmas.{AreEncodings-once, AreEncodings-most, EndsEncodings-once}
+use Rattle.capnp_frame.proofs.encodings.TextLemmas.{AreEncodings-once, AreEncodings-most, EndsEncodings-once}
 use Rattle.capnp.specs.declared.streams.Format.{Format}
 use Rattle.capnp.specs.declared.streams.StoppedAt.{StoppedAt}
-use Rattle.capnp.specs.Streams.{grammar_of, StandsNext, RefusesNext, EndsBy, IsStream}
-use Rattle.capnp.specs.Runs.{Writing, DecliningWriting, most_messages, RanOut, HasWritten, StoppedReading, StoppedWriting, HasStopped, HasRun, IsResultOf, FaultsAt, StopsByFault, IsFaulted}
+use Rattle.capnp.specs.Streams.{grammar_of, refuses_of, StandsNext, RefusesNext, EndsBy, IsStream}
+use Rattle.capnp.specs.Runs.{Writing, DecliningWriting, most_messages, RanOut, HasWritten, StoppedReading, StoppedWriting, HasStopped, HasRun, IsResultOf, FaultsAt, StopsByFault, IsFaulted, IsRunFault, WritesEach}
 use Rattle.capnp.proofs.RunLemmas.{format_lawful, format_parts}
 
 pub ran_out_ends : (rule : Padding) (format : Format) (limit : Option ℕ) (Writes : Writing) (left before after : Option (List ℕ))
@@ -114,7 +119,7 @@ returned rule format limit Writes Declines (Ok done) left before after raw ran m
 returned rule format limit Writes Declines (Err stop) left before after raw ran messages ending stream few =
     stopped_returns rule format limit Writes Declines stop.message stop.error.kind left before after raw ran messages ending stream
 
-pub returned_known : (rule : Padding) (format : Format) (limit : Option ℕ) (Writes : Writing) (Declines : DecliningWriting)
+returned_known : (rule : Padding) (format : Format) (limit : Option ℕ) (Writes : Writing) (Declines : DecliningWriting)
     (result : Result (Unit {0}) StoppedAt) (old left before after : Option (List ℕ))
     → IfSome old (HasRun rule format limit Writes Declines result left before after)
     → IfSome old (λ raw. (messages : List (List (List ℕ))) (ending : Option ErrorKind)
@@ -130,3 +135,21 @@ pub stream_once : (rule : Padding) (format : Format) (limit : Option ℕ) (messa
 stream_once rule format limit messages others ending other raw stream also =
     let one = AreEncodings-once (format_parts rule format limit) ending other messages others raw stream.rest also.rest stream.texts stream.ends also.texts also.ends in
     (one.0, EndsEncodings-once rule (format_lawful format) limit ending other also.rest (subst (λ l. EndsBy rule format limit ending l) one.1 stream.ends) also.ends)
+
+-- what a run does, by what it writes and by how it fails
+pub writes_each : {S T : Type 0} {source : Ghosts S} {old new : S} {sink : SinkGhosts T} {before after : T} {rule : Padding} {format : Format}
+    {limit : Option ℕ} {Writes : Writing} {Declines : DecliningWriting} {result : Result (Unit {0}) StoppedAt}
+    → IfSome (source.unread old) (HasRun rule format limit Writes Declines result (source.unread new) (sink.written before) (sink.written after))
+    → IfErr result (λ stop. IsReaderKind rule (refuses_of format) stop.error.kind ⊎ IsRunFault Declines stop.message stop.error.kind)
+    → IfErr result (λ stop. stop.error.kind ≡ DeviceFailed
+    → Fails (source.failures old) (source.failures new) ⊎ Fails (sink.failures before) (sink.failures after))
+    → Advances source.unread source.failures source.same old new → Grows sink.written sink.failures sink.same before after
+    → WritesEach source old new sink before after rule format limit Writes Declines result
+writes_each {source = source} {old} {new} {sink} {before} {after} {rule} {format} {limit} {Writes} {Declines} {result} written kinds failed advances grows = record {
+  written = written;
+  exact = returned_known rule format limit Writes Declines result (source.unread old) (source.unread new) (sink.written before) (sink.written after) written;
+  kinds = kinds;
+  failed = failed;
+  advances = advances;
+  grows = grows;
+}

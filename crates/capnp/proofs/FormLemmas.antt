@@ -10,8 +10,8 @@ use Rattle.capnp_frame.specs.Asking.{FailsOr}
 use Rattle.capnp_frame.specs.Source.{IsPreorder, Fails}
 use Rattle.capnp_frame.specs.Writers.{WritesTo, WritesSegments}
 use Rattle.capnp_frame.specs.Writing.{IsWritable, chunks}
-use Rattle.capnp_frame.proofs.AskLemmas.{passed_on}
-use Rattle.capnp_frame.proofs.SourceLemmas.{Grows-refl, IfKnown-refl, IfKnown-weaker}
+use Rattle.capnp_frame.proofs.sources.AskLemmas.{passed_on}
+use Rattle.capnp_frame.proofs.sources.SourceLemmas.{Grows-refl, IfKnown-refl, IfKnown-weaker}
 use Rattle.std.proofs.lemmas.List.{append-nil}
 use Rattle.capnp_layout.specs.Pointer.{words_of}
 use Rattle.capnp_layout.specs.Tree.{total_words}

@@ -12,8 +12,8 @@ use Rattle.capnp_frame.specs.Refusals.{CountStands, RefusesStream, Outgrows, Tak
 use Rattle.capnp_frame.specs.Requests.{MessageStands}
 use Rattle.capnp_frame.specs.Skipping.{SkipsMessage}
 use Rattle.capnp_frame.specs.Streams.{StreamRules, framed_rules, reusing_rules, skipping_rules, ReadsStream}
-use Rattle.capnp_frame.proofs.SourceLemmas.{IfKnown-weaker}
-use Rattle.capnp_frame.proofs.RefusalLemmas.{RefusesStream-map}
+use Rattle.capnp_frame.proofs.sources.SourceLemmas.{IfKnown-weaker}
+use Rattle.capnp_frame.proofs.errors.RefusalLemmas.{RefusesStream-map}
 use Rattle.capnp.specs.declared.streams.Format.{Format}
 use Rattle.capnp.specs.declared.streams.Format.TheVariants.{Framed}
 use Rattle.capnp.specs.Headline.{OrFailsAtEnd}
@@ -128,13 +128,7 @@ module _ {S : Type 0} (rule : Padding) (source : Ghosts S) (plain : IsPlainSourc
     advances = reads.advances;
   }
 
-  pub plain_reads : (old new : S) (r : Result (Option (List (List ℕ))) Error)
-      → ReadsStream source old new (framed_rules rule source.gives source.refuses) limit r
-      → ReadsStream source old new (rules_of rule Framed) limit r
-  plain_reads old new r reads = plain_reads_taking (TakesMemory rule source.gives) (TakesMemory rule Splits)
-      (Outgrows-map 0 0 rule (λ w n b t. (plain.given w n b t).1) limit) old new r reads
-
-  -- also of a reader into kept memory
+  -- of a reader, also into kept memory
   pub plain_reads_reusing : (kept : List (List ℕ)) (old new : S) (r : Result (Option (List (List ℕ))) Error)
       → ReadsStream source old new (reusing_rules rule source.gives source.refuses kept) limit r
       → ReadsStream source old new (rules_of rule Framed) limit r
@@ -154,27 +148,16 @@ module _ {S : Type 0} (rule : Padding) (source : Ghosts S) (plain : IsPlainSourc
   plain_skips kept old new (Ok None) reads = plain_skips_each kept old new (Ok None) reads
   plain_skips kept old new (Err error) reads = plain_skips_each kept old new (Err error) reads
 
--- what holds of the form that may return None, carried over
-pub or_fails_map : {P Q : Result (Option (List (List ℕ))) Error → Type 0} (r : Result (Option (List (List ℕ))) Error)
-    → ((tried : Result (Option (List (List ℕ))) Error) → P tried → Q tried) → OrFailsAtEnd P r → OrFailsAtEnd Q r
-or_fails_map (Ok found) map p = map (Ok found) p
-or_fails_map (Err e) map (inl p) = inl (map (Err e) p)
-or_fails_map (Err e) map (inr (kind, p)) = inr (kind, map (Ok None) p)
+-- what the form that has to return a message says of the source where it fails
+pub or_fails_advances : {S : Type 0} (source : Ghosts S) (old new : S) (rules : StreamRules) (limit : Option ℕ) (e : Error)
+    → OrFailsAtEnd (ReadsStream source old new rules limit) (Err e) → Advances source.unread source.failures source.same old new
+or_fails_advances source old new rules limit e (inl reads) = reads.advances
+or_fails_advances source old new rules limit e (inr (kind, reads)) = reads.advances
 
--- and what it says of the source
-pub or_fails_advances : {S : Type 0} (source : Ghosts S) (old new : S) (rules : StreamRules) (limit : Option ℕ)
-    (r : Result (Option (List (List ℕ))) Error) → OrFailsAtEnd (ReadsStream source old new rules limit) r
-    → Advances source.unread source.failures source.same old new
-or_fails_advances source old new rules limit (Ok found) reads = reads.advances
-or_fails_advances source old new rules limit (Err e) (inl reads) = reads.advances
-or_fails_advances source old new rules limit (Err e) (inr (kind, reads)) = reads.advances
-
-pub or_fails_failed : {S : Type 0} (source : Ghosts S) (old new : S) (rules : StreamRules) (limit : Option ℕ)
-    (r : Result (Option (List (List ℕ))) Error) → OrFailsAtEnd (ReadsStream source old new rules limit) r
-    → IfErr r (λ error. error.kind ≡ DeviceFailed → Fails (source.failures old) (source.failures new))
-or_fails_failed source old new rules limit (Ok found) reads = tt
-or_fails_failed source old new rules limit (Err e) (inl reads) = reads.failed
-or_fails_failed source old new rules limit (Err e) (inr (kind, reads)) = λ device. cc
+pub or_fails_failed : {S : Type 0} (source : Ghosts S) (old new : S) (rules : StreamRules) (limit : Option ℕ) (e : Error)
+    → OrFailsAtEnd (ReadsStream source old new rules limit) (Err e) → e.kind ≡ DeviceFailed → Fails (source.failures old) (source.failures new)
+or_fails_failed source old new rules limit e (inl reads) = reads.failed
+or_fails_failed source old new rules limit e (inr (kind, reads)) = λ device. cc
 
 -- a message of a format, within the limit, is an encoding at the front
 pub stands_next : (rule : Padding) (format : Format) (limit : Option ℕ) (segments : List (List ℕ)) (old new : Option (List ℕ))

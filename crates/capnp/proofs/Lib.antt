@@ -11,7 +11,6 @@ pub mod StoppedLemmas
 pub mod Passed
 pub mod BlameLemmas
 pub mod FormLemmas
-pub mod RootLemmas
 pub mod DeviceLemmas
 pub mod StreamLemmas
 pub mod LogLemmas

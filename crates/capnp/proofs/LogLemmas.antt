@@ -11,12 +11,12 @@ use Rattle.capnp_frame.specs.Source.{IfKnown, IsFront}
 use Rattle.capnp_frame.specs.Sink.{Adds}
 use Rattle.capnp_frame.specs.Texts.{Grammar, BeginsWith, AreEncodings}
 use Rattle.capnp_frame.specs.Writing.{IsWritable, IsWithinSegmentLimit}
-use Rattle.capnp_frame.proofs.SizeLemmas.{HasTable-writable}
-use Rattle.capnp_frame.proofs.TextLemmas.{texts_part}
+use Rattle.capnp_frame.proofs.encodings.SizeLemmas.{HasTable-writable}
+use Rattle.capnp_frame.proofs.encodings.TextLemmas.{texts_part}
 use Rattle.capnp_pack.specs.PackedFrame.{IsPackedFrame}
 use Rattle.capnp_pack.specs.RefusingLaws.{unpacking}
-use Rattle.capnp_pack.proofs.AllLemmas.{AllByRecursion-append}
-use Rattle.capnp_pack.proofs.PackedFrameLemmas.{packed_requests, packed_text_is}
+use Rattle.capnp_pack.proofs.words.AllLemmas.{AllByRecursion-append}
+use Rattle.capnp_pack.proofs.encodings.PackedFrameLemmas.{packed_requests, packed_text_is}
 use Rattle.capnp.specs.declared.streams.Format.TheVariants.{Packed}
 use Rattle.capnp.specs.Streams.{EndsBy, IsStream}
 use Rattle.capnp.specs.Written.{IsTextOf, IsPackedEncodingOf, AppendsEach}

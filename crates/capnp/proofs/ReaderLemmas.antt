@@ -1,22 +1,26 @@
 -- From the requests of a source to the encodings in its stream.
-use Rattle.std.proofs.Common.{◌≡◌, ◌↔◌, ℕ, List, [], ◌++◌, Option, Some, None, IfSome, Result, Ok, Err, IfOk, IfErr, lit<}
+use Rattle.std.proofs.Common.{◌≡◌, ◌↔◌, inl, inr, refl, ℕ, List, [], ◌++◌, Option, Some, None, IfSome, true, false, Result, Ok, Err, IfOk, lit<}
+use Rattle.std.specs.Prelude.{IsSome, MatchResult}
 use Rattle.capnp_frame.specs.declared.error.Error.{Error}
-use Rattle.capnp_frame.specs.declared.error.ErrorKind.TheVariants.{DeviceFailed}
 use Rattle.capnp_frame.specs.declared.serialize.segment_table.Padding.{Padding}
 use Rattle.capnp_frame.specs.declared.io.Read.{Ghosts}
+use Rattle.capnp_frame.specs.declared.message.options.ReaderOptions.{ReaderOptions}
 use Rattle.capnp_frame.specs.Limits.{IsWithin}
 use Rattle.capnp_frame.specs.Frame.{IsFrame}
 use Rattle.capnp_frame.specs.Source.{Giving, Refusing, IsSource, IfKnown}
 use Rattle.capnp_frame.specs.Requests.{MessageStands}
-use Rattle.capnp_frame.specs.Streams.{StreamRules, ReadsStream, ReadsStreamInto}
+use Rattle.capnp_frame.specs.Streams.{StreamRules, next_in, ReadsStream, ReadsStreamInto}
 use Rattle.capnp_frame.specs.Texts.{Grammar, BeginsWith}
-use Rattle.capnp_frame.proofs.RefusalLemmas.{given_some}
-use Rattle.capnp_frame.proofs.SourceLemmas.{IfKnown-weaker}
-use Rattle.capnp_frame.proofs.RequestLemmas.{MessageStands-map}
-use Rattle.capnp_frame.proofs.FrameLemmas.{plain_requests}
-use Rattle.capnp_frame.proofs.TextLemmas.{AreRequested}
+use Rattle.capnp_frame.specs.Views.{SeenBuffer}
+use Rattle.capnp_frame.proofs.errors.RefusalLemmas.{given_some}
+use Rattle.capnp_frame.proofs.sources.SourceLemmas.{IfKnown-weaker}
+use Rattle.capnp_frame.proofs.encodings.RequestLemmas.{MessageStands-map}
+use Rattle.capnp_frame.proofs.encodings.FrameLemmas.{plain_requests}
+use Rattle.capnp_frame.proofs.encodings.TextLemmas.{AreRequested}
+use Rattle.capnp_pack.specs.RefusingLaws.{unpacking}
+use Rattle.capnp_pack.proofs.encodings.PackedFrameLemmas.{packed_requests}
 use Rattle.capnp.specs.Streams.{IsPlainSource}
-use Rattle.capnp.specs.Headline.{IsFault, BufferHasRoom, ReturnsEncodings, ReturnsEncodingsInto}
+use Rattle.capnp.specs.Headline.{IsFault, MessageRules, framed, packed, reader_of, ReadsMessage, ReadsMessageInto, OrFailsAtEnd}
 
 -- the requests of a plain source take just the frames
 pub frames_requested : (rule : Padding) (gives : Giving) (refuses : Refusing) → IsPlainSource gives refuses → AreRequested (IsFrame rule) rule gives
@@ -39,33 +43,6 @@ begins_next IsText rules limit old new (Ok None) texts within found = tt
 begins_next IsText rules limit old new (Ok (Some m)) texts within found = IfKnown-weaker old new (λ raw rest stands.
     let text = (texts m raw rest).0 stands in
     record { text = text.0; is_text = text.1; within = within; spelled = text.2 }) found
-
--- and what follows where a message is there follows where the stream begins with it
-accepts_next : (IsText : Grammar) (rules : StreamRules) (limit : Option ℕ) (F : List (List ℕ) → Type 0)
-    (old : Option (List ℕ)) → AreEncodingsBy IsText rules
-    → IfSome old (λ raw. (m : List (List ℕ)) (rest : List ℕ) → rules.stands m raw rest → IsWithin m limit → F m)
-    → IfSome old (λ raw. (m : List (List ℕ)) (rest : List ℕ) → BeginsWith IsText limit m raw rest → F m)
-accepts_next IsText rules limit F None texts accepted = tt
-accepts_next IsText rules limit F (Some raw) texts accepted =
-    λ m rest begins. accepted m rest ((texts m raw rest).1 (begins.text, begins.is_text, begins.spelled)) begins.within
-
--- what a reader returns by its rules, it returns by the encodings
-pub returns_texts : {S : Type 0} (source : Ghosts S) (old new : S) (rules : StreamRules) (IsText : Grammar)
-    (limit : Option ℕ) (r : Result (Option (List (List ℕ))) Error) → AreEncodingsBy IsText rules
-    → ReadsStream source old new rules limit r → ReturnsEncodings IsText limit (source.unread old) (source.unread new) r
-returns_texts source old new rules IsText limit r texts reads = record {
-  found = begins_next IsText rules limit _ _ r texts reads.within reads.found;
-  accepted = accepts_next IsText rules limit (λ m. IfErr r (λ error. IsFault error.kind)) _ texts reads.accepted;
-}
-
-pub returns_texts_into : {S : Type 0} (source : Ghosts S) (old new : S) (rules : StreamRules) (IsText : Grammar)
-    (limit : Option ℕ) (room : ℕ) (r : Result (Option (List (List ℕ))) Error) → AreEncodingsBy IsText rules
-    → ReadsStreamInto source old new rules limit room r
-    → ReturnsEncodingsInto IsText limit room (source.unread old) (source.unread new) r
-returns_texts_into source old new rules IsText limit room r texts reads = record {
-  found = begins_next IsText rules limit _ _ r texts reads.within reads.found;
-  accepted = accepts_next IsText rules limit (λ m. BufferHasRoom room m → IfErr r (λ error. error.kind ≡ DeviceFailed)) _ texts reads.accepted;
-}
 
 -- where nothing is unread, there is no message
 pub nothing_stands : (rule : Padding) {gives : Giving} {refuses : Refusing} → IsSource gives refuses → (m : List (List ℕ))
@@ -91,19 +68,109 @@ nothing_begins rule laws texts limit F (Some raw) none = λ m rest begins.
     let stands = (texts m raw rest).1 (begins.text, begins.is_text, begins.spelled) in
     absurd (given_some laws raw 8 stands.table.first stands.table.between stands.table.first_given (lit< tt) none)
 
--- so where nothing is unread any failure is one
-pub ends_texts : {IsText : Grammar} (rule : Padding) {gives : Giving} {refuses : Refusing} → IsSource gives refuses
-    → AreRequested IsText rule gives → (limit : Option ℕ) (old new : Option (List ℕ)) (error : Error)
-    → IfSome old (λ raw. raw ≡ []) → ReturnsEncodings IsText limit old new (Err error)
-ends_texts rule laws texts limit old new error none = record {
-  found = tt;
-  accepted = nothing_begins rule laws texts limit (λ m. IsFault error.kind) old none;
-}
+-- Where the rules' encodings are what the stream's rules read: a message is by these exactly where an encoding of it is, and no
+-- encoding begins where nothing is unread.
+abbrev pub AreRead : MessageRules → Type 0
+AreRead rules = rules.plain → AreEncodingsBy rules.is_text rules.stream
+    × ((limit : Option ℕ) (m : List (List ℕ)) (raw rest : List ℕ) → raw ≡ [] → BeginsWith rules.is_text limit m raw rest → ⊥)
 
-pub ends_texts_into : {IsText : Grammar} (rule : Padding) {gives : Giving} {refuses : Refusing} → IsSource gives refuses
-    → AreRequested IsText rule gives → (limit : Option ℕ) (room : ℕ) (old new : Option (List ℕ)) (error : Error)
-    → IfSome old (λ raw. raw ≡ []) → ReturnsEncodingsInto IsText limit room old new (Err error)
-ends_texts_into rule laws texts limit room old new error none = record {
-  found = tt;
-  accepted = nothing_begins rule laws texts limit (λ m. BufferHasRoom room m → error.kind ≡ DeviceFailed) old none;
-}
+pub are_read : {IsText : Grammar} (rule : Padding) {gives : Giving} {refuses : Refusing} → IsSource gives refuses → AreRequested IsText rule gives
+    → (limit : Option ℕ) (m : List (List ℕ)) (raw rest : List ℕ) → raw ≡ [] → BeginsWith IsText limit m raw rest → ⊥
+are_read rule laws texts limit m raw rest none begins = nothing_begins rule laws texts limit (λ m. ⊥) (Some raw) none m rest begins
+
+pub framed_read : {S : Type 0} (rule : Padding) (source : Ghosts S) → IsSource source.gives source.refuses → AreRead (framed rule source)
+framed_read rule source laws plain =
+    let texts = frames_requested rule source.gives source.refuses plain in (texts, are_read rule laws texts)
+
+pub packed_read : (rule : Padding) → AreRead (packed rule)
+packed_read rule plain = (λ m raw rest. (λ x. x, λ x. x), are_read rule unpacking (packed_requests rule))
+
+-- So of a result what follows where a message is there, follows where its encoding is: of a message always, of none at no encoding.
+module _ (F : List (List ℕ) → Type 0) (rules : MessageRules) (limit : Option ℕ) where
+  accepts : (old : Option (List ℕ)) → AreRead rules → rules.plain
+      → IfSome old (λ raw. (m : List (List ℕ)) (rest : List ℕ) → rules.stream.stands m raw rest → IsWithin m limit → F m)
+      → IfSome old (λ raw. (m : List (List ℕ)) (rest : List ℕ) → BeginsWith rules.is_text limit m raw rest → F m)
+  accepts None laws plain accepted = tt
+  accepts (Some raw) laws plain accepted = λ m rest begins.
+      accepted m rest (((laws plain).0 m raw rest).1 (begins.text, begins.is_text, begins.spelled)) begins.within
+
+  accepts_none : (old : Option (List ℕ)) → AreRead rules → rules.plain → IfSome old (λ raw. raw ≡ [])
+      → IfSome old (λ raw. (m : List (List ℕ)) (rest : List ℕ) → BeginsWith rules.is_text limit m raw rest → F m)
+  accepts_none None laws plain none = tt
+  accepts_none (Some raw) laws plain none = λ m rest begins. absurd ((laws plain).1 limit m raw rest none begins)
+
+  accepts_some : (old : Option (List ℕ)) → ((m : List (List ℕ)) → F m)
+      → IfSome old (λ raw. (m : List (List ℕ)) (rest : List ℕ) → BeginsWith rules.is_text limit m raw rest → F m)
+  accepts_some None holds = tt
+  accepts_some (Some raw) holds = λ m rest begins. holds m
+
+-- What a reader of segments returns by its rules, the reader of messages over it returns.
+module _ {S : Type 0} (source : Ghosts S) (old new : S) (rules : MessageRules) (options : ReaderOptions) where
+  begins : (r : Result (Option (List (List ℕ))) Error) → AreRead rules → rules.plain
+      → IfOk r (λ found. IfSome found (λ m. IsWithin m options.traversal_limit_in_words))
+      → IfOk r (λ found. IfSome found (λ m. IfKnown (source.unread old) (source.unread new) (rules.stream.stands m)))
+      → IfOk r (λ found. IfSome found (λ m. IfKnown (source.unread old) (source.unread new) (BeginsWith rules.is_text options.traversal_limit_in_words m)))
+  begins r laws plain = begins_next rules.is_text rules.stream options.traversal_limit_in_words (source.unread old) (source.unread new) r (laws plain).0
+
+  pub reads_message : (next : Result (Option (List (List ℕ))) Error) → AreRead rules
+      → ReadsStream source old new rules.stream options.traversal_limit_in_words next → ReadsMessage source old new rules options (reader_of options next)
+  reads_message (Ok None) laws reads = record {
+    texts = λ plain. record { found = tt; accepted = accepts_none _ rules options.traversal_limit_in_words (source.unread old) laws plain reads.none };
+    reads = reads;
+    options_are = tt;
+  }
+  reads_message (Ok (Some m)) laws reads = record {
+    texts = λ plain. record {
+      found = begins (Ok (Some m)) laws plain reads.within reads.found;
+      accepted = accepts_some _ rules options.traversal_limit_in_words (source.unread old) (λ n. refl);
+    };
+    reads = reads;
+    options_are = refl;
+  }
+  reads_message (Err e) laws reads = record {
+    texts = λ plain. record { found = tt; accepted = accepts _ rules options.traversal_limit_in_words (source.unread old) laws plain reads.accepted };
+    reads = reads;
+    options_are = tt;
+  }
+
+  pub reads_message_into : {B : Type 0} (room : ℕ) (next : Result (Option (SeenBuffer B)) Error) → AreRead rules
+      → ReadsStreamInto source old new rules.stream options.traversal_limit_in_words room (next_in (λ held. held.segments) next)
+      → ReadsMessageInto source old new rules options room (reader_of options next)
+  reads_message_into room (Ok None) laws reads = record {
+    texts = λ plain. record { found = tt; accepted = accepts_none _ rules options.traversal_limit_in_words (source.unread old) laws plain reads.none };
+    reads = reads;
+    options_are = tt;
+  }
+  reads_message_into room (Ok (Some b)) laws reads = record {
+    texts = λ plain. record {
+      found = begins (Ok (Some b.segments)) laws plain reads.within reads.found;
+      accepted = accepts_some _ rules options.traversal_limit_in_words (source.unread old) (λ n fits. refl);
+    };
+    reads = reads;
+    options_are = refl;
+  }
+  reads_message_into room (Err e) laws reads = record {
+    texts = λ plain. record { found = tt; accepted = accepts _ rules options.traversal_limit_in_words (source.unread old) laws plain reads.accepted };
+    reads = reads;
+    options_are = tt;
+  }
+
+-- Also the form that has to return a message fails only by a fault where an encoding is there.
+nothing_accepted : (P : List (List ℕ) → List ℕ → List ℕ → Type 0) (F : Type 0) (Q : Error → Type 0) (old : Option (List ℕ))
+    → IfSome old (λ raw. (m : List (List ℕ)) (rest : List ℕ) → P m raw rest → MatchResult (Ok None) (IsSome {T = List (List ℕ)}) Q)
+    → IfSome old (λ raw. (m : List (List ℕ)) (rest : List ℕ) → P m raw rest → F)
+nothing_accepted P F Q None accepted = tt
+nothing_accepted P F Q (Some raw) accepted = λ m rest begins. let none : false ≡ true = accepted m rest begins in cc
+
+pub or_fails_accepted : {S : Type 0} (source : Ghosts S) (old new : S) (rules : MessageRules) (options : ReaderOptions) (e : Error) → rules.plain
+    → OrFailsAtEnd (ReadsMessage source old new rules options) (Err e)
+    → IfSome (source.unread old) (λ raw. (m : List (List ℕ)) (rest : List ℕ) → BeginsWith rules.is_text options.traversal_limit_in_words m raw rest → IsFault e.kind)
+or_fails_accepted source old new rules options e plain (inl reads) = (reads.texts plain).accepted
+or_fails_accepted source old new rules options e plain (inr (end, reads)) =
+    nothing_accepted (λ m raw rest. BeginsWith rules.is_text options.traversal_limit_in_words m raw rest) (IsFault e.kind) (λ error. IsFault error.kind) (source.unread old) (reads.texts plain).accepted
+
+pub or_fails_reads : {S : Type 0} (source : Ghosts S) (old new : S) (rules : MessageRules) (options : ReaderOptions) (e : Error)
+    → OrFailsAtEnd (ReadsMessage source old new rules options) (Err e)
+    → OrFailsAtEnd (ReadsStream source old new rules.stream options.traversal_limit_in_words) (Err e)
+or_fails_reads source old new rules options e (inl read) = inl read.reads
+or_fails_reads source old new rules options e (inr (end, read)) = inr (end, read.reads)

@@ -9,17 +9,19 @@ use Rattle.capnp_frame.specs.Message.{IsWholeWords}
 use Rattle.capnp_frame.specs.Source.{IsSource, IfKnown, IsTail}
 use Rattle.capnp_frame.specs.Sink.{Adds}
 use Rattle.capnp_frame.specs.SplittingLaws.{splitting}
-use Rattle.capnp_frame.proofs.SourceLemmas.{IfKnown-join, IfKnown-refl, IfKnown-weaker}
-use Rattle.capnp_frame.proofs.FrameLemmas.{plain_requests}
-use Rattle.capnp_frame.proofs.TextLemmas.{AreRequested, PartsStreams, parts_streams, AreEncodings-push}
+use Rattle.capnp_frame.proofs.sources.SourceLemmas.{IfKnown-join, IfKnown-refl, IfKnown-weaker}
+use Rattle.capnp_frame.proofs.encodings.FrameLemmas.{plain_requests}
+use Rattle.capnp_frame.proofs.encodings.TextLemmas.{AreRequested, PartsStreams, parts_streams, AreEncodings-push}
 use Rattle.capnp_pack.specs.RefusingLaws.{unpacking}
-use Rattle.capnp_pack.proofs.PackedFrameLemmas.{packed_requests}
+use Rattle.capnp_pack.proofs.encodings.PackedFrameLemmas.{packed_requests}
 use Rattle.capnp.specs.declared.streams.Format.{Format}
 use Rattle.capnp.specs.declared.streams.Format.TheVariants.{Framed, Packed}
 use Rattle.capnp.specs.declared.streams.StoppedAt.{StoppedAt}
 use Rattle.capnp.specs.Streams.{grammar_of, gives_of, refuses_of, rules_of}
 use Rattle.capnp.specs.Runs.{Writing, DecliningWriting, WritesFrom, WritesAll, HasWrittenNext, HasWritten, IsReadingFault, IsWritingFault, BreaksOffOr, IsRunFault, most_messages, HasRun}
+use Rattle.capnp.specs.Headline.{by_format}
 use Rattle.capnp.proofs.FormatLemmas.{stands_next}
+use Rattle.capnp.proofs.ReaderLemmas.{AreRead, are_read}
 use Rattle.capnp.proofs.WriterLemmas.{IsWritable-within}
 
 -- Both formats.
@@ -34,6 +36,9 @@ format_requested rule Packed = packed_requests rule
 
 pub format_parts : (rule : Padding) (format : Format) (limit : Option ℕ) → PartsStreams (grammar_of rule format) rule (gives_of format) (refuses_of format) limit
 format_parts rule format limit = parts_streams rule (format_lawful format) (format_requested rule format) limit
+
+pub format_read : (rule : Padding) (format : Format) → AreRead (by_format rule format)
+format_read rule format plain = (λ m raw rest. (λ x. x, λ x. x), are_read rule (format_lawful format) (format_requested rule format))
 
 -- What is written, message by message.
 

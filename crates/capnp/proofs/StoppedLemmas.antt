@@ -7,7 +7,7 @@ use Rattle.capnp_frame.specs.declared.error.ErrorKind.TheVariants.{DeviceFailed}
 use Rattle.capnp_frame.specs.Sink.{Appending, Leaving, Declining, DeclinesSome, Adds}
 use Rattle.capnp_frame.specs.Source.{IfKnown}
 use Rattle.capnp_frame.specs.Writing.{chunks}
-use Rattle.capnp_frame.proofs.SourceLemmas.{IfKnown-join}
+use Rattle.capnp_frame.proofs.sources.SourceLemmas.{IfKnown-join}
 use Rattle.capnp.specs.declared.streams.Format.{Format}
 use Rattle.capnp.specs.Written.{DeclinesAs, LeavesMessage, AppendsEach, StopsMessage, StopsEach, RefusesWriter, RefusesOneOf}
 

@@ -8,8 +8,8 @@ use Rattle.capnp_frame.specs.declared.error.ErrorKind.TheVariants.{DeviceFailed,
 use Rattle.capnp_frame.specs.Limits.{IsWithin}
 use Rattle.capnp_frame.specs.Source.{Fails}
 use Rattle.capnp_frame.specs.Texts.{Grammar, AreEncodings}
-use Rattle.capnp_frame.proofs.AskLemmas.{never_fails}
-use Rattle.capnp_frame.proofs.TextLemmas.{AreEncodings-push}
+use Rattle.capnp_frame.proofs.sources.AskLemmas.{never_fails}
+use Rattle.capnp_frame.proofs.encodings.TextLemmas.{AreEncodings-push}
 use Rattle.capnp.specs.declared.streams.Format.{Format}
 use Rattle.capnp_frame.specs.Refusals.{TakesMemory}
 use Rattle.capnp.specs.Streams.{grammar_of, gives_of, StandsNext, RefusesNext, TakesForNext, EndsBy, IsStream}

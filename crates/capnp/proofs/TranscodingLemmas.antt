@@ -6,7 +6,7 @@ use Rattle.capnp_frame.specs.declared.error.ErrorKind.{ErrorKind}
 use Rattle.capnp_frame.specs.declared.io.Read.{Ghosts}
 use Rattle.capnp_frame.specs.declared.io.Write.{Ghosts as SinkGhosts}
 use Rattle.capnp_frame.specs.Sink.{Appending}
-use Rattle.capnp_frame.proofs.SourceLemmas.{IfKnown-weaker}
+use Rattle.capnp_frame.proofs.sources.SourceLemmas.{IfKnown-weaker}
 use Rattle.capnp.specs.declared.streams.Format.{Format}
 use Rattle.capnp.specs.declared.streams.StoppedAt.{StoppedAt}
 use Rattle.capnp.specs.declared.transcoding.Way.{Way}

@@ -12,12 +12,12 @@ use Rattle.capnp_frame.specs.Source.{IfKnown, Fails}
 use Rattle.capnp_frame.specs.Sink.{Appending, Declining, DeclinesSome, Adds, AppendsAll, AppendsSame, Grows}
 use Rattle.capnp_frame.specs.Writers.{KeepsCount, WritesSegments}
 use Rattle.capnp_frame.specs.Writing.{IsWritable, IsWithinSegmentLimit, ExceedsSegmentLimit, chunks, serialized_words}
-use Rattle.capnp_frame.proofs.SourceLemmas.{IfKnown-weaker}
-use Rattle.capnp_frame.proofs.SizeLemmas.{concat-chunks, length-frame_bytes}
-use Rattle.capnp_frame.proofs.TextLemmas.{chunks_joined}
-use Rattle.capnp_frame.proofs.WritingLemmas.{length-lengths}
+use Rattle.capnp_frame.proofs.sources.SourceLemmas.{IfKnown-weaker}
+use Rattle.capnp_frame.proofs.encodings.SizeLemmas.{concat-chunks, length-frame_bytes}
+use Rattle.capnp_frame.proofs.encodings.TextLemmas.{chunks_joined}
+use Rattle.capnp_frame.proofs.sinks.WritingLemmas.{length-lengths}
 use Rattle.capnp_pack.specs.PackedSink.{AppendsPacked, DeclinesPacked}
-use Rattle.capnp_pack.proofs.PackedEncodingLemmas.{packed_chunks}
+use Rattle.capnp_pack.proofs.encodings.PackedEncodingLemmas.{packed_chunks}
 use Rattle.capnp.specs.declared.streams.Format.TheVariants.{Framed, Packed}
 use Rattle.capnp.specs.Written.{IsPlainSink, IsFrameEncoding, IsPackedEncodingOf, RefusesWriter, AppendsMessage, LeavesMessage, WritesMessage}
 

@@ -1,5 +1,5 @@
--- What writing messages one after the other, and reading them back, leads to (src/appended.rt).
-use Rattle.std.specs.Prelude.{◌≡◌, ◌⊎◌, ℕ, ◌<◌, ◌≤◌, List, [], length, map, Option, None, Result, Err, IfSome, IfOk, OnOk, IfErr}
+-- What reading as many messages as are asked for returns (src/streams/appended.rt).
+use Rattle.std.specs.Prelude.{◌≡◌, ◌⊎◌, ℕ, ◌<◌, ◌≤◌, List, length, map, Option, Result, Err, IfSome, IfOk, IfErr}
 use Rattle.std.specs.List.{AllByRecursion}
 use Rattle.capnp_frame.specs.declared.error.Error.{Error}
 use Rattle.capnp_frame.specs.declared.error.ErrorKind.{ErrorKind}
@@ -11,11 +11,9 @@ use Rattle.capnp_frame.specs.declared.serialize.segment_table.Padding.TheVariant
 use Rattle.capnp_frame.specs.Source.{IfKnown, Advances, Fails}
 use Rattle.capnp_frame.specs.Streams.{ReadsStream}
 use Rattle.capnp_frame.specs.Texts.{AreEncodings}
-use Rattle.capnp_frame.specs.Writing.{IsWithinSegmentLimit}
 use Rattle.capnp.specs.declared.streams.Format.{Format}
 use Rattle.capnp.specs.Headline.{IsFault, OrFailsAtEnd}
 use Rattle.capnp.specs.Streams.{grammar_of, rules_of}
-use Rattle.capnp.specs.Written.{IsTextOf, AppendsEach, RefusesManyOf}
 
 -- Fewer messages than were asked for were read, and then the reader of this format failed with this
 -- error. `source` is what is seen of the source (the members of the trait Read), which is `old`
@@ -58,21 +56,3 @@ pub record ReadsMessages {S V X : Type 0} (source : Ghosts S) (old new : S) (for
   pub failed : IfErr result (λ error. error.kind ≡ DeviceFailed → Fails (source.failures old) (source.failures new))
   -- the source moves on, or stays
   pub advances : Advances source.unread source.failures source.same old new
-
--- What a call returns that writes messages and reads them back. `text`, `readers` and `end` are
--- what is seen of what it returns.
-pub record ReadsBack {V X : Type 0} (format : Format) (options : ReaderOptions) (messages : List (List (List ℕ))) (text : V → List ℕ)
-    (readers : V → List X) (end : V → Option X) (segments : X → List (List ℕ)) (options_of : X → ReaderOptions) (result : Result V Error)
-    : Type 0 where
-  -- the bytes are the encodings of the messages, one after the other
-  pub written : IfOk result (λ done. AppendsEach (IsTextOf format) messages (text done))
-  -- the readers found their messages there
-  pub read : IfOk result (λ done. AreEncodings (grammar_of Zero format) options.traversal_limit_in_words (map segments (readers done)) (text done) [])
-  -- they are those that were written
-  pub back : IfOk result (λ done. map segments (readers done) ≡ messages)
-  pub options_are : IfOk result (λ done. AllByRecursion (λ reader. options_of reader ≡ options) (readers done))
-  -- after them there is no message
-  pub ends : IfOk result (λ done. end done ≡ None)
-  -- one with more segments than a reader accepts is not written
-  pub few : OnOk result (AllByRecursion IsWithinSegmentLimit messages)
-  pub refused : IfErr result (λ error. RefusesManyOf messages error.kind ⊎ (error.kind ≡ OutOfMemory))

@@ -1,10 +1,13 @@
 -- What is known of the bytes after a device's buffer.
-use Rattle.std.specs.Prelude.{◌≡◌, ℕ, Bool, true, false, List, Option, None}
+use Rattle.std.specs.Prelude.{◌≡◌, ◌≢◌, ℕ, Bool, true, false, List, [], Option, Some, None, Result, IsOk, IfOk, IfErr, OnOk}
 use Rattle.std.specs.IoError.{error_kind}
 use Rattle.std.specs.declared.io.traits.Read.{Ghosts}
 use Rattle.std.specs.declared.io.Error.{Error as Fault}
-use Rattle.std.specs.declared.io.ErrorKind.TheVariants.{OutOfMemory}
-use Rattle.std.specs.Io.Buffered.{reader_buffer, reader_remaining, writer_buffer, writer_contents}
+use Rattle.std.specs.declared.io.ErrorKind.TheVariants.{Interrupted, OutOfMemory as LacksMemory}
+use Rattle.std.specs.Io.Buffered.{reader_buffer, reader_remaining, writer_buffer, writer_capacity, writer_contents}
+use Rattle.std.specs.Io.KnownBytes.{Keeps}
+use Rattle.capnp_frame.specs.declared.error.Error.{Error}
+use Rattle.capnp_frame.specs.declared.error.ErrorKind.TheVariants.{OutOfMemory}
 use Rattle.capnp.specs.declared.devices.input.Input.{Input}
 use Rattle.capnp.specs.declared.devices.output.Output.{Output}
 
@@ -33,6 +36,33 @@ pending output = writer_buffer output.buffered
 abbrev pub taken_so_far : {W : Type 0} → (W → Option (List ℕ)) → Output W → Option (List ℕ)
 taken_so_far contents output = writer_contents (λ retried. contents retried.device) output.buffered
 
+-- What each call of a device keeps that holds its last fault, `old` before the call and `new` after it.
+pub record KeepsFault {X : Type 0} (old new : Option Fault) (result : Result X Fault) : Type 0 where
+  -- the fault of a call that fails is held, except for an interruption
+  pub noted : IfErr result (λ error. error_kind error ≢ Interrupted → new ≡ Some error)
+  pub interrupted : IfErr result (λ error. error_kind error ≡ Interrupted → new ≡ old)
+  pub kept : OnOk result (new ≡ old)
+
+-- What each call returns that makes a source of a device: its bytes are those of the device, as `bytes` says.
+pub record OpensInput {R : Type 0} {read : Ghosts R} (bytes : Input R read → Type 0) (result : Result (Input R read) Error) : Type 0 where
+  pub bytes_are : IfOk result bytes
+  -- nothing is read ahead, and no failure is counted yet
+  pub ahead : IfOk result (λ input. read_ahead input ≡ [])
+  pub failures : IfOk result (λ input. input.failures.count ≡ 0)
+  -- it fails only for want of memory for the buffer
+  pub memory : IfErr result (λ error. error.kind ≡ OutOfMemory)
+
+-- What a call returns that makes a sink of a device, with a buffer of `capacity` bytes.
+pub record OpensOutput {W : Type 0} (contents : W → Option (List ℕ)) (device : W) (capacity : ℕ) (result : Result (Output W) Error) : Type 0 where
+  pub taken : IfOk result (λ output. Keeps (contents device) (taken_so_far contents output))
+  -- nothing is pending, and no failure is counted yet
+  pub empty : IfOk result (λ output. pending output ≡ [])
+  pub buffer : IfOk result (λ output. writer_capacity output.buffered ≡ capacity)
+  pub failures : IfOk result (λ output. output.failures.count ≡ 0)
+  -- it fails only for want of memory for the buffer, which none of 0 bytes takes
+  pub memory : IfErr result (λ error. error.kind ≡ OutOfMemory)
+  pub unbuffered : capacity ≡ 0 → IsOk result
+
 -- the device's fault is a growth of memory that failed
 abbrev pub IsOutOfMemory : Fault → Type 0
-IsOutOfMemory fault = error_kind fault ≡ OutOfMemory
+IsOutOfMemory fault = error_kind fault ≡ LacksMemory

@@ -1,12 +1,26 @@
--- What readers of streams return, by the encodings of messages.
-use Rattle.std.specs.Prelude.{◌≡◌, ℕ, ◌*◌, ◌+◌, ◌≤◌, List, length, ◌⊎◌, Option, None, IfSome, Result, Ok, Err, IfOk, IfErr}
+-- What readers of messages return, by the encodings of messages and by what their source gives.
+use Rattle.std.specs.Prelude.{◌≡◌, ℕ, ◌*◌, ◌+◌, ◌≤◌, ⊤, List, length, ◌⊎◌, Option, Some, None, IfSome, IsSome, Result, Ok, Err, IfOk, MatchResult}
+use Rattle.std.specs.Option.{option_map}
+use Rattle.std.specs.Result.{result_map_both}
 use Rattle.capnp_frame.specs.declared.error.Error.{Error}
 use Rattle.capnp_frame.specs.declared.error.ErrorKind.{ErrorKind}
 use Rattle.capnp_frame.specs.declared.error.ErrorKind.TheVariants.{DeviceFailed, OutOfMemory, PrematureEndOfFile}
+use Rattle.capnp_frame.specs.declared.io.Read.{Ghosts}
+use Rattle.capnp_frame.specs.declared.message.options.ReaderOptions.{ReaderOptions}
+use Rattle.capnp_frame.specs.declared.serialize.segment_table.Padding.{Padding}
+use Rattle.capnp_frame.specs.FlatReaders.{FlatRules, ReadsFlat}
+use Rattle.capnp_frame.specs.Frame.{IsFrame}
 use Rattle.capnp_frame.specs.Message.{size_in_words}
 use Rattle.capnp_frame.specs.SegmentTable.{table_size}
 use Rattle.capnp_frame.specs.Source.{IfKnown}
+use Rattle.capnp_frame.specs.Streams.{StreamRules, framed_rules, reusing_rules, next_in, ReadsStream, ReadsStreamInto}
 use Rattle.capnp_frame.specs.Texts.{Grammar, BeginsWith}
+use Rattle.capnp_frame.specs.Views.{SeenBuffer}
+use Rattle.capnp_message.specs.Seen.{ReadMessage}
+use Rattle.capnp_pack.specs.PackedFrame.{IsPackedFrame}
+use Rattle.capnp_pack.specs.PackedStreams.{packed_rules, packed_reusing_rules}
+use Rattle.capnp.specs.declared.streams.Format.{Format}
+use Rattle.capnp.specs.Streams.{IsPlainSource, grammar_of, rules_of}
 
 -- a failure that does not depend on the bytes
 abbrev pub IsFault : ErrorKind → Type 0
@@ -23,10 +37,10 @@ pub record ReturnsEncodings (IsText : Grammar) (limit : Option ℕ) (old new : O
   -- an encoding of the message that is returned is there, the message is within the limit, and only
   -- that encoding is consumed
   pub found : IfOk result (λ found. IfSome found (λ message. IfKnown old new (BeginsWith IsText limit message)))
-  -- where there is an encoding of a message within the limit, the call fails only with the device's
-  -- failure or for want of memory
+  -- where there is an encoding of a message within the limit, a message is returned, except for the
+  -- device's failure or for want of memory
   pub accepted : IfSome old (λ raw. (message : List (List ℕ)) (rest : List ℕ) → BeginsWith IsText limit message raw rest
-      → IfErr result (λ error. IsFault error.kind))
+      → MatchResult result IsSome (λ error. IsFault error.kind))
 
 -- What a reader into a caller-provided buffer of `room` bytes returns.
 pub record ReturnsEncodingsInto (IsText : Grammar) (limit : Option ℕ) (room : ℕ) (old new : Option (List ℕ))
@@ -34,13 +48,85 @@ pub record ReturnsEncodingsInto (IsText : Grammar) (limit : Option ℕ) (room : 
   -- an encoding of the message that is returned is there, the message is within the limit, and only
   -- that encoding is consumed
   pub found : IfOk result (λ found. IfSome found (λ message. IfKnown old new (BeginsWith IsText limit message)))
-  -- where there is an encoding of a message within the limit, and the buffer has room for it, the
-  -- call fails only with the device's failure
+  -- where there is an encoding of a message within the limit, and the buffer has room for it, a
+  -- message is returned, except for the device's failure
   pub accepted : IfSome old (λ raw. (message : List (List ℕ)) (rest : List ℕ) → BeginsWith IsText limit message raw rest
-      → BufferHasRoom room message → IfErr result (λ error. error.kind ≡ DeviceFailed))
+      → BufferHasRoom room message → MatchResult result IsSome (λ error. error.kind ≡ DeviceFailed))
+
+-- A reader of what was read, with these options.
+abbrev pub reader_of : {B : Type 0} → ReaderOptions → Result (Option B) Error → Result (Option (ReadMessage B)) Error
+reader_of options next = result_map_both (option_map (λ segments. record { segments = segments; options = options })) (λ error. error) next
+
+-- What a reader of messages goes by: the encodings of its format, over which sources it reads just
+-- these, and the rules of its stream.
+pub record MessageRules : Type 1 where
+  pub is_text : Grammar
+  pub plain : Type 0
+  pub stream : StreamRules
+
+-- framed messages of a source, with a padding that the rule accepts
+abbrev pub framed : {S : Type 0} → Padding → Ghosts S → MessageRules
+framed rule source = record {
+  is_text = IsFrame rule;
+  plain = IsPlainSource source.gives source.refuses;
+  stream = framed_rules rule source.gives source.refuses;
+}
+
+-- packed ones
+abbrev pub packed : Padding → MessageRules
+packed rule = record { is_text = IsPackedFrame rule; plain = ⊤; stream = packed_rules rule }
+
+-- messages that are read into the memory of the message `kept`
+abbrev pub framed_reusing : {S : Type 0} → Padding → Ghosts S → List (List ℕ) → MessageRules
+framed_reusing rule source kept = record (framed rule source) { stream = reusing_rules rule source.gives source.refuses kept }
+
+abbrev pub packed_reusing : Padding → List (List ℕ) → MessageRules
+packed_reusing rule kept = record (packed rule) { stream = packed_reusing_rules rule kept }
+
+-- messages of either format, of a source of plain bytes
+abbrev pub by_format : Padding → Format → MessageRules
+by_format rule format = record { is_text = grammar_of rule format; plain = ⊤; stream = rules_of rule format }
+
+-- What each reader of the next message of a stream returns. `source` is what is seen of the source
+-- (the members of the trait Read), `old` and `new` are the source before the call and after it.
+pub record ReadsMessage {S : Type 0} (source : Ghosts S) (old new : S) (rules : MessageRules) (options : ReaderOptions)
+    (result : Result (Option (ReadMessage (List (List ℕ)))) Error) : Type 0 where
+  -- over a source of plain bytes: the unread bytes begin with an encoding of the message
+  pub texts : rules.plain → ReturnsEncodings rules.is_text options.traversal_limit_in_words (source.unread old) (source.unread new)
+      (next_in (λ reader. reader.segments) result)
+  -- over any source: what its requests give, and when they fail
+  pub reads : ReadsStream source old new rules.stream options.traversal_limit_in_words (next_in (λ reader. reader.segments) result)
+  -- the reader has the options that are given
+  pub options_are : IfOk result (λ found. IfSome found (λ reader. reader.options ≡ options))
+
+-- And what one returns that reads it into a caller-provided buffer of `room` bytes, in which its segments are seen.
+pub record ReadsMessageInto {S B : Type 0} (source : Ghosts S) (old new : S) (rules : MessageRules) (options : ReaderOptions) (room : ℕ)
+    (result : Result (Option (ReadMessage (SeenBuffer B))) Error) : Type 0 where
+  -- over a source of plain bytes: the unread bytes begin with an encoding of the message
+  pub texts : rules.plain → ReturnsEncodingsInto rules.is_text options.traversal_limit_in_words room (source.unread old) (source.unread new)
+      (next_in (λ reader. reader.segments.segments) result)
+  -- over any source: what its requests give, and when they fail
+  pub reads : ReadsStreamInto source old new rules.stream options.traversal_limit_in_words room (next_in (λ reader. reader.segments.segments) result)
+  -- the reader has the options that are given
+  pub options_are : IfOk result (λ found. IfSome found (λ reader. reader.options ≡ options))
+
+-- What each reader of the message at the front of a slice returns, by the rules of its table: the
+-- slice has `bytes` before the call and `left` after it.
+pub record ReadsFlatMessage {B : Type 0} (rules : FlatRules) (options : ReaderOptions) (bytes left : List ℕ)
+    (result : Result (ReadMessage (SeenBuffer B)) Error) : Type 0 where
+  -- the message is at the front, within the limit, and the slice moves just past it; or why not
+  pub reads : ReadsFlat rules bytes (Some left) (λ reader. reader.segments.segments) result
+  -- the reader has the options that are given
+  pub options_are : IfOk result (λ reader. reader.options ≡ options)
 
 -- The same as the form that may return None, but where that does, this one fails with
 -- PrematureEndOfFile.
-abbrev pub OrFailsAtEnd : (Result (Option (List (List ℕ))) Error → Type 0) → Result (Option (List (List ℕ))) Error → Type 0
-OrFailsAtEnd tried (Ok found) = tried (Ok found)
+abbrev pub OrFailsAtEnd : {X : Type 0} → (Result (Option X) Error → Type 0) → Result X Error → Type 0
+OrFailsAtEnd tried (Ok found) = tried (Ok (Some found))
 OrFailsAtEnd tried (Err error) = tried (Err error) ⊎ ((error.kind ≡ PrematureEndOfFile) × tried (Ok None))
+
+-- what such a form returns, by what the form returns that may return None
+abbrev pub required : {X : Type 0} → Result (Option X) Error → Result X Error
+required (Ok (Some found)) = Ok found
+required (Ok None) = Err (record { kind = PrematureEndOfFile })
+required (Err error) = Err error

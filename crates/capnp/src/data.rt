@@ -1,3 +1,3 @@
 //! `Data`: its type, and its views.
 pub use capnp_build::data::Builder;
-pub use capnp_wire::data::{Owned, Reader};
+pub use capnp_wire::data::{Hex, Owned, Reader};

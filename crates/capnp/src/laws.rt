@@ -1,4 +1,5 @@
-//! Facts about streams of messages, each the contract of a function that does nothing.
+//! Facts about streams of messages, each the contract of a function that does nothing, and those of
+//! the crates below that callers need.
 ghost use Rattle.std.specs.Prelude.{◌≡◌, ◌++◌, ℕ, List, [], Option, None, map};
 ghost use Rattle.std.specs.List.{AllByRecursion};
 ghost use Rattle.capnp_frame.specs.declared.error.ErrorKind.{ErrorKind};
@@ -15,7 +16,18 @@ ghost use Rattle.capnp.specs.Roots.{HasRootTree};
 ghost use Rattle.capnp.specs.Streams.{grammar_of, StandsNext, EndsBy, IsStream};
 ghost use Rattle.capnp.specs.Written.{IsTextOf, AppendsEach};
 
+pub use capnp_frame::laws::{
+    message_past_the_limit_is_refused, plain_requests_take_a_frame, slices_never_fail,
+    vectors_lack_memory_alone, what_is_left_of_a_message_is_a_front, zero_padding_is_some_padding,
+    zero_padding_leaves_one_frame,
+};
 use capnp_frame::serialize::Padding;
+pub use capnp_message::laws::{a_scratch_region_comes_home, a_single_region_comes_home};
+pub use capnp_pack::laws::{
+    packed_encoding_unpacks, plain_sink_gets_the_packed_encoding,
+    plain_sink_gets_the_packed_message, what_is_left_of_packed_words_is_a_front,
+};
+pub use capnp_wire::laws::equal_forms_are_of_equal_trees;
 
 /// A stream begins with at most one message, which leaves the same bytes after it. So all readers
 /// of a format return the same message.

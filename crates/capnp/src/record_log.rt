@@ -66,5 +66,5 @@ pub fn read_log(alloc: Global, log: &[u8], options: ReaderOptions) -> StreamRead
         (map (λ reader. reader.segments) result.messages.items) result.end result.refusal }
     ensures options { AllByRecursion (λ reader. reader.options ≡ options) result.messages.items }
 {
-    every_message(alloc, Format::Packed, Padding::Zero, options, log)
+    every_message(alloc, log, Format::Packed, Padding::Zero, options)
 }

@@ -3,9 +3,6 @@
 //! [standard stream framing]: https://capnproto.org/encoding.html#serialization-over-a-stream
 mod canonical;
 mod flat;
-mod lenient;
-mod reading;
-mod skipping;
 mod stream;
 mod writing;
 
@@ -18,14 +15,10 @@ pub use flat::{
     read_message_from_flat_slice, read_message_from_flat_slice_lenient,
     read_message_from_flat_slice_no_alloc, read_message_from_flat_slice_no_alloc_lenient,
 };
-pub use lenient::{
-    read_message_lenient, read_message_no_alloc_lenient, try_read_message_lenient,
-    try_read_message_no_alloc_lenient, try_read_message_reusing_lenient,
-};
-pub use skipping::{try_skip_message, try_skip_message_lenient, try_skip_message_with_padding};
 pub use stream::{
-    read_message, read_message_no_alloc, try_read_message, try_read_message_no_alloc,
-    try_read_message_reusing,
+    read_message, read_message_lenient, read_message_no_alloc, read_message_no_alloc_lenient,
+    try_read_message, try_read_message_lenient, try_read_message_no_alloc,
+    try_read_message_no_alloc_lenient, try_read_message_reusing, try_skip_message,
 };
 pub use writing::{
     compute_serialized_size_in_words, write_message, write_message_segments,

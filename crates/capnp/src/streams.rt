@@ -1,26 +1,28 @@
 //! Streams of messages: the next message, or all of them, as an iterator, at once, or each handed
 //! to a writer.
-ghost use Rattle.std.specs.Prelude.{◌≡◌, ◌⊎◌, None, IfSome, OnOk, OnErr, IfErr};
+ghost use Rattle.std.specs.Prelude.{◌≡◌, None, OnOk, OnErr, IfErr};
 ghost use Rattle.std.specs.List.{AllByRecursion};
 ghost use Rattle.capnp_frame.specs.declared.error.ErrorKind.{ErrorKind};
 ghost use Rattle.capnp_frame.specs.Limits.{IsWithin};
 ghost use Rattle.capnp_frame.specs.Message.{IsWholeWords};
-ghost use Rattle.capnp_frame.specs.Refusals.{IsReaderKind};
-ghost use Rattle.capnp_frame.specs.Source.{IfKnown, Advances, Fails};
+ghost use Rattle.capnp_frame.specs.Source.{IfKnown, Fails};
 ghost use Rattle.capnp_frame.specs.Sink.{Appending, Leaving, Declining, Adds, Grows};
 ghost use Rattle.capnp_frame.specs.Streams.{ReadsStream};
-ghost use Rattle.capnp.specs.Streams.{refuses_of, rules_of};
-ghost use Rattle.capnp.specs.Runs.{Writing, DecliningWriting, IsWritingFault, BreaksOffOr, IsRunFault, HasRun, WritesEach};
+ghost use Rattle.capnp.specs.Streams.{rules_of};
+ghost use Rattle.capnp.specs.Runs.{Writing, DecliningWriting, IsWritingFault, BreaksOffOr, WritesEach};
 
+mod appended;
 mod message_stream;
 mod reading;
 
+pub use appended::{read_messages, write_message, write_messages};
 use capnp_frame::io::{BufRead, Write};
 use capnp_frame::message::ReaderOptions;
-use capnp_frame::serialize::{OwnedSegments, Padding, try_read_segments_reusing_with_padding};
+use capnp_frame::serialize::{OwnedSegments, Padding, TableRules, try_read_segments_reusing};
 use capnp_frame::{Error, Result};
-use capnp_pack::stream::try_read_packed_segments_reusing_with_padding;
+use capnp_pack::stream::try_read_packed_segments;
 pub use message_stream::{MessageStream, open_file};
+pub(crate) use reading::{reader_of, required};
 pub use reading::{StreamRead, every_message, is_cut, next_message};
 use std::alloc::Global;
 
@@ -91,45 +93,21 @@ pub trait MessageWriter {
 /// after how many messages.
 pub fn write_each_message<R: BufRead, W: Write, M: MessageWriter>(
     alloc: Global,
+    source: &mut R,
+    sink: &mut W,
     format: Format,
     padding: Padding,
     options: ReaderOptions,
     writer: &M,
-    source: &mut R,
-    sink: &mut W,
 ) -> std::result::Result<(), StoppedAt>
     ensures { WritesEach R.Read source.old source.new W.Write sink.old sink.new padding format
         options.traversal_limit_in_words (M.writes writer.now W.appends)
         (M.declines writer.now W.appends W.leaves W.refuses) result }
 {
-    write_all(alloc, format, padding, options, writer, source, sink)
-}
-
-// Does the same, message by message.
-fn write_all<R: BufRead, W: Write, M: MessageWriter>(
-    alloc: Global,
-    format: Format,
-    padding: Padding,
-    options: ReaderOptions,
-    writer: &M,
-    source: &mut R,
-    sink: &mut W,
-) -> std::result::Result<(), StoppedAt>
-    ensures written { IfSome (R.unread source.old) (HasRun padding format options.traversal_limit_in_words
-        (M.writes writer.now W.appends) (M.declines writer.now W.appends W.leaves W.refuses) result
-        (R.unread source.new) (W.written sink.old) (W.written sink.new)) }
-    ensures kinds { IfErr result (λ stop. IsReaderKind padding (refuses_of format) stop.error.kind
-        ⊎ IsRunFault (M.declines writer.now W.appends W.leaves W.refuses) stop.message stop.error.kind) }
-    ensures failed { IfErr result (λ stop. stop.error.kind ≡ ErrorKind.DeviceFailed →
-        Fails (R.failures source.old) (R.failures source.new)
-        ⊎ Fails (W.failures sink.old) (W.failures sink.new)) }
-    ensures advances { Advances R.unread R.failures R.same source.old source.new }
-    ensures grows { Grows W.written W.failures W.same sink.old sink.new }
-{
     let mut spare = OwnedSegments::empty(alloc);
     let mut memory = Vec::new(alloc);
     for message in 0..u64::MAX {
-        let segments = match read_next(format, padding, options, source, spare) {
+        let segments = match read_next(source, format, padding, options, spare) {
             Ok(Some(segments)) => segments,
             Ok(None) => return Ok(()),
             Err(error) => return Err(StoppedAt { message, error }),
@@ -145,19 +123,18 @@ fn write_all<R: BufRead, W: Write, M: MessageWriter>(
 // Reads the next message of a stream in this format, by this rule of padding, into the memory of
 // the message before it.
 fn read_next<R: BufRead>(
+    source: &mut R,
     format: Format,
     padding: Padding,
     options: ReaderOptions,
-    source: &mut R,
     spare: OwnedSegments,
 ) -> Result<Option<OwnedSegments>>
     ensures { ReadsStream R.Read source.old source.new (rules_of padding format)
         options.traversal_limit_in_words result }
 {
+    let rules = TableRules::new(padding, options);
     match format {
-        Format::Framed => try_read_segments_reusing_with_padding(source, padding, options, spare),
-        Format::Packed => {
-            try_read_packed_segments_reusing_with_padding(source, padding, options, spare)
-        }
+        Format::Framed => try_read_segments_reusing(source, rules, spare),
+        Format::Packed => try_read_packed_segments(source, rules, spare),
     }
 }

@@ -75,7 +75,7 @@ pub fn transcode<R: BufRead, W: Write>(
     ensures { TranscodesEach R.Read source.old source.new W.Write sink.old sink.new
         Padding.Zero way options.traversal_limit_in_words result }
 {
-    transcode_by(alloc, Padding::Zero, way, source, sink, options)
+    transcode_by(alloc, source, sink, way, Padding::Zero, options)
 }
 
 /// Writes each message as `transcode` does, but accepts any padding in the segment table, which
@@ -90,22 +90,22 @@ pub fn transcode_lenient<R: BufRead, W: Write>(
     ensures { TranscodesEach R.Read source.old source.new W.Write sink.old sink.new
         Padding.Any way options.traversal_limit_in_words result }
 {
-    transcode_by(alloc, Padding::Any, way, source, sink, options)
+    transcode_by(alloc, source, sink, way, Padding::Any, options)
 }
 
 // Writes each message in the other format, by this rule of padding.
 fn transcode_by<R: BufRead, W: Write>(
     alloc: Global,
-    padding: Padding,
-    way: Way,
     source: &mut R,
     sink: &mut W,
+    way: Way,
+    padding: Padding,
     options: ReaderOptions,
 ) -> Result<()>
     ensures { TranscodesEach R.Read source.old source.new W.Write sink.old sink.new
         padding way options.traversal_limit_in_words result }
 {
-    match write_each_message(alloc, way.input(), padding, options, &way, source, sink) {
+    match write_each_message(alloc, source, sink, way.input(), padding, options, &way) {
         Ok(()) => Ok(()),
         Err(stop) => Err(stop.error),
     }

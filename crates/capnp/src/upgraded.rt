@@ -1,2 +1,4 @@
 //! Lists whose elements became structs, or were structs before: their views.
-pub use capnp_wire::upgraded::{ListList, NumberList, PointerList, StructList};
+pub use capnp_wire::upgraded::{
+    DataList, EnumElement, EnumList, ListList, NumberList, PointerList, StructList, TextList,
+};

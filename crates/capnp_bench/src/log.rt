@@ -6,9 +6,8 @@ use capnp::any_struct::{self, StructReader};
 use capnp::message::{
     Allocator, Builder, DEFAULT_READER_OPTIONS, Reader, ReaderSegments, SingleSegmentAllocator,
 };
+use capnp::serialize::{OwnedSegments, Padding};
 use capnp::{Result, primitive_list, serialize, serialize_packed, text};
-use capnp_frame::serialize::{OwnedSegments, try_read_segments_reusing};
-use capnp_pack::stream::try_read_packed_segments_reusing;
 use capnp_values::{Field, NoFields, NumberList, StructValue};
 use std::alloc::Global;
 
@@ -136,10 +135,15 @@ fn read_packed_reusing(alloc: Global, packed: &[u8], digest: &mut Digest) -> Res
     let options = DEFAULT_READER_OPTIONS;
     let mut spare = OwnedSegments::empty(alloc);
     for _ in 0..u64::MAX {
-        let Some(segments) = try_read_packed_segments_reusing(&mut source, options, spare)? else {
+        let next = serialize_packed::try_read_message_reusing(
+            &mut source,
+            Padding::Zero,
+            options,
+            spare,
+        )?;
+        let Some(message) = next else {
             break;
         };
-        let message = Reader::new(segments, options);
         add_number(&message, digest)?;
         spare = message.into_segments();
     }
@@ -151,10 +155,10 @@ fn read_framed_reusing(alloc: Global, framed: &[u8], digest: &mut Digest) -> Res
     let options = DEFAULT_READER_OPTIONS;
     let mut spare = OwnedSegments::empty(alloc);
     for _ in 0..u64::MAX {
-        let Some(segments) = try_read_segments_reusing(&mut source, options, spare)? else {
+        let next = serialize::try_read_message_reusing(&mut source, Padding::Zero, options, spare)?;
+        let Some(message) = next else {
             break;
         };
-        let message = Reader::new(segments, options);
         add_number(&message, digest)?;
         spare = message.into_segments();
     }

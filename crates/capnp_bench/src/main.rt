@@ -4,6 +4,10 @@
 //! Its words are the job, the seed and how many messages or rows are made:
 //! `capnp_bench log 1 1000`. `all` runs each job in turn. Of `roots` and `trickle` one word more
 //! picks a part, and a second one a part of it: `capnp_bench roots 1 1000 text set_root`.
+//!
+//! `orphans` runs `records`, `table`, `tree` and `texts`. One word more says how many times each is
+//! built, in the memory of the first time, once where it is left out; the digest is of the last
+//! time. With `write` after it the messages are written framed instead: `table 1 1000 20 write`.
 #![tactic(auto)]
 
 mod canon;
@@ -11,6 +15,7 @@ mod convert;
 mod digest;
 mod far;
 mod log;
+mod orphans;
 mod random;
 mod raw;
 mod roots;
@@ -21,8 +26,10 @@ mod trickle;
 mod walk;
 
 use anyhow::Result;
+use orphans::{Job, Output};
 use std::alloc::Global;
 use std::env;
+use std::io::Write;
 
 fn main(rt: HostRuntime) -> Result<()> {
     let job = env::args(&rt)?.nth(1);
@@ -42,6 +49,21 @@ fn main(rt: HostRuntime) -> Result<()> {
             let parts = (part.as_deref(), detail.as_deref());
             let digest = digest_of_parts(rt.alloc(), name, seed, count, parts)?;
             println!(rt; "{name} {digest}")?;
+        }
+    }
+    for name in ["records", "table", "tree", "texts"] {
+        if job == name || job == "orphans" || job == "all" {
+            let times = number(part.as_deref());
+            let job = Job { seed, count, times };
+            match orphans::output_of(rt.alloc(), name, job, detail.is_some())? {
+                Output::Digest(digest) => {
+                    let value = digest.value();
+                    println!(rt; "{name} {value}")?;
+                }
+                Output::Stream(stream) => {
+                    rt.stdout().write_all(stream.as_slice())?;
+                }
+            }
         }
     }
     Ok(())

@@ -8,10 +8,9 @@ use crate::roots::is_wanted;
 use crate::source::Trickle;
 use capnp::io::Write;
 use capnp::message::{DEFAULT_READER_OPTIONS, ReaderSegments};
+use capnp::serialize::{OwnedSegments, Padding};
+use capnp::serialize_packed::{PackedWrite, try_read_message_reusing};
 use capnp::{Result, Way, transcode};
-use capnp_frame::serialize::OwnedSegments;
-use capnp_pack::PackedWrite;
-use capnp_pack::stream::try_read_packed_segments_reusing;
 use std::alloc::Global;
 
 /// How many messages a stream has.
@@ -132,21 +131,18 @@ fn add_unpacked(
     for round in 0..rounds {
         let mut source = Trickle::new(packed, most);
         for _ in 0..MESSAGES {
-            let Some(segments) = try_read_packed_segments_reusing(
-                &mut source,
-                DEFAULT_READER_OPTIONS,
-                spare,
-            )?
-            else {
+            let options = DEFAULT_READER_OPTIONS;
+            let next = try_read_message_reusing(&mut source, Padding::Zero, options, spare)?;
+            let Some(message) = next else {
                 return Ok(());
             };
-            for segment in segments.get_segment(0) {
+            for segment in message.get_segments().get_segment(0) {
                 digest.add(segment.len() as u64);
                 if round == 0 {
                     digest.add_bytes(segment);
                 }
             }
-            spare = segments;
+            spare = message.into_segments();
         }
     }
     Ok(())

@@ -7,6 +7,7 @@ ghost use Rattle.capnp_build.specs.Output.{CountsUsedWords};
 
 use crate::segment_space::SegmentSpace;
 use capnp_frame::Word;
+use capnp_layout::limits::MAX_SEGMENT_WORDS;
 use capnp_wire::traits::SetterInput;
 use std::marker::Model;
 
@@ -64,7 +65,7 @@ impl<S: SegmentSpace> BuilderSegment<S> {
         ensures { result ≡ min (self.now.size / 8) (2 ^ 29) - length self.now.used / 8 }
     {
         let size = self.segment.bytes().len() / 8;
-        let most = size.min(1 << 29) as u32;
+        let most = size.min(MAX_SEGMENT_WORDS as usize) as u32;
         most - self.words
     }
 
@@ -78,7 +79,8 @@ impl<S: SegmentSpace> BuilderSegment<S> {
         self.words = self.words + words;
     }
 
-    /// Writes a value after the used words, in this many words, and returns the pointer to it.
+    /// Writes a value after the used words, in this many words. Returns the pointer to it from the
+    /// word just before it.
     pub fn append<T, V: SetterInput<T>>(&mut self, canonical: bool, value: &V, words: u32) -> Word
         requires room { words ≤ min (self.old.size / 8) (2 ^ 29) - length self.old.used / 8 }
         requires words { HasWords (V.has_tree value.now) canonical words }
@@ -101,7 +103,7 @@ impl<S: SegmentSpace> BuilderSegment<S> {
         self.segment.write_at(at, bytes);
     }
 
-    /// Makes some of the used bytes zero.
+    /// Makes the used bytes from one index up to another zero.
     pub fn zero(&mut self, from: usize, to: usize)
         requires order { from ≤ to }
         requires within { to ≤ length self.old.used }

@@ -13,6 +13,7 @@ use crate::owned_builder::OwnedBuilder;
 use crate::root_kind::RootKind;
 use crate::view::{Building, View};
 use capnp_frame::{Error, ErrorKind, Result};
+use capnp_layout::limits::MAX_ELEMENTS;
 pub use capnp_wire::data::Owned;
 
 /// The bytes of a `Data`, written in place.
@@ -24,7 +25,7 @@ impl OwnedBuilder for Owned {
     ghost refuses = { λ n kind. (2 ^ 29 - 1 < n) × (kind ≡ AllocationTooLarge (words_for n 8)) };
 
     fn object(n: u32) -> Result<Option<NewBody>> {
-        if n > (1 << 29) - 1 {
+        if n > MAX_ELEMENTS {
             return Err(Error::from_kind(ErrorKind::AllocationTooLarge(n.div_ceil(8))));
         }
         Ok(Some(NewBody::Bytes(n)))

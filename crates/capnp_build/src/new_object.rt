@@ -31,6 +31,7 @@ impl Model for NewObject {
 }
 
 impl NewObject {
+    /// The object of this kind and size, which a pointer can say.
     pub fn new(body: NewBody) -> NewObject
         requires { Fits body }
         ensures { result ≡ body }

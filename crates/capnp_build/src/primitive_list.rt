@@ -12,6 +12,7 @@ use crate::owned_builder::OwnedBuilder;
 use crate::root_kind::{RootKind, word_at};
 use crate::view::{Building, View};
 use capnp_frame::{Error, ErrorKind, Result};
+use capnp_layout::limits::MAX_ELEMENTS;
 pub use capnp_wire::primitive_list::Owned;
 
 /// A list of numbers that is written in place.
@@ -23,7 +24,7 @@ impl OwnedBuilder for Owned<u64> {
     ghost refuses = { λ n kind. (2 ^ 29 - 1 < n) × (kind ≡ AllocationTooLarge n) };
 
     fn object(n: u32) -> Result<Option<NewBody>> {
-        if n > (1 << 29) - 1 {
+        if n > MAX_ELEMENTS {
             return Err(Error::from_kind(ErrorKind::AllocationTooLarge(n)));
         }
         Ok(Some(NewBody::Words(n)))

@@ -188,7 +188,7 @@ impl<A: Allocator> Segments<A> {
         }
     }
 
-    /// Makes some of the used bytes of a segment zero.
+    /// Makes the used bytes of a segment from one index up to another zero.
     pub fn zero(&mut self, index: u32, from: usize, to: usize)
         requires within { index < length self.old.spaces }
         requires order { from ≤ to }
@@ -209,7 +209,8 @@ impl<A: Allocator> Segments<A> {
         }
     }
 
-    /// Writes a value after the used words of a segment, in this many words.
+    /// Writes a value after the used words of a segment, in this many words. Returns the pointer to
+    /// it from the word just before it.
     pub fn append<T, V: SetterInput<T>>(
         &mut self,
         index: u32,

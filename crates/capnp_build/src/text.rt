@@ -12,6 +12,7 @@ use crate::owned_builder::OwnedBuilder;
 use crate::root_kind::RootKind;
 use crate::view::{Building, View};
 use capnp_frame::{Error, ErrorKind, Result};
+use capnp_layout::limits::MAX_ELEMENTS;
 pub use capnp_wire::text::Owned;
 
 /// A `Text` that is written in place.
@@ -23,7 +24,7 @@ impl OwnedBuilder for Owned {
     ghost refuses = { λ n kind. (2 ^ 29 - 2 < n) × (kind ≡ AllocationTooLarge (n / 8 + 1)) };
 
     fn object(n: u32) -> Result<Option<NewBody>> {
-        if n > (1 << 29) - 2 {
+        if n >= MAX_ELEMENTS {
             return Err(Error::from_kind(ErrorKind::AllocationTooLarge(n / 8 + 1)));
         }
         Ok(Some(NewBody::Bytes(n + 1)))

@@ -8,8 +8,8 @@ use Rattle.capnp_frame.specs.Message.{word_count, lengths}
 use Rattle.capnp_frame.specs.declared.error.ErrorKind.{ErrorKind}
 use Rattle.capnp_frame.specs.declared.error.ErrorKind.TheVariants.{BufferNotLargeEnough}
 use Rattle.capnp_frame.specs.declared.message.options.ReaderOptions.{ReaderOptions}
-use Rattle.capnp_frame.proofs.AgreementLemmas.{index_below}
-use Rattle.capnp_frame.proofs.TextLemmas.{frames_part}
+use Rattle.capnp_frame.proofs.slices.AgreementLemmas.{index_below}
+use Rattle.capnp_frame.proofs.encodings.TextLemmas.{frames_part}
 use Rattle.capnp_layout.specs.Pointer.{words_of}
 use Rattle.capnp_layout.specs.Object.{message_of}
 use Rattle.capnp_layout.specs.Reached.{root}

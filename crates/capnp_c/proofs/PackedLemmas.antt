@@ -4,12 +4,12 @@ use Rattle.capnp_frame.specs.declared.error.ErrorKind.{ErrorKind}
 use Rattle.capnp_frame.specs.declared.error.ErrorKind.TheVariants.{DeviceFailed, BufferNotLargeEnough}
 use Rattle.capnp_frame.specs.Sink.{ByKind, Adds, AppendsSame}
 use Rattle.capnp_frame.specs.Source.{Fails}
-use Rattle.capnp_frame.proofs.AskLemmas.{never_fails}
+use Rattle.capnp_frame.proofs.sources.AskLemmas.{never_fails}
 use Rattle.capnp_pack.specs.Packed.{Packs}
 use Rattle.capnp_pack.specs.PackedSink.{AppendsPacked, DeclinesPacked}
 use Rattle.capnp_pack.specs.PackedSource.{RefusesChunk}
-use Rattle.capnp_pack.proofs.PackedEncodingLemmas.{packed_over_plain}
-use Rattle.capnp_pack.proofs.PackerLemmas.{Packs-once, Packs-whole}
+use Rattle.capnp_pack.proofs.encodings.PackedEncodingLemmas.{packed_over_plain}
+use Rattle.capnp_pack.proofs.packing.PackerLemmas.{Packs-once, Packs-whole}
 
 -- an error of a slice is a line of the table
 pub chunk_refused : (raw : List ℕ) (n : ℕ) (kind : ErrorKind) → (kind ≡ DeviceFailed) ⊎ RefusesChunk raw n kind → (kind ≡ DeviceFailed → Fails 0 0) → RefusesChunk raw n kind

@@ -9,11 +9,11 @@ use Rattle.capnp_frame.specs.Front.{HasFrame}
 use Rattle.capnp_frame.specs.Limits.{IsWithin}
 use Rattle.capnp_frame.specs.Refusals.{RefusesStream}
 use Rattle.capnp_frame.specs.Source.{Fails}
-use Rattle.capnp_frame.proofs.AskLemmas.{never_fails}
+use Rattle.capnp_frame.proofs.sources.AskLemmas.{never_fails}
 use Rattle.capnp_pack.specs.PackedFrame.{PackedStands}
 use Rattle.capnp_pack.specs.PackedSource.{Unpacks, RefusesChunk}
 use Rattle.capnp_pack.specs.UnpackingLaws.{none_unpacked}
-use Rattle.capnp_pack.proofs.PackedFrameLemmas.{packed_requests}
+use Rattle.capnp_pack.proofs.encodings.PackedFrameLemmas.{packed_requests}
 use Rattle.capnp_c.specs.Packing.{IsMessage}
 
 -- the first bytes of a buffer are a framed encoding, and no more

@@ -17,7 +17,9 @@ use crate::packed::pack_into;
 use crate::provided_text::ProvidedText;
 use capnp_frame::io::Write;
 use capnp_frame::message::{DEFAULT_READER_OPTIONS, ReaderOptions, ReaderSegments};
-use capnp_frame::serialize::{NoAllocBufferSegments, NoAllocSliceSegments, SEGMENTS_COUNT_LIMIT};
+use capnp_frame::serialize::{
+    NoAllocBufferSegments, NoAllocSliceSegments, Padding, SEGMENTS_COUNT_LIMIT, TableRules,
+};
 use capnp_frame::{Error, ErrorKind, Result};
 use capnp_pack::stream::try_read_packed_framed_into;
 
@@ -134,7 +136,8 @@ fn unpack_message(
     *framed_len = 0;
     *packed_read = 0;
     let mut source = packed;
-    match try_read_packed_framed_into(&mut source, framed, options) {
+    let rules = TableRules::new(Padding::Zero, options);
+    match try_read_packed_framed_into(&mut source, rules, framed) {
         Ok(Some(info)) => {
             *framed_len = info.segment_table_length_bytes + info.total_segments_length_bytes;
             *packed_read = packed.len() - source.len();

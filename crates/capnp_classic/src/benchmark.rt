@@ -1,7 +1,7 @@
 //! What a benchmark does with one request.
 use crate::random::Random;
+use capnp::Result;
 use capnp::message::{Reader, ReaderSegments};
-use capnp_frame::Result;
 use capnp_orphans::Orphanage;
 use std::alloc::Global;
 

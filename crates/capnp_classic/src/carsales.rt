@@ -4,8 +4,8 @@ ghost use Rattle.std.specs.Prelude.{◌<◌};
 use crate::benchmark::Benchmark;
 use crate::carsales_capnp::{Color, car, engine, parking_lot, total_value, wheel};
 use crate::random::Random;
+use capnp::Result;
 use capnp::message::{Reader, ReaderSegments};
-use capnp_frame::Result;
 use capnp_orphans::Orphanage;
 use std::alloc::Global;
 

@@ -6,7 +6,7 @@ use crate::eval_capnp::expression::{left, right};
 use crate::eval_capnp::{Operation, evaluation_result, expression};
 use crate::random::Random;
 use capnp::message::{Reader, ReaderSegments};
-use capnp_frame::{Error, ErrorKind, Result};
+use capnp::{Error, ErrorKind, Result};
 use capnp_orphans::{Orphan, Orphanage};
 use std::alloc::Global;
 

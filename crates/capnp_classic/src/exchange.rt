@@ -3,9 +3,8 @@ use crate::benchmark::Benchmark;
 use crate::random::Random;
 use crate::tally::Tally;
 use capnp::message::{DEFAULT_READER_OPTIONS, Reader, ReaderSegments};
-use capnp::{serialize, serialize_packed};
-use capnp_frame::serialize::OwnedSegments;
-use capnp_frame::{Error, ErrorKind, Result};
+use capnp::serialize::{self, OwnedSegments, Padding};
+use capnp::{Error, ErrorKind, Result, serialize_packed};
 use capnp_orphans::Orphanage;
 use std::alloc::Global;
 use std::mem;
@@ -140,7 +139,7 @@ fn write_framed(alloc: Global, stream: &mut Vec<u8>, message: &Orphanage) -> Res
 fn unpacked(stream: &[u8], spare: OwnedSegments) -> Result<Reader<OwnedSegments>> {
     let mut unread = stream;
     let options = DEFAULT_READER_OPTIONS;
-    match serialize_packed::try_read_message_reusing(&mut unread, options, spare)? {
+    match serialize_packed::try_read_message_reusing(&mut unread, Padding::Zero, options, spare)? {
         Some(message) => Ok(message),
         None => Err(Error::from_kind(ErrorKind::PrematureEndOfFile)),
     }

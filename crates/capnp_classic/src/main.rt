@@ -116,7 +116,7 @@ fn tally_of(alloc: Global, name: &str, run: Run) -> Result<Tally> {
     Ok(tally)
 }
 
-fn passed<B: Benchmark>(alloc: Global, run: Run) -> capnp_frame::Result<Tally> {
+fn passed<B: Benchmark>(alloc: Global, run: Run) -> capnp::Result<Tally> {
     let mut random = Random::new(run.seed);
     let mut tally = Tally::new(alloc, run.writes);
     let mut exchange: Exchange<B> = Exchange::new(alloc)?;

@@ -1,7 +1,6 @@
 //! What is told of the messages that were passed.
 use capnp::message::{Reader, ReaderSegments};
-use capnp::serialize;
-use capnp_frame::Result;
+use capnp::{Result, serialize};
 use std::alloc::Global;
 
 /// Sums over all messages, and their canonical forms where these are wanted.

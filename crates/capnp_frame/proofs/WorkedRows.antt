@@ -7,7 +7,7 @@ use Rattle.capnp_frame.specs.SegmentTable.{zero_padded_table}
 use Rattle.capnp_frame.specs.Frame.{IsFrame, frame_bytes}
 use Rattle.capnp_frame.specs.Source.{Splits, RunsShort}
 use Rattle.capnp_frame.specs.Refusals.{RefusesStream}
-use Rattle.capnp_frame.proofs.RefusalLemmas.{in_range}
+use Rattle.capnp_frame.proofs.errors.RefusalLemmas.{in_range}
 use Rattle.capnp_frame.specs.declared.error.ErrorKind.TheVariants.{FailedToFillTheWholeBuffer, InvalidNumberOfSegments, MessageTooLarge}
 
 abbrev eight : List ℕ

@@ -1,12 +1,14 @@
 -- What the readers of a slice or of a buffer keep (src/serialize/buffer_segments.rt, src/serialize/no_alloc_buffer_segments.rt).
 use Rattle.std.specs.Prelude.{◌≡◌, ℕ, ◌<◌, ◌⊎◌, List, length, Option, Some, None, Result, IsOk, IfOk, IfErr, OnErr, IfSome}
 use Rattle.std.specs.Result.{IsErrAnd}
+use denote.Ref.{Bor}
 use Rattle.capnp_frame.specs.declared.error.Error.{Error}
 use Rattle.capnp_frame.specs.declared.error.ErrorKind.{ErrorKind}
 use Rattle.capnp_frame.specs.declared.error.ErrorKind.TheVariants.{EmptySlice, EmptyBuffer, OutOfMemory}
 use Rattle.capnp_frame.specs.declared.serialize.segment_table.Padding.{Padding}
 use Rattle.capnp_frame.specs.Frame.{IsFrame}
 use Rattle.capnp_frame.specs.Texts.{BeginsWith}
+use Rattle.capnp_frame.specs.Views.{SeenBuffer}
 use Rattle.capnp_frame.specs.FlatRefusals.{FlatForm, by_words, by_fields, AcceptsSeveral, RefusesFlat}
 
 -- The rules by which a message is read: how its table is taken, the rule of padding, and the limit of words.
@@ -67,3 +69,13 @@ pub record ReadsFlat {X : Type 0} (rules : FlatRules) (bytes : List ℕ) (left :
   -- lacking
   pub exact : (kind : ErrorKind) → RefusesBy rules kind bytes
       → IsErrAnd result (λ error. OrLacksMemory rules.form (error.kind ≡ OutOfMemory) (error.kind ≡ kind))
+
+-- What a reader keeps that finds a message in a buffer: what is returned has the buffer.
+pub record ReadsBuffer {B : Type 0} (rules : FlatRules) (held : B) (bytes : List ℕ) (result : Result (SeenBuffer B) Error) : Type 0 where
+  pub buffer : IfOk result (λ found. found.buffer ≡ held)
+  pub reads : ReadsFlat rules bytes None (λ found. found.segments) result
+
+-- And one that finds it at the front of a slice, and moves the slice after it.
+pub record TakesSegments (rules : FlatRules) (old new : List ℕ) (result : Result (SeenBuffer (Bor (List ℕ))) Error) : Type 0 where
+  pub buffer : IfOk result (λ found. found.buffer.now ≡ old)
+  pub reads : ReadsFlat rules old (Some new) (λ found. found.segments) result

@@ -21,6 +21,7 @@ pub mod FlatReaders
 pub mod KeptTables
 pub mod Asking
 pub mod Streams
+pub mod FramedInto
 pub mod Skipping
 pub mod Steps
 pub mod Writers

@@ -1,5 +1,5 @@
 -- What the private steps of the readers of streams keep (src/serialize/stream.rt, src/serialize/stream_table.rt, src/serialize/provided_stream.rt).
-use Rattle.std.specs.Prelude.{◌≡◌, ◌⊎◌, ℕ, ◌*◌, ◌^◌, ◌<◌, ◌≤◌, List, [], length, map, take, drop, sum, Option, Some, Result, IfOk, IfErr, OnOk, IfSome, IfNone}
+use Rattle.std.specs.Prelude.{◌≡◌, ◌⊎◌, ℕ, ◌*◌, ◌^◌, ◌<◌, ◌≤◌, List, [], length, map, take, drop, sum, Option, Some, None, Result, IfOk, IfErr, OnOk, IfSome, IfNone}
 use Rattle.std.specs.List.{AllByRecursion}
 use Rattle.capnp_frame.specs.declared.error.Error.{Error}
 use Rattle.capnp_frame.specs.declared.error.ErrorKind.{ErrorKind}
@@ -8,12 +8,12 @@ use Rattle.capnp_frame.specs.declared.serialize.segment_table.Padding.{Padding}
 use Rattle.capnp_frame.specs.declared.io.Read.{Ghosts}
 use Rattle.capnp_frame.specs.SegmentTable.{FitsField}
 use Rattle.capnp_frame.specs.SegmentLengths.{range_len, AreRanges}
-use Rattle.capnp_frame.specs.Limits.{KeepsLimit}
+use Rattle.capnp_frame.specs.Limits.{KeepsLimit, AreWithin}
 use Rattle.capnp_frame.specs.Front.{declared_lengths, declared_segments, DeclaresTable, HoldsMessage}
 use Rattle.capnp_frame.specs.Source.{Giving, Refusing, IfKnown}
 use Rattle.capnp_frame.specs.Requests.{RestStands, TableStands, MessageStands}
 use Rattle.capnp_frame.specs.Errors.{FailsWith}
-use Rattle.capnp_frame.specs.Refusals.{RefusesAtLimit, RefusesRest, IsTableKind, IsReaderKind, IsProvidedReaderKind}
+use Rattle.capnp_frame.specs.Refusals.{RefusesAtLimit, RefusesRest, RefusesTable, TakesForLengths, IsTableKind, IsReaderKind, IsProvidedReaderKind}
 use Rattle.capnp_frame.specs.Asking.{Asked, FailsOr}
 
 -- A step that completes a table of a given number of segments fails by a line of the table of
@@ -67,6 +67,16 @@ pub record AsksNext {S X : Type 0} (source : Ghosts S) (old new : S) (rule : Pad
   pub kinds : IfErr result (λ error. IsReaderKind rule source.refuses error.kind)
   pub end : IfErr result (λ error. source.unread old ≡ Some [] → error.kind ≡ DeviceFailed)
   pub asked : Asked source.unread source.failures source.same old new result
+
+-- What is kept by a step that reads the table of the next message, and returns the lengths that it declares, or none at the source's
+-- end. No memory is taken for `kept` lengths.
+pub record ReadsTable {S : Type 0} (source : Ghosts S) (old new : S) (rule : Padding) (limit : Option ℕ) (kept : ℕ)
+    (result : Result (Option (List ℕ)) Error) : Type 0 where
+  -- the table is there, and just its bytes are consumed
+  pub found : IfOk result (λ found. IfSome found (λ ns. IfKnown (source.unread old) (source.unread new) (TableStands rule source.gives ns)))
+  pub within : IfOk result (λ found. IfSome found (λ ns. AreWithin ns limit))
+  pub bound : IfOk result (λ found. IfSome found (λ ns. sum ns < 2 ^ 42))
+  pub asks : AsksNext source old new rule (TakesForLengths kept source.gives) (RefusesTable rule source.gives source.refuses limit None) result
 
 -- A step that reads into a caller-provided buffer of `room` bytes, which takes no memory.
 pub record AsksNextInto {S X : Type 0} (source : Ghosts S) (old new : S) (rule : Padding) (room : ℕ)

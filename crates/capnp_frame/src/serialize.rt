@@ -11,8 +11,8 @@
 //! - the number of segments isn't from 1 to 511: `InvalidNumberOfSegments`, of how many;
 //! - the rest of the table is cut;
 //! - the segments have more words than the limit: `MessageTooLarge`, of how many;
-//! - the padding isn't zero: `NonZeroPadding`, which a `_lenient` form never returns, nor a
-//!   `_with_padding` form that is given `Padding::Any`;
+//! - the padding isn't zero: `NonZeroPadding`, which a `_lenient` form never returns, nor one that
+//!   is given rules with `Padding::Any`;
 //! - the segments are cut.
 //!
 //! Where something is cut, a reader of a stream fails as its source does, over plain bytes with
@@ -46,23 +46,19 @@ mod writable;
 mod writing;
 
 pub use buffer_segments::{
-    BufferSegments, take_segments, take_segments_lenient, take_segments_with_padding,
+    BufferSegments, take_segments, take_segments_lenient, take_segments_with_rules,
 };
 pub use framed::try_read_framed_into;
 pub use no_alloc_buffer_segments::{NoAllocBufferSegments, NoAllocSliceSegments};
 pub use owned_segments::OwnedSegments;
 pub use provided_stream::{
-    try_read_segments_into, try_read_segments_into_lenient, try_read_segments_into_with_padding,
+    try_read_segments_into, try_read_segments_into_lenient, try_read_segments_into_with_rules,
 };
 pub use segment_lengths::SegmentLengthsBuilder;
-pub use segment_table::{Padding, SEGMENTS_COUNT_LIMIT};
+pub use segment_table::{Padding, SEGMENTS_COUNT_LIMIT, TableRules};
 pub use segment_table_info::{NoAllocSegmentTableInfo, describes};
-pub use skipping::{try_skip_segments, try_skip_segments_lenient, try_skip_segments_with_padding};
-pub use stream::{
-    try_read_segments, try_read_segments_lenient, try_read_segments_reusing,
-    try_read_segments_reusing_lenient, try_read_segments_reusing_with_padding,
-    try_read_segments_with_padding,
-};
+pub use skipping::try_skip_segments;
+pub use stream::{try_read_segments, try_read_segments_lenient, try_read_segments_reusing};
 pub use stream_table::read_table;
 pub use writable::is_writable;
 pub use writing::{segments_to_words, serialized_size_in_words, write_segments};

@@ -2,10 +2,10 @@
 use crate::messages::has_segments;
 use capnp_frame::Result;
 use capnp_frame::io::{Read, Write};
-use capnp_frame::message::{DEFAULT_READER_OPTIONS, ReaderOptions, ReaderSegments, SegmentArray};
+use capnp_frame::message::{DEFAULT_READER_OPTIONS, ReaderSegments, SegmentArray};
 use capnp_frame::serialize::{
-    Padding, is_writable, segments_to_words, try_read_segments, try_read_segments_into,
-    try_read_segments_lenient, write_segments,
+    OwnedSegments, Padding, TableRules, is_writable, segments_to_words, try_read_segments,
+    try_read_segments_into, try_read_segments_reusing, write_segments,
 };
 use capnp_pack::PackedWrite;
 use capnp_pack::stream::try_read_packed_segments;
@@ -49,33 +49,25 @@ pub enum Found {
 
 /// Reads a framed message of a slice.
 pub fn read(alloc: Global, source: &mut &[u8], segments: &[&[u8]]) -> Result<Found> {
-    read_by(
-        alloc,
-        Padding::Zero,
-        source,
-        DEFAULT_READER_OPTIONS,
-        segments,
-    )
+    let returned = try_read_segments(alloc, source, DEFAULT_READER_OPTIONS);
+    compared(returned, segments)
 }
 
-/// The same, of a padding and under a limit.
+/// The same, by these rules.
 pub fn read_by(
     alloc: Global,
-    padding: Padding,
     source: &mut &[u8],
-    options: ReaderOptions,
+    rules: TableRules,
     segments: &[&[u8]],
 ) -> Result<Found> {
-    let returned = match padding {
-        Padding::Zero => try_read_segments(alloc, source, options),
-        Padding::Any => try_read_segments_lenient(alloc, source, options),
-    };
+    let returned = try_read_segments_reusing(source, rules, OwnedSegments::empty(alloc));
     compared(returned, segments)
 }
 
 /// Reads a packed message of a slice.
 pub fn read_packed(alloc: Global, source: &mut &[u8], segments: &[&[u8]]) -> Result<Found> {
-    let returned = try_read_packed_segments(alloc, source, DEFAULT_READER_OPTIONS);
+    let rules = TableRules::new(Padding::Zero, DEFAULT_READER_OPTIONS);
+    let returned = try_read_packed_segments(source, rules, OwnedSegments::empty(alloc));
     compared(returned, segments)
 }
 

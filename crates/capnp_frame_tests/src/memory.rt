@@ -6,11 +6,10 @@
 use crate::assertions::{At, assert_bytes, assert_count, assert_holds};
 use crate::framing::{Found, read_by};
 use crate::growths::lacks_memory;
-use crate::limits::DEFAULT_LIMIT;
+use crate::limits::STRICT;
 use crate::retried;
 use capnp_frame::io::Write;
-use capnp_frame::message::ReaderOptions;
-use capnp_frame::serialize::Padding;
+use capnp_frame::serialize::{Padding, TableRules};
 use capnp_frame::{Error, ErrorKind, Result};
 use std::process::Abort;
 
@@ -58,19 +57,23 @@ const PADDED: [u8; 24] = [
 struct Asking {
     name: &'static str,
     bytes: &'static [u8],
-    padding: Padding,
-    limit: Option<usize>,
+    rules: TableRules,
     returns: std::result::Result<Found, ErrorKind>,
     unread: usize,
     asks: &'static [usize],
 }
 
+// Any padding.
+const LENIENT: TableRules = TableRules {
+    padding: Padding::Any,
+    ..STRICT
+};
+
 // Memory is asked for after the first word, for the lengths, and after the table, for the segments.
 const NONE: Asking = Asking {
     name: "two-segments",
     bytes: &MESSAGE,
-    padding: Padding::Zero,
-    limit: DEFAULT_LIMIT,
+    rules: STRICT,
     returns: Ok(Found::Wanted),
     unread: 0,
     asks: &[16, 8],
@@ -79,12 +82,12 @@ const NONE: Asking = Asking {
 #[rattlefmt::skip]
 const ASKING: [Asking; 8] = [
     NONE,
-    Asking { name: "two-segments, leniently", padding: Padding::Any, ..NONE },
-    Asking { name: "another padding, leniently", bytes: &PADDED, padding: Padding::Any, ..NONE },
+    Asking { name: "two-segments, leniently", rules: LENIENT, ..NONE },
+    Asking { name: "another padding, leniently", bytes: &PADDED, rules: LENIENT, ..NONE },
     // A message that is too large, and a padding that isn't zero: the segments aren't asked for.
     Asking {
         name: "two-segments, 1 word of 0",
-        limit: Some(0),
+        rules: TableRules { limit_in_words: Some(0), ..STRICT },
         returns: Err(ErrorKind::MessageTooLarge(1)),
         unread: 8,
         asks: &[16],
@@ -126,10 +129,8 @@ fn messages_without_memory(rt: HostRuntime) -> Result<()> {
 
 fn read_row(rt: &(impl Abort + AllocGlobal), row: &Asking) -> Result<()> {
     let at = At::row(row.name);
-    let mut options = ReaderOptions::new();
-    let _ = options.traversal_limit_in_words(row.limit);
     let mut source = row.bytes;
-    let returned = read_by(rt.alloc(), row.padding, &mut source, options, &SEGMENTS);
+    let returned = read_by(rt.alloc(), &mut source, row.rules, &SEGMENTS);
     if lacks_memory(&returned) {
         assert_holds(rt, row.asks.contains(&source.len()), at);
         return Err(Error::from_kind(ErrorKind::OutOfMemory));

@@ -1,6 +1,7 @@
 //! Calls that take no memory: they succeed whichever growth fails, and none is made twice.
 use crate::assertions::{At, assert_bytes, assert_count, assert_holds, assert_refused};
 use crate::framing::{Found, read_into, read_packed, write, write_packed};
+use crate::limits::STRICT;
 use crate::messages::has_segments;
 use crate::packing::{pack, unpack, unpack_some};
 use capnp_frame::message::{DEFAULT_READER_OPTIONS, ReaderSegments, SegmentArray};
@@ -178,7 +179,7 @@ fn a_text_in_a_buffer(rt: HostRuntime) -> Result<()> {
     let at = At::row("a framed text");
     let mut source = FRAME_AND_MORE.as_slice();
     let mut room = [1; 48];
-    let found = try_read_framed_into(&mut source, &mut room, DEFAULT_READER_OPTIONS)?;
+    let found = try_read_framed_into(&mut source, STRICT, &mut room)?;
     let Some(info) = found else {
         panic!(rt; "no message");
     };
@@ -200,7 +201,7 @@ fn a_packed_text_in_a_buffer(rt: HostRuntime) -> Result<()> {
     let at = At::row("a packed text");
     let mut source = PACKED_NINES.as_slice();
     let mut room = [1; 17];
-    let found = try_read_packed_framed_into(&mut source, &mut room, DEFAULT_READER_OPTIONS)?;
+    let found = try_read_packed_framed_into(&mut source, STRICT, &mut room)?;
     let Some(info) = found else {
         panic!(rt; "no message");
     };

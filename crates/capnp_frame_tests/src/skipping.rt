@@ -1,34 +1,29 @@
 //! Packed messages that are skipped, and segment tables that are read by themselves.
 use crate::assertions::{At, assert_count, assert_holds, assert_kind};
-use crate::limits::NO_LIMIT;
+use crate::limits::{NO_LIMIT, STRICT};
 use crate::messages::{MESSAGES, Message};
 use crate::retried;
 use crate::sources::{Faulty, Trickle};
 use capnp_frame::io::BufRead;
-use capnp_frame::message::ReaderOptions;
-use capnp_frame::serialize::{Padding, SegmentLengthsBuilder, read_table};
+use capnp_frame::serialize::{Padding, SegmentLengthsBuilder, TableRules, read_table};
 use capnp_frame::{Error, ErrorKind, Result};
-use capnp_pack::stream::{
-    try_skip_packed_segments, try_skip_packed_segments_lenient,
-    try_skip_packed_segments_with_padding,
-};
+use capnp_pack::stream::try_skip_packed_segments;
 use std::alloc::Global;
 use std::process::Abort;
+
+// Any padding.
+const ANY_PADDING: TableRules = TableRules {
+    padding: Padding::Any,
+    ..STRICT
+};
 
 // Skips the next message, which has to be there.
 fn skip<R: BufRead>(
     source: &mut R,
-    padding: Padding,
-    limit: Option<usize>,
-    spare: SegmentLengthsBuilder,
+    rules: TableRules,
+    lengths: SegmentLengthsBuilder,
 ) -> Result<SegmentLengthsBuilder> {
-    let mut options = ReaderOptions::new();
-    let _ = options.traversal_limit_in_words(limit);
-    let skipped = match padding {
-        Padding::Zero => try_skip_packed_segments(source, options, spare)?,
-        Padding::Any => try_skip_packed_segments_lenient(source, options, spare)?,
-    };
-    needed(skipped)
+    needed(try_skip_packed_segments(source, rules, lengths)?)
 }
 
 fn needed(lengths: Option<SegmentLengthsBuilder>) -> Result<SegmentLengthsBuilder> {
@@ -68,13 +63,12 @@ fn skip_again(rt: &(impl Abort + AllocGlobal), message: &Message, most: usize) -
     let at = At::new(message.name, most as u64);
     let mut kept = retried!(skip(
         &mut Trickle::new(message.packed, most),
-        Padding::Zero,
-        NO_LIMIT,
+        STRICT,
         SegmentLengthsBuilder::empty(rt.alloc()),
     ))?;
     for _ in 0..2 {
         let mut source = Trickle::new(message.packed, most);
-        kept = skip(&mut source, Padding::Any, NO_LIMIT, kept)?;
+        kept = skip(&mut source, ANY_PADDING, kept)?;
         assert_holds(rt, has_lengths(&kept, message.segments), at);
         assert_count(rt, source.bytes.len(), 0, at);
     }
@@ -146,8 +140,11 @@ fn refuse(
 }
 
 fn refusal(alloc: Global, source: &mut Trickle<'_>, limit: Option<usize>) -> Option<ErrorKind> {
-    let spare = SegmentLengthsBuilder::empty(alloc);
-    skip(source, Padding::Zero, limit, spare)
+    let rules = TableRules {
+        limit_in_words: limit,
+        ..STRICT
+    };
+    skip(source, rules, SegmentLengthsBuilder::empty(alloc))
         .err()
         .map(|error| error.kind)
 }
@@ -162,21 +159,15 @@ fn a_padding_is_skipped_by_its_rule(rt: HostRuntime) -> Result<()> {
     let mut source = PADDED;
     let lengths = retried!({
         source = PADDED;
-        let spare = SegmentLengthsBuilder::empty(rt.alloc());
-        skip_by_rule(&mut source, spare)
+        let lengths = SegmentLengthsBuilder::empty(rt.alloc());
+        try_skip_packed_segments(&mut source, ANY_PADDING, lengths)
     })?;
     assert_holds(&rt, has_lengths(&needed(lengths)?, &[&[], &[0; 8]]), at);
     assert_count(&rt, source.len(), 0, at);
-    let spare = SegmentLengthsBuilder::empty(rt.alloc());
-    assert_holds(&rt, skip_by_rule(&mut source, spare)?.is_none(), at);
+    let lengths = SegmentLengthsBuilder::empty(rt.alloc());
+    let none = try_skip_packed_segments(&mut source, ANY_PADDING, lengths)?;
+    assert_holds(&rt, none.is_none(), at);
     Ok(())
-}
-
-fn skip_by_rule(
-    source: &mut impl BufRead,
-    spare: SegmentLengthsBuilder,
-) -> Result<Option<SegmentLengthsBuilder>> {
-    try_skip_packed_segments_with_padding(source, Padding::Any, ReaderOptions::new(), spare)
 }
 
 // A segment of 600 words without a zero byte, in literal groups of 256 words, of 256 and of 88, and
@@ -214,8 +205,8 @@ fn skip_large(rt: &(impl Abort + AllocGlobal), text: &[u8], most: usize) -> Resu
     let mut source = Trickle::new(text, most);
     let lengths = retried!({
         source = Trickle::new(text, most);
-        let spare = SegmentLengthsBuilder::empty(rt.alloc());
-        skip(&mut source, Padding::Zero, NO_LIMIT, spare)
+        let lengths = SegmentLengthsBuilder::empty(rt.alloc());
+        skip(&mut source, STRICT, lengths)
     })?;
     assert_count(rt, lengths.total_words(), 600, at);
     assert_count(rt, source.bytes.len(), 1, at);
@@ -238,8 +229,8 @@ fn blame(rt: &(impl Abort + AllocGlobal), message: &Message, fails_at: u64) -> R
     let mut source = Faulty::new(Trickle::new(message.packed, 3), fails_at);
     let skipped = retried!({
         source = Faulty::new(Trickle::new(message.packed, 3), fails_at);
-        let spare = SegmentLengthsBuilder::empty(rt.alloc());
-        skip(&mut source, Padding::Zero, NO_LIMIT, spare)
+        let lengths = SegmentLengthsBuilder::empty(rt.alloc());
+        skip(&mut source, STRICT, lengths)
     });
     match skipped {
         Ok(lengths) => {
@@ -262,11 +253,13 @@ fn tables_are_read_by_themselves(rt: HostRuntime) -> Result<()> {
         let mut source = message.table;
         let lengths = retried!({
             source = message.table;
-            read_table(Vec::new(rt.alloc()), &mut source, NO_LIMIT, Padding::Zero)
+            let lengths = SegmentLengthsBuilder::empty(rt.alloc());
+            read_table(&mut source, STRICT, lengths)
         })?;
         assert_holds(&rt, has_lengths(&needed(lengths)?, message.segments), at);
         assert_count(&rt, source.len(), 0, at);
-        let none = read_table(Vec::new(rt.alloc()), &mut source, NO_LIMIT, Padding::Zero)?;
+        let lengths = SegmentLengthsBuilder::empty(rt.alloc());
+        let none = read_table(&mut source, STRICT, lengths)?;
         assert_holds(&rt, none.is_none(), at);
     }
     Ok(())

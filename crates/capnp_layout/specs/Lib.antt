@@ -5,6 +5,7 @@ pub mod Trim
 pub mod Object
 pub mod PointerWord
 pub mod Landing
+pub mod Body
 pub mod Local
 pub mod Reached
 pub mod Traversed
@@ -13,3 +14,4 @@ pub mod Layout
 pub mod Block
 pub mod Rows
 pub mod Output
+pub mod Limits

@@ -3,7 +3,7 @@
 use Rattle.std.specs.Prelude.{◌≡◌, ◌⊎◌, ℕ, ◌+◌, ◌<◌, List, length}
 use Rattle.capnp_layout.specs.Pointer.{words_from}
 use Rattle.capnp_layout.specs.Trim.{cut_zeros}
-use Rattle.capnp_layout.specs.Landing.{traversed_of}
+use Rattle.capnp_layout.specs.Body.{traversed_of}
 use Rattle.capnp_layout.specs.Layout.{struct_pointer, minus_one}
 use Rattle.capnp_layout.specs.declared.number_list.NumberList.{NumberList}
 use Rattle.capnp_layout.specs.declared.fast_path.LocalStruct.{LocalStruct}

@@ -170,7 +170,9 @@ pub fn used(segment: &[u8], start: usize, count: usize) -> usize
     0
 }
 
-/// The most words that one of some rows needs without the zeros at its end.
+/// The most words that one of some rows needs without the zeros at its end. The first row begins at
+/// the word `start`, each other one `step` words after the one before it, and `count` words of each
+/// are looked at.
 pub fn most_used(segment: &[u8], start: usize, count: usize, step: usize, rows: u32) -> usize
     requires there { start + rows * step ≤ length segment.now / 8 + (step - count) }
     requires inside { count ≤ step }

@@ -5,7 +5,7 @@ ghost use Rattle.capnp_layout.specs.declared.object.Body.{Body};
 
 use crate::object::Body;
 use crate::pointer::StructSize;
-use crate::pointer_word::{list_word, struct_word};
+use crate::pointer_word::{POINTER_LIST, STRUCT_LIST, list_word, struct_word};
 
 /// The pointer word to a copy that begins this many words after it.
 #[inline(always)]
@@ -17,8 +17,8 @@ pub fn pointer_word(copied: Body, offset: u64) -> u64
     match copied {
         Body::Struct(size) => struct_pointer_word(size, offset),
         Body::Numbers(elements, count) => list_word(offset, elements.code(), count as u64),
-        Body::Pointers(count) => list_word(offset, 6, count as u64),
-        Body::Structs(elements, _) => list_word(offset, 7, elements.words()),
+        Body::Pointers(count) => list_word(offset, POINTER_LIST, count as u64),
+        Body::Structs(elements, _) => list_word(offset, STRUCT_LIST, elements.words()),
     }
 }
 

@@ -2,9 +2,7 @@
 //! their pointer.
 ghost use Rattle.std.specs.Prelude.{◌≡◌, ◌⊎◌, ◌↔◌, ℕ, List, ◌+◌, ◌/◌, ◌^◌, ◌<◌, ◌≤◌, length, Some, slice_get, IfSome, IsTrue};
 ghost use Rattle.capnp_layout.specs.Pointer.{words_of, pointer_kind, code};
-ghost use Rattle.capnp_layout.specs.Object.{places};
-ghost use Rattle.capnp_layout.specs.Landing.{IsObject};
-ghost use Rattle.capnp_layout.specs.Rows.{segment_of, places_in};
+ghost use Rattle.capnp_layout.specs.Body.{IsObject};
 ghost use Rattle.capnp_layout.specs.Local.{AreNull, IsNullOrEmptyStruct, object_of, local_struct_of, pointers_of, structs_of};
 ghost use Rattle.capnp_layout.specs.Output.{output_body_of, IsNarrower};
 ghost use Rattle.capnp_layout.specs.declared.object.Body.{Body};
@@ -17,7 +15,6 @@ use crate::output_size::output_size;
 use crate::place::{Place, word};
 use crate::pointer::{Elements, LocalShape, PointerWord, StructSize};
 use crate::pointer_run::PointerRun;
-use crate::pointer_slots::PointerSlots;
 use crate::struct_list::StructList;
 
 // Speed: most pointers of most messages are null, or lead to structs, to lists of numbers, or to
@@ -273,32 +270,5 @@ impl<'a> LocalStruct<'a> {
     {
         let first = self.first_pointer().word;
         used(self.segment, first, count as usize) == 0
-    }
-}
-
-impl<'a> NumberList<'a> {
-    /// The list as an object.
-    #[inline(always)]
-    pub fn object(&self) -> Object<'a>
-        ensures { result ≡ object_of self.now }
-    {
-        Object {
-            segment: self.segment,
-            start: self.start,
-            body: Body::Numbers(self.size, self.count),
-            traversed: self.traversed(),
-        }
-    }
-}
-
-impl<'a> PointerRun<'a> {
-    /// A cursor over these pointers, for a walk.
-    #[inline(always)]
-    pub fn slots(&self) -> PointerSlots
-        ensures places { places_in result
-            ≡ places self.now.first.segment self.now.first.word self.now.count }
-        ensures segment { segment_of result ≡ self.now.first.segment }
-    {
-        PointerSlots::run(self.first, self.count)
     }
 }

@@ -17,6 +17,7 @@ pub mod body_word;
 pub mod element_size;
 pub mod fast_path;
 pub mod landing_pad;
+pub mod limits;
 pub mod number_list;
 pub mod object;
 pub mod output_size;

@@ -1,10 +1,11 @@
 //! Lists of numbers.
 ghost use Rattle.std.specs.Prelude.{◌≡◌, ◌*◌};
 ghost use Rattle.capnp_layout.specs.Element.{code_of, width, words_for};
-ghost use Rattle.capnp_layout.specs.Landing.{traversed_of};
+ghost use Rattle.capnp_layout.specs.Body.{traversed_of};
 ghost use Rattle.capnp_layout.specs.declared.object.Body.{Body};
 
 use crate::element_size::ElementSize;
+use crate::object::{Body, Object};
 use crate::place::Place;
 
 /// A list of numbers.
@@ -19,7 +20,9 @@ pub struct NumberList<'a> {
     ghost bits_are: { bits ≡ count * width (code_of size) },
 }
 
-impl NumberList<'_> {
+impl<'a> NumberList<'a> {
+    ghost use Rattle.capnp_layout.specs.Local.{object_of};
+
     /// The number of its words.
     #[inline(always)]
     pub fn words(&self) -> u64
@@ -37,6 +40,19 @@ impl NumberList<'_> {
             self.count as u64
         } else {
             self.words()
+        }
+    }
+
+    /// The list as an object.
+    #[inline(always)]
+    pub fn object(&self) -> Object<'a>
+        ensures { result ≡ object_of self.now }
+    {
+        Object {
+            segment: self.segment,
+            start: self.start,
+            body: Body::Numbers(self.size, self.count),
+            traversed: self.traversed(),
         }
     }
 }

@@ -6,7 +6,7 @@ ghost use Rattle.capnp_layout.specs.PointerWord.{IsLocalShape};
 ghost use Rattle.capnp_layout.specs.Object.{message_of, word_at, elements, ShapeStands};
 ghost use Rattle.capnp_layout.specs.Tree.{numbers, Trees, depth};
 ghost use Rattle.capnp_layout.specs.Reached.{At};
-ghost use Rattle.capnp_layout.specs.Landing.{IsObject, shape_of, room_of, words_in, traversed_of};
+ghost use Rattle.capnp_layout.specs.Body.{IsObject, shape_of, room_of, words_in, traversed_of};
 ghost use Rattle.capnp_layout.specs.Faults.{RejectsSize, Fault};
 ghost use Rattle.capnp_layout.specs.Rows.{segment_of, places_in, end_of};
 ghost use Rattle.capnp_layout.specs.declared.place.Place.{Place};

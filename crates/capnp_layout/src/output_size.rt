@@ -1,7 +1,7 @@
 //! Sizes of objects as they are, or in canonical form, without trailing zero words.
 ghost use Rattle.std.specs.Prelude.{◌≡◌, if◌then◌else◌, ◌+◌, ◌*◌, ◌/◌, ◌≤◌, length};
 ghost use Rattle.capnp_layout.specs.Pointer.{words_of};
-ghost use Rattle.capnp_layout.specs.Landing.{room_of, words_in};
+ghost use Rattle.capnp_layout.specs.Body.{room_of, words_in};
 ghost use Rattle.capnp_layout.specs.Output.{output_body_of, least_size, IsNarrower};
 
 use crate::block::most_used;

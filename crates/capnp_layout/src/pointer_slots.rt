@@ -98,7 +98,7 @@ impl Body {
 }
 
 impl PointerSlots {
-    ghost use Rattle.capnp_layout.specs.Landing.{words_in};
+    ghost use Rattle.capnp_layout.specs.Body.{words_in};
     ghost use Rattle.capnp_layout.specs.Object.{places};
     ghost use Rattle.capnp_layout.specs.Layout.{run};
     ghost use Rattle.capnp_layout.specs.Rows.{segment_of, row_size, kept_places, row_slots, kept_in, slots_of, places_in, slots_in, end_of, Takes};

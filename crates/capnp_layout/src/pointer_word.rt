@@ -13,6 +13,15 @@ use crate::pointer::PointerWord;
 pub use crate::pointer::{LocalShape, StructSize};
 use capnp_frame::{Word, word};
 
+/// The code of a list of bytes.
+pub const BYTE_LIST: u64 = 2;
+
+/// The code of a list of pointers.
+pub const POINTER_LIST: u64 = 6;
+
+/// The code of a composite list, of structs.
+pub const STRUCT_LIST: u64 = 7;
+
 /// The pointer to a struct that begins this many words after it, or the tag of a list of that many
 /// structs. An offset of 2^30 - 1 is read as -1, the offset of a struct of no words.
 #[inline(always)]

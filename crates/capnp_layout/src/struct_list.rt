@@ -1,9 +1,9 @@
 //! Lists of structs.
 ghost use Rattle.std.specs.Prelude.{◌≡◌};
-ghost use Rattle.capnp_layout.specs.Landing.{traversed_of};
+ghost use Rattle.capnp_layout.specs.Body.{traversed_of};
 ghost use Rattle.capnp_layout.specs.declared.object.Body.{Body};
 
-use crate::object::Body;
+use crate::object::{Body, Object};
 use crate::place::Place;
 use crate::pointer::Elements;
 
@@ -18,12 +18,27 @@ pub struct StructList<'a> {
     pub words: u32,
 }
 
-impl StructList<'_> {
+impl<'a> StructList<'a> {
+    ghost use Rattle.capnp_layout.specs.Local.{structs_of};
+
     /// The number of words that a reader counts against the traversal limit for it.
     #[inline(always)]
     pub fn traversed(&self) -> u64
         ensures { result ≡ traversed_of (Body.Structs self.now.elements self.now.words) }
     {
         Body::Structs(self.elements, self.words).traversed()
+    }
+
+    /// The list as an object.
+    #[inline(always)]
+    pub fn object(&self) -> Object<'a>
+        ensures { result ≡ structs_of self.now }
+    {
+        Object {
+            segment: self.segment,
+            start: self.start,
+            body: Body::Structs(self.elements, self.words),
+            traversed: self.traversed(),
+        }
     }
 }

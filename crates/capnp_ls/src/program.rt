@@ -47,32 +47,18 @@ pub fn run<R: BufRead, W: Write>(
     let Some(command) = Command::from_words(words) else {
         return Err(Stop::Usage);
     };
-    print_all(alloc, command, source, sink)
-}
-
-// Prints what the command prints for the messages of the source, until none is left.
-fn print_all<R: BufRead, W: Write>(
-    alloc: Global,
-    command: Command,
-    source: &mut R,
-    sink: &mut W,
-) -> std::result::Result<(), Stop>
-    ensures { ForCommand (WritesEach R.Read source.old source.new W.Write sink.old sink.new
-        (padding_of command) (command_input command) default_limit (Prints command W.appends)
-        (DeclinesPrinted command W.appends W.leaves W.refuses)) result }
-{
-    match print_each(alloc, command, source, sink) {
+    match print_each(alloc, source, sink, command) {
         Ok(()) => Ok(()),
         Err(StoppedAt { message, error }) => Err(Stop::Refused { message, error }),
     }
 }
 
-// Does the same.
+// Prints what the command prints for the messages of the source, until none is left.
 fn print_each<R: BufRead, W: Write>(
     alloc: Global,
-    command: Command,
     source: &mut R,
     sink: &mut W,
+    command: Command,
 ) -> std::result::Result<(), StoppedAt>
     ensures { WritesEach R.Read source.old source.new W.Write sink.old sink.new
         (padding_of command) (command_input command) default_limit (Prints command W.appends)
@@ -80,13 +66,13 @@ fn print_each<R: BufRead, W: Write>(
 {
     let options = DEFAULT_READER_OPTIONS;
     match command {
-        Command::Listing(format, padding) => list_each(alloc, format, padding, source, sink),
+        Command::Listing(format, padding) => list_each(alloc, source, sink, format, padding),
         Command::Transcoding(way, padding) => {
-            write_each_message(alloc, way.input(), padding, options, &way, source, sink)
+            write_each_message(alloc, source, sink, way.input(), padding, options, &way)
         }
         Command::Canonical(format) => {
             let writer = CanonicalForm;
-            write_each_message(alloc, format, Padding::Zero, options, &writer, source, sink)
+            write_each_message(alloc, source, sink, format, Padding::Zero, options, &writer)
         }
     }
 }

@@ -7,6 +7,7 @@ ghost use Rattle.capnp_build.specs.Allocating.{HandsOut};
 
 use capnp_build::allocator::Allocator;
 use capnp_frame::{Error, ErrorKind, Result};
+use capnp_layout::limits::MAX_SEGMENT_WORDS;
 use std::alloc::Global;
 
 /// How large the segments from the heap are, one after the other.
@@ -46,7 +47,7 @@ impl HeapAllocator {
             alloc,
             next_size: SUGGESTED_FIRST_SEGMENT_WORDS,
             allocation_strategy: AllocationStrategy::GrowHeuristically,
-            max_segment_words: 1 << 29,
+            max_segment_words: MAX_SEGMENT_WORDS,
         }
     }
 

@@ -10,7 +10,8 @@ use Rattle.capnp_frame.specs.declared.error.ErrorKind.TheVariants.{AllocationToo
 use Rattle.capnp_layout.specs.Tree.{Trees, total_words}
 use Rattle.capnp_layout.specs.Object.{nothing}
 use Rattle.capnp_layout.specs.Layout.{output}
-use Rattle.capnp_wire.specs.Values.{LeadsToTree, too_large}
+use Rattle.capnp_wire.specs.Values.{LeadsToTree}
+use Rattle.capnp_layout.specs.Limits.{too_large}
 use Rattle.capnp_wire.specs.Views.{Struct, Pointer, Denotes, pointer_in}
 use Rattle.capnp_orphans.specs.Segments.{Segment, body_of, Appends}
 use Rattle.capnp_orphans.specs.Held.{AreValues, HoldsValue}

@@ -18,7 +18,7 @@ use Rattle.capnp_layout.proofs.pointers.SlotLemmas.{placed-row_run}
 use Rattle.capnp_layout.proofs.trees.StandLemmas.{at_both}
 use Rattle.capnp_layout.proofs.layouts.BlockLemmas.{put_both}
 use Rattle.capnp_wire.proofs.views.ValueLemmas.{put_whole}
-use Rattle.capnp_values.proofs.SectionLemmas.{data_put}
+use Rattle.capnp_values.proofs.structs.SectionLemmas.{data_put}
 use Rattle.capnp_orphans.specs.declared.draft.StructDraft.{StructDraft}
 use Rattle.capnp_orphans.specs.Orphans.{link, links, IsOrphan, AreOrphans}
 use Rattle.capnp_orphans.specs.Held.{rows_of, adopted_by, elements, AreSized}

@@ -1,11 +1,10 @@
 //! Objects that an orphanage writes.
-ghost use Rattle.std.specs.Prelude.{◌≡◌, ℕ, Bool, IsTrue, ◌+◌, ◌-◌, ◌/◌, ◌%◌, ◌^◌, ◌<◌, List, ◌++◌, min, length, replicate, Ok, MatchResult};
+ghost use Rattle.std.specs.Prelude.{◌≡◌, ℕ, Bool, IsTrue, ◌+◌, ◌/◌, ◌%◌, ◌^◌, ◌<◌, List, ◌++◌, length, replicate, Ok, MatchResult};
 ghost use Rattle.std.specs.Result.{IsErrAnd};
 ghost use Rattle.capnp_frame.specs.declared.error.ErrorKind.{ErrorKind};
-ghost use Rattle.capnp_frame.specs.declared.error.ErrorKind.TheVariants.{AllocationTooLarge};
 ghost use Rattle.capnp_layout.specs.Pointer.{words_of};
 
-use capnp_frame::{Error, ErrorKind, Result};
+use capnp_frame::Result;
 
 /// An object that is written after the words of a segment.
 pub trait Object {
@@ -43,16 +42,4 @@ pub trait Object {
         requires few { start + length block.old / 8 < 2 ^ 29 }
         ensures { (body : List ℕ) → start ≡ 1 + length body →
             holds self.now body (body ++ words_of block.new) result };
-}
-
-/// The error for too many elements or words, with their number as far as it fits 32 bits.
-pub(crate) fn allocation_too_large(number: usize) -> Error
-    ensures { result.kind ≡ AllocationTooLarge (min number (2 ^ 32 - 1)) }
-{
-    let told = if number < u32::MAX as usize {
-        number as u32
-    } else {
-        u32::MAX
-    };
-    Error::from_kind(ErrorKind::AllocationTooLarge(told))
 }

@@ -21,6 +21,7 @@ use crate::struct_list::StructList;
 use crate::text_object::TextObject;
 use crate::value::Value;
 use capnp_frame::{Error, ErrorKind, Result};
+use capnp_layout::limits::MAX_SEGMENT_WORDS;
 use capnp_layout::pointer_word::link;
 use capnp_values::NumberList;
 use capnp_wire::primitive_element::PrimitiveElement;
@@ -148,7 +149,7 @@ impl<S: GrowingSegment> Orphanage<S> {
     {
         let words = object.measure()?;
         let used = (self.segment.bytes().len() / 8) as u32;
-        if words >= (1 << 29) - used {
+        if words >= MAX_SEGMENT_WORDS - used {
             return Err(Error::from_kind(ErrorKind::AllocationTooLarge(words)));
         }
         let word = self.segment.append(object, words)?;

@@ -1,11 +1,12 @@
 //! Lists of pointers as objects.
 ghost use Rattle.std.specs.Prelude.{◌≡◌};
 
-use crate::object::{Object, allocation_too_large};
+use crate::object::Object;
 use crate::orphan::Orphan;
 use crate::written::put_links;
 use capnp_frame::Result;
-use capnp_layout::pointer_word::list_word;
+use capnp_layout::limits::{MAX_ELEMENTS, allocation_too_large};
+use capnp_layout::pointer_word::{POINTER_LIST, list_word};
 
 /// A list of the pointers to some orphans (encoding document, "Lists").
 #[derive(Drop)]
@@ -37,8 +38,8 @@ impl<'a, T> Object for PointerList<'a, T> {
 
     fn measure(&self) -> Result<u32> {
         let count = self.items.len();
-        if count >= 1 << 29 {
-            return Err(allocation_too_large(count));
+        if count > MAX_ELEMENTS as usize {
+            return Err(allocation_too_large(count as u64));
         }
         Ok(count as u32)
     }
@@ -52,6 +53,6 @@ impl<'a, T> Object for PointerList<'a, T> {
     #[inline(never)]
     fn write(&self, start: u32, block: &mut [u8]) -> u64 {
         put_links(self.items, start, block);
-        list_word(start as u64, 6, self.items.len() as u64)
+        list_word(start as u64, POINTER_LIST, self.items.len() as u64)
     }
 }

@@ -5,10 +5,11 @@ ghost use Rattle.capnp_orphans.specs.Held.{AreSized, elements};
 
 use crate::draft::writing::draft_fits;
 use crate::draft_source::DraftSource;
-use crate::object::{Object, allocation_too_large};
+use crate::object::Object;
 use crate::written::put_struct;
 use capnp_frame::{Error, ErrorKind, Result};
-use capnp_layout::pointer_word::{list_word, struct_word};
+use capnp_layout::limits::{MAX_ELEMENTS, MAX_WORDS, allocation_too_large};
+use capnp_layout::pointer_word::{STRUCT_LIST, list_word, struct_word};
 use capnp_values::put_words;
 use std::marker::PhantomData;
 
@@ -51,12 +52,12 @@ impl<'a, T, const D: usize, const P: usize, S: DraftSource<T, D, P>> Object
             return Err(Error::from_kind(ErrorKind::AllocationTooLarge(1 << 16)));
         }
         let count = self.source.len();
-        if count >= 1 << 29 {
-            return Err(allocation_too_large(count));
+        if count > MAX_ELEMENTS as usize {
+            return Err(allocation_too_large(count as u64));
         }
         let words = 1 + count * (D + P);
-        if words >= 1 << 29 {
-            return Err(allocation_too_large(words));
+        if words > MAX_WORDS as usize {
+            return Err(allocation_too_large(words as u64));
         }
         Ok(words as u32)
     }
@@ -71,7 +72,7 @@ impl<'a, T, const D: usize, const P: usize, S: DraftSource<T, D, P>> Object
         let tag = struct_word(count as u64, D as u16, P as u16);
         put_words(&[tag], &mut block[..8]);
         put_elements(self.source, start + 1, &mut block[8..]);
-        list_word(start as u64, 7, (count * (D + P)) as u64)
+        list_word(start as u64, STRUCT_LIST, (count * (D + P)) as u64)
     }
 }
 

@@ -3,7 +3,7 @@ ghost use Rattle.std.specs.Prelude.{◌≡◌, ℕ, ◌+◌, ◌-◌, ◌%◌, �
 
 use crate::object::Object;
 use capnp_frame::Result;
-use capnp_layout::pointer_word::list_word;
+use capnp_layout::pointer_word::{BYTE_LIST, list_word};
 use capnp_wire::text;
 use capnp_wire::traits::SetterInput;
 
@@ -53,7 +53,7 @@ impl<'a> Object for TextObject<'a> {
     fn write(&self, start: u32, block: &mut [u8]) -> u64 {
         let bytes = self.text.as_bytes();
         put_text(bytes, block);
-        list_word(start as u64, 2, bytes.len() as u64 + 1)
+        list_word(start as u64, BYTE_LIST, bytes.len() as u64 + 1)
     }
 }
 

@@ -1,40 +1,8 @@
--- The lemmas, by subject.
-pub mod AllLemmas
-pub mod GroupLemmas
-pub mod FaultLemmas
-pub mod ChunkLemmas
-pub mod WordLemmas
-pub mod Chunks
-pub mod WordGroups
-pub mod UnpackedLemmas
-pub mod TableRows
-pub mod PlaceLemmas
-pub mod SingleWordLemmas
-pub mod MarkLemmas
-pub mod FrontLemmas
-pub mod SizeLemmas
-pub mod RunFaults
-pub mod StoredLemmas
-pub mod LaneLemmas
-pub mod ProgressLemmas
-pub mod PassingLemmas
-pub mod SkippedLemmas
-pub mod OverrunLemmas
-pub mod LeavingLemmas
-pub mod GrantingLemmas
-pub mod TagLemmas
-pub mod EightLemmas
-pub mod RunLemmas
-pub mod PackerGroups
-pub mod PackerLemmas
-pub mod SizeBound
-pub mod PackedFrameLemmas
-pub mod PackedEncodingLemmas
-pub mod HandingLemmas
-pub mod PackingLemmas
-pub mod BufferedLemmas
-pub mod MessageLemmas
-pub mod Shown
+-- The lemmas, in a room for each subject.
+pub mod words
+pub mod tables
+pub mod unpacking
+pub mod faults
+pub mod packing
+pub mod encodings
 pub mod WorkedRows
-mod PackedStreamLemmas
-pub mod CallLemmas

@@ -1,6 +1,7 @@
 -- What a packer makes of words, and of the front of them.
-use Rattle.std.specs.Prelude.{◌≡◌, ℕ, ◌+◌, List, ◌++◌, length, Option}
+use Rattle.std.specs.Prelude.{◌≡◌, ℕ, ◌+◌, ◌*◌, ◌≤◌, List, ◌++◌, length, take, drop, Option}
 use Rattle.std.specs.List.{AllByRecursion}
+use Rattle.capnp_pack.specs.declared.buffer.TheConstants.{BUFFER_BYTES}
 use Rattle.capnp_pack.specs.Group.{Group, IsGroup}
 use Rattle.capnp_pack.specs.Chunk.{text_of, words_of_groups}
 use Rattle.capnp_frame.specs.Sink.{Appending}
@@ -19,6 +20,15 @@ pub record PacksWords (words : List (List ℕ)) (text : List ℕ) : Type 0 where
 -- `text` is what a packer makes of the words before `left`
 abbrev pub PacksTo : List (List ℕ) → List ℕ → List (List ℕ) → Type 0
 PacksTo words text left = (more : List ℕ) → PacksWords left more → PacksWords words (text ++ more)
+
+-- What is kept by a step that packs the first `count` words into the buffer, after the bytes that are used of it: `end` bytes are used
+-- then.
+pub record PacksFront (words : List (List ℕ)) (before : List ℕ) (used : ℕ) (after : List ℕ) (count end : ℕ) : Type 0 where
+  pub within : count ≤ length words
+  pub fits : end ≤ BUFFER_BYTES
+  -- a group has at most ten bytes
+  pub few : end ≤ used + 10 * count
+  pub packed : (text : List ℕ) × PacksTo words text (drop count words) × (take end after ≡ take used before ++ text)
 
 -- what a packer makes of the words before `left` is handed on after the buffer's bytes `old`,
 -- except for `new`, which the buffer keeps

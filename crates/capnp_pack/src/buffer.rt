@@ -1,7 +1,7 @@
 //! Packed bytes on their way to a sink.
 //!
-//! They are collected in a buffer of 64 bytes, of which the first ones are used. A group adds at
-//! most 10 bytes: a tag, a word and a count.
+//! They are collected in a buffer, of which the first bytes are used. A group adds at most 10 bytes:
+//! a tag, a word and a count.
 ghost use Rattle.std.specs.Prelude.{◌≡◌, ℕ, ◌+◌, ◌<◌, ◌≤◌, [], ◌∷◌, ◌++◌, IsOk, length, take, count_ones};
 ghost use Rattle.capnp_frame.specs.Source.{IfKnown};
 ghost use Rattle.capnp_pack.specs.Calls.{HandsOn};
@@ -13,10 +13,16 @@ use capnp_frame::Result;
 use capnp_frame::io::Write;
 use std::simd::prelude::*;
 
+/// How many bytes the buffer has.
+pub(crate) const BUFFER_BYTES: usize = 64;
+
+/// The most bytes of the buffer that may be used where a group is added.
+pub(crate) const MOST_USED: usize = BUFFER_BYTES - 10;
+
 // Hands the used bytes to the sink.
 #[inline(always)]
-pub(crate) fn flush<W: Write>(sink: &mut W, bytes: &[u8; 64], used: usize) -> Result<()>
-    requires { used ≤ 64 }
+pub(crate) fn flush<W: Write>(sink: &mut W, bytes: &[u8; BUFFER_BYTES], used: usize) -> Result<()>
+    requires { used ≤ BUFFER_BYTES }
     ensures hands { HandsOn W.Write sink.old sink.new (λ text. text ≡ take used bytes.now) (λ _.
         IfKnown (W.written sink.old) (W.written sink.new)
         (Hands W.appends (take used bytes.now) [] [])) result }
@@ -31,8 +37,8 @@ pub(crate) fn flush<W: Write>(sink: &mut W, bytes: &[u8; 64], used: usize) -> Re
 
 // Adds a byte, and returns how many bytes are then used.
 #[inline(always)]
-pub(crate) fn push(bytes: &mut [u8; 64], used: usize, byte: u8) -> usize
-    requires { used < 64 }
+pub(crate) fn push(bytes: &mut [u8; BUFFER_BYTES], used: usize, byte: u8) -> usize
+    requires { used < BUFFER_BYTES }
     ensures used { result ≡ used + 1 }
     ensures added { take result bytes.new ≡ take used bytes.old ++ byte ∷ [] }
 {
@@ -42,8 +48,8 @@ pub(crate) fn push(bytes: &mut [u8; 64], used: usize, byte: u8) -> usize
 
 // Adds bytes that fit, and returns how many are then used.
 #[inline(always)]
-pub(crate) fn push_run(bytes: &mut [u8; 64], used: usize, run: &[u8]) -> usize
-    requires room { used + length run.now ≤ 64 }
+pub(crate) fn push_run(bytes: &mut [u8; BUFFER_BYTES], used: usize, run: &[u8]) -> usize
+    requires room { used + length run.now ≤ BUFFER_BYTES }
     ensures used { result ≡ used + length run.now }
     ensures added { take result bytes.new ≡ take used bytes.old ++ run.now }
 {
@@ -55,10 +61,15 @@ pub(crate) fn push_run(bytes: &mut [u8; 64], used: usize, run: &[u8]) -> usize
 // Eight bytes are stored at once, however many these are, so a zero follows the tag of a zero word:
 // the count of a run of one word.
 #[inline(always)]
-pub(crate) fn push_word(bytes: &mut [u8; 64], used: usize, tag: u8, word: &[u8; 8]) -> usize
-    requires room { used ≤ 54 }
+pub(crate) fn push_word(
+    bytes: &mut [u8; BUFFER_BYTES],
+    used: usize,
+    tag: u8,
+    word: &[u8; 8],
+) -> usize
+    requires room { used ≤ MOST_USED }
     requires tag { tag ≡ tag_of word.now }
-    ensures room { result < 64 }
+    ensures room { result < BUFFER_BYTES }
     ensures used { result ≡ used + 1 + count_ones tag }
     ensures word { take result bytes.new ≡ take used bytes.old ++ tag ∷ nonzero word.now }
     ensures zero { tag ≡ 0 → take (result + 1) bytes.new ≡ take result bytes.new ++ 0 ∷ [] }

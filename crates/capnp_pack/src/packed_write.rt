@@ -11,11 +11,11 @@ ghost use Rattle.capnp_frame.specs.Writers.{WritesTo};
 ghost use Rattle.capnp_pack.specs.Calls.{HandsOn};
 ghost use Rattle.capnp_pack.specs.Group.{Group, group_encoding};
 ghost use Rattle.capnp_pack.specs.Packed.{IfFirst, Packs};
-ghost use Rattle.capnp_pack.specs.PackedWords.{PacksWords, PacksTo, HandsTo, RestAfter, GrantsTo};
+ghost use Rattle.capnp_pack.specs.PackedWords.{PacksWords, PacksFront, HandsTo, RestAfter, GrantsTo};
 ghost use Rattle.capnp_pack.specs.PackedSink.{AppendsPacked, LeavesPacked, DeclinesPacked};
 ghost use Rattle.capnp_pack.specs.Steps.{IsRun, IsZero, HasFewZeros, Hands, IsGroupOf, GroupAfter, LiteralAfter, tag_of};
 
-use crate::buffer::{flush, push, push_run, push_word};
+use crate::buffer::{BUFFER_BYTES, MOST_USED, flush, push, push_run, push_word};
 use crate::runs::{first_mark, literal_run, tag, zero_run};
 use crate::sizes::group_bytes;
 use capnp_frame::io::Write;
@@ -98,9 +98,6 @@ impl<'a, W: Write> Write for PackedWrite<'a, W> {
     } };
 }
 
-// The most bytes of the buffer that may be used where a group is added.
-const MOST_USED: usize = 54;
-
 // How many words are packed, and how many bytes of the buffer are then used.
 #[derive(Clone, Copy)]
 struct Packed {
@@ -118,7 +115,7 @@ fn pack<W: Write>(sink: &mut W, chunk: &[u8]) -> Result<()>
 {
     let (words, _) = chunk.as_chunks::<8>();
     let mut left = words;
-    let mut bytes = [0; 64];
+    let mut bytes = [0; BUFFER_BYTES];
     let mut used = 0;
     while left.len() > 0 {
         // Speed: what the buffer takes is no part of a `Result`, whose numbers are kept in halves.
@@ -139,15 +136,15 @@ fn pack<W: Write>(sink: &mut W, chunk: &[u8]) -> Result<()>
 #[inline(always)]
 fn pack_next<W: Write>(
     sink: &mut W,
-    bytes: &mut [u8; 64],
+    bytes: &mut [u8; BUFFER_BYTES],
     used: usize,
     words: &[[u8; 8]],
 ) -> Result<Packed>
-    requires used { used ≤ 64 }
+    requires used { used ≤ BUFFER_BYTES }
     requires some { 0 < length words.now }
-    requires literal { used ≤ 54 → IfFirst words.now (λ word. tag_of word ≡ 255) }
+    requires literal { used ≤ MOST_USED → IfFirst words.now (λ word. tag_of word ≡ 255) }
     ensures within { IfOk result (λ packed. packed.words ≤ length words.now) }
-    ensures used { IfOk result (λ packed. packed.used ≤ 64) }
+    ensures used { IfOk result (λ packed. packed.used ≤ BUFFER_BYTES) }
     // Some words are packed, or the buffer is handed on.
     ensures further { IfOk result (λ packed. packed.used < used + 65 * packed.words) }
     ensures hands { HandsOn W.Write sink.old sink.new (RestAfter (take used bytes.old) words.now)
@@ -169,16 +166,11 @@ fn pack_next<W: Write>(
 
 // Packs groups that fit the buffer, while it has room, up to a word that is stored as it is.
 #[inline(always)]
-fn pack_buffered(bytes: &mut [u8; 64], used: usize, words: &[[u8; 8]]) -> Packed
-    requires { used ≤ 64 }
-    ensures within { result.words ≤ length words.now }
-    ensures used { result.used ≤ 64 }
-    // A group has at most ten bytes.
-    ensures few { result.used ≤ used + 10 * result.words }
-    ensures packed { (text : List ℕ) × PacksTo words.now text (drop result.words words.now)
-        × (take result.used bytes.new ≡ take used bytes.old ++ text) }
+fn pack_buffered(bytes: &mut [u8; BUFFER_BYTES], used: usize, words: &[[u8; 8]]) -> Packed
+    requires { used ≤ BUFFER_BYTES }
+    ensures packs { PacksFront words.now bytes.old used bytes.new result.words result.used }
     // Where room is left, the next word is stored as it is.
-    ensures literal { result.used ≤ 54 →
+    ensures literal { result.used ≤ MOST_USED →
         IfFirst (drop result.words words.now) (λ word. tag_of word ≡ 255) }
 {
     let packed = pack_stretch(bytes, used, words);
@@ -200,14 +192,10 @@ fn pack_buffered(bytes: &mut [u8; 64], used: usize, words: &[[u8; 8]]) -> Packed
 // Packs such groups, except for the last word.
 // Speed: one test tells that a word is left and that another follows (workloads `convert`, `log`).
 #[inline(always)]
-fn pack_stretch(bytes: &mut [u8; 64], used: usize, words: &[[u8; 8]]) -> Packed
-    requires { used ≤ 64 }
-    ensures within { result.words ≤ length words.now }
-    ensures used { result.used ≤ 64 }
-    ensures few { result.used ≤ used + 10 * result.words }
-    ensures packed { (text : List ℕ) × PacksTo words.now text (drop result.words words.now)
-        × (take result.used bytes.new ≡ take used bytes.old ++ text) }
-    ensures literal { result.used ≤ 54 → result.words + 1 ≢ length words.now →
+fn pack_stretch(bytes: &mut [u8; BUFFER_BYTES], used: usize, words: &[[u8; 8]]) -> Packed
+    requires { used ≤ BUFFER_BYTES }
+    ensures packs { PacksFront words.now bytes.old used bytes.new result.words result.used }
+    ensures literal { result.used ≤ MOST_USED → result.words + 1 ≢ length words.now →
         IfFirst (drop result.words words.now) (λ word. tag_of word ≡ 255) }
 {
     let mut count = 0;
@@ -240,14 +228,14 @@ fn pack_stretch(bytes: &mut [u8; 64], used: usize, words: &[[u8; 8]]) -> Packed
 #[inline(always)]
 fn pack_literal<W: Write>(
     sink: &mut W,
-    bytes: &mut [u8; 64],
+    bytes: &mut [u8; BUFFER_BYTES],
     used: usize,
     word: &[u8; 8],
     others: &[[u8; 8]],
 ) -> Result<Packed>
-    requires room { used ≤ 54 }
+    requires room { used ≤ MOST_USED }
     requires full { tag_of word.now ≡ 255 }
-    ensures used { IfOk result (λ packed. packed.used ≤ 64) }
+    ensures used { IfOk result (λ packed. packed.used ≤ BUFFER_BYTES) }
     ensures hands { HandsOn W.Write sink.old sink.new
         (GroupAfter (take used bytes.old) word.now others.now) (λ packed. (further : ℕ)
         × (packed.words ≡ 1 + further) × (group : Group) × IsGroupOf word.now others.now further group
@@ -272,14 +260,14 @@ fn pack_literal<W: Write>(
 #[inline(always)]
 fn pack_run<W: Write>(
     sink: &mut W,
-    bytes: &mut [u8; 64],
+    bytes: &mut [u8; BUFFER_BYTES],
     end: usize,
     words: usize,
     others: &[[u8; 8]],
 ) -> Result<usize>
-    requires room { end < 64 }
+    requires room { end < BUFFER_BYTES }
     requires run { IsRun HasFewZeros others.now words }
-    ensures used { IfOk result (λ used. used ≤ 64) }
+    ensures used { IfOk result (λ used. used ≤ BUFFER_BYTES) }
     ensures hands { HandsOn W.Write sink.old sink.new
         (LiteralAfter (take end bytes.old) others.now) (λ used.
         IfKnown (W.written sink.old) (W.written sink.new) (Hands W.appends (take end bytes.old)

@@ -1,115 +1,68 @@
 //! Packed messages, read by the readers of `capnp_frame` over `PackedRead`.
-ghost use Rattle.capnp_frame.specs.Streams.{ReadsStream};
+ghost use Rattle.std.specs.Prelude.{length};
+ghost use Rattle.capnp_frame.specs.Streams.{next_in, ReadsStream, ReadsStreamInto};
+ghost use Rattle.capnp_frame.specs.FramedInto.{ReadsFramedInto};
 ghost use Rattle.capnp_pack.specs.PackedStreams.{packed_rules, packed_reusing_rules};
 
-mod framed;
-mod provided;
 mod skipping;
 
 use crate::packed_read::PackedRead;
 use capnp_frame::Result;
 use capnp_frame::io::BufRead;
-use capnp_frame::message::ReaderOptions;
 use capnp_frame::serialize::{
-    OwnedSegments, Padding, try_read_segments_reusing_with_padding, try_read_segments_with_padding,
+    NoAllocBufferSegments, NoAllocSegmentTableInfo, OwnedSegments, TableRules,
+    try_read_framed_into, try_read_segments_into_with_rules, try_read_segments_reusing,
 };
-pub use framed::try_read_packed_framed_into;
-pub use provided::{
-    try_read_packed_segments_into, try_read_packed_segments_into_lenient,
-    try_read_packed_segments_into_with_padding,
-};
-pub use skipping::{
-    try_skip_packed_segments, try_skip_packed_segments_lenient,
-    try_skip_packed_segments_with_padding,
-};
-use std::alloc::Global;
+pub use skipping::try_skip_packed_segments;
 
 /// Reads the next packed message of a source, or returns `None` where nothing is unread.
 ///
-/// Only the message's packed bytes are consumed, however the source cuts them. Memory is taken as
-/// by `try_read_segments`, and it fails as that does over the packed source, whose errors are those
-/// of `PackedRead`.
+/// Only the message's packed bytes are consumed, however the source cuts them. The segments are put
+/// into the memory of an earlier message, which grows as by `try_read_segments_reusing`, and it
+/// fails as that does over the packed source, whose errors are those of `PackedRead`.
 pub fn try_read_packed_segments<R: BufRead>(
-    alloc: Global,
     source: &mut R,
-    options: ReaderOptions,
+    rules: TableRules,
+    spare: OwnedSegments,
 ) -> Result<Option<OwnedSegments>>
-    ensures { ReadsStream R.Read source.old source.new (packed_rules Padding.Zero)
-        options.traversal_limit_in_words result }
-{
-    try_read_packed_segments_with_padding(alloc, source, Padding::Zero, options)
-}
-
-/// Reads the next packed message as `try_read_packed_segments` does, but accepts any padding in the
-/// segment table.
-pub fn try_read_packed_segments_lenient<R: BufRead>(
-    alloc: Global,
-    source: &mut R,
-    options: ReaderOptions,
-) -> Result<Option<OwnedSegments>>
-    ensures { ReadsStream R.Read source.old source.new (packed_rules Padding.Any)
-        options.traversal_limit_in_words result }
-{
-    try_read_packed_segments_with_padding(alloc, source, Padding::Any, options)
-}
-
-/// Reads the next packed message as `try_read_packed_segments` does, by this rule of padding.
-///
-/// Fails as that does: with `NonZeroPadding` where `padding` is `Padding::Zero` and the padding
-/// isn't zero, and never where it is `Padding::Any`.
-pub fn try_read_packed_segments_with_padding<R: BufRead>(
-    alloc: Global,
-    source: &mut R,
-    padding: Padding,
-    options: ReaderOptions,
-) -> Result<Option<OwnedSegments>>
-    ensures { ReadsStream R.Read source.old source.new (packed_rules padding)
-        options.traversal_limit_in_words result }
+    ensures { ReadsStream R.Read source.old source.new (packed_reusing_rules rules.padding spare)
+        rules.limit_in_words result }
 {
     let mut packed = PackedRead::new(source);
-    try_read_segments_with_padding(alloc, &mut packed, padding, options)
+    try_read_segments_reusing(&mut packed, rules, spare)
 }
 
-/// Reads the next packed message as `try_read_packed_segments` does, into the memory of an earlier
-/// message, which grows where it is too small.
+/// Reads the next packed message of a source into a caller-provided buffer, or returns `None` where
+/// nothing is unread.
 ///
-/// It fails with `OutOfMemory` only for more bytes than the segments of `spare` have, or for more
-/// segments than one and than `spare` has, and else as `try_read_packed_segments` does.
-pub fn try_read_packed_segments_reusing<R: BufRead>(
+/// No memory is taken. Fails as `try_read_segments_into_with_rules` does over the packed source,
+/// whose errors are those of `PackedRead`: with `BufferNotLargeEnough` where table and segments
+/// don't fit the buffer.
+pub fn try_read_packed_segments_into<'b, R: BufRead>(
     source: &mut R,
-    options: ReaderOptions,
-    spare: OwnedSegments,
-) -> Result<Option<OwnedSegments>>
-    ensures { ReadsStream R.Read source.old source.new (packed_reusing_rules Padding.Zero spare)
-        options.traversal_limit_in_words result }
-{
-    try_read_packed_segments_reusing_with_padding(source, Padding::Zero, options, spare)
-}
-
-/// Reads the next packed message as `try_read_packed_segments_reusing` does, but accepts any
-/// padding in the segment table.
-pub fn try_read_packed_segments_reusing_lenient<R: BufRead>(
-    source: &mut R,
-    options: ReaderOptions,
-    spare: OwnedSegments,
-) -> Result<Option<OwnedSegments>>
-    ensures { ReadsStream R.Read source.old source.new (packed_reusing_rules Padding.Any spare)
-        options.traversal_limit_in_words result }
-{
-    try_read_packed_segments_reusing_with_padding(source, Padding::Any, options, spare)
-}
-
-/// Reads the next packed message as `try_read_packed_segments_with_padding` does, into the memory
-/// of an earlier message, which grows where it is too small. Fails as that does.
-pub fn try_read_packed_segments_reusing_with_padding<R: BufRead>(
-    source: &mut R,
-    padding: Padding,
-    options: ReaderOptions,
-    spare: OwnedSegments,
-) -> Result<Option<OwnedSegments>>
-    ensures { ReadsStream R.Read source.old source.new (packed_reusing_rules padding spare)
-        options.traversal_limit_in_words result }
+    rules: TableRules,
+    buffer: &'b mut [u8],
+) -> Result<Option<NoAllocBufferSegments<&'b [u8]>>>
+    ensures { ReadsStreamInto R.Read source.old source.new (packed_rules rules.padding)
+        rules.limit_in_words (length buffer.old) (next_in (λ message. message.segments) result) }
 {
     let mut packed = PackedRead::new(source);
-    try_read_segments_reusing_with_padding(&mut packed, padding, options, spare)
+    try_read_segments_into_with_rules(&mut packed, rules, buffer)
+}
+
+/// Reads the next packed message of a source into a caller-provided buffer, which then begins with
+/// the framed encoding that a writer writes, and returns what its table says, or `None` where
+/// nothing is unread.
+///
+/// No memory is taken. It fails as `try_read_packed_segments_into` does.
+pub fn try_read_packed_framed_into<R: BufRead>(
+    source: &mut R,
+    rules: TableRules,
+    buffer: &mut [u8],
+) -> Result<Option<NoAllocSegmentTableInfo>>
+    ensures { ReadsFramedInto R.Read source.old source.new (packed_rules rules.padding)
+        rules.limit_in_words buffer.old buffer.new result }
+{
+    let mut packed = PackedRead::new(source);
+    try_read_framed_into(&mut packed, rules, buffer)
 }

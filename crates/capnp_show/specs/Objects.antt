@@ -3,7 +3,7 @@ use Rattle.std.specs.Prelude.{◌≡◌, ℕ, ◌+◌, ◌-◌, ◌^◌, ◌<◌
 use Rattle.capnp.specs.Passed.{ErrorKind}
 use Rattle.capnp_layout.specs.Object.{message_of, word_at, Lands, Target, IsStart, ShapeStands}
 use Rattle.capnp_layout.specs.PointerWord.{IsFarPointer}
-use Rattle.capnp_layout.specs.Landing.{shape_of, traversed_of}
+use Rattle.capnp_layout.specs.Body.{shape_of, traversed_of}
 use Rattle.capnp_layout.specs.Faults.{Fault}
 use Rattle.capnp_layout.specs.declared.place.Place.{Place}
 use Rattle.capnp_layout.specs.declared.pointer.FarPointer.{FarPointer}

@@ -12,7 +12,7 @@ ghost use Rattle.capnp_show.specs.Texts.{counted};
 use crate::drawn::{ROW_WORDS, colour_of};
 use crate::numbers::push_counted;
 use crate::owners::{Owners, Word};
-use capnp_layout::place::Place;
+use capnp::layout::Place;
 use std::alloc::{AllocError, Global};
 use std::fmt::Write;
 

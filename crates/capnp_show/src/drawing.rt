@@ -11,8 +11,8 @@ use crate::shown::write_full;
 use crate::tree::{Found, Node, Walk};
 use capnp::Result;
 use capnp::io::Write;
+use capnp::layout::Place;
 use capnp::message::{ReaderOptions, ReaderSegments};
-use capnp_layout::place::Place;
 use std::alloc::Global;
 
 // The most words of a message that is drawn.

@@ -7,7 +7,7 @@ use crate::numbers::{push_counted, push_hexadecimal};
 use crate::objects::moved;
 use crate::owners::{Lead, Owner, Owners, Role, Word};
 use crate::refusals::push_refusal;
-use capnp_layout::place::Place;
+use capnp::layout::Place;
 use std::alloc::AllocError;
 
 /// The number of words in a row.

@@ -9,11 +9,8 @@ use crate::objects::{Object, bytes_of, words_of_landing_pad};
 use crate::refusals::{push_refusal, sentence};
 use crate::text::{push_escaped, push_quoted, text_in};
 use crate::tree::{Found, Label, Node};
+use capnp::layout::{Body, ElementSize, Place, StructSize};
 use capnp::message::ReaderSegments;
-use capnp_layout::element_size::ElementSize;
-use capnp_layout::object::Body;
-use capnp_layout::place::Place;
-use capnp_layout::pointer::StructSize;
 use std::alloc::AllocError;
 use std::fmt::Write;
 

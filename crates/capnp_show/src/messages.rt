@@ -1,14 +1,13 @@
 //! The messages of an input, shown one by one.
-ghost use Rattle.std.specs.Prelude.{◌≡◌, ◌-◌, ◌^◌, None, IfOk, IfErr, IfSome, OnOk, OnErr, length, min, take};
+ghost use Rattle.std.specs.Prelude.{◌≡◌, ◌-◌, ◌^◌, None, IfErr, OnOk, OnErr, length, min, take};
 ghost use Rattle.std.specs.List.{AllByRecursion};
 ghost use Rattle.capnp_frame.specs.Limits.{IsWithin};
 ghost use Rattle.capnp_frame.specs.Message.{IsWholeWords, size_in_words};
 ghost use Rattle.capnp_frame.specs.Sink.{Adds};
 ghost use Rattle.capnp_frame.specs.Source.{IfKnown, Fails};
-ghost use Rattle.capnp_frame.specs.Streams.{ReadsStream, next_in};
-ghost use Rattle.capnp.specs.Passed.{ErrorKind, Padding, Zero};
+ghost use Rattle.capnp.specs.Headline.{by_format, ReadsMessage};
+ghost use Rattle.capnp.specs.Passed.{ErrorKind, Zero};
 ghost use Rattle.capnp.specs.Runs.{DecliningWriting, IsWritingFault};
-ghost use Rattle.capnp.specs.Streams.{rules_of};
 ghost use Rattle.capnp.specs.Transcoding.{Transcodes, DeclinesTranscoded};
 ghost use Rattle.capnp_show.specs.Shown.{Lists};
 
@@ -20,9 +19,9 @@ use crate::settings::Form;
 use crate::shown::{Showing, show_count, show_message};
 use capnp::io::{BufRead, Write};
 use capnp::message::{Reader, ReaderOptions, ReaderSegments};
-use capnp::serialize::{OwnedSegments, SEGMENTS_COUNT_LIMIT};
-use capnp::streams::{Format, MessageWriter};
-use capnp::{Result, Way, serialize, serialize_packed};
+use capnp::serialize::{OwnedSegments, Padding, SEGMENTS_COUNT_LIMIT};
+use capnp::streams::{self, Format, MessageWriter};
+use capnp::{Result, Way};
 use std::alloc::Global;
 
 /// Shows the messages of a source, each as soon as it is read, or writes them in the other format.
@@ -41,7 +40,7 @@ pub fn show_messages<R: BufRead + Drop, W: Write>(
     let mut count = 0;
     for index in 0..showing.settings.first {
         let offset = source.taken();
-        match next_message(alloc, showing.format, source, showing.settings.limits) {
+        match next_message(alloc, source, showing.format, showing.settings.limits) {
             Ok(None) => break,
             Ok(Some(message)) => {
                 let taken = source.taken();
@@ -127,21 +126,16 @@ fn say_progress(
     Ok(())
 }
 
-/// Reads the next message of a stream of this format.
+/// Reads the next message of a stream of this format, of zero padding.
 fn next_message<R: BufRead>(
     alloc: Global,
-    format: Format,
     source: &mut R,
+    format: Format,
     options: ReaderOptions,
 ) -> Result<Option<Reader<OwnedSegments>>>
-    ensures reads { ReadsStream R.Read source.old source.new (rules_of Padding.Zero format)
-        options.traversal_limit_in_words (next_in (λ reader. reader.segments) result) }
-    ensures options { IfOk result (λ found. IfSome found (λ reader. reader.options ≡ options)) }
+    ensures { ReadsMessage R.Read source.old source.new (by_format Zero format) options result }
 {
-    match format {
-        Format::Framed => serialize::try_read_message(alloc, source, options),
-        Format::Packed => serialize_packed::try_read_message(alloc, source, options),
-    }
+    streams::next_message(alloc, source, format, Padding::Zero, options)
 }
 
 // What is listed for a message.

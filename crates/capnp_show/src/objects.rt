@@ -3,19 +3,17 @@
 //! Nothing is followed except the landing pads of far pointers, so each result takes a few steps,
 //! whatever the words are.
 ghost use Rattle.std.specs.Prelude.{◌≡◌, ◌<◌, ◌+◌, ◌*◌, ℕ, List, Some, length, slice_get, slice_range, IfOk, IfErr, MatchOption};
-ghost use Rattle.capnp_layout.specs.Landing.{room_of};
+ghost use Rattle.capnp_layout.specs.Body.{room_of};
 ghost use Rattle.capnp_layout.specs.Object.{message_of, word_at};
 ghost use Rattle.capnp_layout.specs.Pointer.{words_of};
 ghost use Rattle.capnp_layout.specs.declared.pointer.FarPointer.{FarPointer};
 ghost use Rattle.capnp_show.specs.Objects.{counted, further, landing_pad_words, IsFarIn, IsObject, IsRefused};
 
+use capnp::layout::{
+    Body, ElementSize, FarPointer, Place, PointerWord, body_at, resolve, segment, word,
+};
 use capnp::message::ReaderSegments;
 use capnp::{Error, ErrorKind, Result};
-use capnp_layout::element_size::ElementSize;
-use capnp_layout::landing_pad::resolve;
-use capnp_layout::object::{Body, body_at};
-use capnp_layout::place::{Place, segment, word};
-use capnp_layout::pointer::{FarPointer, PointerWord};
 
 /// What a pointer leads to.
 #[derive(Clone, Copy)]

@@ -6,11 +6,9 @@ ghost use Rattle.capnp_show.specs.Words.{IsDrawnAsPointer, IsRole, IsRoleInEleme
 use crate::objects::{Object, moved, words_of_landing_pad};
 use crate::tree::{Found, Label, Node, Walk};
 use capnp::ErrorKind;
+use capnp::layout::{Body, Elements, Place};
 use capnp::message::{ReaderOptions, ReaderSegments};
 use capnp::serialize::SEGMENTS_COUNT_LIMIT;
-use capnp_layout::object::Body;
-use capnp_layout::place::Place;
-use capnp_layout::pointer::Elements;
 use std::alloc::{AllocError, Global};
 
 /// How many nodes of a message are followed at most.

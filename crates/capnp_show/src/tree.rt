@@ -9,10 +9,8 @@ ghost use Rattle.capnp_show.specs.Rows.{row_after, pointers_row, IsSpent, IsNode
 
 use crate::objects::{Object, moved, object_at};
 use capnp::ErrorKind;
+use capnp::layout::{Body, Place, StructSize};
 use capnp::message::{ReaderOptions, ReaderSegments};
-use capnp_layout::object::Body;
-use capnp_layout::place::Place;
-use capnp_layout::pointer::StructSize;
 use std::alloc::{AllocError, Global};
 
 /// Which place in its parent a node has.

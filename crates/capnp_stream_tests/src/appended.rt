@@ -3,12 +3,11 @@ use crate::assertions::{At, assert_bytes, assert_calls, assert_count, assert_hol
 use crate::faults::FORMATS;
 use crate::framed_rows::{FLATTEN, THREE};
 use crate::packed_rows::PACKED_THREE;
-use crate::streams::with_limit;
-use capnp::appended::{ReadBack, read_messages, write_and_read_back, write_messages};
+use crate::readers::with_limit;
 use capnp::message::Reader;
-use capnp::streams::Format;
+use capnp::streams::{Format, read_messages, write_messages};
 use capnp_frame::io::Write;
-use capnp_frame::message::{DEFAULT_READER_OPTIONS, ReaderOptions, SegmentArray};
+use capnp_frame::message::SegmentArray;
 use capnp_frame::serialize::{OwnedSegments, is_writable};
 use capnp_frame::{ErrorKind, Result};
 use capnp_frame_tests::limits::{DEFAULT_LIMIT, NO_LIMIT};
@@ -51,7 +50,7 @@ fn write_three<W: Write>(
     assert!(rt;
         is_writable(&messages[0]) && is_writable(&messages[1]) && is_writable(&messages[2])
     );
-    write_messages(rt.alloc(), format, sink, &messages)
+    write_messages(rt.alloc(), sink, format, &messages)
 }
 
 // Reads as many messages of what is unread of the three encodings.
@@ -62,13 +61,8 @@ fn read(
     count: usize,
     limit: Option<usize>,
 ) -> Result<Vec<Reader<OwnedSegments>>> {
-    read_messages(rt.alloc(), format, source, count, with_limit(limit))
+    read_messages(rt.alloc(), source, format, count, with_limit(limit))
 }
-
-const NO_LIMIT_OF_WORDS: ReaderOptions = ReaderOptions {
-    traversal_limit_in_words: None,
-    nesting_limit: 64,
-};
 
 /// Writes two messages and reads them back, under no limit of words.
 pub fn read_back(
@@ -76,10 +70,15 @@ pub fn read_back(
     format: Format,
     first: &[&[u8]],
     second: &[&[u8]],
-) -> Result<ReadBack> {
+) -> Result<Vec<Reader<OwnedSegments>>> {
     let messages = [SegmentArray::new(first), SegmentArray::new(second)];
     assert!(rt; is_writable(&messages[0]) && is_writable(&messages[1]));
-    write_and_read_back(rt.alloc(), format, &messages, NO_LIMIT_OF_WORDS)
+    let mut text: Vec<u8> = Vec::new(rt.alloc());
+    write_messages(rt.alloc(), &mut text, format, &messages)?;
+    let mut source = text.as_slice();
+    let readers = read(rt, format, &mut source, 2, NO_LIMIT)?;
+    assert!(rt; source.is_empty());
+    Ok(readers)
 }
 
 /// Whether these are the messages.
@@ -96,7 +95,6 @@ pub fn are_read(readers: &[Reader<OwnedSegments>], messages: &[&[&[u8]]]) -> boo
 fn texts_after_one_another(rt: HostRuntime) -> Result<()> {
     for format in &FORMATS {
         retried!(write_and_read(&rt, *format))?;
-        retried!(write_two(&rt, *format))?;
         retried!(write_none(&rt, *format))?;
     }
     Ok(())
@@ -116,30 +114,12 @@ fn write_and_read(rt: &(impl Abort + AllocGlobal), format: Format) -> Result<()>
     Ok(())
 }
 
-fn write_two(rt: &(impl Abort + AllocGlobal), format: Format) -> Result<()> {
-    let at = name_of(format);
-    let messages = [SegmentArray::new(FLATTEN), SegmentArray::new(TWO)];
-    assert!(rt; is_writable(&messages[0]) && is_writable(&messages[1]));
-    let done = write_and_read_back(rt.alloc(), format, &messages, DEFAULT_READER_OPTIONS)?;
-    assert_holds(
-        rt,
-        !done.text.is_empty() && text_of(format).starts_with(&done.text),
-        at,
-    );
-    assert_holds(
-        rt,
-        are_read(&done.readers, &[FLATTEN, TWO]) && done.end.is_none(),
-        at,
-    );
-    Ok(())
-}
-
 // No messages have an empty encoding, and none are read.
 fn write_none(rt: &(impl Abort + AllocGlobal), format: Format) -> Result<()> {
     let at = name_of(format);
     let none: [SegmentArray<'_>; 0] = [];
     let mut sink: Vec<u8> = Vec::new(rt.alloc());
-    write_messages(rt.alloc(), format, &mut sink, &none)?;
+    write_messages(rt.alloc(), &mut sink, format, &none)?;
     let mut source = text_of(format);
     let read = read(rt, format, &mut source, 0, DEFAULT_LIMIT)?;
     assert_holds(rt, sink.is_empty() && read.is_empty(), at);

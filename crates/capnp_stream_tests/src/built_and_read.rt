@@ -2,16 +2,13 @@
 use crate::assertions::{At, assert_bytes, assert_count, assert_kind};
 use crate::built_messages::{size_of, words_of, write};
 use crate::faults::FORMATS;
-use crate::packed;
 use capnp::any_struct::{self, StructBuilder, StructReader};
 use capnp::message::{
     AllocationStrategy, Builder, DEFAULT_READER_OPTIONS, HeapAllocator, ReaderSegments,
     TypedBuilder, TypedReader,
 };
-use capnp::roots::{set_and_read_back, write_and_read_back};
-use capnp::streams::Format;
-use capnp::{primitive_list, serialize, text};
-use capnp_frame::serialize::Padding;
+use capnp::streams::{Format, read_messages};
+use capnp::{primitive_list, serialize, serialize_packed, text};
 use capnp_frame::{ErrorKind, Result};
 use capnp_frame_tests::refusals::kind_of;
 use capnp_frame_tests::retried;
@@ -62,7 +59,7 @@ fn build_struct(rt: &(impl Abort + AllocGlobal)) -> Result<()> {
 fn read_struct(rt: &(impl Abort + AllocGlobal)) -> Result<()> {
     let mut source = PACKED_WORDS.as_slice();
     let options = DEFAULT_READER_OPTIONS;
-    let reader = packed::needed_message(rt.alloc(), Padding::Zero, &mut source, options)?;
+    let reader = serialize_packed::read_message(rt.alloc(), &mut source, options)?;
     let typed: TypedReader<serialize::OwnedSegments, any_struct::Owned> = TypedReader::new(reader);
     let fields: StructReader<'_, serialize::OwnedSegments> = typed.get()?;
     assert!(rt; fields.get_word(0) == 10 && fields.get_word(1) == 20);
@@ -89,20 +86,23 @@ fn build_many(alloc: Global, texts: usize) -> Result<Builder<HeapAllocator>> {
     Ok(message)
 }
 
-// Whether a message is read back, or the error.
+// Writes a message, and reads it back.
 fn read_back(
     rt: &(impl Abort + AllocGlobal),
     format: Format,
     message: &Builder<HeapAllocator>,
-) -> Result<Option<ErrorKind>> {
-    assert!(rt; !message.is_empty());
-    kind_of(write_and_read_back(rt.alloc(), format, message, DEFAULT_READER_OPTIONS))
+) -> Result<()> {
+    let mut stream: Vec<u8> = Vec::new(rt.alloc());
+    write(rt, format, &mut stream, message)?;
+    let mut source = stream.as_slice();
+    read_messages(rt.alloc(), &mut source, format, 1, DEFAULT_READER_OPTIONS)?;
+    Ok(())
 }
 
 fn write_many(rt: &(impl Abort + AllocGlobal)) -> Result<()> {
     let at = At::row("511 segments");
     let message = build_many(rt.alloc(), 510)?;
-    assert_kind(rt, read_back(rt, Format::Packed, &message)?, None, at);
+    read_back(rt, Format::Packed, &message)?;
     let mut sink: Vec<u8> = Vec::new(rt.alloc());
     write(rt, Format::Framed, &mut sink, &message)?;
     assert_count(rt, sink.len(), 2048 + 8 * (1 + 510 * 3), at);
@@ -114,7 +114,8 @@ fn refuse_more(rt: &(impl Abort + AllocGlobal)) -> Result<()> {
     let refused = Some(ErrorKind::InvalidNumberOfSegments(512));
     let message = build_many(rt.alloc(), 511)?;
     assert_count(rt, size_of(rt, &message)?, 257 + 1 + 511 * 3, at);
-    assert_kind(rt, read_back(rt, Format::Framed, &message)?, refused, at);
+    let returned = kind_of(read_back(rt, Format::Framed, &message))?;
+    assert_kind(rt, returned, refused, at);
     assert_kind(rt, kind_of(words_of(rt, &message))?, refused, at);
     for format in &FORMATS {
         let mut sink = [9].to_vec(rt.alloc())?;
@@ -122,31 +123,5 @@ fn refuse_more(rt: &(impl Abort + AllocGlobal)) -> Result<()> {
         assert_kind(rt, returned, refused, at);
         assert_bytes(rt, sink.as_slice(), &[9], at);
     }
-    Ok(())
-}
-
-#[test]
-fn a_text_that_is_read_back(rt: HostRuntime) -> Result<()> {
-    for format in &FORMATS {
-        retried!(set_and_read(&rt, *format))?;
-    }
-    Ok(())
-}
-
-fn set_and_read(rt: &(impl Abort + AllocGlobal), format: Format) -> Result<()> {
-    let mut message = Builder::new_default(rt.alloc());
-    let reader = set_and_read_back::<text::Owned, &str, HeapAllocator>(
-        rt.alloc(),
-        format,
-        &mut message,
-        "hello",
-        DEFAULT_READER_OPTIONS,
-    )?;
-    let root: text::Reader = reader.get_root()?;
-    assert!(rt; root.as_bytes() == b"hello".as_slice());
-    assert!(rt; reader.get_segments().get_segment(1).is_none());
-    assert!(rt; !message.is_empty());
-    let again = write_and_read_back(rt.alloc(), format, &message, DEFAULT_READER_OPTIONS)?;
-    assert!(rt; again.get_segments().get_segment(1).is_none());
     Ok(())
 }

@@ -1,7 +1,7 @@
 //! Assertions that tell the call at which they fail, beside the row.
 use crate::assertions::At;
 use crate::flat::Form;
-use crate::streams::Call;
+use crate::readers::Call;
 use capnp_frame::serialize::Padding;
 use std::process::Abort;
 

@@ -1,12 +1,11 @@
 //! Canonical forms as they are written.
 use crate::assertions::{At, assert_bytes, assert_count, assert_kind};
-use crate::packed;
 use crate::roots::assert_text;
 use capnp::message::{DEFAULT_READER_OPTIONS, Reader, SegmentArray};
 use capnp::serialize::write_canonical_message;
+use capnp::serialize_packed;
 use capnp_frame::io::Write;
 use capnp_frame::message::ReaderSegments;
-use capnp_frame::serialize::Padding;
 use capnp_frame::{ErrorKind, Result};
 use capnp_frame_tests::refusals::kind_of;
 use capnp_frame_tests::retried;
@@ -88,7 +87,7 @@ fn write_packed(rt: &(impl Abort + AllocGlobal)) -> Result<()> {
     let at = At::row("a form of a packed message");
     let mut source = PACKED_HELLO;
     let options = DEFAULT_READER_OPTIONS;
-    let reader = packed::needed_message(rt.alloc(), Padding::Zero, &mut source, options)?;
+    let reader = serialize_packed::read_message(rt.alloc(), &mut source, options)?;
     assert_text(rt, &reader, b"Hello, World!")?;
     let mut sink: Vec<u8> = Vec::new(rt.alloc());
     assert_kind(rt, write(rt, &mut sink, &reader)?, None, at);

@@ -139,10 +139,7 @@ fn joined(alloc: Global, texts: &[&[u8]]) -> Result<Vec<u8>> {
 
 // A row, and 1 where any padding is accepted.
 fn at(row: &Row, padding: Padding) -> At<'static> {
-    match padding {
-        Padding::Zero => At::new(row.name, 0),
-        Padding::Any => At::new(row.name, 1),
-    }
+    At::new(row.name, u64::from(padding == Padding::Any))
 }
 
 // A stop for want of memory is handed back.
@@ -165,12 +162,12 @@ fn write_each(
     let mut sink: Vec<u8> = Vec::new(rt.alloc());
     let stop = stop_of(write_each_message(
         rt.alloc(),
+        &mut source,
+        &mut sink,
         row.way.input(),
         padding,
         DEFAULT_READER_OPTIONS,
         &row.way,
-        &mut source,
-        &mut sink,
     ))?;
     let at = at(row, padding);
     assert!(rt; stop == ended.stop, "{stop:?} at {}, {}", at.row, at.number);
@@ -188,9 +185,10 @@ fn transcode_row(
     let input = joined(rt.alloc(), &row.texts)?;
     let mut source = input.as_slice();
     let mut sink: Vec<u8> = Vec::new(rt.alloc());
-    let returned = match padding {
-        Padding::Zero => transcoded(rt, row.way, &mut source, &mut sink)?,
-        Padding::Any => transcoded_leniently(rt, row.way, &mut source, &mut sink)?,
+    let returned = if padding == Padding::Any {
+        transcoded_leniently(rt, row.way, &mut source, &mut sink)?
+    } else {
+        transcoded(rt, row.way, &mut source, &mut sink)?
     };
     let at = at(row, padding);
     let wanted = match ended.stop {

@@ -2,13 +2,13 @@
 use crate::assertions::{At, assert_bytes, assert_calls, assert_holds, assert_refused};
 use crate::calls_declared::assert_call;
 use crate::flat::RULES;
-use crate::framed;
+use crate::readers::{Call, READERS, is_returned};
 use crate::samples::{SAMPLES, Sample, TWO_SEGMENTS};
-use crate::streams::{Call, READERS, Wanted, is_returned};
+use crate::streams::Wanted;
 use capnp::streams::Format;
 use capnp_frame::io::Read;
 use capnp_frame::message::DEFAULT_READER_OPTIONS;
-use capnp_frame::serialize::Padding;
+use capnp_frame::serialize::{Padding, try_read_segments};
 use capnp_frame::{ErrorKind, Result};
 use capnp_frame_tests::limits::DEFAULT_LIMIT;
 use capnp_frame_tests::retried;
@@ -116,7 +116,7 @@ fn no_read_is_made_in_vain(rt: HostRuntime) -> Result<()> {
 fn count_reads(rt: &(impl Abort + AllocGlobal), most: usize, reads: u64) -> Result<()> {
     let mut source = Faulty::new(Trickle::new(TWO_SEGMENTS.framed, most), 0);
     let options = DEFAULT_READER_OPTIONS;
-    let _ = framed::next_segments(rt.alloc(), Padding::Zero, &mut source, options)?;
+    let _ = try_read_segments(rt.alloc(), &mut source, options)?;
     assert_calls(
         rt,
         source.calls,

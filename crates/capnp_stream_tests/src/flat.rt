@@ -1,15 +1,19 @@
 //! Messages in a slice, by each call that finds them there.
 use crate::assertions::At;
 use crate::calls_declared::{assert_form, assert_left};
-use crate::flat_calls::{
-    hold, hold_without_memory, take, take_message, take_message_without_memory, take_without_memory,
-};
 use crate::flat_rows::{FLAT_ROWS, FlatResult, FlatRow};
 use crate::packed_rows::NO_WORDS;
-use crate::streams::with_limit;
+use crate::readers::with_limit;
 use capnp::message::Reader;
+use capnp::serialize::{
+    read_message_from_flat_slice, read_message_from_flat_slice_lenient,
+    read_message_from_flat_slice_no_alloc, read_message_from_flat_slice_no_alloc_lenient,
+};
 use capnp_frame::message::{ReaderOptions, ReaderSegments};
-use capnp_frame::serialize::Padding;
+use capnp_frame::serialize::{
+    BufferSegments, NoAllocBufferSegments, NoAllocSliceSegments, Padding, TableRules,
+    take_segments, take_segments_lenient,
+};
 use capnp_frame::{ErrorKind, Result};
 use capnp_frame_tests::limits::{DEFAULT_LIMIT, NO_LIMIT};
 use capnp_frame_tests::messages::has_segments;
@@ -93,25 +97,65 @@ pub fn find(
 ) -> Result<(bool, usize)> {
     let alloc = rt.alloc();
     let mut slice = bytes;
-    let returned = match form {
-        Form::Take => is_wanted(take(alloc, rule, &mut slice, options), wanted)?,
-        Form::New => is_wanted(hold(alloc, rule, bytes, options), wanted)?,
-        Form::NewOfVector => {
+    let rules = TableRules::new(rule, options);
+    let returned = match (form, rule) {
+        (Form::Take, Padding::Zero) => is_wanted(
+            take_segments(alloc, &mut slice, options),
+            wanted,
+        )?,
+        (Form::Take, Padding::Any) => is_wanted(
+            take_segments_lenient(alloc, &mut slice, options),
+            wanted,
+        )?,
+        (Form::New, Padding::Zero) => is_wanted(
+            BufferSegments::new(alloc, bytes, options),
+            wanted,
+        )?,
+        (Form::New, Padding::Any) => is_wanted(
+            BufferSegments::new_lenient(alloc, bytes, options),
+            wanted,
+        )?,
+        (Form::NewOfVector, _) => {
             let vector = bytes.to_vec(alloc)?;
-            is_wanted(hold(alloc, rule, vector, options), wanted)?
+            is_wanted(BufferSegments::with_rules(alloc, vector, rules), wanted)?
         }
-        Form::FromSlice => is_wanted(take_without_memory(rule, &mut slice, options), wanted)?,
-        Form::FromBuffer => is_wanted(hold_without_memory(rule, bytes, options), wanted)?,
-        Form::FromVector => {
+        (Form::FromSlice, Padding::Zero) => is_wanted(
+            NoAllocSliceSegments::from_slice(&mut slice, options),
+            wanted,
+        )?,
+        (Form::FromSlice, Padding::Any) => is_wanted(
+            NoAllocSliceSegments::from_slice_lenient(&mut slice, options),
+            wanted,
+        )?,
+        (Form::FromBuffer, Padding::Zero) => is_wanted(
+            NoAllocBufferSegments::from_buffer(bytes, options),
+            wanted,
+        )?,
+        (Form::FromBuffer, Padding::Any) => is_wanted(
+            NoAllocBufferSegments::from_buffer_lenient(bytes, options),
+            wanted,
+        )?,
+        (Form::FromVector, _) => {
             let vector = bytes.to_vec(alloc)?;
-            is_wanted(hold_without_memory(rule, vector, options), wanted)?
+            is_wanted(
+                NoAllocBufferSegments::from_buffer_with_rules(vector, rules),
+                wanted,
+            )?
         }
-        Form::Message => {
-            let read = take_message(alloc, rule, &mut slice, options);
+        (Form::Message, Padding::Zero) => {
+            let read = read_message_from_flat_slice(alloc, &mut slice, options);
             is_wanted(segments_of(read), wanted)?
         }
-        Form::MessageNoAlloc => {
-            let read = take_message_without_memory(rule, &mut slice, options);
+        (Form::Message, Padding::Any) => {
+            let read = read_message_from_flat_slice_lenient(alloc, &mut slice, options);
+            is_wanted(segments_of(read), wanted)?
+        }
+        (Form::MessageNoAlloc, Padding::Zero) => {
+            let read = read_message_from_flat_slice_no_alloc(&mut slice, options);
+            is_wanted(segments_of(read), wanted)?
+        }
+        (Form::MessageNoAlloc, Padding::Any) => {
+            let read = read_message_from_flat_slice_no_alloc_lenient(&mut slice, options);
             is_wanted(segments_of(read), wanted)?
         }
     };

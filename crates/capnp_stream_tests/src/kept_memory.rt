@@ -3,14 +3,15 @@
 //! An equal message, or a smaller one, takes no more of it: whichever growth fails, only the first
 //! reading may lack it.
 use crate::samples::{SAMPLES, Sample, append_word};
-use crate::{framed, packed};
 use capnp::message::Reader;
 use capnp::streams::Format;
+use capnp::{serialize, serialize_packed};
 use capnp_frame::message::{DEFAULT_READER_OPTIONS, ReaderSegments};
-use capnp_frame::serialize::{OwnedSegments, Padding};
+use capnp_frame::serialize::{OwnedSegments, Padding, TableRules, try_read_segments_reusing};
 use capnp_frame::{Error, ErrorKind, Result};
 use capnp_frame_tests::messages::has_segments;
 use capnp_frame_tests::retried;
+use capnp_pack::stream::try_read_packed_segments;
 use std::alloc::Global;
 use std::process::Abort;
 
@@ -60,11 +61,11 @@ fn next_segments(
     text: &[u8],
     spare: OwnedSegments,
 ) -> Result<Option<OwnedSegments>> {
-    let options = DEFAULT_READER_OPTIONS;
+    let rules = TableRules::new(padding, DEFAULT_READER_OPTIONS);
     let mut source = text;
     match format {
-        Format::Framed => framed::next_segments_reusing(padding, &mut source, options, spare),
-        Format::Packed => packed::next_segments_reusing(padding, &mut source, options, spare),
+        Format::Framed => try_read_segments_reusing(&mut source, rules, spare),
+        Format::Packed => try_read_packed_segments(&mut source, rules, spare),
     }
 }
 
@@ -76,8 +77,12 @@ fn next_message(
     let options = DEFAULT_READER_OPTIONS;
     let mut source = text;
     match format {
-        Format::Framed => framed::next_message_reusing(padding, &mut source, options, spare),
-        Format::Packed => packed::next_message_reusing(padding, &mut source, options, spare),
+        Format::Framed => {
+            serialize::try_read_message_reusing(&mut source, padding, options, spare)
+        }
+        Format::Packed => {
+            serialize_packed::try_read_message_reusing(&mut source, padding, options, spare)
+        }
     }
 }
 

@@ -25,19 +25,13 @@ mod faults;
 #[cfg(test)]
 mod flat;
 #[cfg(test)]
-mod flat_calls;
-#[cfg(test)]
 mod flat_paddings;
 #[cfg(test)]
 mod flat_rows;
 #[cfg(test)]
-mod framed;
-#[cfg(test)]
 mod framed_rows;
 #[cfg(test)]
 mod kept_memory;
-#[cfg(test)]
-mod packed;
 #[cfg(test)]
 mod packed_rows;
 #[cfg(test)]
@@ -48,6 +42,8 @@ mod padding_rows;
 mod prefixes;
 #[cfg(test)]
 mod provided;
+#[cfg(test)]
+mod readers;
 #[cfg(test)]
 mod requests;
 #[cfg(test)]

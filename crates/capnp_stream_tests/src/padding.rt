@@ -8,7 +8,8 @@ use crate::padding_rows::{
     FRAMED_PADDINGS, NOT_ZERO, PACKED_PADDINGS, PACKED_TWO, PaddedStream, TABLE, TWO,
 };
 use crate::provided::{Row, TOO_SMALL, read_into_each};
-use crate::streams::{READERS, Reader, Stream, Wanted, is_returned, read_stream};
+use crate::readers::{READERS, Reader, is_returned};
+use crate::streams::{Stream, Wanted, read_stream};
 use capnp::streams::Format;
 use capnp_frame::serialize::Padding;
 use capnp_frame::{ErrorKind, Result};

@@ -2,8 +2,9 @@
 use crate::assertions::At;
 use crate::calls_declared::{assert_call, assert_form, assert_left, both};
 use crate::flat::{FORMS, Form, RULES, find};
+use crate::readers::{Call, READERS, Reader, is_returned};
 use crate::samples::{SAMPLES, Sample};
-use crate::streams::{Call, READERS, Reader, Wanted, is_returned};
+use crate::streams::Wanted;
 use capnp::streams::Format;
 use capnp_frame::message::DEFAULT_READER_OPTIONS;
 use capnp_frame::serialize::Padding;

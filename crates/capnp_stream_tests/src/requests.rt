@@ -1,7 +1,8 @@
 //! What the readers of framed messages ask their source for.
 use crate::assertions::{At, assert_calls};
 use crate::calls_declared::assert_call;
-use crate::streams::{READERS, Wanted, is_read};
+use crate::readers::{READERS, is_read};
+use crate::streams::Wanted;
 use capnp::streams::Format;
 use capnp_frame::Result;
 use capnp_frame::serialize::Padding;

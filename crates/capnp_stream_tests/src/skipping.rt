@@ -6,9 +6,10 @@ use crate::framed_rows::FRAMED;
 use crate::packed_rows::PACKED;
 use crate::padding::by_rule;
 use crate::padding_rows::{FRAMED_PADDINGS, PACKED_PADDINGS, PaddedStream};
-use crate::streams::{Reader, Stream, Wanted, is_returned, with_limit};
-use crate::{framed, packed};
+use crate::readers::{Reader, is_returned, with_limit};
+use crate::streams::{Stream, Wanted};
 use capnp::streams::Format;
+use capnp::{serialize, serialize_packed};
 use capnp_frame::io::BufRead;
 use capnp_frame::serialize::{Padding, SegmentLengthsBuilder};
 use capnp_frame::{ErrorKind, Result};
@@ -44,8 +45,8 @@ fn is_skipped<R: BufRead>(
     let spare = SegmentLengthsBuilder::empty(alloc);
     let options = with_limit(limit);
     let skipped = match format {
-        Format::Framed => framed::skip_message(padding, source, options, spare),
-        Format::Packed => packed::skip_message(padding, source, options, spare),
+        Format::Framed => serialize::try_skip_message(source, padding, options, spare),
+        Format::Packed => serialize_packed::try_skip_message(source, padding, options, spare),
     };
     let found = match skipped {
         Ok(found) => found,

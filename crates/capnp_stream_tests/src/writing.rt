@@ -2,19 +2,20 @@
 use crate::assertions::{At, assert_holds};
 use crate::calls_declared::assert_call;
 use crate::faults::FORMATS;
-use crate::packed;
 use crate::packed_rows::NO_WORDS;
-use crate::streams::{Reader, Wanted, is_returned};
+use crate::readers::{Reader, is_returned};
+use crate::streams::Wanted;
 use crate::writers::{WRITERS, Writer, write};
 use capnp::streams::Format;
 use capnp_frame::message::{DEFAULT_READER_OPTIONS, ReaderSegments, SegmentArray};
 use capnp_frame::serialize::{
-    BufferSegments, OwnedSegments, Padding, is_writable, serialized_size_in_words,
+    BufferSegments, OwnedSegments, Padding, TableRules, is_writable, serialized_size_in_words,
 };
 use capnp_frame::{Error, ErrorKind, Result};
 use capnp_frame_tests::limits::DEFAULT_LIMIT;
 use capnp_frame_tests::messages::{MESSAGES, Message, has_segments, is_framed};
 use capnp_frame_tests::retried;
+use capnp_pack::stream::try_read_packed_segments;
 use std::alloc::Global;
 use std::process::Abort;
 
@@ -87,8 +88,8 @@ fn vectors_of(alloc: Global, segments: &[&[u8]]) -> Result<Vec<Vec<u8>>> {
 
 // The segments of a packed encoding, each copied.
 fn owned_of(alloc: Global, mut packed: &[u8]) -> Result<OwnedSegments> {
-    let options = DEFAULT_READER_OPTIONS;
-    match packed::next_segments(alloc, Padding::Zero, &mut packed, options)? {
+    let rules = TableRules::new(Padding::Zero, DEFAULT_READER_OPTIONS);
+    match try_read_packed_segments(&mut packed, rules, OwnedSegments::empty(alloc))? {
         Some(found) => Ok(found),
         None => Err(Error::from_kind(ErrorKind::PrematureEndOfFile)),
     }

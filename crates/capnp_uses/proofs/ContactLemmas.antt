@@ -7,7 +7,8 @@ use Rattle.capnp_wire.specs.Values.{IsTextTree}
 use Rattle.capnp_values.specs.Fields.{IsRow}
 use Rattle.capnp_values.specs.Structs.{IsStruct}
 use Rattle.capnp_values.specs.StructLists.{AreRows, IsStructList}
-use Rattle.capnp.specs.Roots.{HasRootTree, HasRootOf}
+use Rattle.capnp.specs.Roots.{HasRootTree}
+use Rattle.capnp_uses.specs.Roots.{HasRootOf}
 use Rattle.capnp_uses.specs.People.{text_tree, texts, person_tree, phones_tree, contact_tree}
 
 -- a tree in front of others

@@ -14,8 +14,7 @@ use Rattle.capnp_build.specs.declared.allocator.Allocator.{Ghosts}
 use Rattle.capnp_build.specs.Built.{Built}
 use Rattle.capnp_build.specs.Placed.{FindsNoRoom}
 use Rattle.capnp_build.specs.Outcomes.{StopsFirst, RefusesCanonical}
-use Rattle.capnp.specs.Roots.{StaysUnset, StaysUnread}
-use Rattle.capnp_uses.specs.Roots.{RefusesForm}
+use Rattle.capnp_uses.specs.Roots.{RefusesForm, StaysUnset, StaysUnread}
 use Rattle.capnp_uses.specs.People.{text_tree, texts, person_tree, phones_tree, contact_tree, IsTooLarge}
 use Rattle.capnp_uses.proofs.ContactLemmas.{whole_address, whole_list}
 

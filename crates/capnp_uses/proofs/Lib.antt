@@ -1,6 +1,7 @@
 -- The lemmas.
 pub mod AccountListLemmas
 pub mod AnyNumberLemmas
+pub mod AppendedLemmas
 pub mod BackLemmas
 pub mod ContactLemmas
 pub mod DeviceLemmas
@@ -13,3 +14,4 @@ pub mod RootLemmas
 pub mod SetLemmas
 pub mod SkipLemmas
 pub mod TwoLemmas
+pub mod WrittenLemmas

@@ -11,10 +11,10 @@ use Rattle.capnp_frame.specs.Sink.{Adds}
 use Rattle.capnp_frame.specs.Limits.{KeepsLimit, default_limit}
 use Rattle.capnp_frame.specs.Message.{lengths}
 use Rattle.capnp_frame.specs.Writing.{IsWritable, IsWithinSegmentLimit}
-use Rattle.capnp_frame.proofs.SizeLemmas.{HasTable-writable}
-use Rattle.capnp_frame.proofs.TextLemmas.{texts_part}
+use Rattle.capnp_frame.proofs.encodings.SizeLemmas.{HasTable-writable}
+use Rattle.capnp_frame.proofs.encodings.TextLemmas.{texts_part}
 use Rattle.capnp_pack.specs.RefusingLaws.{unpacking}
-use Rattle.capnp_pack.proofs.PackedFrameLemmas.{packed_requests, packed_text_is}
+use Rattle.capnp_pack.proofs.encodings.PackedFrameLemmas.{packed_requests, packed_text_is}
 use Rattle.capnp_wire.specs.Readers.{default_root}
 use Rattle.capnp_wire.specs.Tree.{Form}
 use Rattle.capnp_wire.specs.Reached.{root}

@@ -22,9 +22,9 @@ use Rattle.capnp.specs.Streams.{grammar_of, gives_of, BeginsFramed, StandsNext, 
 use Rattle.capnp.specs.Headline.{ReturnsEncodings}
 use Rattle.capnp.proofs.RunLemmas.{format_lawful, format_requested, format_parts}
 use Rattle.capnp.proofs.ReaderLemmas.{nothing_begins}
-use Rattle.capnp.proofs.AppendedLemmas.{memory_only}
+use Rattle.capnp_uses.proofs.AppendedLemmas.{memory_only}
 use Rattle.capnp.proofs.StreamLemmas.{slice_refuses}
-use Rattle.capnp_frame.proofs.AskLemmas.{never_fails}
+use Rattle.capnp_frame.proofs.sources.AskLemmas.{never_fails}
 use Rattle.capnp_uses.specs.Reading.{ReturnsCanonical}
 
 -- a slice is a plain source

@@ -9,7 +9,7 @@ use Rattle.capnp_frame.specs.declared.serialize.segment_table.Padding.TheVariant
 use Rattle.capnp_frame.specs.Limits.{default_limit}
 use Rattle.capnp_frame.specs.Source.{IfKnown, Fails}
 use Rattle.capnp_frame.specs.Streams.{ReadsStream}
-use Rattle.capnp_frame.proofs.AskLemmas.{never_fails}
+use Rattle.capnp_frame.proofs.sources.AskLemmas.{never_fails}
 use Rattle.capnp.specs.declared.streams.Format.{Format}
 use Rattle.capnp.specs.declared.streams.message_stream.MessageStream.{MessageStream}
 use Rattle.capnp.specs.MessageStreams.{source_of, messages_left, HasSettings, IsNewStream, read_in, GivesMessage}

@@ -1,5 +1,6 @@
 -- What the callers return.
 pub mod AccountLists
+pub mod Appended
 pub mod Devices
 pub mod Reading
 pub mod Regions

@@ -7,8 +7,7 @@ use Rattle.capnp_wire.specs.Tree.{Trees, struct, structs, numbers, none, tree, t
 use Rattle.capnp_wire.specs.Values.{LongText}
 use Rattle.capnp_build.specs.declared.allocator.Allocator.{Ghosts}
 use Rattle.capnp_build.specs.Built.{Built}
-use Rattle.capnp.specs.Roots.{StaysUnset, StaysUnread}
-use Rattle.capnp_uses.specs.Roots.{RefusesForm}
+use Rattle.capnp_uses.specs.Roots.{RefusesForm, StaysUnset, StaysUnread}
 
 -- a text, with its zero byte, in front of other trees
 abbrev pub text_tree : List ℕ → Trees → Trees

@@ -1,10 +1,14 @@
 -- What is at the root of a message, and why a root is not set.
-use Rattle.std.specs.Prelude.{◌≡◌, ◌⊎◌, ℕ, List, [], map, slice_set, Bool, false, Some}
+use Rattle.std.specs.Prelude.{◌≡◌, ◌⊎◌, ℕ, List, [], map, slice_set, Bool, false, Option, Some, Result, IfOk, OnOk, IfErr}
+use Rattle.capnp_frame.specs.declared.error.Error.{Error}
 use Rattle.capnp_frame.specs.declared.error.ErrorKind.{ErrorKind}
-use Rattle.capnp_frame.specs.declared.error.ErrorKind.TheVariants.{OutOfMemory, PrematureEndOfFile}
+use Rattle.capnp_frame.specs.declared.error.ErrorKind.TheVariants.{MessageTooLarge, OutOfMemory, PrematureEndOfFile}
+use Rattle.capnp_frame.specs.declared.message.options.ReaderOptions.{ReaderOptions}
 use Rattle.capnp_frame.specs.declared.serialize.segment_table.Padding.TheVariants.{Zero}
-use Rattle.capnp_frame.specs.Limits.{default_limit}
-use Rattle.capnp_frame.specs.Writing.{RefusesMany}
+use Rattle.capnp_frame.specs.Limits.{KeepsLimit, default_limit}
+use Rattle.capnp_frame.specs.Message.{lengths, size_in_words}
+use Rattle.capnp_frame.specs.Refusals.{IsTooLarge}
+use Rattle.capnp_frame.specs.Writing.{IsWithinSegmentLimit, RefusesMany}
 use Rattle.capnp_wire.specs.Tree.{Form, struct, Trees, none, tree}
 use Rattle.capnp_wire.specs.Object.{message_of}
 use Rattle.capnp_wire.specs.Reached.{root, Root}
@@ -18,6 +22,7 @@ use Rattle.capnp_build.specs.Built.{Built, message, IsSet}
 use Rattle.capnp_build.specs.Placed.{FindsNoRoom, FoundNoRoom, InitWords, IsCleared, IsPut}
 use Rattle.capnp_build.specs.Outcomes.{LacksFirst, StopsFirst, RefusesCanonical}
 use Rattle.capnp.specs.declared.streams.Format.TheVariants.{Packed}
+use Rattle.capnp.specs.Roots.{HasRootTree}
 use Rattle.capnp.specs.Streams.{StandsNext, TakesForNext, EndsBy}
 use Rattle.capnp.specs.Written.{output_of}
 use Rattle.capnp_build.specs.BuilderState.{used_of}
@@ -29,6 +34,10 @@ HasPlainRoot segments form = (traversed : ℕ) × Root (message_of segments) for
 -- and at the root of a message that is built
 abbrev pub HasRootForm : List Space → Form → Type 0
 HasRootForm spaces form = HasPlainRoot (map used_of spaces) form
+
+-- the tree of a value is at the root
+abbrev pub HasRootOf : (Trees → Type 0) → List (List ℕ) → Type 0
+HasRootOf has_tree segments = (trees : Trees) × has_tree trees × HasRootTree segments trees
 
 -- An object of this form is not made the root: the request of the first segment fails, or no
 -- segment has room once the old root is cleared.
@@ -45,6 +54,12 @@ RefusesRoot alloc has_tree refuses old new kind =
 abbrev pub RefusesForm : {A S : Type 0} → Ghosts A S → (Trees → Type 0) → (ErrorKind → Type 0) → Built A → Built A → ErrorKind → Type 0
 RefusesForm alloc has_tree refuses old new kind = StopsFirst alloc old new.spaces kind ⊎ RefusesCanonical has_tree refuses new.spaces kind
 
+-- Why a value is not set, and what that leaves: a null root.
+pub record StaysUnset {A S : Type 0} (alloc : Ghosts A S) (has_tree : Trees → Type 0) (refuses : ErrorKind → Type 0) (old new : Built A) (kind : ErrorKind) : Type 0 where
+  pub cleared : IsCleared alloc old new
+  -- it fails as `set_root` does
+  pub refused : RefusesRoot alloc has_tree refuses old new kind
+
 -- Why a value's canonical form is not made the root, and what that leaves: a null root.
 pub record StaysWithoutForm {A S : Type 0} (alloc : Ghosts A S) (has_tree : Trees → Type 0) (refuses : ErrorKind → Type 0) (old new : Built A) (kind : ErrorKind) : Type 0 where
   pub cleared : IsCleared alloc old new
@@ -56,6 +71,32 @@ pub record StaysUnwritten {A S : Type 0} (alloc : Ghosts A S) (has_tree : Trees 
   pub placed : IsPut alloc (HasWords has_tree canonical) old new
   -- it has too many segments, or memory is lacking
   pub refused : RefusesMany (output_of new) kind ⊎ (kind ≡ OutOfMemory)
+
+-- the message has more words than the limit, and the failure carries their number
+abbrev pub RefusesSize : List (List ℕ) → Option ℕ → ErrorKind → Type 0
+RefusesSize message limit kind = IsTooLarge (lengths message) limit × (kind ≡ MessageTooLarge (size_in_words message))
+
+-- a message is not written and read back: for too many segments, for too many words, or for want of memory
+abbrev pub RefusesAgain : List (List ℕ) → Option ℕ → ErrorKind → Type 0
+RefusesAgain message limit kind = RefusesMany message kind ⊎ RefusesSize message limit kind ⊎ (kind ≡ OutOfMemory)
+
+-- What a call returns that writes a message and reads it back with these options. `segments` and
+-- `options_of` are what is seen of a reader.
+pub record ReadsWritten {X : Type 0} (message : List (List ℕ)) (options : ReaderOptions) (segments : X → List (List ℕ))
+    (options_of : X → ReaderOptions) (result : Result X Error) : Type 0 where
+  -- the segments are those that were written
+  pub back : IfOk result (λ reader. segments reader ≡ message)
+  -- the segments are within the limit of words, and no more than a reader accepts
+  pub size : OnOk result (KeepsLimit (lengths message) options.traversal_limit_in_words)
+  pub few : OnOk result (IsWithinSegmentLimit message)
+  pub options_are : IfOk result (λ reader. options_of reader ≡ options)
+  pub refused : IfErr result (λ error. RefusesAgain message options.traversal_limit_in_words error.kind)
+
+-- Why a message whose root is set is not read back, and what that leaves: the value at the root.
+pub record StaysUnread {A S : Type 0} (alloc : Ghosts A S) (has_tree : Trees → Type 0) (limit : Option ℕ) (old new : Built A) (kind : ErrorKind) : Type 0 where
+  pub set : IsSet has_tree false new.spaces
+  pub placed : IsPut alloc (HasWords has_tree false) old new
+  pub refused : RefusesAgain (output_of new) limit kind
 
 -- No struct is read at the root of a packed message: memory is taken and lacking, no message is there, or its root
 -- fails.

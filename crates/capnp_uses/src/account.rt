@@ -11,9 +11,9 @@ ghost use Rattle.capnp_wire.specs.ListViews.{struct_list_of, element_of, IsStruc
 ghost use Rattle.capnp_wire.specs.Views.{Struct, IsViewOf, IsText, IsStruct, Accepts, Refuses, Declines, Reads, TakesStruct, DeclinesStruct, DeclinesText, pointer_in};
 
 use capnp::any_struct::StructReader;
+use capnp::message::ReaderSegments;
 use capnp::traits::{self, FromPointerReader, IndexMove, ListIter};
 use capnp::{Result, any_pointer, struct_list, text};
-use capnp_frame::message::ReaderSegments;
 
 /// Accounts, as a type of a schema.
 pub struct Owned;

@@ -1,15 +1,15 @@
 //! Accounts that are written from the bottom up, as a list, and read back.
 ghost use Rattle.std.specs.Prelude.{◌≡◌, ◌⊎◌, ◌+◌, ◌*◌, ◌∷◌, [], length, OnOk, IfOk, IfErr};
-ghost use Rattle.capnp_frame.specs.Writing.{IsWritable};
 ghost use Rattle.capnp_orphans.specs.Adding.{Adds};
 ghost use Rattle.capnp_orphans.specs.Held.{HoldsValue, word_of};
-ghost use Rattle.capnp_orphans.specs.Segments.{body_of};
-ghost use Rattle.capnp.specs.Roots.{HasRootOf, ReadsWritten};
 ghost use Rattle.capnp_uses.specs.AccountLists.{ExceedsLimit, IsAccountList, RefusesAccounts, list_words, new_segment};
+ghost use Rattle.capnp_uses.specs.Roots.{HasRootOf};
 
 use crate::account;
-use capnp::message::{Reader, ReaderOptions, ReaderSegments};
-use capnp::serialize::{self, OwnedSegments};
+use crate::roots::write_and_read_back;
+use capnp::message::{Reader, ReaderOptions};
+use capnp::serialize::OwnedSegments;
+use capnp::streams::Format;
 use capnp::{Result, struct_list, text};
 use capnp_orphans::{GrowingSegment, Orphan, Orphanage, StructDraft};
 use std::alloc::Global;
@@ -56,23 +56,6 @@ pub fn list_of_accounts<S: GrowingSegment>(
     objects.struct_list(&drafts)
 }
 
-/// Writes a message framed to a vector, and reads it back: the segments are those that were
-/// written.
-pub fn read_again<S: ReaderSegments>(
-    alloc: Global,
-    message: &S,
-    options: ReaderOptions,
-) -> Result<Reader<OwnedSegments>>
-    requires { IsWritable (S.segments message.now) }
-    ensures { ReadsWritten (S.segments message.now) options (λ reader. reader.segments)
-        (λ reader. reader.options) result }
-{
-    let mut text: Vec<u8> = Vec::new(alloc);
-    serialize::write_message_segments(alloc, &mut text, message)?;
-    let mut source: &[u8] = &text;
-    serialize::read_message(alloc, &mut source, options)
-}
-
 /// Builds the message of a list of these accounts, writes it framed, and reads it back: the list is
 /// its root.
 pub fn accounts_are_read_back(
@@ -90,5 +73,5 @@ pub fn accounts_are_read_back(
     let mut objects = Orphanage::new(alloc)?;
     let list = list_of_accounts(alloc, &mut objects, accounts)?;
     objects.set_root(list);
-    read_again(alloc, &objects, options)
+    write_and_read_back(alloc, Format::Framed, &objects, options)
 }

@@ -7,10 +7,9 @@ ghost use Rattle.std.specs.Prelude.{◌≡◌, MatchResult};
 ghost use Rattle.capnp_wire.specs.Readers.{pointer_of};
 ghost use Rattle.capnp_wire.specs.Views.{IsViewOf, Accepts, Refuses, Declines, Reads};
 
-use capnp_frame::message::ReaderSegments;
-use capnp_frame::{Error, ErrorKind, Result};
-use capnp_wire::traits::FromPointerReader;
-use capnp_wire::{any_object, any_pointer};
+use capnp::message::ReaderSegments;
+use capnp::traits::FromPointerReader;
+use capnp::{Error, ErrorKind, Result, any_object, any_pointer};
 
 /// A list of unsigned numbers of any width in a message; null is an empty list.
 #[derive(Drop)]

@@ -5,13 +5,9 @@ ghost use Rattle.capnp_wire.specs.Tree.{null, struct, numbers};
 ghost use Rattle.capnp_build.specs.Placed.{IsCleared};
 ghost use Rattle.capnp_uses.specs.Roots.{HasRootForm, LacksRoom};
 
-use capnp_build::allocator::Allocator;
-use capnp_build::any_struct::{self, StructBuilder};
-use capnp_build::arena::builder_arena::BuilderArena;
-use capnp_build::{any_pointer, data, primitive_list, text};
-use capnp_frame::Result;
-use capnp_message::Builder;
-use capnp_wire::any_struct::StructReader;
+use capnp::any_struct::{self, StructBuilder, StructReader};
+use capnp::message::{Allocator, Builder, BuilderArena};
+use capnp::{Result, any_pointer, data, primitive_list, text};
 use std::alloc::Global;
 
 /// Makes a text the root.
@@ -47,7 +43,7 @@ pub fn text_is_read_back<A: Allocator>(
         error.kind) }
 {
     write_text(message, bytes)?;
-    let text: capnp_wire::text::Reader<'_> = message.get_root_as_reader()?;
+    let text: text::Reader<'_> = message.get_root_as_reader()?;
     Ok(text.as_bytes().to_vec(alloc)?)
 }
 
@@ -80,7 +76,7 @@ pub fn data_is_read_back<A: Allocator>(
         (numbers 2 (replicate (length bytes.now) 0)) message.old error.kind) }
 {
     write_data(message, bytes)?;
-    let data: capnp_wire::data::Reader<'_> = message.get_root_as_reader()?;
+    let data: data::Reader<'_> = message.get_root_as_reader()?;
     Ok(data.to_vec(alloc)?)
 }
 
@@ -115,7 +111,7 @@ pub fn numbers_are_read_back<A: Allocator>(
         (numbers 5 (0 ∷ 0 ∷ [])) message.old error.kind) }
 {
     write_numbers(message, first, second)?;
-    let list: capnp_wire::primitive_list::Reader<'_, u64> = message.get_root_as_reader()?;
+    let list: primitive_list::Reader<'_, u64> = message.get_root_as_reader()?;
     let mut numbers = Vec::new(alloc);
     for index in 0..list.len() {
         numbers.push(list.get(index))?;
@@ -171,6 +167,6 @@ pub fn null_is_read_back<A: Allocator>(message: &mut Builder<A>) -> Result<bool>
         null message.old error.kind) }
 {
     write_null(message)?;
-    let root: capnp_wire::any_pointer::Reader<'_, BuilderArena<A>> = message.get_root_as_reader()?;
+    let root: any_pointer::Reader<'_, BuilderArena<A>> = message.get_root_as_reader()?;
     Ok(root.is_null())
 }

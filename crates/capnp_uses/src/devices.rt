@@ -35,8 +35,8 @@ pub struct DeviceRead<T, R: io::Read> {
 /// `next_message`.
 pub fn first_of_device<R: io::Read + Drop>(
     alloc: Global,
-    format: Format,
     device: R,
+    format: Format,
     options: ReaderOptions,
 ) -> Result<DeviceRead<Option<Reader<OwnedSegments>>, R>>
     requires { IsSome (R.remaining device) }
@@ -54,7 +54,7 @@ pub fn first_of_device<R: io::Read + Drop>(
     ensures memory { IfErr result (λ error. error.kind ≡ ErrorKind.OutOfMemory) }
 {
     let mut rest = Input::of_known(alloc, device)?;
-    let read = next_message(alloc, format, &mut rest, options);
+    let read = next_message(alloc, &mut rest, format, options);
     Ok(DeviceRead { read, rest })
 }
 
@@ -63,8 +63,8 @@ pub fn first_of_device<R: io::Read + Drop>(
 /// Fails as `first_of_device` does.
 pub fn first_of_cursor(
     alloc: Global,
-    format: Format,
     cursor: io::Cursor<Vec<u8>>,
+    format: Format,
     options: ReaderOptions,
 ) -> Result<DeviceRead<Option<Reader<OwnedSegments>>, io::Cursor<Vec<u8>>>>
     ensures first { IfOk result (λ done. ReadsFirst format options.traversal_limit_in_words
@@ -81,7 +81,7 @@ pub fn first_of_cursor(
         error.kind ≡ ErrorKind.DeviceFailed → Fails 0 done.rest.failures.count)) }
     ensures memory { IfErr result (λ error. error.kind ≡ ErrorKind.OutOfMemory) }
 {
-    first_of_device(alloc, format, cursor, options)
+    first_of_device(alloc, cursor, format, options)
 }
 
 /// Every message of a source, framed or packed, in order, up to its end.
@@ -89,8 +89,8 @@ pub fn first_of_cursor(
 /// Fails as `next_message` does after the last of them, and with `OutOfMemory`.
 pub fn all_of_source<R: BufRead>(
     alloc: Global,
-    format: Format,
     source: &mut R,
+    format: Format,
     options: ReaderOptions,
 ) -> Result<Vec<Reader<OwnedSegments>>>
     ensures all { IfSome (R.unread source.old) (ReadsAll format options.traversal_limit_in_words
@@ -102,7 +102,7 @@ pub fn all_of_source<R: BufRead>(
 {
     let mut messages = Vec::new(alloc);
     for count in 0..u64::MAX {
-        match next_message(alloc, format, source, options)? {
+        match next_message(alloc, source, format, options)? {
             Some(message) => messages.push(message)?,
             None => return Ok(messages),
         }
@@ -116,8 +116,8 @@ pub fn all_of_source<R: BufRead>(
 /// `all_of_source`.
 pub fn all_of_device<R: io::Read + Drop>(
     alloc: Global,
-    format: Format,
     device: R,
+    format: Format,
     options: ReaderOptions,
 ) -> Result<DeviceRead<Vec<Reader<OwnedSegments>>, R>>
     requires { IsSome (R.remaining device) }
@@ -131,7 +131,7 @@ pub fn all_of_device<R: io::Read + Drop>(
     ensures memory { IfErr result (λ error. error.kind ≡ ErrorKind.OutOfMemory) }
 {
     let mut source = Input::of_known(alloc, device)?;
-    let read = all_of_source(alloc, format, &mut source, options);
+    let read = all_of_source(alloc, &mut source, format, options);
     Ok(DeviceRead { read, rest: source })
 }
 
@@ -140,9 +140,9 @@ pub fn all_of_device<R: io::Read + Drop>(
 /// Fails as `all_of_device` does.
 pub fn all_of_parts<'a>(
     alloc: Global,
-    format: Format,
     first: &'a [u8],
     second: &'a [u8],
+    format: Format,
     options: ReaderOptions,
 ) -> Result<DeviceRead<Vec<Reader<OwnedSegments>>, io::Chain<&'a [u8], &'a [u8]>>>
     ensures all { IfOk result (λ done. ReadsAll format options.traversal_limit_in_words
@@ -154,5 +154,5 @@ pub fn all_of_parts<'a>(
         error.kind ≡ ErrorKind.DeviceFailed → Fails 0 done.rest.failures.count)) }
     ensures memory { IfErr result (λ error. error.kind ≡ ErrorKind.OutOfMemory) }
 {
-    all_of_device(alloc, format, io::Read::chain(first, second), options)
+    all_of_device(alloc, io::Read::chain(first, second), format, options)
 }

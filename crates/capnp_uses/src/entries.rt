@@ -9,8 +9,8 @@ ghost use Rattle.capnp_wire.specs.Fields.{field};
 ghost use Rattle.capnp_wire.specs.ListViews.{struct_list_of, element_of};
 ghost use Rattle.capnp_wire.specs.Views.{IsText, Reads, Refuses, DeclinesText, pointer_in};
 
+use capnp::message::ReaderSegments;
 use capnp::{Result, struct_list, text};
-use capnp_frame::message::ReaderSegments;
 
 /// The amount of an entry, where there is such an entry.
 pub fn amount_of<S: ReaderSegments>(entries: &struct_list::Reader<'_, S>, index: u32) -> Option<i32>

@@ -7,6 +7,7 @@
 pub mod account;
 pub mod account_list;
 pub mod any_numbers;
+pub mod appended;
 pub mod building;
 pub mod canonical;
 pub mod devices;

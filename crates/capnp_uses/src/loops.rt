@@ -4,11 +4,11 @@
 //! wrote; the other takes the segments of a message that was read, and lists of their own type.
 use capnp::message::ReaderSegments;
 use capnp::serialize::OwnedSegments;
+use capnp::upgraded::{
+    DataList, EnumElement, EnumList, ListList, NumberList, PointerList, StructList, TextList,
+};
 use capnp::{
     Result, any_pointer_list, data_list, list_list, primitive_list, struct_list, text_list,
-};
-use capnp_wire::upgraded::{
-    DataList, EnumElement, EnumList, ListList, NumberList, PointerList, StructList, TextList,
 };
 
 /// The lengths and numbers that each loop meets, from texts at the outside to pointers at the

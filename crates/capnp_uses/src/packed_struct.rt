@@ -10,12 +10,10 @@ ghost use Rattle.capnp_uses.specs.Reading.{ShowsPackedStruct};
 ghost use Rattle.capnp_uses.specs.Roots.{HasPlainRoot, HasRootForm, LacksRoom, RefusesPackedStruct};
 
 use crate::building::write_struct;
-use capnp::message::DEFAULT_READER_OPTIONS;
+use capnp::any_struct::StructReader;
+use capnp::message::{Allocator, Builder, DEFAULT_READER_OPTIONS};
 use capnp::serialize::OwnedSegments;
 use capnp::{Result, serialize_packed};
-use capnp_build::allocator::Allocator;
-use capnp_message::Builder;
-use capnp_wire::any_struct::StructReader;
 use std::alloc::Global;
 
 /// Makes a struct of two words the root of a message, writes the message packed, and reads the

@@ -8,9 +8,9 @@ ghost use Rattle.capnp_pack.specs.Packed.{Packs};
 ghost use Rattle.capnp_pack.specs.PackedSink.{AppendsPacked, DeclinesPacked};
 ghost use Rattle.capnp_pack.specs.PackedSource.{Unpacks, RefusesChunk};
 
-use capnp::Result;
 use capnp::io::{Read, Write};
-use capnp_pack::{PackedRead, PackedWrite, laws};
+use capnp::serialize_packed::{PackedRead, PackedWrite};
+use capnp::{Result, laws};
 use std::alloc::Global;
 
 /// The packed encoding of these words.

@@ -6,10 +6,10 @@ ghost use Rattle.capnp_build.specs.Built.{IsSet};
 ghost use Rattle.capnp_message.specs.Region.{IsAvailable};
 ghost use Rattle.capnp_uses.specs.Regions.{StandsAlone, LacksRegion};
 
-use capnp_frame::Result;
-use capnp_message::laws::a_single_region_comes_home;
-use capnp_message::{Builder, SingleSegmentAllocator};
-use capnp_wire::traits::SetterInput;
+use capnp::Result;
+use capnp::laws::a_single_region_comes_home;
+use capnp::message::{Builder, SingleSegmentAllocator};
+use capnp::traits::SetterInput;
 use std::alloc::Global;
 
 /// Sets the root of a new message in a region: a value that has room there after the root's word is

@@ -1,19 +1,24 @@
-//! Roots that are copied from a message that is read, and texts that are set and read back.
+//! Roots that are copied from a message that is read, and values that are set and read back.
 ghost use Rattle.std.specs.Prelude.{◌≡◌, ◌⊎◌, false, true, IfOk, IfErr, OnOk, OnErr};
+ghost use Rattle.capnp_frame.specs.Limits.{KeepsLimit};
+ghost use Rattle.capnp_frame.specs.Message.{lengths};
+ghost use Rattle.capnp_frame.specs.Writing.{IsWritable, IsWithinSegmentLimit};
 ghost use Rattle.capnp_wire.specs.Reached.{root};
 ghost use Rattle.capnp_wire.specs.Faults.{NoWord};
 ghost use Rattle.capnp_wire.specs.Values.{HasWords, LeadsToTree, StopsWalkFrom, IsTextTree, LongText};
-ghost use Rattle.capnp_build.specs.Built.{IsSet};
+ghost use Rattle.capnp_build.specs.BuilderState.{KeepsOthers};
+ghost use Rattle.capnp_build.specs.Built.{IsSet, state_of};
 ghost use Rattle.capnp_build.specs.Placed.{IsCleared, IsPut};
 ghost use Rattle.capnp_message.specs.Seen.{root_of};
-ghost use Rattle.capnp.specs.Roots.{StaysUnset};
-ghost use Rattle.capnp_uses.specs.Roots.{RefusesRoot};
+ghost use Rattle.capnp.specs.Written.{output_of};
+ghost use Rattle.capnp_uses.specs.Roots.{HasRootOf, ReadsWritten, RefusesRoot, StaysUnset, StaysUnread};
 
-use capnp_build::allocator::Allocator;
-use capnp_frame::Result;
-use capnp_frame::message::ReaderSegments;
-use capnp_message::{Builder, Reader};
-use capnp_wire::{any_pointer, text};
+use capnp::message::{Allocator, Builder, Reader, ReaderOptions, ReaderSegments};
+use capnp::serialize::{OwnedSegments, Padding};
+use capnp::streams::{Format, next_message, write_message};
+use capnp::traits::SetterInput;
+use capnp::{Error, ErrorKind, Result, any_pointer, text};
+use std::alloc::Global;
 
 /// Sets the root to the root tree of a message that is read, an object with all below it.
 pub fn copy_root<S: ReaderSegments, A: Allocator>(
@@ -46,4 +51,59 @@ pub fn set_text_is_read_back<A: Allocator>(message: &mut Builder<A>, text: &str)
     message.set_root::<text::Owned, &str>(text)?;
     let view: text::Reader<'_> = message.get_root_as_reader()?;
     Ok(view.as_bytes() == text.as_bytes())
+}
+
+/// Writes a message to a vector, and reads it back: the segments are those that were written.
+/// `appended::write_and_read_back` does so with several messages.
+///
+/// Fails with `InvalidNumberOfSegments` for more than 511 segments, with `MessageTooLarge` past the
+/// limit of words, and else with `OutOfMemory` alone.
+pub fn write_and_read_back<S: ReaderSegments>(
+    alloc: Global,
+    format: Format,
+    message: &S,
+    options: ReaderOptions,
+) -> Result<Reader<OwnedSegments>>
+    requires { IsWritable (S.segments message.now) }
+    ensures { ReadsWritten (S.segments message.now) options (λ reader. reader.segments)
+        (λ reader. reader.options) result }
+{
+    let mut text: Vec<u8> = Vec::new(alloc);
+    write_message(alloc, &mut text, format, message)?;
+    let mut source: &[u8] = &text;
+    match next_message(alloc, &mut source, format, Padding::Zero, options)? {
+        Some(reader) => Ok(reader),
+        None => Err(Error::from_kind(ErrorKind::PrematureEndOfFile)),
+    }
+}
+
+/// Sets the root of a message to a value, writes the message to a vector and reads it from there:
+/// the root of what is read is the value's tree.
+///
+/// Fails as `Builder::set_root` does, and then the root is null; or with `InvalidNumberOfSegments`
+/// for more than 511 segments, with `MessageTooLarge` past the limit of words, or with
+/// `OutOfMemory`, and then the value is the root.
+pub fn set_and_read_back<T, V: SetterInput<T> + Drop, A: Allocator>(
+    alloc: Global,
+    format: Format,
+    message: &mut Builder<A>,
+    value: V,
+    options: ReaderOptions,
+) -> Result<Reader<OwnedSegments>>
+    ensures tree { IfOk result (λ reader. HasRootOf (V.has_tree value) reader.segments) }
+    ensures back { IfOk result (λ reader. reader.segments ≡ output_of message.new) }
+    ensures options { IfOk result (λ reader. reader.options ≡ options) }
+    ensures few { OnOk result (IsWithinSegmentLimit (output_of message.new)) }
+    ensures size { OnOk result (KeepsLimit (lengths (output_of message.new)) options.traversal_limit_in_words) }
+    ensures placed { OnOk result
+        (IsPut A.Allocator (HasWords (V.has_tree value) false) message.old message.new) }
+    // Nothing else is written; the root is null, or the value.
+    ensures refused { IfErr result (λ error.
+        StaysUnset A.Allocator (V.has_tree value) (V.refuses value) message.old message.new error.kind
+        ⊎ StaysUnread A.Allocator (V.has_tree value) options.traversal_limit_in_words
+        message.old message.new error.kind) }
+    ensures others { KeepsOthers A.out (state_of message.old) (state_of message.new) }
+{
+    message.set_root::<T, V>(value)?;
+    write_and_read_back(alloc, format, &message.get_segments_for_output(), options)
 }

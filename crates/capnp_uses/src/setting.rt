@@ -1,7 +1,6 @@
 //! Roots that are set to what another message holds, and messages that are written right after.
-ghost use Rattle.std.specs.Prelude.{◌≡◌, ◌⊎◌, ◌<◌, ◌∷◌, [], ℕ, List, length, map, slice_set, false, true, OnOk, IfOk, IfErr};
+ghost use Rattle.std.specs.Prelude.{◌≡◌, ◌⊎◌, ◌<◌, ◌∷◌, [], ℕ, List, length, slice_set, false, true, OnOk, IfOk, IfErr};
 ghost use Rattle.capnp_wire.specs.Tree.{Form, Trees, none, tree, struct};
-ghost use Rattle.capnp_wire.specs.Object.{message_of};
 ghost use Rattle.capnp_wire.specs.Reached.{Root};
 ghost use Rattle.capnp_wire.specs.Layout.{canon};
 ghost use Rattle.capnp_wire.specs.Readers.{pointer_of};
@@ -11,17 +10,12 @@ ghost use Rattle.capnp_build.specs.Built.{message, IsSet};
 ghost use Rattle.capnp_build.specs.Outcomes.{SetsRoot, SetsRootCanonical};
 ghost use Rattle.capnp_build.specs.Placed.{IsPut};
 ghost use Rattle.capnp.specs.Written.{IsFrameEncoding, output_of};
-ghost use Rattle.capnp.specs.Roots.{StaysUnset};
-ghost use Rattle.capnp_uses.specs.Roots.{IsSetWithWord, StaysUnwritten, StaysWithoutForm};
+ghost use Rattle.capnp_uses.specs.Roots.{IsSetWithWord, StaysUnset, StaysUnwritten, StaysWithoutForm};
 
-use capnp::serialize;
-use capnp_build::allocator::Allocator;
-use capnp_build::any_struct::{self, StructBuilder};
-use capnp_frame::Result;
-use capnp_frame::message::ReaderSegments;
-use capnp_message::Builder;
-use capnp_wire::any_pointer;
-use capnp_wire::traits::SetterInput;
+use capnp::any_struct::{self, StructBuilder};
+use capnp::message::{Allocator, Builder, ReaderSegments};
+use capnp::traits::SetterInput;
+use capnp::{Result, any_pointer, serialize};
 use std::alloc::Global;
 
 /// Makes the root what a pointer of another message leads to, for example a struct with pointers.

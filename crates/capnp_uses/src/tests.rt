@@ -17,6 +17,7 @@ mod long_inputs;
 mod loops;
 mod message_streams;
 mod other_options;
+mod read_back;
 mod regions;
 mod set_roots;
 mod walks;

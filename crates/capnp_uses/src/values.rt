@@ -7,15 +7,12 @@ ghost use Rattle.capnp.specs.Roots.{HasRootTree};
 ghost use Rattle.capnp.specs.Written.{output_of};
 ghost use Rattle.capnp_uses.specs.People.{contact_tree, person_tree, RefusesAlone, RefusesBack};
 
-use capnp::roots::set_and_read_back;
+use crate::roots::set_and_read_back;
+use capnp::message::{Allocator, Builder, Reader, ReaderOptions};
+use capnp::serialize::OwnedSegments;
 use capnp::streams::Format;
-use capnp_build::allocator::Allocator;
-use capnp_frame::Result;
-use capnp_frame::message::ReaderOptions;
-use capnp_frame::serialize::OwnedSegments;
-use capnp_message::{Builder, Reader};
+use capnp::{Result, any_struct, struct_list, text};
 use capnp_values::{Field, NoFields, StructList, StructValue};
-use capnp_wire::{any_struct, struct_list, text};
 use std::alloc::Global;
 
 /// A struct of no data words and a text.

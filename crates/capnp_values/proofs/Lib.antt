@@ -1,25 +1,7 @@
--- The lemmas, by subject.
-pub mod PartLemmas
-pub mod ReachLemmas
-pub mod ResultLemmas
-pub mod RowLemmas
-pub mod StructLemmas
-pub mod StructListLemmas
-pub mod StructRowLemmas
-pub mod StructListValueLemmas
-pub mod StructListCopyLemmas
-pub mod SectionLemmas
-pub mod NullLemmas
-pub mod ItemLemmas
-pub mod AsIsLemmas
-pub mod ItemRowLemmas
-pub mod PointerListLemmas
-pub mod FullWordLemmas
-pub mod NumberListLemmas
-pub mod MeasuredLemmas
-pub mod FilledLemmas
-pub mod FillRowLemmas
-pub mod RowMeasureLemmas
-pub mod KeptRowLemmas
-pub mod SourceLemmas
-pub mod DataSectionLemmas
+-- The lemmas, in a room for each subject.
+pub mod values
+pub mod structs
+pub mod lists
+pub mod struct_lists
+pub mod numbers
+pub mod layouts

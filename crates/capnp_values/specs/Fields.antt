@@ -6,7 +6,6 @@ use Rattle.capnp_layout.specs.Trim.{cut_nulls, first, trim}
 use Rattle.capnp_layout.specs.Layout.{run, output, AllHaveRoom}
 use Rattle.capnp_layout.specs.Block.{fill}
 use Rattle.capnp_wire.specs.Values.{HasWords, LacksWords}
-use Rattle.capnp_values.specs.declared.fields.Extent.{Extent}
 
 -- a value is this tree, which has room, and has fewer than 2 ^ 29 words as it is
 pub record IsPart (has_tree : Trees → Type 0) (form : Form) (children : Trees) : Type 0 where
@@ -47,17 +46,6 @@ is_left_out true zero form = is_null form
 is_left_out true (suc n) form = false
 is_left_out false n form = false
 
-abbrev pub extent_of : Bool → Trees → Extent
-extent_of canonical trees = record {
-  pointers = count (kept_row canonical trees);
-  words = total_words (kept_row canonical trees);
-  as_is = total_words trees;
-}
-
--- the trees of a row, and its extent
-abbrev pub HasExtent : (Trees → Type 0) → Bool → Extent → Type 0
-HasExtent has_trees canonical extent = (trees : Trees) × has_trees trees × (extent ≡ extent_of canonical trees)
-
 -- the trees of a row, and their words
 abbrev pub HasTotal : (Trees → Type 0) → ℕ → Type 0
 HasTotal has_trees words = (trees : Trees) × has_trees trees × (words ≡ total_words trees)
@@ -74,9 +62,3 @@ pub record CanWriteRow (has_trees : Trees → Type 0) (canonical : Bool) (n next
 pub record IsRowWritten (has_trees : Trees → Type 0) (canonical : Bool) (slot n next : ℕ) (old new : List ℕ) (free : ℕ) : Type 0 where
   pub words_are : (trees : Trees) → has_trees trees → new ≡ fill (run slot n) next (first n (output canonical trees)) old
   pub next_is : (trees : Trees) → has_trees trees → free ≡ next + total_words (first n (output canonical trees))
-
--- a row has room for one more value in front
-pub record IsBounded (extent : Extent) : Type 0 where
-  pub pointers_few : extent.pointers < 2 ^ 16
-  pub words_few : extent.words < 2 ^ 46
-  pub as_is_few : extent.as_is < 2 ^ 46

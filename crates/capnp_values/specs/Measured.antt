@@ -1,15 +1,19 @@
 -- The words of trees that are measured (src/measured.rt).
-use Rattle.std.specs.Prelude.{◌≡◌, Bool, Result, Ok, MatchResult}
+use Rattle.std.specs.Prelude.{◌≡◌, ◌+◌, Bool, Result, Ok, MatchResult}
 use Rattle.std.specs.Result.{IsErrAnd}
 use Rattle.capnp_frame.specs.declared.error.Error.{Error}
 use Rattle.capnp_frame.specs.declared.error.ErrorKind.{ErrorKind}
 use Rattle.capnp_layout.specs.Tree.{Trees, total_words}
 use Rattle.capnp_layout.specs.Layout.{output, AllHaveRoom}
-use Rattle.capnp_values.specs.declared.measured.TreeWords.{TreeWords}
+use Rattle.capnp_wire.specs.declared.traits.TreeWords.{TreeWords}
 
 -- the words of some trees, as they are and in the form that is written
 abbrev pub tree_words : Bool → Trees → TreeWords
 tree_words canonical trees = record { as_is = total_words trees; output = total_words (output canonical trees) }
+
+-- and those of some trees and of others
+abbrev pub both_words : TreeWords → TreeWords → TreeWords
+both_words a b = record { as_is = a.as_is + b.as_is; output = a.output + b.output }
 
 -- what is measured of trees that have room, however many words they have, or why there are none
 pub record Measures (has_trees : Trees → Type 0) (refuses : ErrorKind → Type 0) (canonical : Bool) (result : Result TreeWords Error) : Type 0 where

@@ -1,7 +1,6 @@
 -- Lists of structs (src/struct_list.rt), and the elements that are in them (src/rows.rt).
 -- Encoding document, "Lists", the elements of code 7.
-use Rattle.std.specs.Prelude.{◌≡◌, ◌⊎◌, ℕ, ◌+◌, ◌-◌, ◌*◌, ◌^◌, ◌<◌, ◌≤◌, max, min, Bool, true, false, List, [], ◌∷◌, length, map, take, All, Result, Ok, MatchResult}
-use Rattle.std.specs.Result.{IsErrAnd}
+use Rattle.std.specs.Prelude.{◌≡◌, ◌⊎◌, ℕ, ◌+◌, ◌-◌, ◌*◌, ◌^◌, ◌<◌, ◌≤◌, min, Bool, true, false, List, [], ◌∷◌, length, map, take, All, Result, IfOk}
 use Rattle.capnp_frame.specs.declared.error.Error.{Error}
 use Rattle.capnp_frame.specs.declared.error.ErrorKind.{ErrorKind}
 use Rattle.capnp_frame.specs.declared.error.ErrorKind.TheVariants.{AllocationTooLarge}
@@ -9,8 +8,8 @@ use Rattle.capnp_layout.specs.Tree.{structs, Trees, none, tree, total_words}
 use Rattle.capnp_layout.specs.Trim.{first, following, before, least_data, least_pointers, narrowed, trim}
 use Rattle.capnp_layout.specs.Layout.{run, output}
 use Rattle.capnp_layout.specs.Block.{put, fill}
-use Rattle.capnp_values.specs.declared.fields.Extent.{Extent}
-use Rattle.capnp_values.specs.declared.rows.Reach.{Reach}
+use Rattle.capnp_wire.specs.declared.traits.TreeWords.{TreeWords}
+use Rattle.capnp_values.specs.Measured.{Measures}
 
 -- the row of trees of one struct, in front of those of others
 pub record IsRowInFront (has_row has_rows : Trees → Type 0) (trees : Trees) : Type 0 where
@@ -67,34 +66,15 @@ element_pointers false p rows children = p
 abbrev pub shown : Bool → ℕ → ℕ → List (List ℕ) → Trees → Trees
 shown canonical m p rows children = narrowed m p rows (output canonical children)
 
-abbrev pub reach_of : Bool → ℕ → ℕ → List (List ℕ) → Trees → Reach
-reach_of canonical d p rows children = record {
-  data_words = element_data canonical d rows;
-  pointers = element_pointers canonical p rows children;
-  words = total_words (output canonical children);
-  as_is = total_words children;
-}
-
--- the extent of some structs, and of one more, of which d data words are kept
-abbrev pub reached : Reach → ℕ → Extent → Reach
-reached reach d extent = record {
-  data_words = max reach.data_words d;
-  pointers = max reach.pointers extent.pointers;
-  words = reach.words + extent.words;
-  as_is = reach.as_is + extent.as_is;
-}
-
 -- each row has d words
 abbrev pub AreEven : ℕ → List (List ℕ) → Type 0
 AreEven d rows = All (λ row. (length row ≡ d) × All (λ w. w < 2 ^ 64) row) rows
 
--- what is measured of some structs: their extent, or why one of them fails
-pub record ReachesRows {V : Type 0} (words : V → List ℕ) (has_trees : V → Trees → Type 0) (refuses : V → ErrorKind → Type 0) (canonical : Bool) (d p : ℕ) (values : List V) (result : Result Reach Error) : Type 0 where
-  pub returned : MatchResult result
-      (λ reach. AreEven d (map words values) × ((children : Trees) × AreRows has_trees values children × (reach ≡ reach_of canonical d p (map words values) children)))
-      (λ error. RefusesRows has_trees refuses values error.kind)
-  pub found : (children : Trees) → AreRows has_trees values children → result ≡ Ok (reach_of canonical d p (map words values) children)
-  pub exact : (kind : ErrorKind) → RefusesRows has_trees refuses values kind → IsErrAnd result (λ error. error.kind ≡ kind)
+-- what is measured of some structs of d data words each: the words of all that they lead to, or why
+-- one of them fails
+pub record MeasuresRows {V : Type 0} (words : V → List ℕ) (has_trees : V → Trees → Type 0) (refuses : V → ErrorKind → Type 0) (canonical : Bool) (d : ℕ) (values : List V) (result : Result TreeWords Error) : Type 0 where
+  pub measured : Measures (λ t. AreRows has_trees values t) (λ k. RefusesRows has_trees refuses values k) canonical result
+  pub even : IfOk result (λ _. AreEven d (map words values))
 
 -- rows from this word of a block on, each in front of its p pointers, and what these lead to from
 -- another word on

@@ -4,7 +4,7 @@ ghost use Rattle.std.specs.Prelude.{◌≡◌};
 mod row;
 
 use capnp_frame::Result;
-use capnp_wire::traits::{Copied, PartWords, SetterInput};
+use capnp_wire::traits::{Copied, SetterInput, TreeWords};
 
 /// A borrowed value, which can be set more than once, or be a part of more than one value.
 #[derive(Clone, Copy)]
@@ -34,7 +34,7 @@ impl<'a, T, V: SetterInput<T>> SetterInput<T> for Borrowed<'a, V> {
         self.value.measure(canonical)
     }
 
-    fn measure_part(&self, canonical: bool) -> Result<PartWords> {
+    fn measure_part(&self, canonical: bool) -> Result<TreeWords> {
         self.value.measure_part(canonical)
     }
 

@@ -5,27 +5,16 @@ ghost use Rattle.capnp_frame.specs.declared.error.ErrorKind.{ErrorKind};
 ghost use Rattle.capnp_layout.specs.Pointer.{words_of};
 ghost use Rattle.capnp_layout.specs.Tree.{Trees, count, total_words};
 ghost use Rattle.capnp_wire.specs.Values.{IsFreeFrom};
-ghost use Rattle.capnp_values.specs.Fields.{IsSettled, HasExtent, HasTotal, kept_row, extent_of, CanWriteRow, IsRowWritten};
+ghost use Rattle.capnp_values.specs.Measured.{Measures};
+ghost use Rattle.capnp_values.specs.Fields.{IsSettled, HasTotal, kept_row, CanWriteRow, IsRowWritten};
 
 mod field;
 mod no_fields;
 
 use capnp_frame::Result;
+use capnp_wire::traits::TreeWords;
 pub use field::Field;
 pub use no_fields::NoFields;
-
-/// The extent of a row: how many pointers it keeps, and how many words they lead to.
-#[derive(Clone, Copy)]
-pub struct Extent {
-    /// The number of pointers.
-    pub pointers: u32,
-
-    /// The number of words of all that these lead to.
-    pub words: u64,
-
-    /// The number of words of all that these lead to, with each value as it is.
-    pub as_is: u64,
-}
 
 /// A row of pointer fields, each set to a value of its own.
 pub trait Fields {
@@ -43,18 +32,12 @@ pub trait Fields {
     fn count() -> u32
         ensures { result ≡ min size (2 ^ 16) };
 
-    /// The extent of the row, as it is or in canonical form.
+    /// The number of words of all that the row's pointers lead to.
     ///
     /// Fails with a kind that `refuses` names.
-    fn measure(&self, canonical: bool) -> Result<Extent>
+    fn measure(&self, canonical: bool) -> Result<TreeWords>
         requires { size < 2 ^ 16 }
-        ensures returned { MatchResult result
-            (λ extent. HasExtent (has_trees self.now) canonical extent)
-            (λ error. refuses self.now error.kind) }
-        ensures found { (trees : Trees) → has_trees self.now trees →
-            result ≡ Ok (extent_of canonical trees) }
-        ensures exact { (kind : ErrorKind) → refuses self.now kind →
-            IsErrAnd result (λ error. error.kind ≡ kind) };
+        ensures { Measures (has_trees self.now) (refuses self.now) canonical result };
 
     /// The number of words of all that the row's pointers lead to, with each value as it is.
     ///
@@ -68,8 +51,8 @@ pub trait Fields {
         ensures exact { (kind : ErrorKind) → refuses self.now kind →
             IsErrAnd result (λ error. error.kind ≡ kind) }
     {
-        let extent = self.measure(false)?;
-        Ok(extent.as_is)
+        let words = self.measure(false)?;
+        Ok(words.as_is)
     }
 
     /// How many pointers the row keeps, as it is or in canonical form.

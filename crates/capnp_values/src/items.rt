@@ -5,11 +5,11 @@ ghost use Rattle.capnp_wire.specs.Values.{IsFreeFrom};
 ghost use Rattle.capnp_values.specs.Measured.{Measures};
 ghost use Rattle.capnp_values.specs.Lists.{AreItems, RefusesItems, HasRoomForItems, AreItemsWritten};
 
-use crate::measured::TreeWords;
+use crate::measured::both;
 use crate::sources::ValueSource;
 use capnp_frame::Result;
 use capnp_layout::pointer_word::put_word;
-use capnp_wire::traits::SetterInput;
+use capnp_wire::traits::{SetterInput, TreeWords};
 
 /// The number of words of all these values, as they are and in the form that is written.
 ///
@@ -30,9 +30,7 @@ pub(crate) fn measure_items<T, S: ValueSource<T>>(items: &S, canonical: bool) ->
     for index in 0..count {
         let item = items.get(index);
         let own = item.measure_part(canonical)?;
-        let as_is = words.as_is + own.as_is as u64;
-        let output = words.output + own.output as u64;
-        words = TreeWords { as_is, output };
+        words = both(words, own);
     }
     Ok(words)
 }

@@ -2,13 +2,14 @@
 ghost use Rattle.std.specs.Prelude.{◌≡◌};
 
 use crate::items::write_items;
-use crate::measured::{checked_part_words, checked_word_count};
+use crate::measured::checked_part_words;
 use crate::pointer_list::measure_list;
 use crate::sources::ValueSource;
 use capnp_frame::Result;
-use capnp_layout::pointer_word::list_word;
+use capnp_layout::limits::checked_word_count;
+use capnp_layout::pointer_word::{POINTER_LIST, list_word};
 use capnp_wire::list_list::Owned;
-use capnp_wire::traits::{Copied, PartWords, SetterInput};
+use capnp_wire::traits::{Copied, SetterInput, TreeWords};
 use std::marker::PhantomData;
 
 /// A list whose elements are pointers, each set to a value that is made only when it is needed
@@ -53,7 +54,7 @@ impl<T, S: ValueSource<T>> SetterInput<Owned<T>> for LazyPointerList<T, S> {
         checked_word_count(words.output, canonical)
     }
 
-    fn measure_part(&self, canonical: bool) -> Result<PartWords> {
+    fn measure_part(&self, canonical: bool) -> Result<TreeWords> {
         let words = measure_list::<T, S>(&self.source, canonical)?;
         checked_part_words(words)
     }
@@ -65,7 +66,7 @@ impl<T, S: ValueSource<T>> SetterInput<Owned<T>> for LazyPointerList<T, S> {
     fn write(&self, canonical: bool, block: &mut [u8], following: usize, next: usize) -> Copied {
         let count = self.source.len();
         Copied {
-            pointer: list_word((next - following) as u64, 6, count as u64),
+            pointer: list_word((next - following) as u64, POINTER_LIST, count as u64),
             next: write_items::<T, S>(&self.source, canonical, block, next),
         }
     }

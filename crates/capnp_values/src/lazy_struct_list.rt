@@ -3,12 +3,13 @@ ghost use Rattle.std.specs.Prelude.{◌≡◌};
 
 use crate::element::Element;
 use crate::fields::Fields;
-use crate::measured::{checked_part_words, checked_word_count};
+use crate::measured::checked_part_words;
 use crate::sources::StructSource;
 use crate::tagged::{measure_list, write_list};
 use capnp_frame::Result;
+use capnp_layout::limits::checked_word_count;
 use capnp_wire::struct_list::Owned;
-use capnp_wire::traits::{Copied, PartWords, SetterInput};
+use capnp_wire::traits::{Copied, SetterInput, TreeWords};
 
 /// A list whose elements are structs of one size, each made only when it is needed (encoding
 /// document, "Lists"), so no two of them need be in memory at once.
@@ -47,7 +48,7 @@ impl<S: StructSource> SetterInput<Owned> for LazyStructList<S> {
         checked_word_count(words.output, canonical)
     }
 
-    fn measure_part(&self, canonical: bool) -> Result<PartWords> {
+    fn measure_part(&self, canonical: bool) -> Result<TreeWords> {
         let words = measure_list(&self.source, canonical)?;
         checked_part_words(words)
     }

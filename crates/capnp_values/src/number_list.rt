@@ -3,8 +3,8 @@ ghost use Rattle.std.specs.Prelude.{◌≡◌, ◌+◌, ◌*◌, ◌^◌, ◌<�
 ghost use Rattle.capnp_layout.specs.Pointer.{digits, number_of, words_of};
 ghost use Rattle.capnp_layout.specs.Element.{width, words_for};
 
-use crate::measured::allocation_too_large;
 use capnp_frame::Result;
+use capnp_layout::limits::{MAX_ELEMENTS, allocation_too_large};
 use capnp_layout::pointer_word::{list_word, put_word};
 use capnp_wire::primitive_element::PrimitiveElement;
 use capnp_wire::primitive_list::Owned;
@@ -40,7 +40,7 @@ impl<'a, N: PrimitiveElement + Copy> SetterInput<Owned<N>> for NumberList<'a, N>
 
     fn measure(&self, _canonical: bool) -> Result<u32> {
         let count = self.items.len();
-        if count >= 1 << 29 {
+        if count > MAX_ELEMENTS as usize {
             return Err(allocation_too_large(count as u64));
         }
         // For the prover: each number fits its type.

@@ -4,12 +4,13 @@ ghost use Rattle.capnp_values.specs.Measured.{Measures};
 ghost use Rattle.capnp_values.specs.Lists.{IsPointerList, RefusesPointerList};
 
 use crate::items::{measure_items, write_items};
-use crate::measured::{TreeWords, allocation_too_large, checked_part_words, checked_word_count};
+use crate::measured::checked_part_words;
 use crate::sources::ValueSource;
 use capnp_frame::Result;
-use capnp_layout::pointer_word::list_word;
+use capnp_layout::limits::{MAX_ELEMENTS, allocation_too_large, checked_word_count};
+use capnp_layout::pointer_word::{POINTER_LIST, list_word};
 use capnp_wire::list_list::Owned;
-use capnp_wire::traits::{Copied, PartWords, SetterInput};
+use capnp_wire::traits::{Copied, SetterInput, TreeWords};
 use std::marker::PhantomData;
 
 /// A list whose elements are pointers, each set to a value (encoding document, "Lists"), for
@@ -54,7 +55,7 @@ impl<'a, T, V: SetterInput<T>> SetterInput<Owned<T>> for PointerList<'a, T, V> {
         checked_word_count(words.output, canonical)
     }
 
-    fn measure_part(&self, canonical: bool) -> Result<PartWords> {
+    fn measure_part(&self, canonical: bool) -> Result<TreeWords> {
         let words = measure_list::<T, &'a [V]>(&self.items, canonical)?;
         checked_part_words(words)
     }
@@ -66,7 +67,7 @@ impl<'a, T, V: SetterInput<T>> SetterInput<Owned<T>> for PointerList<'a, T, V> {
     fn write(&self, canonical: bool, block: &mut [u8], following: usize, next: usize) -> Copied {
         let count = self.items.len();
         Copied {
-            pointer: list_word((next - following) as u64, 6, count as u64),
+            pointer: list_word((next - following) as u64, POINTER_LIST, count as u64),
             next: write_items::<T, &'a [V]>(&self.items, canonical, block, next),
         }
     }
@@ -79,7 +80,7 @@ pub(crate) fn measure_list<T, S: ValueSource<T>>(items: &S, canonical: bool) -> 
         canonical result }
 {
     let count = items.len() as u64;
-    if count >= 1 << 29 {
+    if count > MAX_ELEMENTS as u64 {
         return Err(allocation_too_large(count));
     }
     let words = measure_items::<T, S>(items, canonical)?;

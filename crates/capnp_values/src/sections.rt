@@ -1,13 +1,15 @@
 //! The sections of structs: their data words, and their pointers.
-ghost use Rattle.std.specs.Prelude.{◌≡◌, ◌↔◌, ◌+◌, ◌*◌, ◌<◌, ◌≤◌, ◌^◌, ◌==◌, if◌then◌else◌, All, IsTrue, length};
+ghost use Rattle.std.specs.Prelude.{◌≡◌, ◌↔◌, ◌+◌, ◌*◌, ◌<◌, ◌≤◌, ◌^◌, ◌==◌, if◌then◌else◌, All, IsTrue, length, take};
 ghost use Rattle.capnp_layout.specs.Pointer.{words_of};
 ghost use Rattle.capnp_layout.specs.Trim.{cut_zeros};
 ghost use Rattle.capnp_layout.specs.Layout.{struct_pointer, minus_one};
 ghost use Rattle.capnp_layout.specs.Block.{put};
 ghost use Rattle.capnp_wire.specs.Values.{IsFreeFrom};
-ghost use Rattle.capnp_values.specs.Fields.{CanWriteRow, IsRowWritten};
+ghost use Rattle.capnp_values.specs.Fields.{IsRowWritten};
 ghost use Rattle.capnp_values.specs.Structs.{kept_words};
+ghost use Rattle.capnp_values.specs.StructListPlaces.{ElementPlace};
 
+use crate::element::Element;
 use crate::fields::Fields;
 use capnp_layout::body_word::struct_pointer_word;
 use capnp_layout::pointer::StructSize;
@@ -71,27 +73,41 @@ pub(crate) fn struct_word(words: usize, pointers: u32, gap: usize) -> u64
     struct_pointer_word(size, gap as u64)
 }
 
-/// Writes data words into a block from the word `at` on, then the first pointers of a row, and what
-/// they lead to into the words from `next` on, which are zero. Returns the first word after that.
-pub(crate) fn write_sections<F: Fields>(
-    words: &[u64],
-    fields: &F,
+/// What a struct keeps: all that it has, or in canonical form as much as it needs. Each element of a
+/// list keeps as much as the others.
+#[derive(Clone, Copy)]
+pub struct KeptWords {
+    /// Its data words.
+    pub data_words: usize,
+
+    /// Its pointers.
+    pub pointers: u32,
+}
+
+/// Writes what a struct keeps into a block from the word `at` on, and what its pointers lead to into
+/// the words from `next` on, which are zero. Returns the first word after that.
+pub(crate) fn write_sections<E: Fields + Element>(
+    item: &E,
     canonical: bool,
-    pointers: u32,
+    kept: KeptWords,
     block: &mut [u8],
     at: usize,
     next: usize,
 ) -> usize
-    requires row { CanWriteRow (F.has_trees fields.now) canonical pointers next
-        (length (words_of block.old)) }
-    requires before { at + length words.now + pointers ≤ next }
+    requires data { kept.data_words ≤ E.data_words }
+    requires place { ElementPlace (E.has_trees item.now) canonical kept.data_words kept.pointers at
+        next (length (words_of block.old)) }
     requires free { IsFreeFrom next block.old }
-    ensures written { IsRowWritten (F.has_trees fields.now) canonical (at + length words.now) pointers
-        next (put at words.now (words_of block.old)) (words_of block.new) result }
+    ensures written { IsRowWritten (E.has_trees item.now) canonical (at + kept.data_words) kept.pointers
+        next (put at (take kept.data_words (E.words item.now)) (words_of block.old))
+        (words_of block.new) result }
     ensures free { IsFreeFrom result block.new }
+    ensures wide { length (E.words item.now) ≡ E.data_words }
     ensures len { length block.new ≡ length block.old }
 {
-    let slot = at + words.len();
-    put_words(words, &mut block[8 * at..8 * slot]);
-    fields.write(canonical, block, slot, pointers, next)
+    let words = item.words();
+    let own = &words[..kept.data_words];
+    let slot = at + kept.data_words;
+    put_words(own, &mut block[8 * at..8 * slot]);
+    item.write(canonical, block, slot, kept.pointers, next)
 }

@@ -41,7 +41,7 @@ pub trait ValueSource<T> {
 }
 
 /// Structs of one size in order, each made only when it is needed: once to be measured, and once
-/// more to be written.
+/// more to be written, in canonical form twice for either.
 pub trait StructSource {
     /// Identifies a struct: its index, or what it is made of.
     type Item;

@@ -3,11 +3,12 @@ ghost use Rattle.std.specs.Prelude.{◌≡◌};
 
 use crate::element::Element;
 use crate::fields::Fields;
-use crate::measured::{checked_part_words, checked_word_count};
+use crate::measured::checked_part_words;
 use crate::tagged::{measure_list, write_list};
 use capnp_frame::Result;
+use capnp_layout::limits::checked_word_count;
 use capnp_wire::struct_list::Owned;
-use capnp_wire::traits::{Copied, PartWords, SetterInput};
+use capnp_wire::traits::{Copied, SetterInput, TreeWords};
 
 /// A list whose elements are consecutive structs of one size (encoding document, "Lists").
 #[derive(Drop)]
@@ -46,7 +47,7 @@ impl<'a, E: Fields + Element> SetterInput<Owned> for StructList<'a, E> {
         checked_word_count(words.output, canonical)
     }
 
-    fn measure_part(&self, canonical: bool) -> Result<PartWords> {
+    fn measure_part(&self, canonical: bool) -> Result<TreeWords> {
         let words = measure_list(&self.items, canonical)?;
         checked_part_words(words)
     }

@@ -4,12 +4,13 @@ ghost use Rattle.capnp_values.specs.Measured.{Measures};
 ghost use Rattle.capnp_values.specs.Structs.{IsStruct, RefusesStruct};
 
 use crate::element::Element;
-use crate::fields::{Extent, Fields};
-use crate::measured::{TreeWords, checked_part_words, checked_word_count};
-use crate::sections::{fits, kept_data, struct_word, words_fit, write_sections};
+use crate::fields::Fields;
+use crate::measured::checked_part_words;
+use crate::sections::{KeptWords, fits, kept_data, struct_word, words_fit, write_sections};
 use capnp_frame::{Error, ErrorKind, Result};
+use capnp_layout::limits::checked_word_count;
 use capnp_wire::any_struct::Owned;
-use capnp_wire::traits::{Copied, PartWords, SetterInput};
+use capnp_wire::traits::{Copied, SetterInput, TreeWords};
 
 /// A struct of data words and of pointer fields (encoding document, "Structs").
 #[derive(Drop)]
@@ -52,7 +53,7 @@ impl<const D: usize, F: Fields> SetterInput<Owned> for StructValue<D, F> {
         checked_word_count(words.output, canonical)
     }
 
-    fn measure_part(&self, canonical: bool) -> Result<PartWords> {
+    fn measure_part(&self, canonical: bool) -> Result<TreeWords> {
         let words = measure_struct(&self.words, &self.fields, canonical)?;
         checked_part_words(words)
     }
@@ -62,23 +63,16 @@ impl<const D: usize, F: Fields> SetterInput<Owned> for StructValue<D, F> {
     }
 
     fn write(&self, canonical: bool, block: &mut [u8], following: usize, next: usize) -> Copied {
-        let words: &[u64] = &self.words;
-        let data = kept_data(words, canonical);
+        let data_words = kept_data(&self.words, canonical);
         let pointers = self.fields.kept(canonical);
-        let children = next + data + pointers as usize;
-        let kept = &words[..data];
-        let free = write_sections(
-            kept,
-            &self.fields,
-            canonical,
+        let kept = KeptWords {
+            data_words,
             pointers,
-            block,
-            next,
-            children,
-        );
+        };
+        let children = next + data_words + pointers as usize;
         Copied {
-            pointer: struct_word(data, pointers, next - following),
-            next: free,
+            pointer: struct_word(data_words, pointers, next - following),
+            next: write_sections(self, canonical, kept, block, next, children),
         }
     }
 }
@@ -93,10 +87,11 @@ fn measure_struct<F: Fields>(words: &[u64], fields: &F, canonical: bool) -> Resu
     }
     // For the prover: each data word is below 2^64.
     words_fit(words);
-    let extent = fields.measure(canonical)?;
+    let children = fields.measure(canonical)?;
     let data = kept_data(words, canonical) as u64;
-    let as_is = words.len() as u64 + F::count() as u64 + extent.as_is;
-    let output = data + extent.pointers as u64 + extent.words;
+    let pointers = fields.kept(canonical) as u64;
+    let as_is = words.len() as u64 + F::count() as u64 + children.as_is;
+    let output = data + pointers + children.output;
     Ok(TreeWords { as_is, output })
 }
 
@@ -114,7 +109,7 @@ impl<const D: usize, F: Fields> Fields for StructValue<D, F> {
         F::count()
     }
 
-    fn measure(&self, canonical: bool) -> Result<Extent> {
+    fn measure(&self, canonical: bool) -> Result<TreeWords> {
         self.fields.measure(canonical)
     }
 

@@ -12,12 +12,13 @@ ghost use Rattle.capnp_values.specs.StructListPlaces.{AreDeclared, IsDeclared, L
 
 use crate::element::Element;
 use crate::fields::Fields;
-use crate::measured::{TreeWords, allocation_too_large};
-use crate::rows::{KeptWords, Reach, kept_by_each, measure_rows, write_rows};
+use crate::rows::{kept_by_each, measure_rows, write_rows};
+use crate::sections::KeptWords;
 use crate::sources::StructSource;
 use capnp_frame::{Error, ErrorKind, Result};
-use capnp_layout::pointer_word::{list_word, put_word, struct_word};
-use capnp_wire::traits::Copied;
+use capnp_layout::limits::{MAX_ELEMENTS, MAX_WORDS, allocation_too_large};
+use capnp_layout::pointer_word::{STRUCT_LIST, list_word, put_word, struct_word};
+use capnp_wire::traits::{Copied, TreeWords};
 
 /// The number of words of a list of some structs.
 pub(crate) fn measure_list<S: StructSource>(items: &S, canonical: bool) -> Result<TreeWords>
@@ -30,8 +31,9 @@ pub(crate) fn measure_list<S: StructSource>(items: &S, canonical: bool) -> Resul
     let data_words = S::Value::data_words();
     let pointers = S::Value::count();
     elements_fit(count, data_words, pointers)?;
-    let reach = measure_rows(items, canonical)?;
-    Ok(with_tag(count, data_words, pointers, reach))
+    let children = measure_rows(items, canonical)?;
+    let kept = kept_by_each(items, canonical);
+    Ok(with_tag(count, data_words, pointers, kept, children))
 }
 
 // Fails with `AllocationTooLarge` where a pointer and a tag can't say that there are this many
@@ -45,29 +47,35 @@ fn elements_fit(count: usize, data_words: usize, pointers: u32) -> Result<()>
     if data_words >= 1 << 16 || pointers >= 1 << 16 {
         return Err(Error::from_kind(ErrorKind::AllocationTooLarge(1 << 16)));
     }
-    if count >= 1 << 29 {
+    if count > MAX_ELEMENTS as usize {
         return Err(allocation_too_large(count as u64));
     }
     let words = count * (data_words + pointers as usize);
-    if words >= 1 << 29 {
+    if words > MAX_WORDS as usize {
         return Err(allocation_too_large(words as u64));
     }
     Ok(())
 }
 
 // The number of words of the tag, of the elements, and of all that these lead to.
-fn with_tag(count: usize, data_words: usize, pointers: u32, reach: Reach) -> TreeWords
-    requires told { AreDeclared count data_words pointers }
-    requires kept { IsDeclared count data_words pointers reach.data_words reach.pointers }
-    requires few { reach.words + reach.as_is < 2 ^ 59 }
-    ensures as_is { result.as_is ≡ 1 + count * (data_words + pointers) + reach.as_is }
+fn with_tag(
+    count: usize,
+    data_words: usize,
+    pointers: u32,
+    kept: KeptWords,
+    children: TreeWords,
+) -> TreeWords
+    requires declared { AreDeclared count data_words pointers }
+    requires kept { IsDeclared count data_words pointers kept.data_words kept.pointers }
+    requires few { children.as_is + children.output < 2 ^ 59 }
+    ensures as_is { result.as_is ≡ 1 + count * (data_words + pointers) + children.as_is }
     ensures output { result.output
-        ≡ 1 + count * (reach.data_words + reach.pointers) + reach.words }
+        ≡ 1 + count * (kept.data_words + kept.pointers) + children.output }
 {
     let all = count * (data_words + pointers as usize);
-    let kept = count * (reach.data_words + reach.pointers as usize);
-    let as_is = 1 + all as u64 + reach.as_is;
-    let output = 1 + kept as u64 + reach.words;
+    let written = count * (kept.data_words + kept.pointers as usize);
+    let as_is = 1 + all as u64 + children.as_is;
+    let output = 1 + written as u64 + children.output;
     TreeWords { as_is, output }
 }
 
@@ -125,7 +133,7 @@ fn write_tagged<S: StructSource>(
     let tag = struct_word(count as u64, kept.data_words as u16, kept.pointers as u16);
     put_word(block, next, tag);
     Copied {
-        pointer: list_word((next - following) as u64, 7, words as u64),
+        pointer: list_word((next - following) as u64, STRUCT_LIST, words as u64),
         next: write_rows(items, canonical, kept, block, next + 1),
     }
 }

@@ -6,7 +6,7 @@ use Rattle.capnp_layout.specs.Element.{code_of}
 use Rattle.capnp_layout.specs.Tree.{numbers, Trees, depth, total_words}
 use Rattle.capnp_layout.specs.Object.{elements as numerals, rows_from}
 use Rattle.capnp_layout.specs.Layout.{own, body, pointer_to, AllHaveRoom, output, struct_pointer}
-use Rattle.capnp_layout.specs.Landing.{IsObject, room_of, words_in}
+use Rattle.capnp_layout.specs.Body.{IsObject, room_of, words_in}
 use Rattle.capnp_layout.specs.Block.{put, put_rows, fill}
 use Rattle.capnp_layout.specs.Object.{places}
 use Rattle.capnp_layout.specs.Layout.{run}

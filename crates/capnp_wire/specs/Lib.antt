@@ -1,11 +1,7 @@
 pub mod Pointer
-pub mod Element
 pub mod Tree
 pub mod Trim
 pub mod Object
-pub mod PointerWord
-pub mod Landing
-pub mod Local
 pub mod Reached
 pub mod Traversed
 pub mod Enums
@@ -23,7 +19,6 @@ pub mod UpgradedViews
 pub mod UpgradedReaders
 pub mod Layout
 pub mod Block
-pub mod Rows
 pub mod Copy
 pub mod Values
 pub mod ListValues

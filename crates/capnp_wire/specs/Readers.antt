@@ -8,7 +8,7 @@ use Rattle.capnp_layout.specs.Tree.{Form}
 use Rattle.capnp_layout.specs.Object.{message_of, places}
 use Rattle.capnp_layout.specs.Reached.{root}
 use Rattle.capnp_layout.specs.Traversed.{Within}
-use Rattle.capnp_layout.specs.Landing.{IsObject, shape_of}
+use Rattle.capnp_layout.specs.Body.{IsObject, shape_of}
 use Rattle.capnp_wire.specs.Views.{Pointer, Struct}
 use Rattle.capnp_wire.specs.Parts.{own_data}
 use Rattle.capnp_layout.specs.declared.place.Place.{Place}

@@ -5,7 +5,7 @@ use Rattle.std.specs.Prelude.{◌≡◌, Bool, ℕ, ◌+◌, ◌^◌, ◌<◌, �
 use Rattle.capnp_layout.specs.Pointer.{words_of}
 use Rattle.capnp_layout.specs.Tree.{Trees, depth, total_words}
 use Rattle.capnp_layout.specs.Object.{places}
-use Rattle.capnp_layout.specs.Landing.{IsObject, shape_of, words_in}
+use Rattle.capnp_layout.specs.Body.{IsObject, shape_of, words_in}
 use Rattle.capnp_layout.specs.Reached.{At}
 use Rattle.capnp_layout.specs.Layout.{output, AllHaveRoom}
 use Rattle.capnp_layout.specs.Output.{output_body_of}

@@ -12,7 +12,7 @@ use Rattle.capnp_wire.specs.UpgradedViews.{number_row, first_fields}
 use Rattle.capnp_layout.specs.declared.place.Place.{Place}
 use Rattle.capnp_wire.specs.declared.primitive_element.PrimitiveElement.{Ghosts as ElementGhosts}
 use Rattle.capnp_wire.specs.declared.primitive_list.reader.Reader.{Reader as NumbersReader}
-use Rattle.capnp_wire.specs.declared.upgraded.struct_list.NumberRows.{NumberRows}
+use Rattle.capnp_wire.specs.declared.upgraded.number_rows.NumberRows.{NumberRows}
 use Rattle.capnp_wire.specs.declared.upgraded.struct_list.Rows.{Rows}
 use Rattle.capnp_wire.specs.declared.upgraded.struct_list.Rows.TheVariants.{InPlace as StructsInPlace, Numbers as NumbersAsStructs}
 use Rattle.capnp_wire.specs.declared.upgraded.struct_list.StructList.{StructList as StructListReader}

@@ -19,7 +19,7 @@ use Rattle.capnp_wire.specs.declared.upgraded.number_list.Numbers.{Numbers}
 use Rattle.capnp_wire.specs.declared.upgraded.number_list.Numbers.TheVariants.{InPlace as NumbersInPlace, OfStructs}
 use Rattle.capnp_wire.specs.declared.upgraded.number_list.NumberList.{NumberList as NumberListReader}
 use Rattle.capnp_wire.specs.declared.upgraded.pointer_list.PointerList.{PointerList as PointerListReader}
-use Rattle.capnp_wire.specs.declared.upgraded.struct_list.NumberRows.{NumberRows}
+use Rattle.capnp_wire.specs.declared.upgraded.number_rows.NumberRows.{NumberRows}
 use Rattle.capnp_wire.specs.declared.upgraded.struct_list.Rows.{Rows}
 use Rattle.capnp_wire.specs.declared.upgraded.struct_list.Rows.TheVariants.{InPlace as StructsInPlace, Numbers as NumbersAsStructs}
 use Rattle.capnp_wire.specs.declared.upgraded.struct_list.StructList.{StructList as StructListReader}

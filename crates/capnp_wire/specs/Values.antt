@@ -1,8 +1,8 @@
 -- Values that are measured and written (src/layout/value.rt).
-use Rattle.std.specs.Prelude.{◌≡◌, ◌⊎◌, ℕ, ◌+◌, ◌-◌, ◌%◌, ◌^◌, ◌<◌, ◌≤◌, min, Bool, true, false, List, [], ◌∷◌, ◌++◌, Option, Some, None, MatchOption, length, drop, replicate, slice_get}
+use Rattle.std.specs.Prelude.{◌≡◌, ◌⊎◌, ℕ, ◌+◌, ◌-◌, ◌%◌, ◌^◌, ◌<◌, ◌≤◌, min, Bool, false, List, [], ◌∷◌, ◌++◌, Option, Some, None, MatchOption, length, drop, replicate, slice_get}
 use Rattle.std.proofs.Common.{refl, ap}
 use Rattle.capnp_frame.specs.declared.error.ErrorKind.{ErrorKind}
-use Rattle.capnp_frame.specs.declared.error.ErrorKind.TheVariants.{AllocationTooLarge, CanonicalTooLarge}
+use Rattle.capnp_frame.specs.declared.error.ErrorKind.TheVariants.{AllocationTooLarge}
 use Rattle.capnp_frame.specs.Words.{bytes_of}
 use Rattle.capnp_frame.specs.declared.words.Word.{Word}
 use Rattle.capnp_layout.specs.Pointer.{number_of, words_of, words_from}
@@ -14,9 +14,10 @@ use Rattle.capnp_layout.specs.Reached.{At, at, nowhere}
 use Rattle.capnp_layout.specs.Trim.{trim}
 use Rattle.capnp_layout.specs.Layout.{canon, output, AllHaveRoom}
 use Rattle.capnp_layout.specs.Traversed.{Within}
+use Rattle.capnp_layout.specs.Limits.{too_large}
 use Rattle.capnp_layout.specs.Faults.{StopsWalk}
 use Rattle.capnp_layout.specs.declared.place.Place.{Place}
-use Rattle.capnp_wire.specs.declared.traits.PartWords.{PartWords}
+use Rattle.capnp_wire.specs.declared.traits.TreeWords.{TreeWords}
 use Rattle.capnp_layout.specs.declared.pointer.StructSize.{StructSize}
 
 -- the tree at a place, within the nesting depth left and a limit
@@ -25,11 +26,6 @@ pub record TreeAt (m : List (List ℕ)) (place : Place) (nesting : ℕ) (limit :
   pub stand : At m (place ∷ []) trees traversed
   pub shallow : depth trees ≤ nesting
   pub within : Within limit traversed
-
--- the error for a tree that has this many words
-abbrev pub too_large : Bool → ℕ → ErrorKind
-too_large true words = CanonicalTooLarge
-too_large false words = AllocationTooLarge (min words (2 ^ 32 - 1))
 
 -- the words of the body of the tree at a place, as it is or in canonical form, where these are
 -- fewer than 2 ^ 29
@@ -62,7 +58,7 @@ starts_with_null (tree form children rest) = is_null form
 
 -- The words of a value as a part of another one: of its tree as it is, fewer than 2 ^ 29, and of
 -- its tree in the form that is written.
-pub record HasPart (has_tree : Trees → Type 0) (canonical : Bool) (words : PartWords) : Type 0 where
+pub record HasPart (has_tree : Trees → Type 0) (canonical : Bool) (words : TreeWords) : Type 0 where
   pub trees : Trees
   pub tree_is : has_tree trees
   pub rooms : AllHaveRoom trees

@@ -16,6 +16,7 @@ use crate::traits::{self, SetterInput};
 use capnp_frame::Result;
 use capnp_frame::message::ReaderSegments;
 use capnp_layout::block::BlockItem;
+pub(crate) use fast_path::ObjectKind;
 pub use reader::Reader;
 
 /// A pointer that may lead to anything, as a type of a schema.

@@ -25,6 +25,7 @@ mod list_iter;
 pub mod list_list;
 mod message_size;
 mod object_content;
+mod object_view;
 pub mod pointer_word;
 pub mod primitive_element;
 pub mod primitive_list;

@@ -5,7 +5,7 @@ ghost use Rattle.capnp_layout.specs.Pointer.{words_of};
 ghost use Rattle.capnp_layout.specs.Object.{elements};
 ghost use Rattle.capnp_layout.specs.Element.{code_of, width, words_for};
 ghost use Rattle.capnp_layout.specs.Tree.{numbers};
-ghost use Rattle.capnp_layout.specs.Landing.{room_of};
+ghost use Rattle.capnp_layout.specs.Body.{room_of};
 ghost use Rattle.capnp_wire.specs.Readers.{form_of};
 ghost use Rattle.capnp_wire.specs.Views.{DeclinesNumbers};
 

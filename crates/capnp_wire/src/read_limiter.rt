@@ -38,6 +38,7 @@ pub(crate) fn limit_in_words(limiter: Option<&ReadLimiter>) -> Option<usize>
 
 /// Counts words that are read. Fails with `ReadLimitExceeded`, and counts nothing, where the count
 /// would pass the limit; for no words it never fails.
+#[inline(always)]
 pub(crate) fn traversed(limiter: Option<&ReadLimiter>, words: u64) -> Result<()>
     ensures kind { IfErr result (λ error. error.kind ≡ ErrorKind.ReadLimitExceeded) }
     ensures limited { OnErr result (limit_of limiter.entry ≢ None) }

@@ -9,7 +9,7 @@ ghost use Rattle.capnp_layout.specs.Tree.{Trees, count, total_words};
 ghost use Rattle.capnp_layout.specs.Layout.{body, output};
 ghost use Rattle.capnp_wire.specs.Copy.{IsCopied};
 ghost use Rattle.capnp_wire.specs.Values.{HasWords, LacksWords, HasPart, HasRoomAt, IsFreeFrom, starts_with_null};
-ghost use Rattle.capnp_wire.specs.declared.traits.PartWords.{PartWords};
+ghost use Rattle.capnp_wire.specs.declared.traits.TreeWords.{TreeWords};
 
 use crate::any_pointer;
 pub use crate::layout::copy::Copied;
@@ -59,14 +59,14 @@ pub trait Owned<'a, S: ReaderSegments> {
     type Reader: FromPointerReader<'a, S>;
 }
 
-/// How many words a value has as a part of another one, without the pointer to it.
+/// How many words some trees have, as they are and in the form that is written.
 #[derive(Clone, Copy)]
-pub struct PartWords {
-    /// The words of the value as it is.
-    pub as_is: u32,
+pub struct TreeWords {
+    /// As they are.
+    pub as_is: u64,
 
-    /// The words of its copy, which may be in canonical form, and then has fewer.
-    pub output: u32,
+    /// In the form that is written. Fewer, where that is canonical and they are not.
+    pub output: u64,
 }
 
 /// A value of a type of a schema, to which a pointer can be set.
@@ -90,27 +90,27 @@ pub trait SetterInput<T> {
             LacksWords (has_tree self.now) (refuses self.now) canonical kind →
             IsErrAnd result (λ error. error.kind ≡ kind) };
 
-    /// The number of words of the value as a part of another one.
+    /// The number of words of the value as a part of another one, without the pointer to it.
     ///
     /// Fails as `measure` does for the value as it is, even where its canonical form is smaller.
-    fn measure_part(&self, canonical: bool) -> Result<PartWords>
+    fn measure_part(&self, canonical: bool) -> Result<TreeWords>
         ensures returned { MatchResult result (λ words. HasPart (has_tree self.now) canonical words)
             (λ error. LacksWords (has_tree self.now) (refuses self.now) false error.kind) }
-        ensures found { (words : PartWords) → HasPart (has_tree self.now) canonical words →
+        ensures found { (words : TreeWords) → HasPart (has_tree self.now) canonical words →
             result ≡ Ok words }
         ensures exact { (kind : ErrorKind) →
             LacksWords (has_tree self.now) (refuses self.now) false kind →
             IsErrAnd result (λ error. error.kind ≡ kind) }
     {
-        let as_is = self.measure(false)?;
+        let as_is = self.measure(false)? as u64;
         if !canonical {
-            return Ok(PartWords {
+            return Ok(TreeWords {
                 as_is,
                 output: as_is,
             });
         }
-        let output = self.measure(true).unwrap_or(0);
-        Ok(PartWords { as_is, output })
+        let output = self.measure(true).unwrap_or(0) as u64;
+        Ok(TreeWords { as_is, output })
     }
 
     /// Whether the value is null.

@@ -10,6 +10,7 @@
 mod enum_list;
 mod list_list;
 mod number_list;
+mod number_rows;
 mod pointer_list;
 mod struct_list;
 mod values;

@@ -28,15 +28,12 @@ pub struct Input<R: io::Read> {
 }
 
 impl<R: io::Read + Drop> Input<R> {
-    ghost use Rattle.capnp.specs.Devices.{read_ahead, coming, unread_of};
+    ghost use Rattle.capnp.specs.Devices.{coming, unread_of, OpensInput};
 
     /// The device, of which nothing has been read, and whose bytes no contract knows. Fails with
     /// `OutOfMemory` alone, for the buffer.
     pub fn new(alloc: Global, device: R) -> Result<Input<R>>
-        ensures coming { IfOk result (λ input. Keeps (R.remaining device) (coming R.remaining input)) }
-        ensures read_ahead { IfOk result (λ input. read_ahead input ≡ []) }
-        ensures failures { IfOk result (λ input. input.failures.count ≡ 0) }
-        ensures memory { IfErr result (λ error. error.kind ≡ ErrorKind.OutOfMemory) }
+        ensures { OpensInput (λ input. Keeps (R.remaining device) (coming R.remaining input)) result }
     {
         let buffered = buffered(alloc, device)?;
         Ok(Input {
@@ -50,10 +47,7 @@ impl<R: io::Read + Drop> Input<R> {
     /// `OutOfMemory` alone, for the buffer.
     pub fn of_known(alloc: Global, device: R) -> Result<Input<R>>
         requires { IsSome (R.remaining device) }
-        ensures unread { IfOk result (λ input. unread_of R.remaining input ≡ R.remaining device) }
-        ensures read_ahead { IfOk result (λ input. read_ahead input ≡ []) }
-        ensures failures { IfOk result (λ input. input.failures.count ≡ 0) }
-        ensures memory { IfErr result (λ error. error.kind ≡ ErrorKind.OutOfMemory) }
+        ensures { OpensInput (λ input. unread_of R.remaining input ≡ R.remaining device) result }
     {
         let buffered = buffered(alloc, device)?;
         Ok(Input {

@@ -1,9 +1,8 @@
 //! A device that is written, such as standard output or a file, as a sink.
-ghost use Rattle.std.specs.Prelude.{◌≡◌, ◌≤◌, [], IfOk, IfErr, OnOk, OnErr, IsOk, ⊤};
-ghost use Rattle.std.specs.Io.Buffered.{writer_capacity};
+ghost use Rattle.std.specs.Prelude.{◌≡◌, ◌≤◌, [], IfErr, OnOk, OnErr, ⊤};
 ghost use Rattle.std.specs.Io.KnownBytes.{Keeps};
 ghost use Rattle.capnp.specs.Passed.{ErrorKind, IfKnown, Fails, Adds, AppendsSame, LeavesFront, Grows, always};
-ghost use Rattle.capnp.specs.Devices.{pending, taken_so_far};
+ghost use Rattle.capnp.specs.Devices.{pending, taken_so_far, OpensOutput};
 
 use crate::devices::Failures;
 use crate::devices::retried::Retried;
@@ -26,13 +25,7 @@ impl<W: io::Write + Drop> Output<W> {
     ///
     /// Fails with `OutOfMemory` alone, for the buffer.
     pub fn new(alloc: Global, capacity: usize, device: W) -> Result<Output<W>>
-        ensures taken { IfOk result (λ output.
-            Keeps (W.contents device) (taken_so_far W.contents output)) }
-        ensures pending { IfOk result (λ output. pending output ≡ []) }
-        ensures capacity { IfOk result (λ output. writer_capacity output.buffered ≡ capacity) }
-        ensures failures { IfOk result (λ output. output.failures.count ≡ 0) }
-        ensures memory { IfErr result (λ error. error.kind ≡ ErrorKind.OutOfMemory) }
-        ensures unbuffered { capacity ≡ 0 → IsOk result }
+        ensures { OpensOutput W.contents device capacity result }
     {
         let Ok(buffered) = BufWriter::with_capacity(alloc, capacity, Retried::new(device)) else {
             return Err(Error::from_kind(ErrorKind::OutOfMemory));

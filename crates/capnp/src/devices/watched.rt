@@ -1,8 +1,9 @@
 //! Devices that keep the reason of a failure.
-ghost use Rattle.std.specs.Prelude.{◌≡◌, ◌≢◌, None, Some, IfErr, OnOk};
+ghost use Rattle.std.specs.Prelude.{◌≡◌, ◌≢◌, None, Some};
 ghost use Rattle.std.specs.Io.{ReadsAtMost, WritesAtMost};
 ghost use Rattle.std.specs.Io.KnownBytes.{Keeps, ReadConsumes, WriteAppends};
 ghost use Rattle.std.specs.IoError.{error_kind};
+ghost use Rattle.capnp.specs.Devices.{KeepsFault};
 
 use std::io;
 use std::io::{ErrorKind, Read, Write};
@@ -52,11 +53,7 @@ impl<R: Read> Read for Watched<R> {
         ensures bound { ReadsAtMost result buffer.new }
         ensures bytes { ReadConsumes (R.remaining self.old.device) (R.remaining self.new.device)
             result buffer.new }
-        ensures noted { IfErr result (λ error. error_kind error ≢ ErrorKind.Interrupted →
-            self.new.fault ≡ Some error) }
-        ensures kept { OnOk result (self.new.fault ≡ self.old.fault) }
-        ensures interrupted { IfErr result (λ error. error_kind error ≡ ErrorKind.Interrupted →
-            self.new.fault ≡ self.old.fault) }
+        ensures fault { KeepsFault self.old.fault self.new.fault result }
     {
         match self.device.read(buffer) {
             Ok(count) => Ok(count),
@@ -75,11 +72,7 @@ impl<W: Write> Write for Watched<W> {
         ensures bound { WritesAtMost result bytes.now }
         ensures bytes { WriteAppends (W.contents self.old.device) (W.contents self.new.device)
             result bytes.now }
-        ensures noted { IfErr result (λ error. error_kind error ≢ ErrorKind.Interrupted →
-            self.new.fault ≡ Some error) }
-        ensures kept { OnOk result (self.new.fault ≡ self.old.fault) }
-        ensures interrupted { IfErr result (λ error. error_kind error ≡ ErrorKind.Interrupted →
-            self.new.fault ≡ self.old.fault) }
+        ensures fault { KeepsFault self.old.fault self.new.fault result }
     {
         match self.device.write(bytes) {
             Ok(count) => Ok(count),
@@ -92,11 +85,7 @@ impl<W: Write> Write for Watched<W> {
 
     fn flush(&mut self) -> io::Result<()>
         ensures bytes { Keeps (W.contents self.old.device) (W.contents self.new.device) }
-        ensures noted { IfErr result (λ error. error_kind error ≢ ErrorKind.Interrupted →
-            self.new.fault ≡ Some error) }
-        ensures kept { OnOk result (self.new.fault ≡ self.old.fault) }
-        ensures interrupted { IfErr result (λ error. error_kind error ≡ ErrorKind.Interrupted →
-            self.new.fault ≡ self.old.fault) }
+        ensures fault { KeepsFault self.old.fault self.new.fault result }
     {
         match self.device.flush() {
             Ok(()) => Ok(()),

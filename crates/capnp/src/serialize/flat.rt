@@ -1,12 +1,12 @@
 //! Reading messages from slices.
-ghost use Rattle.std.specs.Prelude.{◌≡◌, Some, IfOk};
-ghost use Rattle.capnp_frame.specs.FlatReaders.{slice_rules, no_alloc_rules, ReadsFlat};
+ghost use Rattle.capnp_frame.specs.FlatReaders.{slice_rules, no_alloc_rules};
+ghost use Rattle.capnp.specs.Headline.{ReadsFlatMessage};
 
 use capnp_frame::Result;
 use capnp_frame::message::ReaderOptions;
 use capnp_frame::serialize::{
-    BufferSegments, NoAllocBufferSegments, NoAllocSliceSegments, Padding,
-    take_segments_with_padding,
+    BufferSegments, NoAllocBufferSegments, NoAllocSliceSegments, Padding, TableRules,
+    take_segments_with_rules,
 };
 use capnp_message::Reader;
 use std::alloc::Global;
@@ -20,9 +20,8 @@ pub fn read_message_from_flat_slice<'a>(
     slice: &mut &'a [u8],
     options: ReaderOptions,
 ) -> Result<Reader<BufferSegments<&'a [u8]>>>
-    ensures reads { ReadsFlat (slice_rules Padding.Zero options.traversal_limit_in_words)
-        slice.old.now (Some slice.new.now) (λ reader. reader.segments.segments) result }
-    ensures options { IfOk result (λ reader. reader.options ≡ options) }
+    ensures { ReadsFlatMessage (slice_rules Padding.Zero options.traversal_limit_in_words) options
+        slice.old.now slice.new.now result }
 {
     take_message(alloc, slice, Padding::Zero, options)
 }
@@ -34,9 +33,8 @@ pub fn read_message_from_flat_slice_lenient<'a>(
     slice: &mut &'a [u8],
     options: ReaderOptions,
 ) -> Result<Reader<BufferSegments<&'a [u8]>>>
-    ensures reads { ReadsFlat (slice_rules Padding.Any options.traversal_limit_in_words)
-        slice.old.now (Some slice.new.now) (λ reader. reader.segments.segments) result }
-    ensures options { IfOk result (λ reader. reader.options ≡ options) }
+    ensures { ReadsFlatMessage (slice_rules Padding.Any options.traversal_limit_in_words) options
+        slice.old.now slice.new.now result }
 {
     take_message(alloc, slice, Padding::Any, options)
 }
@@ -48,11 +46,11 @@ fn take_message<'a>(
     padding: Padding,
     options: ReaderOptions,
 ) -> Result<Reader<BufferSegments<&'a [u8]>>>
-    ensures reads { ReadsFlat (slice_rules padding options.traversal_limit_in_words)
-        slice.old.now (Some slice.new.now) (λ reader. reader.segments.segments) result }
-    ensures options { IfOk result (λ reader. reader.options ≡ options) }
+    ensures { ReadsFlatMessage (slice_rules padding options.traversal_limit_in_words) options
+        slice.old.now slice.new.now result }
 {
-    let segments = take_segments_with_padding(alloc, slice, padding, options)?;
+    let rules = TableRules::new(padding, options);
+    let segments = take_segments_with_rules(alloc, slice, rules)?;
     Ok(Reader::new(segments, options))
 }
 
@@ -72,9 +70,8 @@ pub fn read_message_from_flat_slice_no_alloc<'a>(
     slice: &mut &'a [u8],
     options: ReaderOptions,
 ) -> Result<Reader<NoAllocSliceSegments<'a>>>
-    ensures reads { ReadsFlat (no_alloc_rules Padding.Zero options.traversal_limit_in_words)
-        slice.old.now (Some slice.new.now) (λ reader. reader.segments.segments) result }
-    ensures options { IfOk result (λ reader. reader.options ≡ options) }
+    ensures { ReadsFlatMessage (no_alloc_rules Padding.Zero options.traversal_limit_in_words)
+        options slice.old.now slice.new.now result }
 {
     take_message_no_alloc(slice, Padding::Zero, options)
 }
@@ -85,9 +82,8 @@ pub fn read_message_from_flat_slice_no_alloc_lenient<'a>(
     slice: &mut &'a [u8],
     options: ReaderOptions,
 ) -> Result<Reader<NoAllocSliceSegments<'a>>>
-    ensures reads { ReadsFlat (no_alloc_rules Padding.Any options.traversal_limit_in_words)
-        slice.old.now (Some slice.new.now) (λ reader. reader.segments.segments) result }
-    ensures options { IfOk result (λ reader. reader.options ≡ options) }
+    ensures { ReadsFlatMessage (no_alloc_rules Padding.Any options.traversal_limit_in_words)
+        options slice.old.now slice.new.now result }
 {
     take_message_no_alloc(slice, Padding::Any, options)
 }
@@ -98,10 +94,10 @@ fn take_message_no_alloc<'a>(
     padding: Padding,
     options: ReaderOptions,
 ) -> Result<Reader<NoAllocSliceSegments<'a>>>
-    ensures reads { ReadsFlat (no_alloc_rules padding options.traversal_limit_in_words)
-        slice.old.now (Some slice.new.now) (λ reader. reader.segments.segments) result }
-    ensures options { IfOk result (λ reader. reader.options ≡ options) }
+    ensures { ReadsFlatMessage (no_alloc_rules padding options.traversal_limit_in_words) options
+        slice.old.now slice.new.now result }
 {
-    let segments = NoAllocBufferSegments::from_slice_with_padding(slice, padding, options)?;
+    let rules = TableRules::new(padding, options);
+    let segments = NoAllocBufferSegments::from_slice_with_rules(slice, rules)?;
     Ok(Reader::new(segments, options))
 }

@@ -1,16 +1,22 @@
-//! Reading packed messages from a source.
-ghost use Rattle.std.specs.Prelude.{◌≡◌, length, IfSome, IfOk};
-ghost use Rattle.capnp_frame.specs.Streams.{message_in, next_in, ReadsStream, ReadsStreamInto};
-ghost use Rattle.capnp_pack.specs.PackedFrame.{IsPackedFrame};
-ghost use Rattle.capnp_pack.specs.PackedStreams.{packed_rules, packed_reusing_rules};
-ghost use Rattle.capnp.specs.Headline.{ReturnsEncodings, ReturnsEncodingsInto, OrFailsAtEnd};
+//! Reading packed messages from a source, and skipping them.
+ghost use Rattle.std.specs.Prelude.{length};
+ghost use Rattle.capnp_frame.specs.Skipping.{SkipsMessage};
+ghost use Rattle.capnp_frame.specs.Streams.{ReadsStream};
+ghost use Rattle.capnp.specs.Headline.{packed, packed_reusing, ReadsMessage, ReadsMessageInto, OrFailsAtEnd};
+ghost use Rattle.capnp.specs.Streams.{skipping_rules_of};
+ghost use Rattle.capnp.specs.declared.streams.Format.{Format};
 
-use super::reading;
+use crate::streams::{reader_of, required};
 use capnp_frame::Result;
 use capnp_frame::io::BufRead;
 use capnp_frame::message::ReaderOptions;
-use capnp_frame::serialize::{NoAllocBufferSegments, OwnedSegments, Padding};
+use capnp_frame::serialize::{
+    NoAllocBufferSegments, OwnedSegments, Padding, SegmentLengthsBuilder, TableRules,
+};
 use capnp_message::Reader;
+use capnp_pack::stream::{
+    try_read_packed_segments, try_read_packed_segments_into, try_skip_packed_segments,
+};
 use std::alloc::Global;
 
 /// Reads the next packed message of a source, or returns `None` where nothing is unread.
@@ -36,39 +42,41 @@ pub fn try_read_message<R: BufRead>(
     source: &mut R,
     options: ReaderOptions,
 ) -> Result<Option<Reader<OwnedSegments>>>
-    // The unread bytes begin with a packed encoding of the message.
-    ensures texts { ReturnsEncodings (IsPackedFrame Padding.Zero)
-        options.traversal_limit_in_words (R.unread source.old) (R.unread source.new)
-        (next_in (λ reader. reader.segments) result) }
-    ensures reads { ReadsStream R.Read source.old source.new (packed_rules Padding.Zero)
-        options.traversal_limit_in_words (next_in (λ reader. reader.segments) result) }
-    ensures options { IfOk result (λ found. IfSome found (λ reader.
-        reader.options ≡ options)) }
+    ensures { ReadsMessage R.Read source.old source.new (packed Padding.Zero) options result }
 {
-    reading::try_read_message(alloc, source, Padding::Zero, options)
+    try_read_message_reusing(source, Padding::Zero, options, OwnedSegments::empty(alloc))
 }
 
-/// Reads the next packed message as `try_read_message` does, into the memory of an earlier one, which
-/// grows where it is too small: `spare` is what `Reader::into_segments` returns, or
-/// `OwnedSegments::empty`.
+/// Reads the next packed message as `try_read_message` does, but accepts any padding in the segment
+/// table.
+pub fn try_read_message_lenient<R: BufRead>(
+    alloc: Global,
+    source: &mut R,
+    options: ReaderOptions,
+) -> Result<Option<Reader<OwnedSegments>>>
+    ensures { ReadsMessage R.Read source.old source.new (packed Padding.Any) options result }
+{
+    try_read_message_reusing(source, Padding::Any, options, OwnedSegments::empty(alloc))
+}
+
+/// Reads the next packed message as `try_read_message` does, by this rule of padding, into the
+/// memory of an earlier one, which grows where it is too small: `spare` is what
+/// `Reader::into_segments` returns, or `OwnedSegments::empty`.
 ///
 /// It fails with `OutOfMemory` only for more bytes than the segments of `spare` have, or for more
-/// segments than one and than `spare` has, and else as `try_read_message` does.
+/// segments than one and than `spare` has, and else as `try_read_message` does; with
+/// `NonZeroPadding` only where `padding` is `Padding::Zero`.
 pub fn try_read_message_reusing<R: BufRead>(
     source: &mut R,
+    padding: Padding,
     options: ReaderOptions,
     spare: OwnedSegments,
 ) -> Result<Option<Reader<OwnedSegments>>>
-    // The unread bytes begin with a packed encoding of the message.
-    ensures texts { ReturnsEncodings (IsPackedFrame Padding.Zero)
-        options.traversal_limit_in_words (R.unread source.old) (R.unread source.new)
-        (next_in (λ reader. reader.segments) result) }
-    ensures reads { ReadsStream R.Read source.old source.new (packed_reusing_rules Padding.Zero spare)
-        options.traversal_limit_in_words (next_in (λ reader. reader.segments) result) }
-    ensures options { IfOk result (λ found. IfSome found (λ reader.
-        reader.options ≡ options)) }
+    ensures { ReadsMessage R.Read source.old source.new (packed_reusing padding spare)
+        options result }
 {
-    reading::try_read_message_reusing(source, Padding::Zero, options, spare)
+    let rules = TableRules::new(padding, options);
+    reader_of(try_read_packed_segments(source, rules, spare), options)
 }
 
 /// Reads the next packed message of a source. Fails with `PrematureEndOfFile` where nothing is
@@ -78,16 +86,23 @@ pub fn read_message<R: BufRead>(
     source: &mut R,
     options: ReaderOptions,
 ) -> Result<Reader<OwnedSegments>>
-    // The unread bytes begin with a packed encoding of the message.
-    ensures texts { ReturnsEncodings (IsPackedFrame Padding.Zero)
-        options.traversal_limit_in_words (R.unread source.old) (R.unread source.new)
-        (message_in (λ reader. reader.segments) result) }
-    ensures reads { OrFailsAtEnd (ReadsStream R.Read source.old source.new
-        (packed_rules Padding.Zero) options.traversal_limit_in_words)
-        (message_in (λ reader. reader.segments) result) }
-    ensures options { IfOk result (λ reader. reader.options ≡ options) }
+    ensures { OrFailsAtEnd (ReadsMessage R.Read source.old source.new
+        (packed Padding.Zero) options) result }
 {
-    reading::read_message(alloc, source, Padding::Zero, options)
+    required(try_read_message(alloc, source, options))
+}
+
+/// Reads the next packed message as `read_message` does, but accepts any padding in the segment
+/// table.
+pub fn read_message_lenient<R: BufRead>(
+    alloc: Global,
+    source: &mut R,
+    options: ReaderOptions,
+) -> Result<Reader<OwnedSegments>>
+    ensures { OrFailsAtEnd (ReadsMessage R.Read source.old source.new
+        (packed Padding.Any) options) result }
+{
+    required(try_read_message_lenient(alloc, source, options))
 }
 
 /// Reads the next packed message of a source into a caller-provided buffer, or returns `None` where
@@ -102,16 +117,41 @@ pub fn try_read_message_no_alloc<'b, R: BufRead>(
     buffer: &'b mut [u8],
     options: ReaderOptions,
 ) -> Result<Option<Reader<NoAllocBufferSegments<&'b [u8]>>>>
-    // The unread bytes begin with a packed encoding of the message.
-    ensures texts { ReturnsEncodingsInto (IsPackedFrame Padding.Zero)
-        options.traversal_limit_in_words (length buffer.old) (R.unread source.old) (R.unread source.new)
-        (next_in (λ reader. reader.segments.segments) result) }
-    ensures reads { ReadsStreamInto R.Read source.old source.new (packed_rules Padding.Zero)
-        options.traversal_limit_in_words (length buffer.old) (next_in (λ reader. reader.segments.segments) result) }
-    ensures options { IfOk result (λ found. IfSome found (λ reader.
-        reader.options ≡ options)) }
+    ensures { ReadsMessageInto R.Read source.old source.new (packed Padding.Zero) options
+        (length buffer.old) result }
 {
-    reading::try_read_message_no_alloc(source, buffer, Padding::Zero, options)
+    try_read_message_into(source, Padding::Zero, options, buffer)
+}
+
+/// Reads the next packed message as `try_read_message_no_alloc` does, but accepts any padding in
+/// the segment table.
+pub fn try_read_message_no_alloc_lenient<'b, R: BufRead>(
+    source: &mut R,
+    buffer: &'b mut [u8],
+    options: ReaderOptions,
+) -> Result<Option<Reader<NoAllocBufferSegments<&'b [u8]>>>>
+    ensures { ReadsMessageInto R.Read source.old source.new (packed Padding.Any) options
+        (length buffer.old) result }
+{
+    try_read_message_into(source, Padding::Any, options, buffer)
+}
+
+// Reads the next packed message by this rule of padding into a caller-provided buffer, or none
+// where nothing is unread.
+fn try_read_message_into<'b, R: BufRead>(
+    source: &mut R,
+    padding: Padding,
+    options: ReaderOptions,
+    buffer: &'b mut [u8],
+) -> Result<Option<Reader<NoAllocBufferSegments<&'b [u8]>>>>
+    ensures { ReadsMessageInto R.Read source.old source.new (packed padding) options
+        (length buffer.old) result }
+{
+    let rules = TableRules::new(padding, options);
+    reader_of(
+        try_read_packed_segments_into(source, rules, buffer),
+        options,
+    )
 }
 
 /// Reads the next packed message of a source into a caller-provided buffer. Fails with
@@ -121,14 +161,42 @@ pub fn read_message_no_alloc<'b, R: BufRead>(
     buffer: &'b mut [u8],
     options: ReaderOptions,
 ) -> Result<Reader<NoAllocBufferSegments<&'b [u8]>>>
-    // The unread bytes begin with a packed encoding of the message.
-    ensures texts { ReturnsEncodingsInto (IsPackedFrame Padding.Zero)
-        options.traversal_limit_in_words (length buffer.old) (R.unread source.old) (R.unread source.new)
-        (message_in (λ reader. reader.segments.segments) result) }
-    ensures reads { OrFailsAtEnd (ReadsStreamInto R.Read source.old source.new
-        (packed_rules Padding.Zero) options.traversal_limit_in_words (length buffer.old))
-        (message_in (λ reader. reader.segments.segments) result) }
-    ensures options { IfOk result (λ reader. reader.options ≡ options) }
+    ensures { OrFailsAtEnd (ReadsMessageInto R.Read source.old source.new
+        (packed Padding.Zero) options (length buffer.old)) result }
 {
-    reading::read_message_no_alloc(source, buffer, Padding::Zero, options)
+    required(try_read_message_no_alloc(source, buffer, options))
+}
+
+/// Reads the next packed message as `read_message_no_alloc` does, but accepts any padding in the
+/// segment table.
+pub fn read_message_no_alloc_lenient<'b, R: BufRead>(
+    source: &mut R,
+    buffer: &'b mut [u8],
+    options: ReaderOptions,
+) -> Result<Reader<NoAllocBufferSegments<&'b [u8]>>>
+    ensures { OrFailsAtEnd (ReadsMessageInto R.Read source.old source.new
+        (packed Padding.Any) options (length buffer.old)) result }
+{
+    required(try_read_message_no_alloc_lenient(source, buffer, options))
+}
+
+/// Skips the next packed message of a stream by this rule of padding, and returns the lengths of its
+/// segments in words, or `None` where nothing is unread.
+///
+/// It consumes what `try_read_message` does, and fails as that does, with `NonZeroPadding` only
+/// where `padding` is `Padding::Zero`, but takes no memory for the segments. The lengths are put
+/// into the memory of `lengths`, which grows where it is too small: so it fails with `OutOfMemory`
+/// only for more segments than there are lengths, and then the group of the table's first word alone
+/// is consumed.
+pub fn try_skip_message<R: BufRead>(
+    source: &mut R,
+    padding: Padding,
+    options: ReaderOptions,
+    lengths: SegmentLengthsBuilder,
+) -> Result<Option<SegmentLengthsBuilder>>
+    ensures { SkipsMessage (ReadsStream R.Read source.old source.new
+        (skipping_rules_of padding Format.Packed (length lengths))
+        options.traversal_limit_in_words) result }
+{
+    try_skip_packed_segments(source, TableRules::new(padding, options), lengths)
 }

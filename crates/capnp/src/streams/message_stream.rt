@@ -22,7 +22,7 @@ use std::{fs, io};
 ///
 /// ```
 /// let options = DEFAULT_READER_OPTIONS;
-/// for message in MessageStream::new(alloc, Format::Packed, Padding::Zero, options, source) {
+/// for message in MessageStream::new(alloc, source, Format::Packed, Padding::Zero, options) {
 ///     let message = message?;
 ///     let greeting: text::Reader<'_> = message.get_root()?;
 ///     assert_eq!(rt; greeting.as_bytes(), b"Hello, World!".as_slice());
@@ -43,10 +43,10 @@ impl<R: BufRead> MessageStream<R> {
     /// this rule of padding. Nothing is read yet.
     pub fn new(
         alloc: Global,
+        source: R,
         format: Format,
         padding: Padding,
         options: ReaderOptions,
-        source: R,
     ) -> MessageStream<R>
         ensures source { source_of result ≡ source }
         ensures begins { IsNewStream result format padding options }
@@ -76,10 +76,10 @@ impl<R: BufRead + Drop> Iterator for MessageStream<R> {
         }
         match next_message(
             self.alloc,
+            &mut self.source,
             self.format,
             self.padding,
             self.options,
-            &mut self.source,
         ) {
             Ok(Some(message)) => {
                 self.left -= 1;
@@ -114,7 +114,7 @@ pub fn open_file<R: Files + AllocGlobal, P: AsPath>(
     let alloc = rt.alloc();
     let file = fs::open(rt, path)?;
     match Input::new(alloc, file) {
-        Ok(source) => Ok(MessageStream::new(alloc, format, padding, options, source)),
+        Ok(source) => Ok(MessageStream::new(alloc, source, format, padding, options)),
         Err(_) => Err(io::Error::from(io::ErrorKind::OutOfMemory)),
     }
 }

@@ -1,14 +1,14 @@
 //! The next message of a stream in either format, and all messages of a stream in memory.
-ghost use Rattle.std.specs.Prelude.{◌≡◌, ◌<◌, ◌++◌, ◌∷◌, [], ◌⊎◌, ◌↔◌, List, ℕ, Some, length, map, IsTrue, IsFalse, IfSome, IfOk, IfErr, OnErr};
+ghost use Rattle.std.specs.Prelude.{◌≡◌, ◌<◌, ◌++◌, ◌∷◌, [], ◌⊎◌, ◌↔◌, List, ℕ, Some, length, map, IsTrue, IsFalse, IfOk, IfErr, OnErr};
 ghost use Rattle.std.specs.List.{AllByRecursion};
 ghost use Rattle.capnp_frame.specs.declared.error.ErrorKind.{ErrorKind};
-ghost use Rattle.capnp_frame.specs.Streams.{next_in, ReadsStream};
-ghost use Rattle.capnp.specs.Streams.{rules_of, StandsNext, EndsBy};
+ghost use Rattle.capnp.specs.Headline.{by_format, reader_of, required, ReadsMessage};
+ghost use Rattle.capnp.specs.Streams.{StandsNext, EndsBy};
 ghost use Rattle.capnp.specs.Reading.{IsCutKind, TellsCut, TakesForListed, ReadsEach};
 
 use crate::streams::{Format, read_next};
 use capnp_frame::io::BufRead;
-use capnp_frame::message::ReaderOptions;
+use capnp_frame::message::{ReaderOptions, ReaderSegments};
 use capnp_frame::serialize::{OwnedSegments, Padding};
 use capnp_frame::{Error, ErrorKind, Result};
 use capnp_message::Reader;
@@ -20,25 +20,38 @@ use std::alloc::Global;
 /// Fails as `try_read_message` of the format does, or its lenient form.
 pub fn next_message<R: BufRead>(
     alloc: Global,
+    source: &mut R,
     format: Format,
     padding: Padding,
     options: ReaderOptions,
-    source: &mut R,
 ) -> Result<Option<Reader<OwnedSegments>>>
-    ensures reads { ReadsStream R.Read source.old source.new (rules_of padding format)
-        options.traversal_limit_in_words (next_in (λ reader. reader.segments) result) }
-    ensures options { IfOk result (λ found. IfSome found (λ reader.
-        reader.options ≡ options)) }
+    ensures { ReadsMessage R.Read source.old source.new (by_format padding format) options result }
 {
-    match read_next(
-        format,
-        padding,
-        options,
-        source,
-        OwnedSegments::empty(alloc),
-    )? {
+    let spare = OwnedSegments::empty(alloc);
+    reader_of(read_next(source, format, padding, options, spare), options)
+}
+
+/// A reader of the segments that were read, with these options. Fails as reading them did.
+pub(crate) fn reader_of<S: ReaderSegments>(
+    next: Result<Option<S>>,
+    options: ReaderOptions,
+) -> Result<Option<Reader<S>>>
+    ensures { result ≡ reader_of options next }
+{
+    match next? {
         Some(segments) => Ok(Some(Reader::new(segments, options))),
         None => Ok(None),
+    }
+}
+
+/// The message that was read. Fails as its reader did, and with `PrematureEndOfFile` where there is
+/// none.
+pub(crate) fn required<M>(next: Result<Option<M>>) -> Result<M>
+    ensures { result ≡ required next }
+{
+    match next? {
+        Some(message) => Ok(message),
+        None => Err(Error::from_kind(ErrorKind::PrematureEndOfFile)),
     }
 }
 
@@ -87,10 +100,10 @@ impl StreamRead {
 /// taken where the stream is empty.
 pub fn every_message(
     alloc: Global,
+    stream: &[u8],
     format: Format,
     padding: Padding,
     options: ReaderOptions,
-    stream: &[u8],
 ) -> StreamRead
     ensures read { ReadsEach padding format options.traversal_limit_in_words stream.now
         (map (λ reader. reader.segments) result.messages.items) result.end result.refusal }
@@ -100,7 +113,7 @@ pub fn every_message(
     let mut rest = stream;
     let mut end = 0;
     for count in 0..u64::MAX {
-        match add_next(alloc, format, padding, options, &mut rest, &mut messages) {
+        match add_next(alloc, &mut rest, format, padding, options, &mut messages) {
             Ok(true) => end = stream.len() - rest.len(),
             Ok(false) => {
                 return StreamRead {
@@ -128,10 +141,10 @@ pub fn every_message(
 // Adds the next message to those before it, or returns that none is left.
 fn add_next(
     alloc: Global,
+    rest: &mut &[u8],
     format: Format,
     padding: Padding,
     options: ReaderOptions,
-    rest: &mut &[u8],
     messages: &mut Vec<Reader<OwnedSegments>>,
 ) -> Result<bool>
     ensures added { IfOk result (λ more. IsTrue more → (message : List (List ℕ))
@@ -150,7 +163,7 @@ fn add_next(
     ensures options { AllByRecursion (λ reader. reader.options ≡ options) messages.old.items →
         AllByRecursion (λ reader. reader.options ≡ options) messages.new.items }
 {
-    match next_message(alloc, format, padding, options, rest)? {
+    match next_message(alloc, rest, format, padding, options)? {
         Some(message) => {
             messages.push(message)?;
             Ok(true)

@@ -64,7 +64,8 @@ impl<A: Allocator> BuilderArena<A> {
         self.zero_root()
     }
 
-    // Makes the root's word and its object zero.
+    // What `clear_root` does. For the prover: it finds each of these clauses by itself, and makes
+    // the record of them.
     fn zero_root(&mut self) -> Result<()>
         ensures leaves { LeavesNull A.Allocator self.old self.new }
         ensures null_word { HasNullRoot self.new.spaces }

@@ -1,18 +1,18 @@
 //! Segments that stay in the buffer that holds their message.
-ghost use Rattle.std.specs.Prelude.{◌≡◌, ◌+◌, ◌*◌, ◌≤◌, length, drop, sum, ◌⊎◌, IfOk, IfErr, Some, None};
+ghost use Rattle.std.specs.Prelude.{◌≡◌, ◌+◌, ◌*◌, ◌≤◌, length, drop, sum, ◌⊎◌, IfOk, IfErr};
 ghost use Rattle.capnp_frame.specs.SegmentLengths.{cut};
 ghost use Rattle.capnp_frame.specs.Limits.{AreWithin};
 ghost use Rattle.capnp_frame.specs.SegmentTable.{table_size, KeepsPadding};
 ghost use Rattle.capnp_frame.specs.Front.{HoldsMessage, declared_lengths, declared_padding};
 ghost use Rattle.capnp_frame.specs.FlatRefusals.{by_words, AcceptsSeveral, RefusesFlat};
-ghost use Rattle.capnp_frame.specs.FlatReaders.{buffer_rules, slice_rules, ReadsFlat};
+ghost use Rattle.capnp_frame.specs.FlatReaders.{buffer_rules, slice_rules, ReadsBuffer, TakesSegments};
 ghost use Rattle.capnp_frame.specs.declared.error.ErrorKind.{ErrorKind};
 
 use crate::error::{Error, ErrorKind, Result};
 use crate::message::{AsBytes, ReaderOptions, ReaderSegments};
 use crate::serialize::segment_indices::SegmentIndices;
 use crate::serialize::segment_lengths::part;
-use crate::serialize::segment_table::Padding;
+use crate::serialize::segment_table::{Padding, TableRules};
 use crate::serialize::stream_table::read_indices;
 use std::alloc::Global;
 use std::marker::Model;
@@ -77,13 +77,13 @@ impl<T: AsBytes + Drop> BufferSegments<T> {
     /// Finds the message at the front of a buffer. Any bytes may follow it.
     ///
     /// Memory is taken for the lengths of more than one segment alone. Fails as the module
-    /// `serialize` lists: with `EmptyBuffer` for no bytes, with `NonZeroPadding` where the padding isn't zero.
+    /// `serialize` lists: with `EmptyBuffer` for no bytes, with `NonZeroPadding` where the padding
+    /// isn't zero.
     pub fn new(alloc: Global, buffer: T, options: ReaderOptions) -> Result<BufferSegments<T>>
-        ensures buffer { IfOk result (λ found. found.buffer ≡ buffer) }
-        ensures reads { ReadsFlat (buffer_rules Padding.Zero options.traversal_limit_in_words)
-            (T.bytes buffer) None (λ found. found.segments) result }
+        ensures { ReadsBuffer (buffer_rules Padding.Zero options.traversal_limit_in_words)
+            buffer (T.bytes buffer) result }
     {
-        BufferSegments::new_with_padding(alloc, buffer, Padding::Zero, options)
+        BufferSegments::with_rules(alloc, buffer, TableRules::new(Padding::Zero, options))
     }
 
     /// Finds the message at the front of a buffer as `new` does, but accepts any padding in the
@@ -93,32 +93,24 @@ impl<T: AsBytes + Drop> BufferSegments<T> {
         buffer: T,
         options: ReaderOptions,
     ) -> Result<BufferSegments<T>>
-        ensures buffer { IfOk result (λ found. found.buffer ≡ buffer) }
-        ensures reads { ReadsFlat (buffer_rules Padding.Any options.traversal_limit_in_words)
-            (T.bytes buffer) None (λ found. found.segments) result }
+        ensures { ReadsBuffer (buffer_rules Padding.Any options.traversal_limit_in_words)
+            buffer (T.bytes buffer) result }
     {
-        BufferSegments::new_with_padding(alloc, buffer, Padding::Any, options)
+        BufferSegments::with_rules(alloc, buffer, TableRules::new(Padding::Any, options))
     }
 
-    /// Finds the message at the front of a buffer as `new` does, by this rule of padding.
+    /// Finds the message at the front of a buffer as `new` does, by these rules.
     ///
-    /// Fails as `new` does: with `NonZeroPadding` where `padding` is `Padding::Zero` and the
-    /// padding isn't zero, and never where it is `Padding::Any`.
-    pub fn new_with_padding(
-        alloc: Global,
-        buffer: T,
-        padding: Padding,
-        options: ReaderOptions,
-    ) -> Result<BufferSegments<T>>
-        ensures buffer { IfOk result (λ found. found.buffer ≡ buffer) }
-        ensures reads { ReadsFlat (buffer_rules padding options.traversal_limit_in_words)
-            (T.bytes buffer) None (λ found. found.segments) result }
+    /// Fails as `new` does: with `NonZeroPadding` where `Padding::Zero` alone is accepted and the
+    /// padding isn't zero.
+    pub fn with_rules(alloc: Global, buffer: T, rules: TableRules) -> Result<BufferSegments<T>>
+        ensures { ReadsBuffer (buffer_rules rules.padding rules.limit_in_words)
+            buffer (T.bytes buffer) result }
     {
         let (segment_indices, table_len) = find_message(
             alloc,
             buffer.as_bytes(),
-            options.traversal_limit_in_words,
-            padding,
+            rules,
             ErrorKind::EmptyBuffer,
         )?;
         Ok(BufferSegments::from_parts(buffer, table_len, segment_indices))
@@ -153,11 +145,10 @@ pub fn take_segments<'a>(
     slice: &mut &'a [u8],
     options: ReaderOptions,
 ) -> Result<BufferSegments<&'a [u8]>>
-    ensures buffer { IfOk result (λ found. found.buffer.now ≡ slice.old.now) }
-    ensures reads { ReadsFlat (slice_rules Padding.Zero options.traversal_limit_in_words)
-        slice.old.now (Some slice.new.now) (λ found. found.segments) result }
+    ensures { TakesSegments (slice_rules Padding.Zero options.traversal_limit_in_words)
+        slice.old.now slice.new.now result }
 {
-    take_segments_with_padding(alloc, slice, Padding::Zero, options)
+    take_segments_with_rules(alloc, slice, TableRules::new(Padding::Zero, options))
 }
 
 /// Finds the message at the front of a slice as `take_segments` does, but accepts any padding in
@@ -167,36 +158,26 @@ pub fn take_segments_lenient<'a>(
     slice: &mut &'a [u8],
     options: ReaderOptions,
 ) -> Result<BufferSegments<&'a [u8]>>
-    ensures buffer { IfOk result (λ found. found.buffer.now ≡ slice.old.now) }
-    ensures reads { ReadsFlat (slice_rules Padding.Any options.traversal_limit_in_words)
-        slice.old.now (Some slice.new.now) (λ found. found.segments) result }
+    ensures { TakesSegments (slice_rules Padding.Any options.traversal_limit_in_words)
+        slice.old.now slice.new.now result }
 {
-    take_segments_with_padding(alloc, slice, Padding::Any, options)
+    take_segments_with_rules(alloc, slice, TableRules::new(Padding::Any, options))
 }
 
-/// Finds the message at the front of a slice as `take_segments` does, by this rule of padding.
+/// Finds the message at the front of a slice as `take_segments` does, by these rules.
 ///
-/// Fails as that does, and the slice is then as it was: with `NonZeroPadding` where `padding` is
-/// `Padding::Zero` and the padding isn't zero, and never where it is `Padding::Any`.
-pub fn take_segments_with_padding<'a>(
+/// Fails as that does, and the slice is then as it was: with `NonZeroPadding` where `Padding::Zero`
+/// alone is accepted and the padding isn't zero.
+pub fn take_segments_with_rules<'a>(
     alloc: Global,
     slice: &mut &'a [u8],
-    padding: Padding,
-    options: ReaderOptions,
+    rules: TableRules,
 ) -> Result<BufferSegments<&'a [u8]>>
-    ensures buffer { IfOk result (λ found. found.buffer.now ≡ slice.old.now) }
-    ensures reads { ReadsFlat (slice_rules padding options.traversal_limit_in_words)
-        slice.old.now (Some slice.new.now) (λ found. found.segments) result }
+    ensures { TakesSegments (slice_rules rules.padding rules.limit_in_words)
+        slice.old.now slice.new.now result }
 {
     let all: &'a [u8] = *slice;
-    let limit = options.traversal_limit_in_words;
-    let (segment_indices, table_len) = find_message(
-        alloc,
-        all,
-        limit,
-        padding,
-        ErrorKind::EmptySlice,
-    )?;
+    let (segment_indices, table_len) = find_message(alloc, all, rules, ErrorKind::EmptySlice)?;
     *slice = &all[table_len + 8 * segment_indices.total_words()..];
     Ok(BufferSegments::from_parts(all, table_len, segment_indices))
 }
@@ -206,23 +187,22 @@ pub fn take_segments_with_padding<'a>(
 fn find_message(
     alloc: Global,
     bytes: &[u8],
-    limit: Option<usize>,
-    rule: Padding,
+    rules: TableRules,
     empty: ErrorKind,
 ) -> Result<(SegmentIndices, usize)>
     ensures holds { IfOk result (λ found. HoldsMessage bytes.now (length found.0)) }
     ensures lengths { IfOk result (λ found. declared_lengths (length found.0) bytes.now ≡ found.0) }
     ensures table { IfOk result (λ found. found.1 ≡ table_size (length found.0)) }
-    ensures within { IfOk result (λ found. AreWithin found.0 limit) }
+    ensures within { IfOk result (λ found. AreWithin found.0 rules.limit_in_words) }
     ensures padding { IfOk result (λ found.
-        KeepsPadding rule (declared_padding (length found.0) bytes.now)) }
+        KeepsPadding rules.padding (declared_padding (length found.0) bytes.now)) }
     ensures refused { IfErr result (λ error. ((error.kind ≡ ErrorKind.OutOfMemory)
         × AcceptsSeveral (by_words empty) bytes.now)
-        ⊎ RefusesFlat (by_words empty) rule limit error.kind bytes.now) }
+        ⊎ RefusesFlat (by_words empty) rules.padding rules.limit_in_words error.kind bytes.now) }
 {
     let mut rest = bytes;
     let spare = SegmentIndices::empty(alloc);
-    let Some(indices) = read_indices(spare, &mut rest, limit, rule)? else {
+    let Some(indices) = read_indices(&mut rest, &rules, spare)? else {
         return Err(Error::from_kind(empty));
     };
     let total = indices.total_words();

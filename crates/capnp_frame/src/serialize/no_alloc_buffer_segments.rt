@@ -1,12 +1,12 @@
 //! Segments in a buffer that are found without memory.
-ghost use Rattle.std.specs.Prelude.{◌≡◌, ℕ, ◌+◌, ◌<◌, ◌≤◌, List, length, sum, IfOk, Some, None};
+ghost use Rattle.std.specs.Prelude.{◌≡◌, ℕ, ◌+◌, ◌<◌, ◌≤◌, List, length, sum, Some};
 ghost use Rattle.capnp_frame.specs.Front.{HasFrame, IsDescribed, HoldsMessage, declared_lengths, declared_segments};
 ghost use Rattle.capnp_frame.specs.KeptTables.{KeepsEnds};
-ghost use Rattle.capnp_frame.specs.FlatReaders.{no_alloc_rules, ReadsFlat};
+ghost use Rattle.capnp_frame.specs.FlatReaders.{no_alloc_rules, ReadsBuffer, ReadsFlat};
 
 use crate::error::Result;
 use crate::message::{AsBytes, ReaderOptions, ReaderSegments};
-use crate::serialize::segment_table::{Padding, field_at, table_len};
+use crate::serialize::segment_table::{Padding, TableRules, field_at, table_len};
 use crate::serialize::segment_table_info::{NoAllocSegmentTableInfo, read_table_info};
 use std::marker::Model;
 
@@ -81,11 +81,13 @@ impl<T: AsBytes + Drop> NoAllocBufferSegments<T> {
     /// Fails as the module `serialize` lists: with `MessageEndsPrematurely` where the table or the
     /// segments are cut, with `NonZeroPadding` where the padding isn't zero.
     pub fn from_buffer(buffer: T, options: ReaderOptions) -> Result<NoAllocBufferSegments<T>>
-        ensures buffer { IfOk result (λ found. found.buffer ≡ buffer) }
-        ensures reads { ReadsFlat (no_alloc_rules Padding.Zero options.traversal_limit_in_words)
-            (T.bytes buffer) None (λ found. found.segments) result }
+        ensures { ReadsBuffer (no_alloc_rules Padding.Zero options.traversal_limit_in_words)
+            buffer (T.bytes buffer) result }
     {
-        NoAllocBufferSegments::from_buffer_with_padding(buffer, Padding::Zero, options)
+        NoAllocBufferSegments::from_buffer_with_rules(
+            buffer,
+            TableRules::new(Padding::Zero, options),
+        )
     }
 
     /// Finds the message at the front of a buffer as `from_buffer` does, but accepts any padding in
@@ -94,28 +96,24 @@ impl<T: AsBytes + Drop> NoAllocBufferSegments<T> {
         buffer: T,
         options: ReaderOptions,
     ) -> Result<NoAllocBufferSegments<T>>
-        ensures buffer { IfOk result (λ found. found.buffer ≡ buffer) }
-        ensures reads { ReadsFlat (no_alloc_rules Padding.Any options.traversal_limit_in_words)
-            (T.bytes buffer) None (λ found. found.segments) result }
+        ensures { ReadsBuffer (no_alloc_rules Padding.Any options.traversal_limit_in_words)
+            buffer (T.bytes buffer) result }
     {
-        NoAllocBufferSegments::from_buffer_with_padding(buffer, Padding::Any, options)
+        NoAllocBufferSegments::from_buffer_with_rules(
+            buffer,
+            TableRules::new(Padding::Any, options),
+        )
     }
 
-    /// Finds the message at the front of a buffer as `from_buffer` does, by this rule of padding.
+    /// Finds the message at the front of a buffer as `from_buffer` does, by these rules.
     ///
-    /// Fails as `from_buffer` does: with `NonZeroPadding` where `padding` is `Padding::Zero` and
-    /// the padding isn't zero, and never where it is `Padding::Any`.
-    pub fn from_buffer_with_padding(
-        buffer: T,
-        padding: Padding,
-        options: ReaderOptions,
-    ) -> Result<NoAllocBufferSegments<T>>
-        ensures buffer { IfOk result (λ found. found.buffer ≡ buffer) }
-        ensures reads { ReadsFlat (no_alloc_rules padding options.traversal_limit_in_words)
-            (T.bytes buffer) None (λ found. found.segments) result }
+    /// Fails as `from_buffer` does: with `NonZeroPadding` where `Padding::Zero` alone is accepted
+    /// and the padding isn't zero.
+    pub fn from_buffer_with_rules(buffer: T, rules: TableRules) -> Result<NoAllocBufferSegments<T>>
+        ensures { ReadsBuffer (no_alloc_rules rules.padding rules.limit_in_words)
+            buffer (T.bytes buffer) result }
     {
-        let limit = options.traversal_limit_in_words;
-        let info = read_table_info(buffer.as_bytes(), limit, padding)?;
+        let info = read_table_info(buffer.as_bytes(), rules)?;
         Ok(NoAllocBufferSegments::of_message(buffer, info.segments_count))
     }
 }
@@ -131,7 +129,7 @@ impl<'b> NoAllocBufferSegments<&'b [u8]> {
         ensures { ReadsFlat (no_alloc_rules Padding.Zero options.traversal_limit_in_words)
             slice.old.now (Some slice.new.now) (λ found. found.segments) result }
     {
-        NoAllocBufferSegments::from_slice_with_padding(slice, Padding::Zero, options)
+        NoAllocBufferSegments::from_slice_with_rules(slice, TableRules::new(Padding::Zero, options))
     }
 
     /// Finds the message at the front of a slice as `from_slice` does, but accepts any padding in
@@ -143,22 +141,21 @@ impl<'b> NoAllocBufferSegments<&'b [u8]> {
         ensures { ReadsFlat (no_alloc_rules Padding.Any options.traversal_limit_in_words)
             slice.old.now (Some slice.new.now) (λ found. found.segments) result }
     {
-        NoAllocBufferSegments::from_slice_with_padding(slice, Padding::Any, options)
+        NoAllocBufferSegments::from_slice_with_rules(slice, TableRules::new(Padding::Any, options))
     }
 
-    /// Finds the message at the front of a slice as `from_slice` does, by this rule of padding.
+    /// Finds the message at the front of a slice as `from_slice` does, by these rules.
     ///
-    /// Fails as `from_buffer_with_padding` does, and the slice is then as it was.
-    pub fn from_slice_with_padding(
+    /// Fails as `from_buffer_with_rules` does, and the slice is then as it was.
+    pub fn from_slice_with_rules(
         slice: &mut &'b [u8],
-        padding: Padding,
-        options: ReaderOptions,
+        rules: TableRules,
     ) -> Result<NoAllocBufferSegments<&'b [u8]>>
-        ensures { ReadsFlat (no_alloc_rules padding options.traversal_limit_in_words)
+        ensures { ReadsFlat (no_alloc_rules rules.padding rules.limit_in_words)
             slice.old.now (Some slice.new.now) (λ found. found.segments) result }
     {
         let all: &'b [u8] = *slice;
-        let info = read_table_info(all, options.traversal_limit_in_words, padding)?;
+        let info = read_table_info(all, rules)?;
         let end = info.segment_table_length_bytes + info.total_segments_length_bytes;
         *slice = &all[end..];
         Ok(NoAllocBufferSegments::of_message(all, info.segments_count))

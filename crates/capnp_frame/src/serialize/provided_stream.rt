@@ -17,7 +17,7 @@ use crate::io::Read;
 use crate::message::ReaderOptions;
 use crate::serialize::no_alloc_buffer_segments::NoAllocBufferSegments;
 use crate::serialize::segment_table::{
-    Padding, accepted_count, check_limit, check_padding, lengths_total, table_len,
+    Padding, TableRules, accepted_count, check_limit, check_padding, lengths_total, table_len,
 };
 use crate::serialize::segment_table_info::NoAllocSegmentTableInfo;
 use crate::serialize::stream_table::{complete_table, read_chunk, read_first};
@@ -40,7 +40,7 @@ pub fn try_read_segments_into<'b, R: Read>(
         (framed_rules Padding.Zero R.gives R.refuses) options.traversal_limit_in_words
         (length buffer.old) (next_in (λ message. message.segments) result) }
 {
-    try_read_segments_into_with_padding(source, buffer, Padding::Zero, options)
+    try_read_segments_into_with_rules(source, TableRules::new(Padding::Zero, options), buffer)
 }
 
 /// Reads the next message as `try_read_segments_into` does, but accepts any padding in the segment
@@ -54,25 +54,23 @@ pub fn try_read_segments_into_lenient<'b, R: Read>(
         (framed_rules Padding.Any R.gives R.refuses) options.traversal_limit_in_words
         (length buffer.old) (next_in (λ message. message.segments) result) }
 {
-    try_read_segments_into_with_padding(source, buffer, Padding::Any, options)
+    try_read_segments_into_with_rules(source, TableRules::new(Padding::Any, options), buffer)
 }
 
-/// Reads the next message as `try_read_segments_into` does, by this rule of padding.
+/// Reads the next message as `try_read_segments_into` does, by these rules.
 ///
-/// Fails as that does: with `NonZeroPadding`, the table consumed, where `padding` is
-/// `Padding::Zero` and the padding isn't zero, and never where it is `Padding::Any`.
-pub fn try_read_segments_into_with_padding<'b, R: Read>(
+/// Fails as that does: with `NonZeroPadding`, the table consumed, where `Padding::Zero` alone is
+/// accepted and the padding isn't zero.
+pub fn try_read_segments_into_with_rules<'b, R: Read>(
     source: &mut R,
+    rules: TableRules,
     buffer: &'b mut [u8],
-    padding: Padding,
-    options: ReaderOptions,
 ) -> Result<Option<NoAllocBufferSegments<&'b [u8]>>>
     ensures { ReadsStreamInto R.Read source.old source.new
-        (framed_rules padding R.gives R.refuses) options.traversal_limit_in_words
+        (framed_rules rules.padding R.gives R.refuses) rules.limit_in_words
         (length buffer.old) (next_in (λ message. message.segments) result) }
 {
-    let limit = options.traversal_limit_in_words;
-    let Some(info) = read_into(source, buffer, limit, padding)? else {
+    let Some(info) = read_into(source, rules, buffer)? else {
         return Ok(None);
     };
     Ok(Some(NoAllocBufferSegments::of_message(buffer, info.segments_count)))
@@ -81,17 +79,17 @@ pub fn try_read_segments_into_with_padding<'b, R: Read>(
 // Reads the next message of a source into a buffer, or none at the source's end.
 pub(crate) fn read_into<R: Read>(
     source: &mut R,
+    rules: TableRules,
     buffer: &mut [u8],
-    limit: Option<usize>,
-    rule: Padding,
 ) -> Result<Option<NoAllocSegmentTableInfo>>
-    ensures message { IfOk result (λ found. IfSome found (λ info. FindsMessage rule R.gives limit
-        buffer.new info.segments_count info.total_segments_length_bytes
+    ensures message { IfOk result (λ found. IfSome found (λ info.
+        FindsMessage rules.padding R.gives rules.limit_in_words buffer.new info.segments_count info.total_segments_length_bytes
         (R.unread source.old) (R.unread source.new))) }
-    ensures asks { AsksNextInto R.Read source.old source.new rule (length buffer.old)
-        (RefusesStream rule R.gives R.refuses limit (Some (length buffer.old))) result }
+    ensures asks { AsksNextInto R.Read source.old source.new rules.padding (length buffer.old)
+        (RefusesStream rules.padding R.gives R.refuses rules.limit_in_words
+        (Some (length buffer.old))) result }
 {
-    let Some((segments_count, total)) = read_table_into(source, buffer, limit, rule)? else {
+    let Some((segments_count, total)) = read_table_into(source, rules, buffer)? else {
         return Ok(None);
     };
     let start = table_len(segments_count);
@@ -111,15 +109,15 @@ pub(crate) fn read_into<R: Read>(
 // their lengths, or none at the source's end.
 fn read_table_into<R: Read>(
     source: &mut R,
+    rules: TableRules,
     buffer: &mut [u8],
-    limit: Option<usize>,
-    rule: Padding,
 ) -> Result<Option<(usize, usize)>>
-    ensures table { IfOk result (λ found. IfSome found (λ table. FindsTable rule R.gives limit
-        buffer.new table.0 table.1 (R.unread source.old) (R.unread source.new))) }
+    ensures table { IfOk result (λ found. IfSome found (λ table.
+        FindsTable rules.padding R.gives rules.limit_in_words buffer.new table.0 table.1 (R.unread source.old) (R.unread source.new))) }
     ensures bound { IfOk result (λ found. IfSome found (λ table. table.1 < 2 ^ 42)) }
-    ensures asks { AsksNextInto R.Read source.old source.new rule (length buffer.old)
-        (RefusesTable rule R.gives R.refuses limit (Some (length buffer.old))) result }
+    ensures asks { AsksNextInto R.Read source.old source.new rules.padding (length buffer.old)
+        (RefusesTable rules.padding R.gives R.refuses rules.limit_in_words
+        (Some (length buffer.old))) result }
 {
     if buffer.len() < 8 {
         return Err(Error::from_kind(ErrorKind::BufferNotLargeEnough));
@@ -132,7 +130,7 @@ fn read_table_into<R: Read>(
     if buffer.len() < size {
         return Err(Error::from_kind(ErrorKind::BufferNotLargeEnough));
     }
-    let total = read_total(source, &first, count, &mut buffer[..size], limit, rule)?;
+    let total = read_total(source, &first, count, &mut buffer[..size], rules)?;
     Ok(Some((count, total)))
 }
 
@@ -143,39 +141,42 @@ fn read_total<R: Read>(
     first: &[u8; 8],
     count: usize,
     table: &mut [u8],
-    limit: Option<usize>,
-    rule: Padding,
+    rules: TableRules,
 ) -> Result<usize>
     requires accepted { DeclaresAccepted first.now count }
     requires size { length table.old ≡ table_size count }
     ensures found { OnOk result (IfKnown (R.unread source.old) (R.unread source.new)
-        (RestStands rule R.gives first.now (declared_lengths count table.new))) }
+        (RestStands rules.padding R.gives first.now (declared_lengths count table.new))) }
     ensures tells { OnOk result (DeclaresTable table.new count) }
     ensures total { IfOk result (λ total. total ≡ sum (declared_lengths count table.new)) }
     ensures bound { IfOk result (λ total. total < 2 ^ 42) }
-    ensures within { OnOk result (KeepsLimit (declared_lengths count table.new) limit) }
+    ensures within { OnOk result
+        (KeepsLimit (declared_lengths count table.new) rules.limit_in_words) }
     ensures refused { FailsOr result (λ kind. IfKnown (R.unread source.old) (R.unread source.new)
-        (StopsAtTable rule R.gives R.refuses limit kind first.now count)) }
-    ensures kinds { IfErr result (λ error. IsTableKind rule R.refuses error.kind) }
+        (StopsAtTable rules.padding R.gives R.refuses rules.limit_in_words kind first.now
+        count)) }
+    ensures kinds { IfErr result (λ error. IsTableKind rules.padding R.refuses error.kind) }
     ensures asked { Asked R.unread R.failures R.same source.old source.new result }
 {
     complete_table(source, first, table)?;
-    accepted_total(table, count, limit, rule)
+    accepted_total(table, count, rules)
 }
 
 // The sum of the lengths in a table that is complete, once the limit and the padding are tested.
-fn accepted_total(table: &[u8], count: usize, limit: Option<usize>, rule: Padding) -> Result<usize>
+fn accepted_total(table: &[u8], count: usize, rules: TableRules) -> Result<usize>
     requires accepted { DeclaresAccepted (take 8 table.now) count }
     requires size { length table.now ≡ table_size count }
     ensures tells { DeclaresTable table.now count }
     ensures total { IfOk result (λ total. total ≡ sum (declared_lengths count table.now)) }
     ensures bound { IfOk result (λ total. total < 2 ^ 42) }
-    ensures padding { OnOk result (KeepsPadding rule (declared_padding count table.now)) }
-    ensures within { OnOk result (KeepsLimit (declared_lengths count table.now) limit) }
-    ensures refused { IfErr result (λ error. RefusesComplete rule limit error.kind table.now) }
+    ensures padding { OnOk result (KeepsPadding rules.padding (declared_padding count table.now)) }
+    ensures within { OnOk result
+        (KeepsLimit (declared_lengths count table.now) rules.limit_in_words) }
+    ensures refused { IfErr result (λ error.
+        RefusesComplete rules.padding rules.limit_in_words error.kind table.now) }
 {
     let total = lengths_total(table, count);
-    check_limit(total, limit)?;
-    check_padding(table, count, rule)?;
+    check_limit(total, rules.limit_in_words)?;
+    check_padding(table, count, rules.padding)?;
     Ok(total)
 }

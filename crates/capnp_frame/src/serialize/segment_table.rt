@@ -7,6 +7,7 @@ ghost use Rattle.capnp_frame.specs.Refusals.{Tells, DeclaresAccepted, IsOutOfRan
 ghost use Rattle.capnp_frame.specs.Front.{declared_lengths, declared_padding, SpellsLengths};
 
 use crate::error::{Error, ErrorKind, Result};
+use crate::message::ReaderOptions;
 
 /// A message that is read has fewer segments than this, so at most 511.
 ///
@@ -24,6 +25,31 @@ pub enum Padding {
     Any,
     /// Zeros alone, as writers put there.
     Zero,
+}
+
+/// What the segment table of a message has to keep for a reader to accept it.
+#[derive(Clone, Copy, Debug, PartialEq, Eq)]
+pub struct TableRules {
+    /// The padding that is accepted.
+    pub padding: Padding,
+
+    /// The most words that the segments may have together. `None` sets no limit.
+    pub limit_in_words: Option<usize>,
+}
+
+impl TableRules {
+    /// The rules of a reader with these options, which accepts this padding.
+    pub fn new(padding: Padding, options: ReaderOptions) -> TableRules
+        ensures { result ≡ record {
+          padding = padding;
+          limit_in_words = options.traversal_limit_in_words;
+        } }
+    {
+        TableRules {
+            padding,
+            limit_in_words: options.traversal_limit_in_words,
+        }
+    }
 }
 
 /// The number of bytes of a table of this many segments.

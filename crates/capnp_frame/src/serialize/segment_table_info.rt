@@ -8,7 +8,8 @@ ghost use Rattle.capnp_frame.specs.FlatRefusals.{by_fields, cut_kind, RefusesFla
 use crate::error::{Error, ErrorKind, Result};
 use crate::message::AsBytes;
 use crate::serialize::segment_table::{
-    Padding, SEGMENTS_COUNT_LIMIT, check_limit, check_padding, field_at, lengths_total, table_len,
+    Padding, SEGMENTS_COUNT_LIMIT, TableRules, check_limit, check_padding, field_at, lengths_total,
+    table_len,
 };
 
 /// How many segments a message has, and how long its table and its segments are, as the segment
@@ -30,7 +31,11 @@ pub struct NoAllocSegmentTableInfo {
 pub fn describes<T: AsBytes>(buffer: &T, info: &NoAllocSegmentTableInfo) -> bool
     ensures { IsTrue result ↔ IsDescribed (T.bytes buffer.now) info.now }
 {
-    match read_table_info(buffer.as_bytes(), None, Padding::Any) {
+    let any = TableRules {
+        padding: Padding::Any,
+        limit_in_words: None,
+    };
+    match read_table_info(buffer.as_bytes(), any) {
         Ok(found) => has_same_numbers(&found, info),
         Err(_) => false,
     }
@@ -49,21 +54,18 @@ fn has_same_numbers(found: &NoAllocSegmentTableInfo, info: &NoAllocSegmentTableI
 ///
 /// A number of segments past 32 bits doesn't wrap: `ff ff ff ff` fails as 2^32 segments, where
 /// `accepted_count` fails as 0.
-pub(crate) fn read_table_info(
-    bytes: &[u8],
-    limit: Option<usize>,
-    rule: Padding,
-) -> Result<NoAllocSegmentTableInfo>
+pub(crate) fn read_table_info(bytes: &[u8], rules: TableRules) -> Result<NoAllocSegmentTableInfo>
     ensures holds { IfOk result (λ info. HoldsMessage bytes.now info.segments_count) }
     ensures table { IfOk result (λ info.
         info.segment_table_length_bytes ≡ table_size info.segments_count) }
     ensures total { IfOk result (λ info. info.total_segments_length_bytes
         ≡ 8 * sum (declared_lengths info.segments_count bytes.now)) }
     ensures within { IfOk result (λ info.
-        KeepsLimit (declared_lengths info.segments_count bytes.now) limit) }
+        KeepsLimit (declared_lengths info.segments_count bytes.now) rules.limit_in_words) }
     ensures padding { IfOk result (λ info.
-        KeepsPadding rule (declared_padding info.segments_count bytes.now)) }
-    ensures refused { IfErr result (λ error. RefusesFlat by_fields rule limit error.kind bytes.now) }
+        KeepsPadding rules.padding (declared_padding info.segments_count bytes.now)) }
+    ensures refused { IfErr result (λ error.
+        RefusesFlat by_fields rules.padding rules.limit_in_words error.kind bytes.now) }
 {
     let length = bytes.len();
     if length < 4 {
@@ -77,12 +79,12 @@ pub(crate) fn read_table_info(
         return Err(cut_field(bytes));
     }
     let total = lengths_total(bytes, segments_count);
-    check_limit(total, limit)?;
+    check_limit(total, rules.limit_in_words)?;
     let table_length = table_len(segments_count);
     if length < table_length {
         return Err(cut_field(bytes));
     }
-    check_padding(bytes, segments_count, rule)?;
+    check_padding(bytes, segments_count, rules.padding)?;
     let there = length - table_length;
     if there < 8 * total {
         return Err(Error::from_kind(ErrorKind::MessageEndsPrematurely(total, there / 8)));

@@ -14,7 +14,7 @@ use crate::io::Read;
 use crate::message::ReaderOptions;
 use crate::serialize::owned_segments::OwnedSegments;
 use crate::serialize::segment_indices::SegmentIndices;
-use crate::serialize::segment_table::Padding;
+use crate::serialize::segment_table::{Padding, TableRules};
 use crate::serialize::stream_table::{read_chunk, read_indices};
 use std::alloc::Global;
 
@@ -35,7 +35,8 @@ pub fn try_read_segments<R: Read>(
     ensures { ReadsStream R.Read source.old source.new
         (framed_rules Padding.Zero R.gives R.refuses) options.traversal_limit_in_words result }
 {
-    try_read_segments_with_padding(alloc, source, Padding::Zero, options)
+    let rules = TableRules::new(Padding::Zero, options);
+    try_read_segments_reusing(source, rules, OwnedSegments::empty(alloc))
 }
 
 /// Reads the next message as `try_read_segments` does, but accepts any padding in the segment
@@ -48,89 +49,47 @@ pub fn try_read_segments_lenient<R: Read>(
     ensures { ReadsStream R.Read source.old source.new
         (framed_rules Padding.Any R.gives R.refuses) options.traversal_limit_in_words result }
 {
-    try_read_segments_with_padding(alloc, source, Padding::Any, options)
+    let rules = TableRules::new(Padding::Any, options);
+    try_read_segments_reusing(source, rules, OwnedSegments::empty(alloc))
 }
 
-/// Reads the next message as `try_read_segments` does, by this rule of padding.
+/// Reads the next message as `try_read_segments` does, by these rules, into the memory of an
+/// earlier message, which grows where it is too small.
 ///
 /// Fails as the module `serialize` lists: with `MessageTooLarge` where the segments have more words
-/// than the limit of `options`; with `NonZeroPadding`, the table consumed, where `padding` is
-/// `Padding::Zero` and the padding isn't zero, and never where it is `Padding::Any`.
-pub fn try_read_segments_with_padding<R: Read>(
-    alloc: Global,
-    source: &mut R,
-    padding: Padding,
-    options: ReaderOptions,
-) -> Result<Option<OwnedSegments>>
-    ensures { ReadsStream R.Read source.old source.new
-        (framed_rules padding R.gives R.refuses) options.traversal_limit_in_words result }
-{
-    let spare = OwnedSegments::empty(alloc);
-    try_read_segments_reusing_with_padding(source, padding, options, spare)
-}
-
-/// Reads the next message as `try_read_segments` does, into the memory of an earlier message, which
-/// grows where it is too small.
-///
-/// It fails with `OutOfMemory` only for more bytes than the segments of `spare` have, or for more
-/// segments than one and than `spare` has, and else as `try_read_segments` does.
+/// than the limit; with `NonZeroPadding`, the table consumed, where `Padding::Zero` alone is
+/// accepted and the padding isn't zero; with `OutOfMemory` only for more bytes than the segments of
+/// `spare` have, or for more segments than one and than `spare` has.
 pub fn try_read_segments_reusing<R: Read>(
     source: &mut R,
-    options: ReaderOptions,
+    rules: TableRules,
     spare: OwnedSegments,
 ) -> Result<Option<OwnedSegments>>
     ensures { ReadsStream R.Read source.old source.new
-        (reusing_rules Padding.Zero R.gives R.refuses spare) options.traversal_limit_in_words result }
+        (reusing_rules rules.padding R.gives R.refuses spare) rules.limit_in_words result }
 {
-    try_read_segments_reusing_with_padding(source, Padding::Zero, options, spare)
-}
-
-/// Reads the next message as `try_read_segments_reusing` does, but accepts any padding in the
-/// segment table.
-pub fn try_read_segments_reusing_lenient<R: Read>(
-    source: &mut R,
-    options: ReaderOptions,
-    spare: OwnedSegments,
-) -> Result<Option<OwnedSegments>>
-    ensures { ReadsStream R.Read source.old source.new
-        (reusing_rules Padding.Any R.gives R.refuses spare) options.traversal_limit_in_words result }
-{
-    try_read_segments_reusing_with_padding(source, Padding::Any, options, spare)
-}
-
-/// Reads the next message as `try_read_segments_with_padding` does, into the memory of an earlier
-/// message, which grows where it is too small. Fails as that does.
-pub fn try_read_segments_reusing_with_padding<R: Read>(
-    source: &mut R,
-    padding: Padding,
-    options: ReaderOptions,
-    spare: OwnedSegments,
-) -> Result<Option<OwnedSegments>>
-    ensures { ReadsStream R.Read source.old source.new
-        (reusing_rules padding R.gives R.refuses spare) options.traversal_limit_in_words result }
-{
-    let limit = options.traversal_limit_in_words;
     let (indices, bytes) = spare.into_parts();
-    read_segments(source, limit, padding, indices, bytes)
+    read_segments(source, rules, indices, bytes)
 }
 
 // Reads the table and the segments, into this memory.
 fn read_segments<R: Read>(
     source: &mut R,
-    limit: Option<usize>,
-    rule: Padding,
+    rules: TableRules,
     spare_indices: SegmentIndices,
     spare_bytes: Vec<u8>,
 ) -> Result<Option<OwnedSegments>>
-    ensures found { IfOk result (λ found. IfSome found (λ segments.
-        IfKnown (R.unread source.old) (R.unread source.new) (MessageStands rule R.gives segments))) }
-    ensures within { IfOk result (λ found. IfSome found (λ segments. IsWithin segments limit)) }
+    ensures found { IfOk result (λ found. IfSome found (λ segments. IfKnown (R.unread source.old)
+        (R.unread source.new) (MessageStands rules.padding R.gives segments))) }
+    ensures within { IfOk result (λ found. IfSome found (λ segments.
+        IsWithin segments rules.limit_in_words)) }
     ensures whole { IfOk result (λ found. IfSome found (AllByRecursion IsWholeWords)) }
-    ensures asks { AsksNext R.Read source.old source.new rule
-        (Outgrows (length spare_indices) (vec_len spare_bytes) rule R.gives limit)
-        (RefusesStream rule R.gives R.refuses limit None) result }
+    ensures asks { AsksNext R.Read source.old source.new rules.padding
+        (Outgrows (length spare_indices) (vec_len spare_bytes) rules.padding R.gives
+        rules.limit_in_words)
+        (RefusesStream rules.padding R.gives R.refuses rules.limit_in_words None) result }
 {
-    let Some(indices) = read_indices(spare_indices, source, limit, rule)? else {
+    let Some(indices) = read_indices(source, &rules, spare_indices)? else {
         return Ok(None);
     };
     let mut bytes = spare_bytes;

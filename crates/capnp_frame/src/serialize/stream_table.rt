@@ -1,14 +1,13 @@
 //! Reading segment tables from a source.
-ghost use Rattle.std.specs.Prelude.{◌≡◌, ◌-◌, ◌<◌, ◌≤◌, ◌^◌, max, [], length, take, drop, map, sum, IfOk, IfErr, OnOk, IfSome, IfNone, IsOk, Some, None};
+ghost use Rattle.std.specs.Prelude.{◌≡◌, ◌-◌, ◌<◌, ◌≤◌, ◌^◌, max, [], length, take, drop, map, IfOk, IfErr, OnOk, IfSome, IfNone, IsOk, Some};
 ghost use Rattle.capnp_frame.specs.SegmentTable.{table_size, KeepsPadding};
 ghost use Rattle.capnp_frame.specs.SegmentLengths.{range_len, AreRanges};
 ghost use Rattle.capnp_frame.specs.Front.{declared_lengths, declared_padding, DeclaresTable};
-ghost use Rattle.capnp_frame.specs.Limits.{KeepsLimit, AreWithin};
+ghost use Rattle.capnp_frame.specs.Limits.{KeepsLimit};
 ghost use Rattle.capnp_frame.specs.Source.{IfKnown, IsRefused};
 ghost use Rattle.capnp_frame.specs.Asking.{Asked, FailsOr};
-ghost use Rattle.capnp_frame.specs.Steps.{AsksNext, ReadsLengths, RefusesComplete};
-ghost use Rattle.capnp_frame.specs.Requests.{TableStands};
-ghost use Rattle.capnp_frame.specs.Refusals.{DeclaresAccepted, RefusesTable, TakesForLengths};
+ghost use Rattle.capnp_frame.specs.Steps.{ReadsLengths, ReadsTable, RefusesComplete};
+ghost use Rattle.capnp_frame.specs.Refusals.{DeclaresAccepted};
 ghost use Rattle.capnp_frame.specs.declared.error.ErrorKind.{ErrorKind};
 
 use crate::error::Result;
@@ -16,7 +15,7 @@ use crate::io::Read;
 use crate::serialize::segment_indices::SegmentIndices;
 use crate::serialize::segment_lengths::SegmentLengthsBuilder;
 use crate::serialize::segment_table::{
-    LONGEST_TABLE, Padding, accepted_count, check_limit, check_padding, fill_segment_ranges,
+    LONGEST_TABLE, TableRules, accepted_count, check_limit, check_padding, fill_segment_ranges,
     table_len,
 };
 
@@ -26,66 +25,54 @@ const SHORT_TABLE: usize = 256;
 // Where the segments of the next table begin and end, or none at the source's end. Memory is taken
 // only for more segments than one, and than `spare` has.
 pub(crate) fn read_indices<R: Read>(
-    spare: SegmentIndices,
     source: &mut R,
-    limit: Option<usize>,
-    rule: Padding,
+    rules: &TableRules,
+    spare: SegmentIndices,
 ) -> Result<Option<SegmentIndices>>
-    ensures found { IfOk result (λ found. IfSome found (λ ns.
-        IfKnown (R.unread source.old) (R.unread source.new) (TableStands rule R.gives ns))) }
-    ensures within { IfOk result (λ found. IfSome found (λ ns. AreWithin ns limit)) }
-    ensures bound { IfOk result (λ found. IfSome found (λ ns. sum ns < 2 ^ 42)) }
-    ensures asks { AsksNext R.Read source.old source.new rule
-        (TakesForLengths (max 1 (length spare)) R.gives)
-        (RefusesTable rule R.gives R.refuses limit None) result }
+    ensures { ReadsTable R.Read source.old source.new rules.now.padding rules.now.limit_in_words
+        (max 1 (length spare)) result }
 {
     let Some(first) = read_first(source)? else {
         return Ok(None);
     };
     let count = accepted_count(&first)?;
     if count == 1 {
-        let total = read_lengths(source, &first, &mut [(0, 0)], limit, rule)?;
+        let total = read_lengths(source, &first, &mut [(0, 0)], rules)?;
         return Ok(Some(spare.with_single(total)));
     }
     let mut several = spare.into_several();
     several.resize(count, (0, 0))?;
-    let total = read_lengths(source, &first, &mut several, limit, rule)?;
+    let total = read_lengths(source, &first, &mut several, rules)?;
     Ok(Some(SegmentIndices::from_several(several, total)))
 }
 
-/// Reads the next segment table of a source, by this rule of padding, and returns the lengths of
-/// the segments, in words, or `None` where nothing is unread: the first step of a reader that takes
-/// the segments in a way of its own.
+/// Reads the next segment table of a source, and returns the lengths of the segments, in words, or
+/// `None` where nothing is unread: the first step of a reader that takes the segments in a way of
+/// its own.
 ///
 /// The source is asked for the first word of the table, and for its other words where it has any,
-/// and nothing else is consumed. The lengths are put into `memory`, whatever is in it, which grows
-/// where it has fewer entries than there are segments.
+/// and nothing else is consumed. The lengths are put into the memory of `lengths`, whatever these
+/// are, which grows where they are fewer than there are segments.
 ///
 /// Fails as the module `serialize` lists, but for segments that are cut: with `MessageTooLarge`
-/// where they have more than `limit` words, with `NonZeroPadding` where `rule` is `Padding::Zero`
-/// and the padding isn't zero, and, the table's first word alone consumed, with `OutOfMemory` where
-/// `memory` can't grow.
+/// where they have more words than the limit, with `NonZeroPadding` where `Padding::Zero` alone is
+/// accepted and the padding isn't zero, and, the table's first word alone consumed, with
+/// `OutOfMemory` where the memory can't grow.
 pub fn read_table<R: Read>(
-    memory: Vec<(usize, usize)>,
     source: &mut R,
-    limit: Option<usize>,
-    rule: Padding,
+    rules: TableRules,
+    lengths: SegmentLengthsBuilder,
 ) -> Result<Option<SegmentLengthsBuilder>>
-    ensures found { IfOk result (λ found. IfSome found (λ ns.
-        IfKnown (R.unread source.old) (R.unread source.new) (TableStands rule R.gives ns))) }
-    ensures within { IfOk result (λ found. IfSome found (λ ns. AreWithin ns limit)) }
-    ensures bound { IfOk result (λ found. IfSome found (λ ns. sum ns < 2 ^ 42)) }
-    ensures asks { AsksNext R.Read source.old source.new rule
-        (TakesForLengths (length memory.items) R.gives)
-        (RefusesTable rule R.gives R.refuses limit None) result }
+    ensures { ReadsTable R.Read source.old source.new rules.padding rules.limit_in_words
+        (length lengths) result }
 {
     let Some(first) = read_first(source)? else {
         return Ok(None);
     };
     let count = accepted_count(&first)?;
-    let mut indices = memory;
+    let mut indices = lengths.to_segment_indices();
     indices.resize(count, (0, 0))?;
-    let total = read_lengths(source, &first, &mut indices, limit, rule)?;
+    let total = read_lengths(source, &first, &mut indices, &rules)?;
     Ok(Some(SegmentLengthsBuilder::from_indices(indices, total)))
 }
 
@@ -98,26 +85,26 @@ fn read_lengths<R: Read>(
     source: &mut R,
     first: &[u8; 8],
     indices: &mut [(usize, usize)],
-    limit: Option<usize>,
-    rule: Padding,
+    rules: &TableRules,
 ) -> Result<usize>
     requires accepted { DeclaresAccepted first.now (length indices.old) }
-    ensures { ReadsLengths R.Read source.old source.new rule limit first.now indices.new result }
+    ensures { ReadsLengths R.Read source.old source.new rules.now.padding
+        rules.now.limit_in_words first.now indices.new result }
 {
     let size = table_len(indices.len());
     if size == 8 {
-        return fill_lengths(indices, first, limit, rule);
+        return fill_lengths(indices, first, rules);
     }
     if size <= 16 {
         let mut table = [0; 16];
-        return read_lengths_by(source, first, indices, &mut table[..size], limit, rule);
+        return read_lengths_by(source, first, indices, &mut table[..size], rules);
     }
     if size <= SHORT_TABLE {
         let mut table = [0; SHORT_TABLE];
-        return read_lengths_by(source, first, indices, &mut table[..size], limit, rule);
+        return read_lengths_by(source, first, indices, &mut table[..size], rules);
     }
     let mut table = [0; LONGEST_TABLE];
-    read_lengths_by(source, first, indices, &mut table[..size], limit, rule)
+    read_lengths_by(source, first, indices, &mut table[..size], rules)
 }
 
 // Reads the table's other words into a buffer of the table's size, and goes on as `read_lengths`.
@@ -126,25 +113,20 @@ fn read_lengths_by<R: Read>(
     first: &[u8; 8],
     indices: &mut [(usize, usize)],
     table: &mut [u8],
-    limit: Option<usize>,
-    rule: Padding,
+    rules: &TableRules,
 ) -> Result<usize>
     requires accepted { DeclaresAccepted first.now (length indices.old) }
     requires size { length table.old ≡ table_size (length indices.old) }
-    ensures { ReadsLengths R.Read source.old source.new rule limit first.now indices.new result }
+    ensures { ReadsLengths R.Read source.old source.new rules.now.padding
+        rules.now.limit_in_words first.now indices.new result }
 {
     complete_table(source, first, table)?;
-    fill_lengths(indices, table, limit, rule)
+    fill_lengths(indices, table, rules)
 }
 
 // Fills in where each segment begins and ends by a table that is complete, tests the limit and the
 // padding, and returns the sum of the lengths.
-fn fill_lengths(
-    indices: &mut [(usize, usize)],
-    table: &[u8],
-    limit: Option<usize>,
-    rule: Padding,
-) -> Result<usize>
+fn fill_lengths(indices: &mut [(usize, usize)], table: &[u8], rules: &TableRules) -> Result<usize>
     requires accepted { DeclaresAccepted (take 8 table.now) (length indices.old) }
     requires size { length table.now ≡ table_size (length indices.old) }
     ensures declared { map range_len indices.new ≡ declared_lengths (length indices.new) table.now }
@@ -152,13 +134,14 @@ fn fill_lengths(
     ensures ranges { IfOk result (AreRanges indices.new) }
     ensures bound { IfOk result (λ total. total < 2 ^ 42) }
     ensures padding { OnOk result
-        (KeepsPadding rule (declared_padding (length indices.new) table.now)) }
-    ensures within { OnOk result (KeepsLimit (map range_len indices.new) limit) }
-    ensures refused { IfErr result (λ error. RefusesComplete rule limit error.kind table.now) }
+        (KeepsPadding rules.now.padding (declared_padding (length indices.new) table.now)) }
+    ensures within { OnOk result (KeepsLimit (map range_len indices.new) rules.now.limit_in_words) }
+    ensures refused { IfErr result (λ error.
+        RefusesComplete rules.now.padding rules.now.limit_in_words error.kind table.now) }
 {
     let total = fill_segment_ranges(indices, table);
-    check_limit(total, limit)?;
-    check_padding(table, indices.len(), rule)?;
+    check_limit(total, rules.limit_in_words)?;
+    check_padding(table, indices.len(), rules.padding)?;
     Ok(total)
 }
 

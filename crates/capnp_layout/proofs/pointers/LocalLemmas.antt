@@ -5,7 +5,7 @@ use Rattle.capnp_layout.specs.Pointer.{words_of, offset, pointer_kind}
 use Rattle.capnp_layout.specs.PointerWord.{IsLocalShape, IsElementsTag}
 use Rattle.capnp_layout.specs.Element.{code_of, width, words_for}
 use Rattle.capnp_layout.specs.Object.{word_at, local, following, Target, Lands, Shape, ShapeStands, PointsTo, is_object}
-use Rattle.capnp_layout.specs.Landing.{IsObject, shape_of, room_of, words_in, traversed_of}
+use Rattle.capnp_layout.specs.Body.{IsObject, shape_of, room_of, words_in, traversed_of}
 use Rattle.capnp_layout.specs.Local.{local_struct_of, structs_of}
 use Rattle.capnp_layout.specs.Output.{least_size, output_body_of}
 use Rattle.capnp_layout.specs.declared.place.Place.{Place}

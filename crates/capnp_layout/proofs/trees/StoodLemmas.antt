@@ -5,7 +5,7 @@ use Rattle.capnp_layout.specs.Pointer.{words_of, words_from}
 use Rattle.capnp_layout.specs.Tree.{Form, null, struct, numbers, pointers, structs, Trees, none, tree, count, object_size, total_words}
 use Rattle.capnp_layout.specs.Trim.{first, following, before, keep_tree, cut_zeros, cut_nulls, least_data, least_pointers, narrowed, trim}
 use Rattle.capnp_layout.specs.Object.{Shape, places, row_places, rows_from}
-use Rattle.capnp_layout.specs.Landing.{IsObject, shape_of, room_of, words_in}
+use Rattle.capnp_layout.specs.Body.{IsObject, shape_of, room_of, words_in}
 use Rattle.capnp_layout.specs.Reached.{At}
 use Rattle.capnp_layout.specs.Layout.{output, HasRoom, AllHaveRoom}
 use Rattle.capnp_layout.specs.Block.{most_used}

@@ -5,21 +5,21 @@ use crate::calls_declared::{assert_call, assert_unread};
 use crate::devices::giving;
 use crate::faults::FORMATS;
 use crate::flat::RULES;
+use crate::readers::{Call, READERS, is_returned};
 use crate::samples::append_word;
-use crate::streams::{Call, READERS, Wanted, is_returned};
-use crate::{framed, packed};
-use capnp::appended::read_messages;
+use crate::streams::Wanted;
 use capnp::devices::Input;
 use capnp::io::BufRead;
 use capnp::message::{DEFAULT_READER_OPTIONS, Reader};
 use capnp::serialize::SegmentLengthsBuilder;
-use capnp::streams::{Format, MessageStream, every_message, write_each_message};
+use capnp::streams::{Format, MessageStream, every_message, read_messages, write_each_message};
 use capnp::{Way, serialize, serialize_packed};
 use capnp_frame::message::ReaderSegments;
-use capnp_frame::serialize::{OwnedSegments, Padding};
+use capnp_frame::serialize::{OwnedSegments, Padding, TableRules, try_read_segments_reusing};
 use capnp_frame::{Error, ErrorKind, Result};
 use capnp_frame_tests::limits::DEFAULT_LIMIT;
 use capnp_frame_tests::messages::shows;
+use capnp_pack::stream::try_read_packed_segments;
 use std::alloc::Global;
 use std::process::Abort;
 
@@ -124,13 +124,13 @@ fn reuse(
     (format, padding): (Format, Padding),
     stream: &[u8],
 ) -> Result<()> {
-    let options = DEFAULT_READER_OPTIONS;
+    let rules = TableRules::new(padding, DEFAULT_READER_OPTIONS);
     let mut source = stream;
     let mut kept = OwnedSegments::empty(rt.alloc());
     for index in 1..=COUNT {
         let found = match format {
-            Format::Framed => framed::next_segments_reusing(padding, &mut source, options, kept)?,
-            Format::Packed => packed::next_segments_reusing(padding, &mut source, options, kept)?,
+            Format::Framed => try_read_segments_reusing(&mut source, rules, kept)?,
+            Format::Packed => try_read_packed_segments(&mut source, rules, kept)?,
         };
         let Some(segments) = found else {
             return Err(missing());
@@ -157,16 +157,9 @@ fn skip(
     let mut kept = SegmentLengthsBuilder::empty(rt.alloc());
     for index in 1..=COUNT {
         let skipped = match format {
-            Format::Framed => {
-                serialize::try_skip_message_with_padding(&mut source, padding, options, kept)?
-            }
+            Format::Framed => serialize::try_skip_message(&mut source, padding, options, kept)?,
             Format::Packed => {
-                serialize_packed::try_skip_message_with_padding(
-                    &mut source,
-                    padding,
-                    options,
-                    kept,
-                )?
+                serialize_packed::try_skip_message(&mut source, padding, options, kept)?
             }
         };
         let Some(lengths) = skipped else {
@@ -218,13 +211,13 @@ fn read_all(
     stream: &[u8],
 ) -> Result<()> {
     let options = DEFAULT_READER_OPTIONS;
-    let read = every_message(rt.alloc(), format, padding, options, stream);
+    let read = every_message(rt.alloc(), stream, format, padding, options);
     assert_all(rt, &read.messages, "at once");
     let at = At::row("at once");
     assert_count(rt, read.end, stream.len(), at);
     assert_holds(rt, read.refusal.is_none(), at);
     let mut source = stream;
-    let messages = read_messages(rt.alloc(), format, &mut source, COUNT as usize, options)?;
+    let messages = read_messages(rt.alloc(), &mut source, format, COUNT as usize, options)?;
     assert_all(rt, &messages, "as many");
     assert_count(rt, source.len(), 0, At::row("as many"));
     Ok(())
@@ -237,7 +230,7 @@ fn iterate<R: BufRead + Drop>(
 ) -> Result<()> {
     let options = DEFAULT_READER_OPTIONS;
     let mut index = 0u64;
-    for message in MessageStream::new(rt.alloc(), format, padding, options, source) {
+    for message in MessageStream::new(rt.alloc(), source, format, padding, options) {
         index = index.wrapping_add(1);
         let message = message?;
         let at = At::new("one by one", index);
@@ -263,12 +256,12 @@ fn transcode(
     let options = DEFAULT_READER_OPTIONS;
     let stopped = write_each_message(
         rt.alloc(),
+        &mut source,
+        &mut sink,
         format,
         padding,
         options,
         &way,
-        &mut source,
-        &mut sink,
     );
     assert_holds(rt, stopped.is_ok(), At::row("transcoded"));
     assert_bytes(rt, &sink, &wanted, At::row("transcoded"));

@@ -87,7 +87,7 @@ pub fn declared_of(
     stream: &[u8],
     options: ReaderOptions,
 ) -> (usize, usize, u8) {
-    declared(&every_message(alloc, format, Padding::Zero, options, stream))
+    declared(&every_message(alloc, stream, format, Padding::Zero, options))
 }
 
 /// What is returned for all records of a log.
@@ -110,7 +110,7 @@ fn a_stream_up_to_a_cut(rt: HostRuntime) -> Result<()> {
 // How many segments the next packed message has, where there is one, and how many bytes are left.
 fn next_packed(alloc: Global, bytes: &[u8]) -> Result<(Option<usize>, usize)> {
     let mut source = bytes;
-    let next = next_message(alloc, Format::Packed, &mut source, DEFAULT_READER_OPTIONS)?;
+    let next = next_message(alloc, &mut source, Format::Packed, DEFAULT_READER_OPTIONS)?;
     Ok((segments_of(next), source.len()))
 }
 

@@ -16,9 +16,9 @@ fn first_and_next(
     bytes: &[u8],
 ) -> Result<(Option<usize>, Option<usize>)> {
     let options = DEFAULT_READER_OPTIONS;
-    let DeviceRead { read, mut rest } = first_of_device(alloc, format, bytes, options)?;
+    let DeviceRead { read, mut rest } = first_of_device(alloc, bytes, format, options)?;
     let first = read?;
-    let next = next_message(alloc, format, &mut rest, options)?;
+    let next = next_message(alloc, &mut rest, format, options)?;
     Ok((segments_of(first), segments_of(next)))
 }
 
@@ -42,17 +42,17 @@ fn messages_of_cursors(rt: HostRuntime) -> Result<()> {
     let mut cursor = io::Cursor::new(both(alloc, Format::Framed)?);
     // The second message begins at this byte.
     cursor.set_position(24);
-    let second = first_of_cursor(alloc, Format::Framed, cursor, options)?;
+    let second = first_of_cursor(alloc, cursor, Format::Framed, options)?;
     expect(&rt, "the second", segments_of(second.read?), Some(1));
     let packed = io::Cursor::new(both(alloc, Format::Packed)?);
-    let all = all_of_device(alloc, Format::Packed, packed, options)?;
+    let all = all_of_device(alloc, packed, Format::Packed, options)?;
     expect(&rt, "all", all.read?.len(), 2);
     Ok(())
 }
 
 // How many messages a stream in two parts has.
 fn count_of(alloc: Global, first: &[u8], second: &[u8]) -> Result<usize> {
-    let all = all_of_parts(alloc, Format::Framed, first, second, DEFAULT_READER_OPTIONS)?;
+    let all = all_of_parts(alloc, first, second, Format::Framed, DEFAULT_READER_OPTIONS)?;
     Ok(all.read?.len())
 }
 

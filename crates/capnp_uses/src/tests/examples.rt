@@ -3,10 +3,10 @@ use capnp::io::{Read, Write};
 use capnp::message::{
     Builder, DEFAULT_READER_OPTIONS, HeapAllocator, SegmentArray, SingleSegmentAllocator,
 };
-use capnp::serialize::Padding;
+use capnp::serialize::{self, Padding};
+use capnp::serialize_packed::{self, PackedRead, PackedWrite};
 use capnp::streams::{Format, MessageStream};
-use capnp::{Way, primitive_list, record_log, serialize, serialize_packed, text, transcode};
-use capnp_pack::{PackedRead, PackedWrite};
+use capnp::{Way, primitive_list, record_log, text, transcode};
 use std::test::Fail;
 
 // A message of three words whose root is the text "Hello, World!", framed.
@@ -100,7 +100,7 @@ fn reads_each_message_of_a_stream(rt: HostRuntime) -> Result<(), Fail> {
     let alloc = rt.alloc();
     let source = PACKED.as_slice();
     let options = DEFAULT_READER_OPTIONS;
-    for message in MessageStream::new(alloc, Format::Packed, Padding::Zero, options, source) {
+    for message in MessageStream::new(alloc, source, Format::Packed, Padding::Zero, options) {
         let message = message?;
         let greeting: text::Reader<'_> = message.get_root()?;
         assert_eq!(rt; greeting.as_bytes(), b"Hello, World!".as_slice());

@@ -1,14 +1,10 @@
 //! Traversal limits of many words: what views and sizes count of them.
 use crate::tests::fixtures::{Message, Source, expect, limited, message_of, set_root};
-use capnp::message::Builder;
-use capnp_frame::Result;
-use capnp_frame::message::{DEFAULT_READER_OPTIONS, SegmentArray};
+use capnp::any_struct::StructReader;
+use capnp::message::{Builder, DEFAULT_READER_OPTIONS, HeapAllocator, SegmentArray};
+use capnp::{Result, canonical_size, data, text};
 use capnp_frame_tests::messages::has_segments;
 use capnp_frame_tests::refusals::{numbered, refusal};
-use capnp_message::heap_allocator::HeapAllocator;
-use capnp_wire::any_struct::StructReader;
-use capnp_wire::canonical::canonical_size;
-use capnp_wire::{data, text};
 use std::alloc::Global;
 
 // What is viewed as a text, though it is none.
@@ -128,7 +124,7 @@ fn stands_and_is_viewed(alloc: Global, segment: &[u8], bytes: &[u8]) -> Result<(
     let mut message = Builder::new_default(alloc);
     set_data(&mut message, bytes)?;
     let stands = has_segments(&message, &[segment]);
-    let view = message.get_root::<capnp_build::data::Owned>()?;
+    let view = message.get_root::<data::Owned>()?;
     Ok((stands, view.as_bytes() == bytes))
 }
 

@@ -3,10 +3,10 @@ use crate::tests::callers::{declared_of, declared_of_log};
 use crate::tests::fixtures::{expect, transcoded};
 use capnp::io::{Read, Write};
 use capnp::message::DEFAULT_READER_OPTIONS;
+use capnp::serialize_packed::{PackedRead, PackedWrite};
 use capnp::streams::Format;
 use capnp::{Result, Way};
 use capnp_frame_tests::long_lists::list_of_numbers;
-use capnp_pack::{PackedRead, PackedWrite};
 use std::alloc::{AllocError, Global};
 
 fn filled(alloc: Global, byte: u8, length: usize) -> std::result::Result<Vec<u8>, AllocError> {

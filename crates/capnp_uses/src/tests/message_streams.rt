@@ -35,7 +35,7 @@ fn given_of<R: BufRead + Drop>(stream: MessageStream<R>) -> Given {
 // What is given of bytes.
 fn given_of_bytes(alloc: Global, format: Format, padding: Padding, bytes: &[u8]) -> Given {
     let options = DEFAULT_READER_OPTIONS;
-    given_of(MessageStream::new(alloc, format, padding, options, bytes))
+    given_of(MessageStream::new(alloc, bytes, format, padding, options))
 }
 
 #[test]
@@ -79,7 +79,7 @@ fn messages_within_a_limit(rt: HostRuntime) -> Result<()> {
         nesting_limit: 64,
     };
     let source = stream.as_slice();
-    let given = given_of(MessageStream::new(alloc, Format::Framed, Padding::Zero, options, source));
+    let given = given_of(MessageStream::new(alloc, source, Format::Framed, Padding::Zero, options));
     expect(&rt, "within 2 words", given, (1, 2, 8, false));
     Ok(())
 }
@@ -90,7 +90,7 @@ fn messages_of_a_device(rt: HostRuntime) -> Result<()> {
     let stream = both(alloc, Format::Packed)?;
     let source = Input::new(alloc, stream.as_slice())?;
     let options = DEFAULT_READER_OPTIONS;
-    let given = given_of(MessageStream::new(alloc, Format::Packed, Padding::Zero, options, source));
+    let given = given_of(MessageStream::new(alloc, source, Format::Packed, Padding::Zero, options));
     expect(&rt, "a device", given, (2, 3, 0, false));
     Ok(())
 }

@@ -50,7 +50,7 @@ fn streams_within_a_limit(rt: HostRuntime) -> std::result::Result<(), AllocError
 // The error of the next framed message.
 fn next_refusal(alloc: Global, stream: &[u8], options: ReaderOptions) -> u8 {
     let mut source = stream;
-    refusal(next_message(alloc, Format::Framed, &mut source, options))
+    refusal(next_message(alloc, &mut source, Format::Framed, options))
 }
 
 // Whether a message is skipped, and how many bytes are left, or the error's number.
@@ -60,7 +60,7 @@ fn skip(
     source: &mut &[u8],
     options: ReaderOptions,
 ) -> std::result::Result<(bool, usize), u8> {
-    let skipped = numbered(skip_message(alloc, format, source, options))?;
+    let skipped = numbered(skip_message(alloc, source, format, options))?;
     Ok((skipped, source.len()))
 }
 

@@ -1,8 +1,9 @@
 //! Structs that are borrowed.
 use crate::borrowed::Borrowed;
 use crate::element::Element;
-use crate::fields::{Extent, Fields};
+use crate::fields::Fields;
 use capnp_frame::Result;
+use capnp_wire::traits::TreeWords;
 
 // The row of the struct.
 impl<'a, F: Fields> Fields for Borrowed<'a, F> {
@@ -18,7 +19,7 @@ impl<'a, F: Fields> Fields for Borrowed<'a, F> {
         F::count()
     }
 
-    fn measure(&self, canonical: bool) -> Result<Extent> {
+    fn measure(&self, canonical: bool) -> Result<TreeWords> {
         self.value.measure(canonical)
     }
 

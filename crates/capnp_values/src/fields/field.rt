@@ -1,13 +1,13 @@
 //! A field in front of the other fields of a row.
 ghost use Rattle.std.specs.Prelude.{◌≡◌};
-ghost use Rattle.capnp_layout.specs.Tree.{Form, Trees, none, tree, total_words};
-ghost use Rattle.capnp_layout.specs.Layout.{output};
-ghost use Rattle.capnp_values.specs.Fields.{IsBounded, IsPart, is_left_out, extent_of};
+ghost use Rattle.capnp_layout.specs.Tree.{Form, Trees};
+ghost use Rattle.capnp_values.specs.Fields.{IsPart, is_left_out};
 
-use crate::fields::{Extent, Fields};
+use crate::fields::Fields;
+use crate::measured::both;
 use capnp_frame::Result;
 use capnp_layout::pointer_word::put_word;
-use capnp_wire::traits::{PartWords, SetterInput};
+use capnp_wire::traits::{SetterInput, TreeWords};
 use std::marker::PhantomData;
 
 /// A field of a type of a schema that is set to a value, in front of further fields.
@@ -58,10 +58,10 @@ impl<T, V: SetterInput<T>, F: Fields> Fields for Field<T, V, F> {
         if more < 1 << 16 { more } else { 1 << 16 }
     }
 
-    fn measure(&self, canonical: bool) -> Result<Extent> {
+    fn measure(&self, canonical: bool) -> Result<TreeWords> {
         let own = self.value.measure_part(canonical)?;
         let rest = self.rest.measure(canonical)?;
-        Ok(front(&self.value, canonical, own, rest))
+        Ok(both(own, rest))
     }
 
     fn as_is(&self) -> Result<u64> {
@@ -93,33 +93,6 @@ impl<T, V: SetterInput<T>, F: Fields> Fields for Field<T, V, F> {
         put_word(block, slot, copied.pointer);
         self.rest
             .write(canonical, block, slot + 1, count - 1, copied.next)
-    }
-}
-
-// The extent of a row of fields that begins with this value, by the words of the value and the
-// extent of the fields after it.
-fn front<T, V: SetterInput<T>>(value: &V, canonical: bool, own: PartWords, rest: Extent) -> Extent
-    requires { IsBounded rest }
-    ensures { (form : Form) (children others : Trees) → IsPart (V.has_tree value.now) form children →
-        own.as_is ≡ total_words (tree form children none) →
-        own.output ≡ total_words (output canonical (tree form children none)) →
-        rest ≡ extent_of canonical others →
-        result ≡ extent_of canonical (tree form children others) }
-{
-    let as_is = own.as_is as u64 + rest.as_is;
-    if is_left_out(value, canonical, rest.pointers) {
-        return Extent {
-            pointers: 0,
-            words: 0,
-            as_is,
-        };
-    }
-    let words = own.output as u64 + rest.words;
-    let pointers = rest.pointers + 1;
-    Extent {
-        pointers,
-        words,
-        as_is,
     }
 }
 

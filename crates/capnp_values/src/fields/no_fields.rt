@@ -1,8 +1,9 @@
 //! The end of a row.
 ghost use Rattle.std.specs.Prelude.{◌≡◌};
 
-use crate::fields::{Extent, Fields};
+use crate::fields::Fields;
 use capnp_frame::Result;
+use capnp_wire::traits::TreeWords;
 
 /// A row of no fields.
 #[derive(Clone, Copy)]
@@ -24,11 +25,10 @@ impl Fields for NoFields {
         0
     }
 
-    fn measure(&self, _canonical: bool) -> Result<Extent> {
-        Ok(Extent {
-            pointers: 0,
-            words: 0,
+    fn measure(&self, _canonical: bool) -> Result<TreeWords> {
+        Ok(TreeWords {
             as_is: 0,
+            output: 0,
         })
     }
 

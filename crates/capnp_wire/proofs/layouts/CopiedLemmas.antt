@@ -4,7 +4,7 @@ use Rattle.std.proofs.lemmas.List.{append-nil}
 use Rattle.capnp_layout.specs.Pointer.{words_of, words_from}
 use Rattle.capnp_layout.specs.Tree.{null, Trees, none, tree, total_words}
 use Rattle.capnp_layout.specs.Object.{nothing, places, word_at, is_null as null_there}
-use Rattle.capnp_layout.specs.Landing.{IsObject, words_in}
+use Rattle.capnp_layout.specs.Body.{IsObject, words_in}
 use Rattle.capnp_layout.specs.Reached.{At}
 use Rattle.capnp_layout.specs.Layout.{body, run, pointer_to, output}
 use Rattle.capnp_layout.specs.Block.{put, fill}

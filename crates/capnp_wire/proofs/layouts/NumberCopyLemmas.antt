@@ -3,7 +3,7 @@ use Rattle.std.proofs.Common.{◌≡◌, ℕ, ◌+◌, ◌-◌, Bool, List, [], 
 use Rattle.capnp_layout.specs.Pointer.{words_of}
 use Rattle.capnp_layout.specs.Element.{code_of, width, words_for}
 use Rattle.capnp_layout.specs.Object.{places}
-use Rattle.capnp_layout.specs.Landing.{IsObject}
+use Rattle.capnp_layout.specs.Body.{IsObject}
 use Rattle.capnp_layout.specs.Layout.{run}
 use Rattle.capnp_layout.specs.Rows.{slots_of}
 use Rattle.capnp_layout.specs.Local.{object_of, pointers_of}

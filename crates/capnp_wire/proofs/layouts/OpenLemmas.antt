@@ -12,7 +12,7 @@ use Rattle.capnp_layout.specs.Pointer.{number_of, words_from}
 use Rattle.capnp_layout.specs.Element.{code_of, width, words_for}
 use Rattle.capnp_layout.specs.Tree.{Form, struct, numbers, pointers, structs, Trees, none, tree, count, depth, object_size, total_words}
 use Rattle.capnp_layout.specs.Object.{Shape, PointsTo, places, rows_from, elements as numerals}
-use Rattle.capnp_layout.specs.Landing.{words_in}
+use Rattle.capnp_layout.specs.Body.{words_in}
 use Rattle.capnp_layout.specs.Reached.{At, nowhere, at}
 use Rattle.capnp_layout.specs.Layout.{pointer, body, own, slots, run, row_run, woven, pointer_to, output, struct_pointer, list_pointer, minus_one, AllHaveRoom}
 use Rattle.capnp_layout.specs.Block.{put, put_rows, fill, moved}

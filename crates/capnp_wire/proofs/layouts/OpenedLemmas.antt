@@ -4,7 +4,7 @@ use Rattle.capnp_layout.specs.Pointer.{words_from}
 use Rattle.capnp_layout.specs.Tree.{Form, struct, structs, Trees, none, tree, count, depth, is_null, total_words}
 use Rattle.capnp_layout.specs.Trim.{first, narrowed, cut_zeros, cut_nulls, least_data, least_pointers, trim}
 use Rattle.capnp_layout.specs.Object.{PointsTo, places, row_places, rows_from}
-use Rattle.capnp_layout.specs.Landing.{shape_of, room_of, words_in}
+use Rattle.capnp_layout.specs.Body.{shape_of, room_of, words_in}
 use Rattle.capnp_layout.specs.Reached.{At}
 use Rattle.capnp_layout.specs.Layout.{output, AllHaveRoom}
 use Rattle.capnp_layout.specs.Block.{most_used}

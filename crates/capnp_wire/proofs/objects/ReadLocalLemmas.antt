@@ -5,7 +5,7 @@ use Rattle.capnp_layout.specs.Pointer.{offset}
 use Rattle.capnp_layout.specs.Element.{code_of}
 use Rattle.capnp_layout.specs.Tree.{numbers, object_size}
 use Rattle.capnp_layout.specs.Object.{elements}
-use Rattle.capnp_layout.specs.Landing.{shape_of, room_of, words_in}
+use Rattle.capnp_layout.specs.Body.{shape_of, room_of, words_in}
 use Rattle.capnp_wire.specs.Canonical.{Padded}
 use Rattle.capnp_wire.specs.Tested.{IsNext, NextOf, PaddedOf, IsTruncated, links_at, IsLaidOut}
 use Rattle.capnp_layout.specs.declared.place.Place.{Place}

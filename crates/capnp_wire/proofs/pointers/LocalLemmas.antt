@@ -2,7 +2,7 @@
 use Rattle.std.proofs.Common.{◌≡◌, Bool, ℕ, ◌+◌, ◌<◌, List, Option, refl, ◌∙◌, ap, subst}
 use Rattle.capnp_layout.specs.Pointer.{words_of}
 use Rattle.capnp_layout.specs.Element.{code_of, width, words_for}
-use Rattle.capnp_layout.specs.Landing.{IsObject, words_in, traversed_of}
+use Rattle.capnp_layout.specs.Body.{IsObject, words_in, traversed_of}
 use Rattle.capnp_layout.specs.Local.{object_of, local_struct_of, pointers_of}
 use Rattle.capnp_layout.specs.Traversed.{Within, less}
 use Rattle.capnp_wire.specs.Traversed.{CountsMore, EntersObject, Walked}

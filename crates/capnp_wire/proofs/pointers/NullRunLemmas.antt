@@ -5,7 +5,7 @@ use Rattle.std.proofs.lemmas.List.{append-nil}
 use Rattle.capnp_layout.specs.Pointer.{words_of, words_from}
 use Rattle.capnp_layout.specs.Tree.{Trees, total_words}
 use Rattle.capnp_layout.specs.Object.{places}
-use Rattle.capnp_layout.specs.Landing.{IsObject}
+use Rattle.capnp_layout.specs.Body.{IsObject}
 use Rattle.capnp_layout.specs.Reached.{At}
 use Rattle.capnp_layout.specs.Layout.{output, run}
 use Rattle.capnp_layout.specs.Block.{put, fill}

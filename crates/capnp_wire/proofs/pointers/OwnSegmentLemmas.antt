@@ -1,16 +1,14 @@
--- What a pointer leads to in its own segment, as a reader of the pointer says it, and the segment of
--- the pointers of a struct.
-use Rattle.std.proofs.Common.{◌≡◌, ◌+◌, ◌<◌, ℕ, zero, suc, List, Option, Some, None, IfSome, slice_get, subst, arith}
+-- The segment of a pointer, and of the pointers of a struct.
+use Rattle.std.proofs.Common.{◌≡◌, ◌+◌, ◌<◌, ℕ, zero, suc, List, Some, slice_get, Bor, subst, arith}
+use Rattle.std.specs.Option.{ForSome}
+use Rattle.capnp_layout.specs.Pointer.{words_of}
 use Rattle.capnp_layout.specs.Object.{places}
-use Rattle.capnp_layout.specs.Landing.{IsObject}
 use Rattle.capnp_layout.specs.declared.place.Place.{Place}
-use Rattle.capnp_layout.specs.declared.object.Object.{Object as ReadObject}
+use Rattle.capnp_wire.specs.Views.{Pointer, HasSegment}
 
-pub found_at : {A : Type 0} (object_of : A → ReadObject) (m : List (List ℕ)) (place : Place) (at : Option Place) (nesting : ℕ) (found : Option A) → at ≡ Some place
-    → IfSome found (λ object. IsObject m place (object_of object) × (0 < nesting))
-    → IfSome found (λ object. (place : Place) × (at ≡ Some place) × IsObject m place (object_of object) × (0 < nesting))
-found_at object_of m place at nesting None is holds = tt
-found_at object_of m place at nesting (Some object) is holds = (place, is, holds.0, holds.1)
+-- a segment that is known to be the pointer's is, in an option
+pub known_segment : (p : Pointer) (segment : Bor (List ℕ)) → HasSegment p (words_of segment.now) → ForSome (Some segment) (λ known. HasSegment p (words_of known.now))
+known_segment p segment has = λ known is. let same : segment ≡ known = cc in subst (λ (s : Bor (List ℕ)). HasSegment p (words_of s.now)) same has
 
 places_within : (m : List (List ℕ)) (words : List ℕ) (segment first n index : ℕ) → slice_get m segment ≡ Some words
     → (place : Place) → slice_get (places segment first n) index ≡ Some place → slice_get m place.segment ≡ Some words

@@ -1,6 +1,5 @@
 -- Trees at places, and what walks over them count, in all and against the traversal limit.
 use Rattle.std.proofs.Common.{ℕ, ◌+◌, Option, subst, arith}
-use Rattle.capnp_layout.specs.Trim.{before}
 use Rattle.capnp_wire.specs.Traversed.{Counts, CountsMore}
 
 -- numbers of words that may not fit

@@ -10,7 +10,7 @@ use Rattle.capnp_layout.specs.Element.{code_of}
 use Rattle.capnp_layout.specs.Tree.{Form, numbers}
 use Rattle.capnp_layout.specs.Object.{elements, places}
 use Rattle.capnp_layout.specs.Traversed.{Within}
-use Rattle.capnp_layout.specs.Landing.{shape_of}
+use Rattle.capnp_layout.specs.Body.{shape_of}
 use Rattle.capnp_wire.specs.Views.{Pointer, at_place, Shows, Reads, Refuses, IsText, HasData, TakesNumbers, TakesText, TakesStruct, DeclinesNumbers, DeclinesText, DeclinesStruct}
 use Rattle.capnp_wire.specs.Readers.{IsEntered, form_of}
 use Rattle.capnp_layout.specs.declared.place.Place.{Place}

@@ -14,7 +14,8 @@ use Rattle.capnp_layout.specs.Block.{put, put_rows, fill}
 use Rattle.capnp_wire.specs.Copy.{CanCopy, CopiesAll, IsCopied}
 use Rattle.capnp_layout.specs.Output.{least_size}
 use Rattle.capnp_layout.specs.Rows.{kept_places, row_slots}
-use Rattle.capnp_wire.specs.Values.{HasWords, LacksWords, HasRoomAt, HoldsPointers, too_large}
+use Rattle.capnp_wire.specs.Values.{HasWords, LacksWords, HasRoomAt, HoldsPointers}
+use Rattle.capnp_layout.specs.Limits.{too_large}
 use Rattle.capnp_wire.specs.ListViews.{PointerList}
 use Rattle.capnp_wire.specs.ListValues.{IsListTree, StopsInList, pointers_along, pointers_of_structs, structs_along}
 use Rattle.capnp_wire.specs.declared.layout.copy.Copied.{Copied}

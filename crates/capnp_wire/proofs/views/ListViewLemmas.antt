@@ -8,7 +8,7 @@ use Rattle.capnp_layout.specs.Layout.{HasRoom}
 use Rattle.capnp_layout.specs.Tree.{Form, null, struct, numbers, pointers, structs}
 use Rattle.capnp_layout.specs.Object.{places, row_places, rows_from}
 use Rattle.capnp_layout.specs.Traversed.{Within}
-use Rattle.capnp_layout.specs.Landing.{shape_of, room_of, words_in}
+use Rattle.capnp_layout.specs.Body.{shape_of, room_of, words_in}
 use Rattle.capnp_wire.specs.Views.{Pointer, at_place, Shows, Accepts, Reads, TakesNumbers}
 use Rattle.capnp_wire.specs.NumberViews.{IsNumbers}
 use Rattle.capnp_wire.specs.Readers.{IsEntered, form_of}

@@ -5,7 +5,7 @@ use Rattle.capnp_frame.specs.declared.error.ErrorKind.{ErrorKind}
 use Rattle.capnp_frame.specs.declared.message.segments.ReaderSegments.{Ghosts}
 use Rattle.capnp_layout.specs.Pointer.{words_of}
 use Rattle.capnp_layout.specs.Tree.{Form}
-use Rattle.capnp_layout.specs.Landing.{shape_of}
+use Rattle.capnp_layout.specs.Body.{shape_of}
 use Rattle.capnp_wire.specs.Views.{Pointer, IsViewOf, Accepts, Refuses, RejectsReading}
 use Rattle.capnp_wire.specs.Readers.{IsEntered}
 use Rattle.capnp_wire.specs.ObjectViews.{IsObjectView, TakesAll}

@@ -10,7 +10,7 @@ use Rattle.capnp_layout.specs.Layout.{output, AllHaveRoom}
 use Rattle.capnp_wire.specs.Views.{Pointer, Denotes, nowhere, at_place}
 use Rattle.capnp_wire.specs.Values.{HasWords, HasPart, LeadsToTree, TreeAt, starts_with_null}
 use Rattle.capnp_layout.specs.declared.place.Place.{Place}
-use Rattle.capnp_wire.specs.declared.traits.PartWords.{PartWords}
+use Rattle.capnp_wire.specs.declared.traits.TreeWords.{TreeWords}
 use Rattle.capnp_layout.proofs.objects.ObjectLemmas.{one_object}
 use Rattle.capnp_layout.proofs.trees.TrimLemmas.{total-trim}
 
@@ -19,10 +19,10 @@ pub output_less : (c : Bool) (trees : Trees) → AllHaveRoom trees → total_wor
 output_less true trees rooms = total-trim trees rooms
 output_less false trees rooms = omega arith
 
-pub as_is_words : (h : Trees → Type 0) (c : Bool) (words : PartWords) → HasPart h c words → HasWords h false words.as_is
+pub as_is_words : (h : Trees → Type 0) (c : Bool) (words : TreeWords) → HasPart h c words → HasWords h false words.as_is
 as_is_words h c words p = record { trees = p.trees; tree_is = p.tree_is; rooms = p.rooms; words_are = p.as_is_same; few = p.few }
 
-pub output_words : (h : Trees → Type 0) (c : Bool) (words : PartWords) → HasPart h c words → HasWords h c words.output
+pub output_words : (h : Trees → Type 0) (c : Bool) (words : TreeWords) → HasPart h c words → HasWords h c words.output
 output_words h c words p = record {
   trees = p.trees;
   tree_is = p.tree_is;
@@ -34,9 +34,9 @@ output_words h c words p = record {
 pub part_words : (h : Trees → Type 0) (c : Bool) (words : ℕ) → (w : HasWords h false words) → HasPart h c (record { as_is = words; output = total_words (output c w.trees) })
 part_words h c words w = record { trees = w.trees; tree_is = w.tree_is; rooms = w.rooms; as_is_same = w.words_are; output_is = refl; few = w.few }
 
-pub same_part : (a b : PartWords) → a.as_is ≡ b.as_is → a.output ≡ b.output → a ≡ b
-same_part a b s f =
-    let p : ℕ → ℕ → PartWords = λ x y. record { as_is = x; output = y } in
+pub same_tree_words : (a b : TreeWords) → a.as_is ≡ b.as_is → a.output ≡ b.output → a ≡ b
+same_tree_words a b s f =
+    let p : ℕ → ℕ → TreeWords = λ x y. record { as_is = x; output = y } in
     ap (λ (x : ℕ). p x a.output) s ∙ ap (λ (y : ℕ). p b.as_is y) f
 
 same_ok : (r : Result ℕ Error) (x y : ℕ) → r ≡ Ok x → r ≡ Ok y → x ≡ y
@@ -46,12 +46,12 @@ unwrapped : (r : Result ℕ Error) (other x y : ℕ) → r ≡ Ok x → y ≡ re
 unwrapped r other x y a b = b ∙ ap (λ (e : Result ℕ Error). result_unwrap_or e other) a
 
 -- what is returned of it: where no canonical form is written, its words once; else both
-pub as_is_found : (h : Trees → Type 0) (c : Bool) (returned : Result ℕ Error) (as_is : ℕ) (words : PartWords) → returned ≡ Ok as_is → ((n : ℕ) → HasWords h false n → returned ≡ Ok n)
+pub as_is_found : (h : Trees → Type 0) (c : Bool) (returned : Result ℕ Error) (as_is : ℕ) (words : TreeWords) → returned ≡ Ok as_is → ((n : ℕ) → HasWords h false n → returned ≡ Ok n)
     → c ≡ false → HasPart h c words → record { as_is = as_is; output = as_is } ≡ words
 as_is_found h c returned as_is words was found plain p =
     let same : as_is ≡ words.as_is = same_ok returned as_is words.as_is was (found words.as_is (as_is_words h c words p)) in
     let output_is : words.output ≡ words.as_is = p.output_is ∙ ap (λ (b : Bool). total_words (output b p.trees)) plain ∙ sym p.as_is_same in
-    same_part (record { as_is = as_is; output = as_is }) words same (same ∙ sym output_is)
+    same_tree_words (record { as_is = as_is; output = as_is }) words same (same ∙ sym output_is)
 
 pub both_returned : (h : Trees → Type 0) (c : Bool) (as_is output_words_are : ℕ) (other : Result ℕ Error) → c ≡ true → HasWords h false as_is → ((n : ℕ) → HasWords h true n → other ≡ Ok n)
     → output_words_are ≡ result_unwrap_or other 0 → HasPart h c (record { as_is = as_is; output = output_words_are })
@@ -68,13 +68,13 @@ both_returned h c as_is output_words_are other canonical w found is =
       few = w.few;
     }
 
-pub both_found : (h : Trees → Type 0) (c : Bool) (returned other : Result ℕ Error) (as_is output_words_are : ℕ) (words : PartWords) → returned ≡ Ok as_is
+pub both_found : (h : Trees → Type 0) (c : Bool) (returned other : Result ℕ Error) (as_is output_words_are : ℕ) (words : TreeWords) → returned ≡ Ok as_is
     → ((n : ℕ) → HasWords h false n → returned ≡ Ok n) → c ≡ true → ((n : ℕ) → HasWords h true n → other ≡ Ok n) → output_words_are ≡ result_unwrap_or other 0 → HasPart h c words
     → record { as_is = as_is; output = output_words_are } ≡ words
 both_found h c returned other as_is output_words_are words was found canonical found_output is p =
     let same : as_is ≡ words.as_is = same_ok returned as_is words.as_is was (found words.as_is (as_is_words h c words p)) in
     let there = found_output words.output (subst (λ (b : Bool). HasWords h b words.output) canonical (output_words h c words p)) in
-    same_part (record { as_is = as_is; output = output_words_are }) words same (unwrapped other 0 words.output output_words_are there is)
+    same_tree_words (record { as_is = as_is; output = output_words_are }) words same (unwrapped other 0 words.output output_words_are there is)
 
 -- where a pointer has no place, its tree is null
 pub null_there_tree : (p : Pointer) (trees : Trees) → p.place ≡ None → LeadsToTree p trees → trees ≡ tree null none none

@@ -6,7 +6,7 @@ use Rattle.capnp_frame.specs.declared.error.ErrorKind.TheVariants.{WrongPointerK
 use Rattle.capnp_layout.specs.Pointer.{words_of}
 use Rattle.capnp_layout.specs.Tree.{Form, null, struct, numbers, pointers, structs}
 use Rattle.capnp_layout.specs.Object.{places, row_places, rows_from}
-use Rattle.capnp_layout.specs.Landing.{shape_of}
+use Rattle.capnp_layout.specs.Body.{shape_of}
 use Rattle.capnp_wire.specs.Views.{Pointer, Accepts, Refuses}
 use Rattle.capnp_wire.specs.Readers.{IsEntered}
 use Rattle.capnp_wire.specs.ListViews.{PointerList}

@@ -8,7 +8,7 @@ use Rattle.capnp_layout.specs.Pointer.{words_of}
 use Rattle.capnp_layout.specs.Element.{code_of, width}
 use Rattle.capnp_layout.specs.Tree.{Form, null, struct, numbers, pointers, structs}
 use Rattle.capnp_layout.specs.Object.{elements, places, row_places, rows_from}
-use Rattle.capnp_layout.specs.Landing.{shape_of}
+use Rattle.capnp_layout.specs.Body.{shape_of}
 use Rattle.capnp_wire.specs.Views.{Pointer, Accepts, Refuses}
 use Rattle.capnp_wire.specs.Readers.{IsEntered, form_of}
 use Rattle.capnp_wire.specs.ListViews.{StructList, structs_in}

@@ -7,7 +7,8 @@ use Rattle.capnp_layout.specs.Tree.{total_words}
 use Rattle.capnp_layout.specs.Layout.{output}
 use Rattle.capnp_layout.specs.Block.{put}
 use Rattle.capnp_wire.specs.Traversed.{Walked}
-use Rattle.capnp_wire.specs.Values.{TreeAt, Measured, RejectsTreeSize, too_large}
+use Rattle.capnp_wire.specs.Values.{TreeAt, Measured, RejectsTreeSize}
+use Rattle.capnp_layout.specs.Limits.{too_large}
 use Rattle.capnp_layout.specs.declared.place.Place.{Place}
 
 pub drop_past : (n : ℕ) (xs : List ℕ) → length xs ≤ n → drop n xs ≡ []

@@ -11,7 +11,7 @@ use Rattle.capnp_layout.specs.Traversed.{Within, Exceeds, less}
 use Rattle.capnp_layout.specs.Rows.{places_in, end_of}
 use Rattle.capnp_layout.specs.Faults.{NoWord, Fault, no_word}
 use Rattle.capnp_layout.specs.Layout.{minus_one}
-use Rattle.capnp_layout.specs.Landing.{IsObject, shape_of, words_in}
+use Rattle.capnp_layout.specs.Body.{IsObject, shape_of, words_in}
 use Rattle.capnp_wire.specs.Tested.{IsFarAt, LeadsTo, NextOf, PaddedOf, IsTruncated, links_at, IsLaidOut, MeetsObject, MeetsPointers, Ends, refused, at_pointer, over_limit}
 use Rattle.capnp_layout.specs.declared.place.Place.{Place}
 use Rattle.capnp_layout.specs.declared.pointer_slots.PointerSlots.{PointerSlots}

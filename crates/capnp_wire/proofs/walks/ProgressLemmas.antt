@@ -6,7 +6,7 @@ use Rattle.capnp_frame.specs.declared.error.ErrorKind.{ErrorKind}
 use Rattle.capnp_layout.specs.Pointer.{words_of}
 use Rattle.capnp_layout.specs.Tree.{total_words}
 use Rattle.capnp_layout.specs.Object.{Shape, PointsTo, nothing}
-use Rattle.capnp_layout.specs.Landing.{shape_of, words_in}
+use Rattle.capnp_layout.specs.Body.{shape_of, words_in}
 use Rattle.capnp_layout.specs.Traversed.{Within, less}
 use Rattle.capnp_wire.specs.Traversed.{CountsMore, EntersObject, Walked, WalkedAll, TreesWithRoom}
 use Rattle.capnp_layout.specs.Output.{output_body_of}

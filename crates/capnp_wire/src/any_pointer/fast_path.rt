@@ -1,27 +1,29 @@
 //! Fast paths to what most pointers lead to.
-ghost use Rattle.std.specs.Prelude.{◌≡◌, ◌<◌, IfSome, Some, slice_get};
+ghost use Rattle.std.specs.Prelude.{◌≡◌, ◌<◌, ℕ, List, IfSome, Some, slice_get};
 ghost use Rattle.std.specs.Option.{ForSome};
 ghost use Rattle.capnp_layout.specs.Pointer.{words_of};
 ghost use Rattle.capnp_layout.specs.Object.{message_of};
-ghost use Rattle.capnp_layout.specs.Landing.{IsObject};
-ghost use Rattle.capnp_layout.specs.Local.{object_of, local_struct_of, pointers_of, structs_of};
+ghost use Rattle.capnp_layout.specs.Body.{IsObject};
 ghost use Rattle.capnp_wire.specs.Readers.{pointer_of, IsEntered};
 ghost use Rattle.capnp_wire.specs.Views.{HasSegment};
-ghost use Rattle.capnp_layout.specs.declared.place.Place.{Place};
 
 use crate::any_pointer::Reader;
 use crate::read_limiter::traversed;
 use capnp_frame::message::ReaderSegments;
 use capnp_layout::element_size::ElementSize;
-use capnp_layout::fast_path::{
-    LocalStruct, local_list, local_pointers, local_struct, local_structs,
-};
-use capnp_layout::number_list::NumberList;
-use capnp_layout::object::{Body, Object};
+use capnp_layout::fast_path::{local_list, local_pointers, local_struct, local_structs};
+use capnp_layout::object::Object;
 use capnp_layout::place::{Place, word};
 use capnp_layout::pointer::list_code;
-use capnp_layout::pointer_run::PointerRun;
-use capnp_layout::struct_list::StructList;
+
+/// What a view asks for in the segment of the pointer.
+#[derive(Clone, Copy)]
+pub(crate) enum ObjectKind {
+    Numbers(ElementSize),
+    Struct,
+    Pointers,
+    Structs,
+}
 
 // Views ask here first. `None` says nothing about what is there; then `enter` finds it.
 // Speed: from `get_as`, `get_pointer`, `get_data_field` and the `get` of lists down to the
@@ -30,95 +32,25 @@ use capnp_layout::struct_list::StructList;
 // (`tools/time-reading`).
 
 impl<'a, S: ReaderSegments> Reader<'a, S> {
-    /// The list of numbers that the pointer leads to without a landing pad, counted against the
+    /// The object of this kind that the pointer leads to without a landing pad, counted against the
     /// traversal limit: a fast path. `None` says nothing about what is there, and counts nothing;
     /// then `enter` is asked.
     #[inline(always)]
-    pub(crate) fn enter_local_numbers(
+    pub(crate) fn enter_local(
         &self,
         known: Option<&'a [u8]>,
-        size: ElementSize,
+        kind: ObjectKind,
     ) -> Option<Object<'a>>
         requires { ForSome known (λ segment.
             HasSegment (pointer_of S.segments self.now) (words_of segment.now)) }
         ensures { let pointer = pointer_of S.segments self.now in
             IfSome result (λ object. IsEntered pointer object) }
     {
-        let list = self.local_numbers(known, size)?;
-        let words = list.traversed();
-        match traversed(self.limiter, words) {
-            Ok(()) => Some(Object {
-                segment: list.segment,
-                start: list.start,
-                body: Body::Numbers(list.size, list.count),
-                traversed: words,
-            }),
-            Err(_) => None,
-        }
-    }
-
-    /// The struct that the pointer leads to without a landing pad, counted against the traversal
-    /// limit: a fast path, as `enter_local_numbers`.
-    #[inline(always)]
-    pub(crate) fn enter_local_struct(&self, known: Option<&'a [u8]>) -> Option<Object<'a>>
-        requires { ForSome known (λ segment.
-            HasSegment (pointer_of S.segments self.now) (words_of segment.now)) }
-        ensures { let pointer = pointer_of S.segments self.now in
-            IfSome result (λ object. IsEntered pointer object) }
-    {
-        let found = self.local_fields(known)?;
-        let words = found.size.words();
-        match traversed(self.limiter, words) {
-            Ok(()) => Some(Object {
-                segment: found.segment,
-                start: found.start,
-                body: Body::Struct(found.size),
-                traversed: words,
-            }),
-            Err(_) => None,
-        }
-    }
-
-    /// The list of pointers that the pointer leads to without a landing pad, counted against the
-    /// traversal limit: a fast path, as `enter_local_numbers`.
-    #[inline(always)]
-    pub(crate) fn enter_local_pointers(&self, known: Option<&'a [u8]>) -> Option<Object<'a>>
-        requires { ForSome known (λ segment.
-            HasSegment (pointer_of S.segments self.now) (words_of segment.now)) }
-        ensures { let pointer = pointer_of S.segments self.now in
-            IfSome result (λ object. IsEntered pointer object) }
-    {
-        let list = self.local_pointers(known)?;
-        let words = list.count as u64;
-        match traversed(self.limiter, words) {
-            Ok(()) => Some(Object {
-                segment: list.segment,
-                start: list.first,
-                body: Body::Pointers(list.count),
-                traversed: words,
-            }),
-            Err(_) => None,
-        }
-    }
-
-    /// The list of structs that the pointer leads to without a landing pad, counted against the
-    /// traversal limit: a fast path, as `enter_local_numbers`.
-    #[inline(always)]
-    pub(crate) fn enter_local_structs(&self, known: Option<&'a [u8]>) -> Option<Object<'a>>
-        requires { ForSome known (λ segment.
-            HasSegment (pointer_of S.segments self.now) (words_of segment.now)) }
-        ensures { let pointer = pointer_of S.segments self.now in
-            IfSome result (λ object. IsEntered pointer object) }
-    {
-        let list = self.local_structs(known)?;
-        let counted = list.traversed();
-        match traversed(self.limiter, counted) {
-            Ok(()) => Some(Object {
-                segment: list.segment,
-                start: list.start,
-                body: Body::Structs(list.elements, list.words),
-                traversed: counted,
-            }),
+        let place = self.place?;
+        let segment = self.segment_at(known, place)?;
+        let object = local_object(segment, place, self.nesting, kind)?;
+        match traversed(self.limiter, object.traversed) {
+            Ok(()) => Some(object),
             Err(_) => None,
         }
     }
@@ -137,66 +69,36 @@ impl<'a, S: ReaderSegments> Reader<'a, S> {
             None => self.segments.get_segment(place.segment),
         }
     }
+}
 
-    // The list of numbers that the pointer leads to.
-    // Speed: the size is looked at first, so the compiler knows it in the code after that
-    // (`tools/time-reading`).
-    #[inline(always)]
-    fn local_numbers(&self, known: Option<&'a [u8]>, size: ElementSize) -> Option<NumberList<'a>>
-        requires { ForSome known (λ segment.
-            HasSegment (pointer_of S.segments self.now) (words_of segment.now)) }
-        ensures { IfSome result (λ list. (place : Place) × (self.now.place ≡ Some place)
-            × IsObject (message_of (S.segments self.now.segments.now)) place (object_of list)
-            × (0 < self.now.nesting)) }
-    {
-        let place = self.place?;
-        let segment = self.segment_at(known, place)?;
-        let pointer = word(segment, place.word)?;
-        if list_code(pointer) != size.code() {
-            return None;
+// The object of this kind that the pointer at a place of this segment leads to without a landing pad.
+// Speed: the size of numbers is looked at first, so the compiler knows it in the code after that
+// (`tools/time-reading`).
+#[inline(always)]
+fn local_object(segment: &[u8], place: Place, nesting: u32, kind: ObjectKind) -> Option<Object<'_>>
+    ensures { (m : List (List ℕ)) → slice_get m place.segment ≡ Some (words_of segment.now) →
+        IfSome result (λ object. IsObject m place object × (0 < nesting)) }
+{
+    match kind {
+        ObjectKind::Numbers(size) => {
+            let pointer = word(segment, place.word)?;
+            if list_code(pointer) != size.code() {
+                return None;
+            }
+            let list = local_list(segment, place, nesting)?;
+            Some(list.object())
         }
-        local_list(segment, place, self.nesting)
-    }
-
-    // The struct that the pointer leads to.
-    #[inline(always)]
-    fn local_fields(&self, known: Option<&'a [u8]>) -> Option<LocalStruct<'a>>
-        requires { ForSome known (λ segment.
-            HasSegment (pointer_of S.segments self.now) (words_of segment.now)) }
-        ensures { IfSome result (λ found. (place : Place) × (self.now.place ≡ Some place)
-            × IsObject (message_of (S.segments self.now.segments.now)) place (local_struct_of found)
-            × (0 < self.now.nesting)) }
-    {
-        let place = self.place?;
-        let segment = self.segment_at(known, place)?;
-        local_struct(segment, place, self.nesting)
-    }
-
-    // The list of pointers that the pointer leads to.
-    #[inline(always)]
-    fn local_pointers(&self, known: Option<&'a [u8]>) -> Option<PointerRun<'a>>
-        requires { ForSome known (λ segment.
-            HasSegment (pointer_of S.segments self.now) (words_of segment.now)) }
-        ensures { IfSome result (λ list. (place : Place) × (self.now.place ≡ Some place)
-            × IsObject (message_of (S.segments self.now.segments.now)) place (pointers_of list)
-            × (0 < self.now.nesting)) }
-    {
-        let place = self.place?;
-        let segment = self.segment_at(known, place)?;
-        local_pointers(segment, place, self.nesting)
-    }
-
-    // The list of structs that the pointer leads to.
-    #[inline(always)]
-    fn local_structs(&self, known: Option<&'a [u8]>) -> Option<StructList<'a>>
-        requires { ForSome known (λ segment.
-            HasSegment (pointer_of S.segments self.now) (words_of segment.now)) }
-        ensures { IfSome result (λ list. (place : Place) × (self.now.place ≡ Some place)
-            × IsObject (message_of (S.segments self.now.segments.now)) place (structs_of list)
-            × (0 < self.now.nesting)) }
-    {
-        let place = self.place?;
-        let segment = self.segment_at(known, place)?;
-        local_structs(segment, place, self.nesting)
+        ObjectKind::Struct => {
+            let found = local_struct(segment, place, nesting)?;
+            Some(found.object())
+        }
+        ObjectKind::Pointers => {
+            let list = local_pointers(segment, place, nesting)?;
+            Some(list.object())
+        }
+        ObjectKind::Structs => {
+            let list = local_structs(segment, place, nesting)?;
+            Some(list.object())
+        }
     }
 }

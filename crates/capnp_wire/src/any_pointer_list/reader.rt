@@ -4,7 +4,9 @@ ghost use Rattle.std.specs.Option.{ForSome};
 ghost use Rattle.capnp_layout.specs.Pointer.{words_of};
 
 use crate::any_pointer;
-use crate::object_content::{by_value, wrong_kind};
+use crate::any_pointer::ObjectKind;
+use crate::object_content::wrong_kind;
+use crate::object_view::{ObjectView, read};
 use crate::read_limiter::ReadLimiter;
 use crate::traits::{FromPointerInSegment, FromPointerReader, IndexMove, ListIter};
 use capnp_frame::Result;
@@ -74,54 +76,38 @@ impl<'a, S: ReaderSegments> Reader<'a, S> {
     {
         ListIter::new(self)
     }
+}
 
-    // The list of pointers that a pointer leads to.
+impl<'a, S: ReaderSegments> ObjectView<'a, S> for Reader<'a, S> {
+    ghost use Rattle.std.proofs.Common.{inl};
+    ghost use Rattle.capnp_wire.specs.Views.{Refuses};
+    ghost use Rattle.capnp_wire.specs.ListViews.{pointer_list_of, IsPointerList, DeclinesPointers};
+
+    ghost shows = { λ pointer view. IsPointerList pointer (pointer_list_of S.segments view) };
+
+    ghost refuses = { λ pointer kind. Refuses pointer DeclinesPointers kind };
+
     #[inline(always)]
-    fn read(reader: &any_pointer::Reader<'a, S>, known: Option<&'a [u8]>) -> Result<Reader<'a, S>>
-        requires { ForSome known (λ segment.
-            HasSegment (pointer_of S.segments reader.now) (words_of segment.now)) }
-        ensures { let pointer = pointer_of S.segments reader.now in MatchResult result
-            (λ view. IsPointerList pointer (pointer_list_of S.segments view))
-            (λ error. Refuses pointer DeclinesPointers error.kind) }
-    {
-        match reader.enter_local_pointers(known) {
-            Some(object) => Reader::in_object(reader, &object),
-            None => by_value(Reader::enter(&reader.copied())),
+    fn kind() -> ObjectKind {
+        ObjectKind::Pointers
+    }
+
+    #[inline(always)]
+    fn of_null(reader: &any_pointer::Reader<'a, S>) -> Self {
+        Reader {
+            segments: reader.segments,
+            limiter: reader.limiter,
+            first: Place {
+                segment: 0,
+                word: 0,
+            },
+            count: 0,
+            nesting: reader.nesting.saturating_sub(1),
         }
     }
 
-    // The list of pointers that a pointer leads to, by any path.
-    // Speed: a function of its own, so `read` knows the kind of the fast path's object
-    // (`tools/time-reading`).
-    #[inline(never)]
-    fn enter(reader: &any_pointer::Reader<'a, S>) -> Result<Reader<'a, S>>
-        ensures { let pointer = pointer_of S.segments reader.now in MatchResult result
-            (λ view. IsPointerList pointer (pointer_list_of S.segments view))
-            (λ error. Refuses pointer DeclinesPointers error.kind) }
-    {
-        let Some(object) = reader.enter()? else {
-            return Ok(Reader {
-                segments: reader.segments,
-                limiter: reader.limiter,
-                first: Place {
-                    segment: 0,
-                    word: 0,
-                },
-                count: 0,
-                nesting: reader.nesting.saturating_sub(1),
-            });
-        };
-        Reader::in_object(reader, &object)
-    }
-
-    // The object as a list of pointers.
     #[inline(always)]
-    fn in_object(reader: &any_pointer::Reader<'a, S>, object: &Object<'a>) -> Result<Reader<'a, S>>
-        requires { IsEntered (pointer_of S.segments reader.now) object.now }
-        ensures { let pointer = pointer_of S.segments reader.now in MatchResult result
-            (λ view. IsPointerList pointer (pointer_list_of S.segments view))
-            (λ error. Refuses pointer DeclinesPointers error.kind) }
-    {
+    fn of_object(reader: &any_pointer::Reader<'a, S>, object: &Object<'a>) -> Result<Self> {
         let nesting = reader.nesting.saturating_sub(1);
         let Some(count) = object.body.as_pointers() else {
             return Err(wrong_kind());
@@ -136,6 +122,8 @@ impl<'a, S: ReaderSegments> Reader<'a, S> {
             nesting,
         })
     }
+
+    ghost unread = { λ pointer kind rejected. inl rejected };
 }
 
 impl<'a, S: ReaderSegments> IndexMove for Reader<'a, S> {
@@ -183,7 +171,7 @@ impl<'a, S: ReaderSegments> FromPointerReader<'a, S> for Reader<'a, S> {
             (Accepts pointer TakesPointers) (Refuses pointer DeclinesPointers)
             (Declines pointer DeclinesPointers) result }
     {
-        Reader::read(&reader, None)
+        read(&reader, None)
     }
 }
 
@@ -200,6 +188,6 @@ impl<'a, S: ReaderSegments> FromPointerInSegment<'a, S> for Reader<'a, S> {
             (Accepts pointer TakesPointers) (Refuses pointer DeclinesPointers)
             (Declines pointer DeclinesPointers) result }
     {
-        Reader::read(&reader, Some(segment))
+        read(&reader, Some(segment))
     }
 }

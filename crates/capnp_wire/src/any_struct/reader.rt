@@ -6,8 +6,10 @@ ghost use Rattle.capnp_layout.specs.Object.{message_of};
 ghost use Rattle.capnp_wire.specs.Values.{HoldsPointers};
 
 use crate::any_pointer;
+use crate::any_pointer::ObjectKind;
 use crate::any_struct::part::{self, WordPart};
-use crate::object_content::{by_value, wrong_kind};
+use crate::object_content::wrong_kind;
+use crate::object_view::{ObjectView, read};
 use crate::read_limiter::ReadLimiter;
 use crate::traits::{FromPointerInSegment, FromPointerReader};
 use capnp_frame::Result;
@@ -118,65 +120,43 @@ impl<'a, S: ReaderSegments> StructReader<'a, S> {
             part: self.part,
         }
     }
+}
 
-    // The struct that a pointer leads to.
+impl<'a, S: ReaderSegments> ObjectView<'a, S> for StructReader<'a, S> {
+    ghost use Rattle.std.proofs.Common.{inl};
+    ghost use Rattle.capnp_wire.specs.Readers.{struct_of};
+    ghost use Rattle.capnp_wire.specs.Views.{Refuses, IsStruct, DeclinesStruct};
+
+    ghost shows = { λ pointer view. IsStruct pointer (struct_of S.segments view) };
+
+    ghost refuses = { λ pointer kind. Refuses pointer DeclinesStruct kind };
+
     #[inline(always)]
-    fn read(
-        reader: &any_pointer::Reader<'a, S>,
-        known: Option<&'a [u8]>,
-    ) -> Result<StructReader<'a, S>>
-        requires { ForSome known (λ segment.
-            HasSegment (pointer_of S.segments reader.now) (words_of segment.now)) }
-        ensures { let pointer = pointer_of S.segments reader.now in MatchResult result
-            (λ view. IsStruct pointer (struct_of S.segments view))
-            (λ error. Refuses pointer DeclinesStruct error.kind) }
-    {
-        match reader.enter_local_struct(known) {
-            Some(object) => StructReader::in_object(reader, &object),
-            None => by_value(StructReader::enter(&reader.copied())),
+    fn kind() -> ObjectKind {
+        ObjectKind::Struct
+    }
+
+    #[inline(always)]
+    fn of_null(reader: &any_pointer::Reader<'a, S>) -> Self {
+        StructReader {
+            segments: reader.segments,
+            limiter: reader.limiter,
+            segment: &[],
+            start: Place {
+                segment: 0,
+                word: 0,
+            },
+            size: StructSize {
+                data_words: 0,
+                pointers: 0,
+            },
+            nesting: reader.nesting.saturating_sub(1),
+            part: None,
         }
     }
 
-    // The struct that a pointer leads to, by any path.
-    // Speed: a function of its own, so `read` knows the kind of the fast path's object
-    // (`tools/time-reading`).
-    #[inline(never)]
-    fn enter(reader: &any_pointer::Reader<'a, S>) -> Result<StructReader<'a, S>>
-        ensures { let pointer = pointer_of S.segments reader.now in MatchResult result
-            (λ view. IsStruct pointer (struct_of S.segments view))
-            (λ error. Refuses pointer DeclinesStruct error.kind) }
-    {
-        let Some(object) = reader.enter()? else {
-            return Ok(StructReader {
-                segments: reader.segments,
-                limiter: reader.limiter,
-                segment: &[],
-                start: Place {
-                    segment: 0,
-                    word: 0,
-                },
-                size: StructSize {
-                    data_words: 0,
-                    pointers: 0,
-                },
-                nesting: reader.nesting.saturating_sub(1),
-                part: None,
-            });
-        };
-        StructReader::in_object(reader, &object)
-    }
-
-    // The object as a struct.
     #[inline(always)]
-    fn in_object(
-        reader: &any_pointer::Reader<'a, S>,
-        object: &Object<'a>,
-    ) -> Result<StructReader<'a, S>>
-        requires { IsEntered (pointer_of S.segments reader.now) object.now }
-        ensures { let pointer = pointer_of S.segments reader.now in MatchResult result
-            (λ view. IsStruct pointer (struct_of S.segments view))
-            (λ error. Refuses pointer DeclinesStruct error.kind) }
-    {
+    fn of_object(reader: &any_pointer::Reader<'a, S>, object: &Object<'a>) -> Result<Self> {
         let nesting = reader.nesting.saturating_sub(1);
         let Some(size) = object.body.as_struct() else {
             return Err(wrong_kind());
@@ -191,6 +171,8 @@ impl<'a, S: ReaderSegments> StructReader<'a, S> {
             part: None,
         })
     }
+
+    ghost unread = { λ pointer kind rejected. inl rejected };
 }
 
 // Null is a struct without data and pointers; any object other than a struct fails with
@@ -214,7 +196,7 @@ impl<'a, S: ReaderSegments> FromPointerReader<'a, S> for StructReader<'a, S> {
             (Accepts pointer TakesStruct) (Refuses pointer DeclinesStruct)
             (Declines pointer DeclinesStruct) result }
     {
-        StructReader::read(&reader, None)
+        read(&reader, None)
     }
 }
 
@@ -230,6 +212,6 @@ impl<'a, S: ReaderSegments> FromPointerInSegment<'a, S> for StructReader<'a, S> 
             (Accepts pointer TakesStruct) (Refuses pointer DeclinesStruct)
             (Declines pointer DeclinesStruct) result }
     {
-        StructReader::read(&reader, Some(segment))
+        read(&reader, Some(segment))
     }
 }

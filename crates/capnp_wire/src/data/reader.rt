@@ -2,12 +2,14 @@
 ghost use Rattle.std.specs.Prelude.{◌+◌, ◌/◌, ◌≤◌, length, MatchResult};
 ghost use Rattle.std.specs.Option.{ForSome};
 ghost use Rattle.capnp_layout.specs.Pointer.{words_of};
-ghost use Rattle.capnp_layout.specs.Landing.{room_of};
+ghost use Rattle.capnp_layout.specs.Body.{room_of};
 ghost use Rattle.capnp_wire.specs.Views.{HasSegment, IsViewOf, Accepts, Reads, Refuses, Declines, IsData, TakesNumbers, DeclinesNumbers};
 ghost use Rattle.capnp_wire.specs.Readers.{pointer_of, form_of};
 
 use crate::any_pointer;
-use crate::object_content::{by_value, object_bytes};
+use crate::any_pointer::ObjectKind;
+use crate::object_content::object_bytes;
+use crate::object_view::{ObjectView, read};
 use crate::traits::{FromPointerInSegment, FromPointerReader};
 use capnp_frame::Result;
 use capnp_frame::message::ReaderSegments;
@@ -34,7 +36,7 @@ impl<'a: 'v, 'v, S: ReaderSegments> FromPointerReader<'a, S> for &'v [u8] {
             (Accepts pointer (TakesNumbers 2)) (Refuses pointer (DeclinesNumbers 2))
             (Declines pointer (DeclinesNumbers 2)) result }
     {
-        read_bytes(&reader, None)
+        read(&reader, None)
     }
 }
 
@@ -47,41 +49,33 @@ impl<'a: 'v, 'v, S: ReaderSegments> FromPointerInSegment<'a, S> for &'v [u8] {
             (Accepts pointer (TakesNumbers 2)) (Refuses pointer (DeclinesNumbers 2))
             (Declines pointer (DeclinesNumbers 2)) result }
     {
-        read_bytes(&reader, Some(segment))
+        read(&reader, Some(segment))
     }
 }
 
-// The bytes of a list of bytes.
-#[inline(always)]
-fn read_bytes<'a, S: ReaderSegments>(
-    reader: &any_pointer::Reader<'a, S>,
-    known: Option<&'a [u8]>,
-) -> Result<&'a [u8]>
-    requires { ForSome known (λ segment.
-        HasSegment (pointer_of S.segments reader.now) (words_of segment.now)) }
-    ensures { let pointer = pointer_of S.segments reader.now in MatchResult result
-        (λ bytes. Reads pointer (λ form. IsData form bytes.now))
-        (λ error. Refuses pointer (DeclinesNumbers 2) error.kind) }
-{
-    match reader.enter_local_numbers(known, ElementSize::Byte) {
-        Some(object) => bytes_in(&object),
-        None => by_value(enter_bytes(&reader.copied())),
-    }
-}
+impl<'a: 'v, 'v, S: ReaderSegments> ObjectView<'a, S> for &'v [u8] {
+    ghost use Rattle.std.proofs.Common.{inl};
 
-// The bytes of a list of bytes, by any path.
-// Speed: a function of its own, so `read_bytes` knows the kind of the fast path's object
-// (`tools/time-reading`).
-#[inline(never)]
-fn enter_bytes<'a, S: ReaderSegments>(reader: &any_pointer::Reader<'a, S>) -> Result<&'a [u8]>
-    ensures { let pointer = pointer_of S.segments reader.now in MatchResult result
-        (λ bytes. Reads pointer (λ form. IsData form bytes.now))
-        (λ error. Refuses pointer (DeclinesNumbers 2) error.kind) }
-{
-    let Some(object) = reader.enter()? else {
-        return Ok(&[]);
-    };
-    bytes_in(&object)
+    ghost shows = { λ pointer view. Reads pointer (λ form. IsData form view.now) };
+
+    ghost refuses = { λ pointer kind. Refuses pointer (DeclinesNumbers 2) kind };
+
+    #[inline(always)]
+    fn kind() -> ObjectKind {
+        ObjectKind::Numbers(ElementSize::Byte)
+    }
+
+    #[inline(always)]
+    fn of_null(_reader: &any_pointer::Reader<'a, S>) -> Self {
+        &[]
+    }
+
+    #[inline(always)]
+    fn of_object(_reader: &any_pointer::Reader<'a, S>, object: &Object<'a>) -> Result<Self> {
+        bytes_in(object)
+    }
+
+    ghost unread = { λ pointer kind rejected. inl rejected };
 }
 
 // The bytes of an object that is a list of bytes.

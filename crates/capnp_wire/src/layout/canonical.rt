@@ -2,7 +2,7 @@
 ghost use Rattle.std.specs.Prelude.{◌≡◌, ◌≢◌, ◌↔◌, ◌+◌, ◌/◌, ◌^◌, ◌<◌, ◌≤◌, ℕ, [], ◌∷◌, length, slice_get, Option, Some, IfOk, IfErr, IsTrue, true, false};
 ghost use Rattle.capnp_layout.specs.Pointer.{words_of, pointer_kind};
 ghost use Rattle.capnp_layout.specs.Object.{message_of};
-ghost use Rattle.capnp_layout.specs.Landing.{IsObject, shape_of, room_of, words_in};
+ghost use Rattle.capnp_layout.specs.Body.{IsObject, shape_of, room_of, words_in};
 ghost use Rattle.std.specs.Result.{IsErrAnd};
 ghost use Rattle.capnp_frame.specs.declared.error.ErrorKind.{ErrorKind};
 ghost use Rattle.capnp_layout.specs.Reached.{root};

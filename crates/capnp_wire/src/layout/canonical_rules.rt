@@ -4,11 +4,12 @@ ghost use Rattle.capnp_layout.specs.Pointer.{words_of, words_from};
 ghost use Rattle.capnp_layout.specs.Element.{code_of, width, words_for};
 ghost use Rattle.capnp_layout.specs.Object.{elements, rows_from, row_places};
 ghost use Rattle.capnp_layout.specs.Tree.{numbers};
-ghost use Rattle.capnp_layout.specs.Landing.{shape_of, room_of, words_in};
+ghost use Rattle.capnp_layout.specs.Body.{shape_of, room_of, words_in};
 ghost use Rattle.capnp_wire.specs.Canonical.{EndsFull, Padded};
 ghost use Rattle.capnp_wire.specs.Tested.{NextOf, PaddedOf, IsTruncated, NeedData, NeedPointers, links_at};
 
 use capnp_layout::element_size::ElementSize;
+use capnp_layout::limits::MAX_SEGMENT_WORDS;
 use capnp_layout::object::{Body, Object};
 use capnp_layout::place::word;
 use capnp_layout::pointer::{Elements, Offset, list_count};
@@ -21,7 +22,7 @@ pub(crate) fn is_next(pointer: u64, word: usize, next: usize, body: Body) -> boo
 {
     let offset = Offset::read(pointer);
     let ahead = next - (word + 1);
-    let leads_there = offset.0 as usize == ahead && ahead < 1 << 29;
+    let leads_there = offset.0 as usize == ahead && ahead < MAX_SEGMENT_WORDS as usize;
     match body {
         Body::Struct(size) => {
             if size.words() == 0 {

@@ -1,7 +1,7 @@
 //! The pointers of an object beside those of its copy.
 ghost use Rattle.std.specs.Prelude.{◌≡◌, ◌≢◌, ◌↔◌, ◌+◌, ◌*◌, ◌/◌, ◌^◌, ◌<◌, ◌≤◌, [], length, IsTrue};
 ghost use Rattle.capnp_layout.specs.Object.{places};
-ghost use Rattle.capnp_layout.specs.Landing.{room_of, words_in};
+ghost use Rattle.capnp_layout.specs.Body.{room_of, words_in};
 ghost use Rattle.capnp_layout.specs.Layout.{run};
 ghost use Rattle.capnp_layout.specs.Rows.{row_size, kept_in, kept_places, row_slots, slots_of, places_in};
 ghost use Rattle.capnp_layout.specs.Output.{IsNarrower};

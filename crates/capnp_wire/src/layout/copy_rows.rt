@@ -2,7 +2,7 @@
 ghost use Rattle.std.specs.Prelude.{◌≡◌, ◌≢◌, ◌+◌, ◌/◌, ◌^◌, ◌<◌, ◌≤◌, [], length, slice_get, Some};
 ghost use Rattle.capnp_layout.specs.Pointer.{words_of};
 ghost use Rattle.capnp_layout.specs.Object.{message_of, places};
-ghost use Rattle.capnp_layout.specs.Landing.{room_of, words_in};
+ghost use Rattle.capnp_layout.specs.Body.{room_of, words_in};
 ghost use Rattle.capnp_layout.specs.Layout.{run};
 ghost use Rattle.capnp_layout.specs.Rows.{row_size, kept_in, slots_of, places_in, slots_in};
 ghost use Rattle.capnp_wire.specs.Copy.{CanCopy, CanCopyRows, CopiesAll};

@@ -2,7 +2,7 @@
 ghost use Rattle.std.specs.Prelude.{◌≡◌, ◌+◌, ◌-◌, ◌*◌, ◌/◌, ◌^◌, ◌<◌, ◌≤◌, length};
 ghost use Rattle.capnp_layout.specs.Pointer.{words_of};
 ghost use Rattle.capnp_layout.specs.Object.{rows_from};
-ghost use Rattle.capnp_layout.specs.Landing.{room_of, words_in};
+ghost use Rattle.capnp_layout.specs.Body.{room_of, words_in};
 ghost use Rattle.capnp_layout.specs.Block.{put_rows};
 ghost use Rattle.capnp_wire.specs.Copy.{put_own, element_count};
 ghost use Rattle.capnp_layout.specs.Output.{IsNarrower};

@@ -12,13 +12,13 @@ ghost use Rattle.capnp_wire.specs.ListValues.{IsListTree, StopsInList, pointers_
 
 use crate::layout::copy::Copied;
 use crate::layout::copy_rows::copy_run;
-use crate::layout::value::checked_word_count;
+use crate::layout::value::checked_walk;
 use crate::layout::walk::Walk;
 use capnp_frame::Result;
 use capnp_frame::message::ReaderSegments;
 use capnp_layout::place::{Place, segment};
 use capnp_layout::pointer_slots::PointerSlots;
-use capnp_layout::pointer_word::list_word;
+use capnp_layout::pointer_word::{POINTER_LIST, list_word};
 
 /// The number of words of a list of pointers with all below it, without the pointer to it, as it is
 /// or in canonical form.
@@ -40,7 +40,7 @@ pub(crate) fn measure<S: ReaderSegments>(
     let mut walk = Walk::new(limit);
     walk.count(count as u64);
     walk_list(&mut walk, segments, first, count, nesting, canonical)?;
-    checked_word_count(walk.words(), canonical)
+    checked_walk(walk.words(), canonical)
 }
 
 // Walks over all objects that the pointers of a list lead to, and finds their segment first.
@@ -92,7 +92,7 @@ pub(crate) fn write<S: ReaderSegments>(
         (words_of block.old) (words_of block.new) result }
     ensures len { length block.new ≡ length block.old }
 {
-    let pointer = list_word((next - following) as u64, 6, count as u64);
+    let pointer = list_word((next - following) as u64, POINTER_LIST, count as u64);
     let end = next + count as usize;
     match segments.get_segment(first.segment) {
         Some(segment) => Copied {

@@ -3,7 +3,7 @@
 ghost use Rattle.std.specs.Prelude.{◌≡◌, ◌+◌, ◌-◌, ◌^◌, ◌<◌, ◌≤◌, ◌/◌, Bool, ℕ, List, [], ◌∷◌, length, slice_get, Some, MatchOption};
 ghost use Rattle.capnp_layout.specs.Pointer.{words_of};
 ghost use Rattle.capnp_layout.specs.Object.{message_of};
-ghost use Rattle.capnp_layout.specs.Landing.{IsObject};
+ghost use Rattle.capnp_layout.specs.Body.{IsObject};
 ghost use Rattle.capnp_layout.specs.Local.{object_of, local_struct_of, pointers_of};
 ghost use Rattle.capnp_wire.specs.Copy.{CanCopy, Copies, IsCopyable, BeginsObject, BeginsRun, BeginsStruct};
 ghost use Rattle.capnp_wire.specs.declared.layout.copy.Copied.{Copied};
@@ -19,7 +19,7 @@ use capnp_layout::object::{Body, Object, object_there};
 use capnp_layout::output_size::output_body;
 use capnp_layout::place::Place;
 use capnp_layout::pointer_run::PointerRun;
-use capnp_layout::pointer_word::list_word;
+use capnp_layout::pointer_word::{POINTER_LIST, list_word};
 
 /// An object whose copy is in progress, the body of the copy, and the pointer to it.
 #[derive(Drop)]
@@ -174,7 +174,7 @@ pub(crate) fn begin_list(list: &PointerRun<'_>, following: usize, next: usize) -
         (next - following) next old old result }
 {
     PendingPointers {
-        pointer: list_word((next - following) as u64, 6, list.count as u64),
+        pointer: list_word((next - following) as u64, POINTER_LIST, list.count as u64),
         first: list.first,
         count: list.count,
         slot: next,

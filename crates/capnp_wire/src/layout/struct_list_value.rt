@@ -13,7 +13,7 @@ use crate::layout::copy::Copied;
 use crate::layout::copy_cursor::CopyCursor;
 use crate::layout::copy_rows::copy_rows;
 use crate::layout::data_words::put_rows;
-use crate::layout::value::checked_word_count;
+use crate::layout::value::checked_walk;
 use crate::layout::walk::Walk;
 use capnp_frame::Result;
 use capnp_frame::message::ReaderSegments;
@@ -23,7 +23,7 @@ use capnp_layout::output_size::output_size;
 use capnp_layout::place::Place;
 use capnp_layout::pointer::Elements;
 use capnp_layout::pointer_slots::PointerSlots;
-use capnp_layout::pointer_word::{list_word, struct_word};
+use capnp_layout::pointer_word::{STRUCT_LIST, list_word, struct_word};
 
 /// The number of words of a list of structs with all below it, without the pointer to it, as it is
 /// or in canonical form. The elements begin at a place of a segment.
@@ -57,7 +57,7 @@ pub(crate) fn measure<S: ReaderSegments>(
     let size = elements.size.row_size();
     let pointers = PointerSlots::new(first, size, size.pointers, elements.count);
     walk.walk_pointers(segments, segment, pointers, nesting, canonical)?;
-    checked_word_count(walk.words(), canonical)
+    checked_walk(walk.words(), canonical)
 }
 
 /// Writes the words of a list of structs with all below it into a block, from the word `next` on.
@@ -101,7 +101,7 @@ pub(crate) fn write<S: ReaderSegments>(
     let end = slots + kept.words() as usize;
     let rows = CopyCursor::elements(first, elements.size, kept, slots);
     Copied {
-        pointer: list_word((next - following) as u64, 7, kept.words()),
+        pointer: list_word((next - following) as u64, STRUCT_LIST, kept.words()),
         next: copy_rows(segments, segment, rows, nesting, canonical, block, end),
     }
 }

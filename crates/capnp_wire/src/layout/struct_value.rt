@@ -10,7 +10,7 @@ ghost use Rattle.capnp_wire.specs.Values.{HasWords, LacksWords, HasRoomAt, IsTre
 use crate::layout::copy::Copied;
 use crate::layout::copy_rows::copy_pointers;
 use crate::layout::data_words::put_data_words;
-use crate::layout::value::checked_word_count;
+use crate::layout::value::checked_walk;
 use crate::layout::walk::Walk;
 use capnp_frame::Result;
 use capnp_frame::message::ReaderSegments;
@@ -50,7 +50,7 @@ pub(crate) fn measure<S: ReaderSegments>(
     let mut walk = Walk::new(limit);
     walk.count(output_body(&object, canonical).words());
     walk.walk_pointers(segments, segment, object.pointers(), nesting, canonical)?;
-    checked_word_count(walk.words(), canonical)
+    checked_walk(walk.words(), canonical)
 }
 
 /// Writes the words of a struct with all below it into a block, from the word `next` on. The

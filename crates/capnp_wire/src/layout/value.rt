@@ -1,24 +1,27 @@
 //! Trees of a message as values that are measured; lists of bytes and of numbers, which are written
 //! as well.
 ghost use Rattle.std.specs.Prelude.{◌≡◌, ◌<◌, ◌≤◌, ◌+◌, ◌-◌, ◌++◌, ◌*◌, ◌/◌, ◌^◌, ℕ, All, [], ◌∷◌, length, min, MatchResult};
+ghost use Rattle.capnp_frame.specs.declared.error.ErrorKind.TheVariants.{AllocationTooLarge};
 ghost use Rattle.capnp_layout.specs.Pointer.{digits, number_of, words_of};
 ghost use Rattle.capnp_layout.specs.Element.{code_of, width, words_for};
 ghost use Rattle.capnp_layout.specs.Tree.{numbers, none, tree};
 ghost use Rattle.capnp_layout.specs.Object.{elements, message_of};
 ghost use Rattle.capnp_wire.specs.Traversed.{Counts};
+ghost use Rattle.capnp_layout.specs.Limits.{too_large};
 ghost use Rattle.capnp_layout.specs.Block.{put};
 ghost use Rattle.capnp_wire.specs.Copy.{IsCopied};
-ghost use Rattle.capnp_wire.specs.Values.{Measured, RejectsTreeSize, too_large, ManyBytes, IsFreeFrom};
+ghost use Rattle.capnp_wire.specs.Values.{Measured, RejectsTreeSize, ManyBytes, IsFreeFrom};
 
 use crate::layout::copy::Copied;
 use crate::layout::walk::Walk;
+use capnp_frame::Result;
 use capnp_frame::message::ReaderSegments;
-use capnp_frame::{Error, ErrorKind, Result};
 use capnp_layout::block::put_elements;
 use capnp_layout::element_size::ElementSize;
+use capnp_layout::limits::{MAX_ELEMENTS, allocation_too_large, checked_word_count};
 use capnp_layout::number_list::NumberList;
 use capnp_layout::place::Place;
-use capnp_layout::pointer_word::list_word;
+use capnp_layout::pointer_word::{BYTE_LIST, list_word};
 
 /// The number of words of the tree at a place, without the pointer to it, as it is or in canonical
 /// form.
@@ -36,36 +39,17 @@ pub(crate) fn measure<S: ReaderSegments>(
 {
     let mut walk = Walk::new(limit);
     walk.walk(segments, place, nesting, canonical)?;
-    checked_word_count(walk.words(), canonical)
+    checked_walk(walk.words(), canonical)
 }
 
-/// Returns a number of words that a block may have. Fails for 2^29 and more with
-/// `AllocationTooLarge`, in canonical form with `CanonicalTooLarge`.
-pub(crate) fn checked_word_count(words: Option<u64>, canonical: bool) -> Result<u32>
+/// Returns the number of words that a walk has counted, where a block may have as many. Fails as
+/// `checked_word_count` does.
+pub(crate) fn checked_walk(words: Option<u64>, canonical: bool) -> Result<u32>
     ensures { (counted : ℕ) → Counts words counted → MatchResult result
         (λ number. (number ≡ counted) × (number < 2 ^ 29))
         (λ error. (2 ^ 29 ≤ counted) × (error.kind ≡ too_large canonical counted)) }
 {
-    let words = words.unwrap_or(u64::MAX);
-    if words < 1 << 29 {
-        return Ok(words as u32);
-    }
-    if canonical {
-        return Err(Error::from_kind(ErrorKind::CanonicalTooLarge));
-    }
-    Err(too_many_words(words))
-}
-
-// The error for a block of too many words, with their number as far as it fits 32 bits.
-fn too_many_words(words: u64) -> Error
-    ensures { result.kind ≡ ErrorKind.AllocationTooLarge (min words (2 ^ 32 - 1)) }
-{
-    let told = if words < u32::MAX as u64 {
-        words as u32
-    } else {
-        u32::MAX
-    };
-    Error::from_kind(ErrorKind::AllocationTooLarge(told))
+    checked_word_count(words.unwrap_or(u64::MAX), canonical)
 }
 
 /// The number of words of a list of bytes.
@@ -76,10 +60,10 @@ pub(crate) fn measure_bytes(bytes: &[u8]) -> Result<u32>
     ensures bytes { All (λ byte. byte < 2 ^ 8) bytes.now }
 {
     let words = bytes.len().div_ceil(8) as u64;
-    if bytes.len() < 1 << 29 {
+    if bytes.len() <= MAX_ELEMENTS as usize {
         return Ok(words as u32);
     }
-    Err(too_many_words(words))
+    Err(allocation_too_large(words))
 }
 
 /// Writes a list of bytes into a block that is zero from the word `next` on.
@@ -94,7 +78,7 @@ pub(crate) fn write_bytes(bytes: &[u8], block: &mut [u8], following: usize, next
 {
     put_padded(bytes, block, next);
     Copied {
-        pointer: list_word((next - following) as u64, 2, bytes.len() as u64),
+        pointer: list_word((next - following) as u64, BYTE_LIST, bytes.len() as u64),
         next: next + bytes.len().div_ceil(8),
     }
 }
@@ -118,15 +102,15 @@ pub(crate) fn measure_text(bytes: &[u8]) -> Result<u32>
     ensures words { MatchResult result
         (λ words. (length bytes.now + 1 < 2 ^ 29) × (words ≡ words_for (length bytes.now + 1) 8))
         (λ error. (2 ^ 29 ≤ length bytes.now + 1)
-        × (error.kind ≡ ErrorKind.AllocationTooLarge
+        × (error.kind ≡ AllocationTooLarge
         (min (words_for (length bytes.now + 1) 8) (2 ^ 32 - 1)))) }
     ensures bytes { All (λ byte. byte < 2 ^ 8) bytes.now }
 {
     let words = bytes.len() as u64 / 8 + 1;
-    if bytes.len() < (1 << 29) - 1 {
+    if bytes.len() < MAX_ELEMENTS as usize {
         return Ok(words as u32);
     }
-    Err(too_many_words(words))
+    Err(allocation_too_large(words))
 }
 
 /// Writes a `Text` into a block that is zero from the word `next` on.
@@ -141,7 +125,7 @@ pub(crate) fn write_text(bytes: &[u8], block: &mut [u8], following: usize, next:
 {
     put_padded(bytes, block, next);
     Copied {
-        pointer: list_word((next - following) as u64, 2, bytes.len() as u64 + 1),
+        pointer: list_word((next - following) as u64, BYTE_LIST, bytes.len() as u64 + 1),
         next: next + bytes.len() / 8 + 1,
     }
 }
@@ -150,14 +134,14 @@ pub(crate) fn write_text(bytes: &[u8], block: &mut [u8], following: usize, next:
 pub(crate) fn measure_numbers(size: ElementSize, count: u32) -> Result<u32>
     ensures { MatchResult result
         (λ words. (count < 2 ^ 29) × (words ≡ words_for count (width (code_of size))))
-        (λ error. (2 ^ 29 ≤ count) × (error.kind ≡ ErrorKind.AllocationTooLarge
+        (λ error. (2 ^ 29 ≤ count) × (error.kind ≡ AllocationTooLarge
         (min (words_for count (width (code_of size))) (2 ^ 32 - 1)))) }
 {
     let words = size.words_of_list(count);
-    if count < 1 << 29 {
+    if count <= MAX_ELEMENTS {
         return Ok(words as u32);
     }
-    Err(too_many_words(words))
+    Err(allocation_too_large(words))
 }
 
 /// Writes a list of numbers into a block, from the word `next` on, with zero bits after the last

@@ -2,7 +2,7 @@
 ghost use Rattle.std.specs.Prelude.{◌≡◌, ◌+◌, ◌/◌, ◌<◌, ◌≤◌, Bool, ℕ, List, [], ◌∷◌, length, slice_get, Some, IfErr, IfOk, OnOk, MatchOption, IsTrue};
 ghost use Rattle.capnp_layout.specs.Pointer.{words_of};
 ghost use Rattle.capnp_layout.specs.Object.{message_of};
-ghost use Rattle.capnp_layout.specs.Landing.{IsObject};
+ghost use Rattle.capnp_layout.specs.Body.{IsObject};
 ghost use Rattle.capnp_layout.specs.Local.{object_of, local_struct_of, pointers_of};
 ghost use Rattle.capnp_wire.specs.Traversed.{counted, EntersObject, Walked};
 ghost use Rattle.capnp_layout.specs.Faults.{StopsWalk};

@@ -3,10 +3,12 @@ ghost use Rattle.std.specs.Prelude.{◌≡◌, ◌+◌, ◌*◌, ◌/◌, ◌<�
 ghost use Rattle.std.specs.Option.{ForSome};
 ghost use Rattle.capnp_layout.specs.Pointer.{words_of};
 ghost use Rattle.capnp_layout.specs.Element.{code_of, width, words_for};
-ghost use Rattle.capnp_layout.specs.Landing.{room_of};
+ghost use Rattle.capnp_layout.specs.Body.{room_of};
 
 use crate::any_pointer;
-use crate::object_content::{by_value, object_numbers};
+use crate::any_pointer::ObjectKind;
+use crate::object_content::object_numbers;
+use crate::object_view::{ObjectView, read};
 use crate::primitive_element::PrimitiveElement;
 use crate::traits::{FromPointerInSegment, FromPointerReader, IndexMove, ListIter};
 use capnp_frame::Result;
@@ -89,43 +91,6 @@ impl<'a, T: PrimitiveElement> Reader<'a, T> {
         }
     }
 
-    // The list that a pointer leads to.
-    #[inline(always)]
-    fn read<S: ReaderSegments>(
-        reader: &any_pointer::Reader<'a, S>,
-        known: Option<&'a [u8]>,
-    ) -> Result<Reader<'a, T>>
-        requires { ForSome known (λ segment.
-            HasSegment (pointer_of S.segments reader.now) (words_of segment.now)) }
-        ensures { let pointer = pointer_of S.segments reader.now in MatchResult result
-            (λ view. Reads pointer (λ form. IsNumbers T.code form (numbers_of T.code view)))
-            (λ error. Refuses pointer (DeclinesNumbers T.code) error.kind) }
-    {
-        match reader.enter_local_numbers(known, T::size()) {
-            Some(object) => Reader::in_object(&object),
-            None => by_value(Reader::enter(&reader.copied())),
-        }
-    }
-
-    // The list that a pointer leads to, by any path.
-    // Speed: a function of its own, so `read` knows the kind of the fast path's object
-    // (`tools/time-reading`).
-    #[inline(never)]
-    fn enter<S: ReaderSegments>(reader: &any_pointer::Reader<'a, S>) -> Result<Reader<'a, T>>
-        ensures { let pointer = pointer_of S.segments reader.now in MatchResult result
-            (λ view. Reads pointer (λ form. IsNumbers T.code form (numbers_of T.code view)))
-            (λ error. Refuses pointer (DeclinesNumbers T.code) error.kind) }
-    {
-        let Some(object) = reader.enter()? else {
-            return Ok(Reader {
-                bytes: &[],
-                count: 0,
-                element: PhantomData,
-            });
-        };
-        Reader::in_object(&object)
-    }
-
     // The object as a list.
     #[inline(always)]
     fn in_object(object: &Object<'a>) -> Result<Reader<'a, T>>
@@ -190,7 +155,7 @@ impl<'a: 'v, 'v, S: ReaderSegments, T: PrimitiveElement> FromPointerReader<'a, S
             (Accepts pointer (TakesNumbers T.code)) (Refuses pointer (DeclinesNumbers T.code))
             (Declines pointer (DeclinesNumbers T.code)) result }
     {
-        Reader::read(&reader, None)
+        read(&reader, None)
     }
 }
 
@@ -208,6 +173,38 @@ impl<'a: 'v, 'v, S: ReaderSegments, T: PrimitiveElement> FromPointerInSegment<'a
             (Accepts pointer (TakesNumbers T.code)) (Refuses pointer (DeclinesNumbers T.code))
             (Declines pointer (DeclinesNumbers T.code)) result }
     {
-        Reader::read(&reader, Some(segment))
+        read(&reader, Some(segment))
     }
+}
+
+impl<'a: 'v, 'v, S: ReaderSegments, T: PrimitiveElement> ObjectView<'a, S> for Reader<'v, T> {
+    ghost use Rattle.std.proofs.Common.{inl};
+    ghost use Rattle.capnp_wire.specs.NumberViews.{numbers_of, IsNumbers};
+    ghost use Rattle.capnp_wire.specs.Views.{Reads, Refuses, DeclinesNumbers};
+
+    ghost shows = { λ pointer view.
+        Reads pointer (λ form. IsNumbers T.code form (numbers_of T.code view)) };
+
+    ghost refuses = { λ pointer kind. Refuses pointer (DeclinesNumbers T.code) kind };
+
+    #[inline(always)]
+    fn kind() -> ObjectKind {
+        ObjectKind::Numbers(T::size())
+    }
+
+    #[inline(always)]
+    fn of_null(_reader: &any_pointer::Reader<'a, S>) -> Self {
+        Reader {
+            bytes: &[],
+            count: 0,
+            element: PhantomData,
+        }
+    }
+
+    #[inline(always)]
+    fn of_object(_reader: &any_pointer::Reader<'a, S>, object: &Object<'a>) -> Result<Self> {
+        Reader::in_object(object)
+    }
+
+    ghost unread = { λ pointer kind rejected. inl rejected };
 }

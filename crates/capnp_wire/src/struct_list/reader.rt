@@ -6,8 +6,10 @@ ghost use Rattle.capnp_layout.specs.Object.{message_of};
 ghost use Rattle.capnp_wire.specs.Values.{HoldsPointers};
 
 use crate::any_pointer;
+use crate::any_pointer::ObjectKind;
 use crate::any_struct::StructReader;
-use crate::object_content::{by_value, wrong_kind};
+use crate::object_content::wrong_kind;
+use crate::object_view::{ObjectView, read};
 use crate::read_limiter::ReadLimiter;
 use crate::traits::{FromPointerInSegment, FromPointerReader, IndexMove, ListIter};
 use capnp_frame::Result;
@@ -90,50 +92,6 @@ impl<'a, S: ReaderSegments> Reader<'a, S> {
         ListIter::new(self)
     }
 
-    // The list of structs that a pointer leads to.
-    #[inline(always)]
-    fn read(reader: &any_pointer::Reader<'a, S>, known: Option<&'a [u8]>) -> Result<Reader<'a, S>>
-        requires { ForSome known (λ segment.
-            HasSegment (pointer_of S.segments reader.now) (words_of segment.now)) }
-        ensures { let pointer = pointer_of S.segments reader.now in MatchResult result
-            (λ view. IsStructList pointer (struct_list_of S.segments view))
-            (λ error. Refuses pointer DeclinesStructs error.kind) }
-    {
-        match reader.enter_local_structs(known) {
-            Some(object) => Reader::in_object(reader, &object),
-            None => by_value(Reader::enter(&reader.copied())),
-        }
-    }
-
-    // The list of structs that a pointer leads to, by any path.
-    // Speed: a function of its own, so `read` knows the kind of the fast path's object
-    // (`tools/time-reading`).
-    #[inline(never)]
-    fn enter(reader: &any_pointer::Reader<'a, S>) -> Result<Reader<'a, S>>
-        ensures { let pointer = pointer_of S.segments reader.now in MatchResult result
-            (λ view. IsStructList pointer (struct_list_of S.segments view))
-            (λ error. Refuses pointer DeclinesStructs error.kind) }
-    {
-        let Some(object) = reader.enter()? else {
-            return Ok(Reader::empty(reader));
-        };
-        Reader::in_object(reader, &object)
-    }
-
-    // The object as a list of structs.
-    #[inline(always)]
-    fn in_object(reader: &any_pointer::Reader<'a, S>, object: &Object<'a>) -> Result<Reader<'a, S>>
-        requires { IsEntered (pointer_of S.segments reader.now) object.now }
-        ensures { let pointer = pointer_of S.segments reader.now in MatchResult result
-            (λ view. IsStructList pointer (struct_list_of S.segments view))
-            (λ error. Refuses pointer DeclinesStructs error.kind) }
-    {
-        let Some(elements) = object.body.as_structs() else {
-            return Err(wrong_kind());
-        };
-        Ok(Reader::within(reader, object, 1, elements))
-    }
-
     /// The list that null is, which has no elements.
     pub(crate) fn empty(reader: &any_pointer::Reader<'a, S>) -> Reader<'a, S>
         ensures { struct_list_of S.segments result ≡ no_structs (pointer_of S.segments reader.now) }
@@ -191,6 +149,35 @@ impl<'a, S: ReaderSegments> Reader<'a, S> {
     }
 }
 
+impl<'a, S: ReaderSegments> ObjectView<'a, S> for Reader<'a, S> {
+    ghost use Rattle.std.proofs.Common.{inl};
+    ghost use Rattle.capnp_wire.specs.Views.{Refuses};
+    ghost use Rattle.capnp_wire.specs.ListViews.{struct_list_of, IsStructList, DeclinesStructs};
+
+    ghost shows = { λ pointer view. IsStructList pointer (struct_list_of S.segments view) };
+
+    ghost refuses = { λ pointer kind. Refuses pointer DeclinesStructs kind };
+
+    #[inline(always)]
+    fn kind() -> ObjectKind {
+        ObjectKind::Structs
+    }
+
+    fn of_null(reader: &any_pointer::Reader<'a, S>) -> Self {
+        Reader::empty(reader)
+    }
+
+    #[inline(always)]
+    fn of_object(reader: &any_pointer::Reader<'a, S>, object: &Object<'a>) -> Result<Self> {
+        let Some(elements) = object.body.as_structs() else {
+            return Err(wrong_kind());
+        };
+        Ok(Reader::within(reader, object, 1, elements))
+    }
+
+    ghost unread = { λ pointer kind rejected. inl rejected };
+}
+
 impl<'a, S: ReaderSegments> IndexMove for Reader<'a, S> {
     ghost use Rattle.capnp_wire.specs.Views.{Struct};
     ghost use Rattle.capnp_wire.specs.Readers.{struct_of};
@@ -236,7 +223,7 @@ impl<'a, S: ReaderSegments> FromPointerReader<'a, S> for Reader<'a, S> {
             (Accepts pointer TakesStructs) (Refuses pointer DeclinesStructs)
             (Declines pointer DeclinesStructs) result }
     {
-        Reader::read(&reader, None)
+        read(&reader, None)
     }
 }
 
@@ -253,6 +240,6 @@ impl<'a, S: ReaderSegments> FromPointerInSegment<'a, S> for Reader<'a, S> {
             (Accepts pointer TakesStructs) (Refuses pointer DeclinesStructs)
             (Declines pointer DeclinesStructs) result }
     {
-        Reader::read(&reader, Some(segment))
+        read(&reader, Some(segment))
     }
 }

@@ -1,14 +1,15 @@
 //! Readers of `Text`.
 ghost use Rattle.std.specs.Prelude.{◌≡◌, ◌↔◌, ◌+◌, ◌/◌, ◌≤◌, ◌++◌, ◌∷◌, [], ℕ, List, length, IsTrue, MatchResult, MatchOption};
-ghost use Rattle.std.specs.Option.{ForSome};
 ghost use Rattle.std.specs.Str.{IsUtf8, IsValidUpTo, valid_up_to};
 ghost use Rattle.capnp_layout.specs.Pointer.{words_of};
-ghost use Rattle.capnp_layout.specs.Landing.{room_of};
+ghost use Rattle.capnp_layout.specs.Body.{room_of};
 ghost use Rattle.capnp_wire.specs.Views.{HasSegment, IsViewOf, Accepts, Reads, Refuses, Declines, IsText, TakesText, DeclinesText};
 ghost use Rattle.capnp_wire.specs.Readers.{pointer_of, form_of};
 
 use crate::any_pointer;
-use crate::object_content::{by_value, object_bytes};
+use crate::any_pointer::ObjectKind;
+use crate::object_content::object_bytes;
+use crate::object_view::{ObjectView, read};
 use crate::traits::{FromPointerInSegment, FromPointerReader};
 use capnp_frame::message::ReaderSegments;
 use capnp_frame::{Error, ErrorKind, Result};
@@ -83,7 +84,7 @@ impl<'a: 'v, 'v, S: ReaderSegments> FromPointerReader<'a, S> for Reader<'v> {
             (Accepts pointer TakesText) (Refuses pointer DeclinesText)
             (Declines pointer DeclinesText) result }
     {
-        read_text(&reader, None)
+        read(&reader, None)
     }
 }
 
@@ -96,41 +97,33 @@ impl<'a: 'v, 'v, S: ReaderSegments> FromPointerInSegment<'a, S> for Reader<'v> {
             (Accepts pointer TakesText) (Refuses pointer DeclinesText)
             (Declines pointer DeclinesText) result }
     {
-        read_text(&reader, Some(segment))
+        read(&reader, Some(segment))
     }
 }
 
-// The `Text` that a list of bytes is.
-#[inline(always)]
-fn read_text<'a, S: ReaderSegments>(
-    reader: &any_pointer::Reader<'a, S>,
-    known: Option<&'a [u8]>,
-) -> Result<Reader<'a>>
-    requires { ForSome known (λ segment.
-        HasSegment (pointer_of S.segments reader.now) (words_of segment.now)) }
-    ensures { let pointer = pointer_of S.segments reader.now in MatchResult result
-        (λ view. Reads pointer (λ form. IsText form view.bytes.now))
-        (λ error. Refuses pointer DeclinesText error.kind) }
-{
-    match reader.enter_local_numbers(known, ElementSize::Byte) {
-        Some(object) => text_in(&object),
-        None => by_value(enter_text(&reader.copied())),
-    }
-}
+impl<'a: 'v, 'v, S: ReaderSegments> ObjectView<'a, S> for Reader<'v> {
+    ghost use Rattle.std.proofs.Common.{inl};
 
-// The `Text` that a list of bytes is, by any path.
-// Speed: a function of its own, so `read_text` knows the kind of the fast path's object
-// (`tools/time-reading`).
-#[inline(never)]
-fn enter_text<'a, S: ReaderSegments>(reader: &any_pointer::Reader<'a, S>) -> Result<Reader<'a>>
-    ensures { let pointer = pointer_of S.segments reader.now in MatchResult result
-        (λ view. Reads pointer (λ form. IsText form view.bytes.now))
-        (λ error. Refuses pointer DeclinesText error.kind) }
-{
-    let Some(object) = reader.enter()? else {
-        return Ok(Reader { bytes: &[] });
-    };
-    text_in(&object)
+    ghost shows = { λ pointer view. Reads pointer (λ form. IsText form view.bytes.now) };
+
+    ghost refuses = { λ pointer kind. Refuses pointer DeclinesText kind };
+
+    #[inline(always)]
+    fn kind() -> ObjectKind {
+        ObjectKind::Numbers(ElementSize::Byte)
+    }
+
+    #[inline(always)]
+    fn of_null(_reader: &any_pointer::Reader<'a, S>) -> Self {
+        Reader { bytes: &[] }
+    }
+
+    #[inline(always)]
+    fn of_object(_reader: &any_pointer::Reader<'a, S>, object: &Object<'a>) -> Result<Self> {
+        text_in(object)
+    }
+
+    ghost unread = { λ pointer kind rejected. inl rejected };
 }
 
 // The `Text` that an object is.

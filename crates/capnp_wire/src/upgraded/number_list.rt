@@ -2,11 +2,13 @@
 ghost use Rattle.std.specs.Prelude.{◌≡◌, ◌↔◌, ◌+◌, ◌*◌, ◌/◌, ◌<◌, ◌≤◌, length, slice_index, IsTrue, MatchResult};
 ghost use Rattle.std.specs.Option.{ForSome};
 ghost use Rattle.capnp_layout.specs.Element.{code_of, width};
-ghost use Rattle.capnp_layout.specs.Landing.{room_of, words_in};
+ghost use Rattle.capnp_layout.specs.Body.{room_of, words_in};
 ghost use Rattle.capnp_layout.specs.Pointer.{words_of};
 ghost use Rattle.capnp_wire.specs.UpgradedViews.{IsFirstField};
 
-use crate::object_content::{by_value, object_numbers, wrong_kind};
+use crate::any_pointer::ObjectKind;
+use crate::object_content::{object_numbers, wrong_kind};
+use crate::object_view::{ObjectView, read};
 use crate::primitive_element::PrimitiveElement;
 use crate::traits::{FromPointerInSegment, FromPointerReader, IndexMove, ListIter};
 use crate::{any_pointer, primitive_list};
@@ -104,47 +106,6 @@ impl<'a, T: PrimitiveElement> NumberList<'a, T> {
         ListIter::new(self)
     }
 
-    // The list that a pointer leads to.
-    #[inline(always)]
-    fn read<S: ReaderSegments>(
-        reader: &any_pointer::Reader<'a, S>,
-        known: Option<&'a [u8]>,
-    ) -> Result<NumberList<'a, T>>
-        requires { ForSome known (λ segment.
-            HasSegment (pointer_of S.segments reader.now) (words_of segment.now)) }
-        ensures { let pointer = pointer_of S.segments reader.now in MatchResult result
-            (λ view. Reads pointer (λ form.
-            ReadsAsNumbers T.code form (upgraded_numbers_of T.code view)))
-            (λ error. Refuses pointer (DeclinesFields T.code) error.kind) }
-    {
-        match reader.enter_local_numbers(known, T::size()) {
-            Some(object) => NumberList::of(&object),
-            None => by_value(NumberList::enter(&reader.copied())),
-        }
-    }
-
-    // The list that a pointer leads to, by any path.
-    // Speed: a function of its own, so `read` knows the kind of the fast path's object
-    // (`tools/time-reading`).
-    #[inline(never)]
-    fn enter<S: ReaderSegments>(reader: &any_pointer::Reader<'a, S>) -> Result<NumberList<'a, T>>
-        ensures { let pointer = pointer_of S.segments reader.now in MatchResult result
-            (λ view. Reads pointer (λ form.
-            ReadsAsNumbers T.code form (upgraded_numbers_of T.code view)))
-            (λ error. Refuses pointer (DeclinesFields T.code) error.kind) }
-    {
-        let Some(object) = reader.enter()? else {
-            return Ok(NumberList {
-                numbers: Numbers::InPlace(primitive_list::Reader {
-                    bytes: &[],
-                    count: 0,
-                    element: PhantomData,
-                }),
-            });
-        };
-        NumberList::of(&object)
-    }
-
     // The list of numbers that an object is read as.
     #[inline(always)]
     fn of(object: &Object<'a>) -> Result<NumberList<'a, T>>
@@ -238,7 +199,7 @@ impl<'a: 'v, 'v, S: ReaderSegments, T: PrimitiveElement> FromPointerReader<'a, S
             (Accepts pointer (TakesFields T.code)) (Refuses pointer (DeclinesFields T.code))
             (Declines pointer (DeclinesFields T.code)) result }
     {
-        NumberList::read(&reader, None)
+        read(&reader, None)
     }
 }
 
@@ -258,6 +219,41 @@ impl<'a: 'v, 'v, S: ReaderSegments, T: PrimitiveElement> FromPointerInSegment<'a
             (Accepts pointer (TakesFields T.code)) (Refuses pointer (DeclinesFields T.code))
             (Declines pointer (DeclinesFields T.code)) result }
     {
-        NumberList::read(&reader, Some(segment))
+        read(&reader, Some(segment))
     }
+}
+
+impl<'a: 'v, 'v, S: ReaderSegments, T: PrimitiveElement> ObjectView<'a, S> for NumberList<'v, T> {
+    ghost use Rattle.std.proofs.Common.{inl};
+    ghost use Rattle.capnp_wire.specs.Views.{Reads, Refuses};
+    ghost use Rattle.capnp_wire.specs.UpgradedViews.{ReadsAsNumbers, DeclinesFields};
+    ghost use Rattle.capnp_wire.specs.UpgradedReaders.{upgraded_numbers_of};
+
+    ghost shows = { λ pointer view.
+        Reads pointer (λ form. ReadsAsNumbers T.code form (upgraded_numbers_of T.code view)) };
+
+    ghost refuses = { λ pointer kind. Refuses pointer (DeclinesFields T.code) kind };
+
+    #[inline(always)]
+    fn kind() -> ObjectKind {
+        ObjectKind::Numbers(T::size())
+    }
+
+    #[inline(always)]
+    fn of_null(_reader: &any_pointer::Reader<'a, S>) -> Self {
+        NumberList {
+            numbers: Numbers::InPlace(primitive_list::Reader {
+                bytes: &[],
+                count: 0,
+                element: PhantomData,
+            }),
+        }
+    }
+
+    #[inline(always)]
+    fn of_object(_reader: &any_pointer::Reader<'a, S>, object: &Object<'a>) -> Result<Self> {
+        NumberList::of(object)
+    }
+
+    ghost unread = { λ pointer kind rejected. inl rejected };
 }

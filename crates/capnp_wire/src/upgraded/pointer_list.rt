@@ -3,7 +3,9 @@ ghost use Rattle.std.specs.Prelude.{◌≡◌, ◌+◌, ◌*◌, ◌^◌, ◌<�
 ghost use Rattle.std.specs.Option.{ForSome};
 ghost use Rattle.capnp_layout.specs.Pointer.{words_of};
 
-use crate::object_content::{by_value, wrong_kind};
+use crate::any_pointer::ObjectKind;
+use crate::object_content::wrong_kind;
+use crate::object_view::{ObjectView, read};
 use crate::read_limiter::ReadLimiter;
 use crate::traits::{FromPointerInSegment, FromPointerReader, IndexMove, ListIter};
 use crate::{any_pointer, any_pointer_list};
@@ -83,70 +85,6 @@ impl<'a, S: ReaderSegments> PointerList<'a, S> {
         ListIter::new(self)
     }
 
-    // The list that a pointer leads to.
-    #[inline(always)]
-    fn read(
-        reader: &any_pointer::Reader<'a, S>,
-        known: Option<&'a [u8]>,
-    ) -> Result<PointerList<'a, S>>
-        requires { ForSome known (λ segment.
-            HasSegment (pointer_of S.segments reader.now) (words_of segment.now)) }
-        ensures { let pointer = pointer_of S.segments reader.now in MatchResult result
-            (λ view. IsUpgradedPointers pointer (upgraded_pointers_of S.segments view))
-            (λ error. Refuses pointer DeclinesFirstPointers error.kind) }
-    {
-        match reader.enter_local_pointers(known) {
-            Some(object) => PointerList::of(reader, &object),
-            None => by_value(PointerList::enter(&reader.copied())),
-        }
-    }
-
-    // The list that a pointer leads to, by any path.
-    // Speed: a function of its own, so `read` knows the kind of the fast path's object
-    // (`tools/time-reading`).
-    #[inline(never)]
-    fn enter(reader: &any_pointer::Reader<'a, S>) -> Result<PointerList<'a, S>>
-        ensures { let pointer = pointer_of S.segments reader.now in MatchResult result
-            (λ view. IsUpgradedPointers pointer (upgraded_pointers_of S.segments view))
-            (λ error. Refuses pointer DeclinesFirstPointers error.kind) }
-    {
-        let Some(object) = reader.enter()? else {
-            let nowhere = Place {
-                segment: 0,
-                word: 0,
-            };
-            return Ok(PointerList::new(reader, nowhere, 0, 0));
-        };
-        PointerList::of(reader, &object)
-    }
-
-    // The list of pointers that an object is read as.
-    #[inline(always)]
-    fn of(reader: &any_pointer::Reader<'a, S>, object: &Object<'a>) -> Result<PointerList<'a, S>>
-        requires { IsEntered (pointer_of S.segments reader.now) object.now }
-        ensures { let pointer = pointer_of S.segments reader.now in MatchResult result
-            (λ view. IsUpgradedPointers pointer (upgraded_pointers_of S.segments view))
-            (λ error. Refuses pointer DeclinesFirstPointers error.kind) }
-    {
-        // For the prover: each word is below 2^64, and so is the number of bytes.
-        words_fit(object.segment);
-        if let Some(count) = object.body.as_pointers() {
-            return Ok(PointerList::new(reader, object.start, 1, count));
-        }
-        let Some(elements) = object.body.as_structs() else {
-            return Err(wrong_kind());
-        };
-        if elements.size.pointers == 0 {
-            return Err(wrong_kind());
-        }
-        let first = Place {
-            segment: object.start.segment,
-            word: object.start.word + 1 + elements.size.data_words as usize,
-        };
-        let step = elements.size.words() as usize;
-        Ok(PointerList::new(reader, first, step, elements.count))
-    }
-
     /// The list as one of consecutive pointers; `None` where others lie between them.
     pub(crate) fn consecutive(&self) -> Option<any_pointer_list::Reader<'a, S>>
         ensures { MatchOption result (IsConsecutive self.now → ⊥) (λ list. IsConsecutive self.now
@@ -206,6 +144,56 @@ impl<'a, S: ReaderSegments> PointerList<'a, S> {
     }
 }
 
+impl<'a, S: ReaderSegments> ObjectView<'a, S> for PointerList<'a, S> {
+    ghost use Rattle.std.proofs.Common.{inl};
+    ghost use Rattle.capnp_wire.specs.Readers.{pointer_of};
+    ghost use Rattle.capnp_wire.specs.Views.{IsViewOf, Accepts, Refuses, Declines};
+    ghost use Rattle.capnp_wire.specs.UpgradedViews.{IsUpgradedPointers, TakesFirstPointers, DeclinesFirstPointers};
+    ghost use Rattle.capnp_wire.specs.UpgradedReaders.{upgraded_pointers_of};
+
+    ghost shows = { λ pointer view.
+        IsUpgradedPointers pointer (upgraded_pointers_of S.segments view) };
+
+    ghost refuses = { λ pointer kind. Refuses pointer DeclinesFirstPointers kind };
+
+    #[inline(always)]
+    fn kind() -> ObjectKind {
+        ObjectKind::Pointers
+    }
+
+    #[inline(always)]
+    fn of_null(reader: &any_pointer::Reader<'a, S>) -> Self {
+        let nowhere = Place {
+            segment: 0,
+            word: 0,
+        };
+        PointerList::new(reader, nowhere, 0, 0)
+    }
+
+    #[inline(always)]
+    fn of_object(reader: &any_pointer::Reader<'a, S>, object: &Object<'a>) -> Result<Self> {
+        // For the prover: each word is below 2^64, and so is the number of bytes.
+        words_fit(object.segment);
+        if let Some(count) = object.body.as_pointers() {
+            return Ok(PointerList::new(reader, object.start, 1, count));
+        }
+        let Some(elements) = object.body.as_structs() else {
+            return Err(wrong_kind());
+        };
+        if elements.size.pointers == 0 {
+            return Err(wrong_kind());
+        }
+        let first = Place {
+            segment: object.start.segment,
+            word: object.start.word + 1 + elements.size.data_words as usize,
+        };
+        let step = elements.size.words() as usize;
+        Ok(PointerList::new(reader, first, step, elements.count))
+    }
+
+    ghost unread = { λ pointer kind rejected. inl rejected };
+}
+
 impl<'a, S: ReaderSegments> IndexMove for PointerList<'a, S> {
     ghost use Rattle.capnp_wire.specs.Views.{Pointer};
     ghost use Rattle.capnp_wire.specs.Readers.{pointer_of};
@@ -255,7 +243,7 @@ impl<'a, S: ReaderSegments> FromPointerReader<'a, S> for PointerList<'a, S> {
             (Accepts pointer TakesFirstPointers) (Refuses pointer DeclinesFirstPointers)
             (Declines pointer DeclinesFirstPointers) result }
     {
-        PointerList::read(&reader, None)
+        read(&reader, None)
     }
 }
 
@@ -273,6 +261,6 @@ impl<'a, S: ReaderSegments> FromPointerInSegment<'a, S> for PointerList<'a, S> {
             (Accepts pointer TakesFirstPointers) (Refuses pointer DeclinesFirstPointers)
             (Declines pointer DeclinesFirstPointers) result }
     {
-        PointerList::read(&reader, Some(segment))
+        read(&reader, Some(segment))
     }
 }

@@ -1,23 +1,21 @@
 //! Lists that are read as lists of structs.
 ghost use Rattle.std.specs.Prelude.{◌≡◌, ◌+◌, ◌*◌, ◌/◌, ◌^◌, ◌<◌, ◌≤◌, length, MatchResult};
 ghost use Rattle.std.specs.Option.{ForSome};
-ghost use Rattle.capnp_layout.specs.Element.{code_of, width, words_for};
 ghost use Rattle.capnp_layout.specs.Pointer.{words_of};
 ghost use Rattle.capnp_layout.specs.declared.object.Body.{Body};
 ghost use Rattle.capnp_wire.specs.UpgradedViews.{elements_without_data as elements_of};
 
+use crate::any_pointer::ObjectKind;
 use crate::any_struct::StructReader;
-use crate::any_struct::part::WordPart;
-use crate::object_content::{by_value, words_at, wrong_kind};
-use crate::read_limiter::ReadLimiter;
+use crate::object_content::{words_at, wrong_kind};
+use crate::object_view::{ObjectView, read};
 use crate::traits::{FromPointerInSegment, FromPointerReader, IndexMove, ListIter};
+use crate::upgraded::number_rows::NumberRows;
 use crate::{any_pointer, struct_list};
 use capnp_frame::Result;
 use capnp_frame::message::ReaderSegments;
 use capnp_layout::element_size::ElementSize;
-use capnp_layout::number_list::NumberList;
-use capnp_layout::object::{Body, Object, words_fit};
-use capnp_layout::place::Place;
+use capnp_layout::object::{Body, Object};
 use capnp_layout::pointer::{Elements, StructSize};
 
 /// A list of structs, of numbers or of pointers in a message, read as a list of structs: a number
@@ -33,73 +31,6 @@ pub(crate) enum Rows<'a, S: ReaderSegments> {
     /// Structs, and lists that have the layout of structs: pointers, and elements of no bytes.
     InPlace(struct_list::Reader<'a, S>),
     Numbers(NumberRows<'a, S>),
-}
-
-/// Numbers, each of which is a struct of one data word.
-#[derive(Drop)]
-pub(crate) struct NumberRows<'a, S: ReaderSegments> {
-    pub segments: &'a S,
-    pub limiter: Option<&'a ReadLimiter>,
-    /// The words of the list.
-    pub bytes: &'a [u8],
-    pub size: ElementSize,
-    pub count: u32,
-    pub nesting: u32,
-    ghost whole: { length bytes.now ≡ 8 * words_for count (width (code_of size)) },
-    ghost some: { 0 < code_of size },
-}
-
-impl<'a, S: ReaderSegments> NumberRows<'a, S> {
-    ghost use Rattle.capnp_wire.specs.Readers.{struct_of};
-    ghost use Rattle.capnp_wire.specs.ListViews.{element_of};
-    ghost use Rattle.capnp_wire.specs.UpgradedReaders.{number_rows_of};
-
-    // The number at this index, as a struct.
-    fn get(&self, index: u32) -> StructReader<'a, S>
-        requires { index < length (number_rows_of S.segments self.now).rows }
-        ensures { struct_of S.segments result
-            ≡ element_of (number_rows_of S.segments self.now) index }
-    {
-        // For the prover: each word is below 2^64, and so is the number of bytes.
-        words_fit(self.bytes);
-        StructReader {
-            segments: self.segments,
-            limiter: self.limiter,
-            segment: self.bytes,
-            start: Place {
-                segment: 0,
-                word: self.size.word_of(index) as usize,
-            },
-            size: StructSize {
-                data_words: 1,
-                pointers: 0,
-            },
-            nesting: self.nesting,
-            part: Some(WordPart {
-                size: self.size,
-                index,
-            }),
-        }
-    }
-
-    /// The list of numbers as a value to be copied.
-    pub(crate) fn as_value(&self) -> NumberList<'a>
-        ensures size { result.size ≡ self.now.size }
-        ensures count { result.count ≡ self.now.count }
-        ensures start { result.start.word ≡ 0 }
-        ensures bytes { result.segment.now ≡ self.now.bytes.now }
-    {
-        NumberList {
-            segment: self.bytes,
-            start: Place {
-                segment: 0,
-                word: 0,
-            },
-            size: self.size,
-            count: self.count,
-            bits: self.size.bits_of_list(self.count),
-        }
-    }
 }
 
 impl<'a, S: ReaderSegments> StructList<'a, S> {
@@ -148,59 +79,6 @@ impl<'a, S: ReaderSegments> StructList<'a, S> {
         ensures { IsIterator self.now result }
     {
         ListIter::new(self)
-    }
-
-    // The list that a pointer leads to.
-    #[inline(always)]
-    fn read(
-        reader: &any_pointer::Reader<'a, S>,
-        known: Option<&'a [u8]>,
-    ) -> Result<StructList<'a, S>>
-        requires { ForSome known (λ segment.
-            HasSegment (pointer_of S.segments reader.now) (words_of segment.now)) }
-        ensures { let pointer = pointer_of S.segments reader.now in MatchResult result
-            (λ view. IsUpgradedStructs pointer (upgraded_structs_of S.segments view))
-            (λ error. Refuses pointer DeclinesRows error.kind) }
-    {
-        match reader.enter_local_structs(known) {
-            Some(object) => StructList::of(reader, &object),
-            None => by_value(StructList::enter(&reader.copied())),
-        }
-    }
-
-    // The list that a pointer leads to, by any path.
-    // Speed: a function of its own, so `read` knows the kind of the fast path's object
-    // (`tools/time-reading`).
-    #[inline(never)]
-    fn enter(reader: &any_pointer::Reader<'a, S>) -> Result<StructList<'a, S>>
-        ensures { let pointer = pointer_of S.segments reader.now in MatchResult result
-            (λ view. IsUpgradedStructs pointer (upgraded_structs_of S.segments view))
-            (λ error. Refuses pointer DeclinesRows error.kind) }
-    {
-        let Some(object) = reader.enter()? else {
-            return Ok(StructList {
-                rows: Rows::InPlace(struct_list::Reader::empty(reader)),
-            });
-        };
-        StructList::of(reader, &object)
-    }
-
-    // The object as a list.
-    #[inline(always)]
-    fn of(reader: &any_pointer::Reader<'a, S>, object: &Object<'a>) -> Result<StructList<'a, S>>
-        requires { IsEntered (pointer_of S.segments reader.now) object.now }
-        ensures { let pointer = pointer_of S.segments reader.now in MatchResult result
-            (λ view. IsUpgradedStructs pointer (upgraded_structs_of S.segments view))
-            (λ error. Refuses pointer DeclinesRows error.kind) }
-    {
-        match object.body {
-            Body::Structs(elements, _) => Ok(StructList::in_place(reader, object, 1, elements)),
-            Body::Pointers(count) => {
-                Ok(StructList::in_place(reader, object, 0, elements_without_data(1, count)))
-            }
-            Body::Numbers(size, count) => StructList::of_numbers(reader, object, size, count),
-            Body::Struct(_) => Err(wrong_kind()),
-        }
     }
 
     // A list of numbers as a list of structs.
@@ -259,6 +137,45 @@ impl<'a, S: ReaderSegments> StructList<'a, S> {
             rows: Rows::InPlace(struct_list::Reader::within(reader, object, skipped, elements)),
         }
     }
+}
+
+impl<'a, S: ReaderSegments> ObjectView<'a, S> for StructList<'a, S> {
+    ghost use Rattle.std.proofs.Common.{inl};
+    ghost use Rattle.capnp_wire.specs.Readers.{pointer_of};
+    ghost use Rattle.capnp_wire.specs.Views.{IsViewOf, Accepts, Refuses, Declines};
+    ghost use Rattle.capnp_wire.specs.UpgradedViews.{IsUpgradedStructs, TakesRows, DeclinesRows};
+    ghost use Rattle.capnp_wire.specs.UpgradedReaders.{upgraded_structs_of};
+
+    ghost shows = { λ pointer view.
+        IsUpgradedStructs pointer (upgraded_structs_of S.segments view) };
+
+    ghost refuses = { λ pointer kind. Refuses pointer DeclinesRows kind };
+
+    #[inline(always)]
+    fn kind() -> ObjectKind {
+        ObjectKind::Structs
+    }
+
+    #[inline(always)]
+    fn of_null(reader: &any_pointer::Reader<'a, S>) -> Self {
+        StructList {
+            rows: Rows::InPlace(struct_list::Reader::empty(reader)),
+        }
+    }
+
+    #[inline(always)]
+    fn of_object(reader: &any_pointer::Reader<'a, S>, object: &Object<'a>) -> Result<Self> {
+        match object.body {
+            Body::Structs(elements, _) => Ok(StructList::in_place(reader, object, 1, elements)),
+            Body::Pointers(count) => {
+                Ok(StructList::in_place(reader, object, 0, elements_without_data(1, count)))
+            }
+            Body::Numbers(size, count) => StructList::of_numbers(reader, object, size, count),
+            Body::Struct(_) => Err(wrong_kind()),
+        }
+    }
+
+    ghost unread = { λ pointer kind rejected. inl rejected };
 }
 
 impl<'a, S: ReaderSegments> IndexMove for StructList<'a, S> {
@@ -322,7 +239,7 @@ impl<'a, S: ReaderSegments> FromPointerReader<'a, S> for StructList<'a, S> {
             (Accepts pointer TakesRows) (Refuses pointer DeclinesRows)
             (Declines pointer DeclinesRows) result }
     {
-        StructList::read(&reader, None)
+        read(&reader, None)
     }
 }
 
@@ -340,6 +257,6 @@ impl<'a, S: ReaderSegments> FromPointerInSegment<'a, S> for StructList<'a, S> {
             (Accepts pointer TakesRows) (Refuses pointer DeclinesRows)
             (Declines pointer DeclinesRows) result }
     {
-        StructList::read(&reader, Some(segment))
+        read(&reader, Some(segment))
     }
 }

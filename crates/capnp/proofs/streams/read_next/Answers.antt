@@ -2,7 +2,7 @@
 use Rattle.std.proofs.Common.{length}
 use Rattle.std.specs.List.{concat}
 use Rattle.capnp_frame.specs.Refusals.{Outgrows, TakesMemory}
-use Rattle.capnp_frame.proofs.ResultLemmas.{reads_with_less}
+use Rattle.capnp_frame.proofs.sources.ResultLemmas.{reads_with_less}
 use Rattle.capnp_pack.specs.PackedSource.{Unpacks}
 use Rattle.capnp_pack.specs.PackedStreams.{packed_rules}
 use Rattle.capnp.specs.Streams.{IsPlainSource}
@@ -12,11 +12,11 @@ use Rattle.capnp.proofs.streams.read_next.Goals as goal
 pub returns-in-Framed : goal.returns-in-Framed
 returns-in-Framed g c =
     let plain : IsPlainSource g.R.Read.gives g.R.Read.refuses = record { given = g.met.R.BufRead.plain; refused = g.met.R.BufRead.plain_refusals } in
-    rw c.in-Framed.is (plain_reads_reusing c.args.padding g.R.Read plain c.args.options.traversal_limit_in_words c.args.spare _ _ _ c.try_read_segments_reusing_with_padding.ensures)
+    rw c.in-Framed.is (plain_reads_reusing c.args.padding g.R.Read plain c.args.options.traversal_limit_in_words c.args.spare _ _ _ (rw c.new-rules.ensures at c.try_read_segments_reusing.ensures))
 
 pub returns-in-Packed : goal.returns-in-Packed
 returns-in-Packed g c =
     let kept = c.args.spare in
     rw c.in-Packed.is (reads_with_less g.R.Read _ _ (packed_rules c.args.padding) (Outgrows (length kept) (length (concat kept)) c.args.padding Unpacks)
     (TakesMemory c.args.padding Unpacks) c.args.options.traversal_limit_in_words _ (Outgrows-none _ _ c.args.padding Unpacks c.args.options.traversal_limit_in_words)
-    c.try_read_packed_segments_reusing_with_padding.ensures)
+    (rw c.new-rules.ensures at c.try_read_packed_segments.ensures))

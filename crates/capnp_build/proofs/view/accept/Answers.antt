@@ -1,5 +1,5 @@
 -- A failure declines the root.
-use Rattle.capnp_build.proofs.AcceptLemmas.{declined_there}
+use Rattle.capnp_build.proofs.roots.AcceptLemmas.{declined_there}
 use Rattle.capnp_build.proofs.view.accept.Goals as goal
 
 pub returns-clause-kind : goal.returns-clause-kind

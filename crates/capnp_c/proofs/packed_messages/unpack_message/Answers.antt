@@ -1,13 +1,13 @@
 -- What is unpacked is the framed encoding of the message that is there.
 use Rattle.std.proofs.Common.{◌≡◌, length, rules, arith, ap, ◌∙◌, Some}
 use Rattle.capnp_frame.specs.Numbers.{kind_number}
-use Rattle.capnp_frame.proofs.AskLemmas.{never_fails}
+use Rattle.capnp_frame.proofs.sources.AskLemmas.{never_fails}
 use Rattle.capnp_c.proofs.UnpackedLemmas.{front_message, taken, none_stands, own_kind, in_room}
 use Rattle.capnp_c.proofs.packed_messages.unpack_message.Goals as goal
 
 pub returns-in-Ok-Some : goal.returns-in-Ok-Some
 returns-in-Ok-Some c =
-    let reads = rw c.in-Ok-Some.field-0-is at c.in-Ok-Some.ensures.reads in
+    let reads = rw (c.in-Ok-Some.field-0-is, c.new-rules.ensures) at c.in-Ok-Some.ensures.reads in
     let text = rw c.in-Ok-Some.field-0-is at c.in-Ok-Some.ensures.text in
     let room = rw c.in-Ok-Some.field-0-is at c.in-Ok-Some.ensures.room in
     let long : length c.try_read_packed_framed_into.new.buffer ≡ length c.args.framed.now = search rules in
@@ -23,7 +23,7 @@ returns-in-Ok-Some c =
 
 pub returns-in-Ok-None : goal.returns-in-Ok-None
 returns-in-Ok-None c =
-    let reads = rw c.in-Ok-None.field-0-is at c.in-Ok-None.ensures.reads in
+    let reads = rw (c.in-Ok-None.field-0-is, c.new-rules.ensures) at c.in-Ok-None.ensures.reads in
     let long : length c.try_read_packed_framed_into.new.buffer ≡ length c.args.framed.now = search rules in
     record {
       unpacked = search rules;
@@ -36,7 +36,7 @@ returns-in-Ok-None c =
 
 pub returns-in-Err : goal.returns-in-Err
 returns-in-Err c =
-    let reads = c.in-Err.ensures.reads in
+    let reads = rw c.new-rules.ensures at c.in-Err.ensures.reads in
     let long : length c.try_read_packed_framed_into.new.buffer ≡ length c.args.framed.now = search rules in
     record {
       unpacked = search rules;

@@ -6,7 +6,7 @@ use Rattle.capnp_layout.specs.Faults.{BadLandingPad, not_far, no_content}
 use Rattle.capnp_layout.specs.declared.place.Place.{Place}
 use Rattle.capnp_frame.specs.declared.error.ErrorKind.TheVariants.{InvalidSegmentId}
 use Rattle.capnp_layout.proofs.words.MessageLemmas.{segment_stands, no_segment_stands}
-use Rattle.capnp_frame.proofs.AskLemmas.{passed_on}
+use Rattle.capnp_frame.proofs.sources.AskLemmas.{passed_on}
 use Rattle.capnp_layout.proofs.pointers.LandingPadLemmas.{wide_refused, is_far_word, not_far_word, wide_landing, content_place}
 use Rattle.capnp_layout.proofs.landing_pad.resolve_double_far.Given as given
 use Rattle.capnp_layout.proofs.landing_pad.resolve_double_far.Goals as goal

@@ -3,7 +3,7 @@ use Rattle.std.proofs.Common.{sym, subst}
 use Rattle.capnp_layout.specs.Object.{message_of}
 use Rattle.capnp_layout.specs.Faults.{Fault, no_word, no_segment}
 use Rattle.capnp_layout.proofs.words.MessageLemmas.{segment_stands, no_segment_stands}
-use Rattle.capnp_frame.proofs.AskLemmas.{passed_on}
+use Rattle.capnp_frame.proofs.sources.AskLemmas.{passed_on}
 use Rattle.capnp_layout.proofs.object.object_at.Goals as goal
 
 pub returns-in_err-segment-clause-refused : goal.returns-in_err-segment-clause-refused

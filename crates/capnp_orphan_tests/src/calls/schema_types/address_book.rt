@@ -2,8 +2,7 @@
 use crate::addressbook_capnp::person::phone_number;
 use crate::addressbook_capnp::{address_book, person};
 use capnp::message::ReaderSegments;
-use capnp::serialize;
-use capnp_frame::Result;
+use capnp::{Result, serialize};
 use capnp_orphans::{GrowingSegment, Orphan, Orphanage};
 use std::alloc::Global;
 

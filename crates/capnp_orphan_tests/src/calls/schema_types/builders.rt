@@ -1,9 +1,8 @@
 //! A sample that is built and read back, as docs/GUIDE.md has it.
 use crate::sample_capnp::{point, sample};
+use capnp::Result;
 use capnp::message::DEFAULT_READER_OPTIONS;
-use capnp::serialize;
-use capnp_frame::Result;
-use capnp_frame::serialize::OwnedSegments;
+use capnp::serialize::{self, OwnedSegments};
 use capnp_orphans::Orphanage;
 use std::alloc::Global;
 

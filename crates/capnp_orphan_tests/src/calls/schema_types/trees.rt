@@ -1,7 +1,7 @@
 //! A tree of a depth that is known when the program runs.
 use crate::sample_capnp::tree;
+use capnp::Result;
 use capnp::message::{DEFAULT_READER_OPTIONS, Reader};
-use capnp_frame::Result;
 use capnp_orphans::{Orphan, Orphanage};
 
 /// A tree in memory.

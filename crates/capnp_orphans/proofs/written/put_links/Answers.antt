@@ -5,7 +5,7 @@ use Rattle.std.proofs.lemmas.List.{length-map}
 use Rattle.std.proofs.lemmas.Option.{slice_get-map, slice_get_read}
 use Rattle.capnp_layout.specs.Pointer.{words_of}
 use Rattle.capnp_layout.proofs.words.WordLemmas.{length-words_of}
-use Rattle.capnp_values.proofs.SectionLemmas.{next_put, all_put}
+use Rattle.capnp_values.proofs.structs.SectionLemmas.{next_put, all_put}
 use Rattle.capnp_orphans.specs.Orphans.{link, links}
 use Rattle.capnp_orphans.proofs.LinkLemmas.{links_get, length-links_at}
 use Rattle.capnp_orphans.proofs.written.put_links.Goals as goal

@@ -1,6 +1,6 @@
 -- What is copied is the front of what is shown.
 use Rattle.std.proofs.Common.{rules, take}
-use Rattle.capnp_pack.proofs.StoredLemmas.{shown_taken}
+use Rattle.capnp_pack.proofs.unpacking.StoredLemmas.{shown_taken}
 use Rattle.capnp_pack.proofs.group.copy_shown.Goals as goal
 
 pub returns-clause-takes : goal.returns-clause-takes

@@ -1,11 +1,11 @@
 -- Each group returns a part of what the ones before it left of the request.
 use Rattle.std.proofs.Common.{rules, inr, ◌≡◌, ◌+◌, ◌-◌, ◌≤◌, arith, ◌∙◌, sym, subst, length}
 use Rattle.capnp_pack.specs.PackedSource.{Unpacks, MeetsFault}
-use Rattle.capnp_frame.proofs.SourceLemmas.{Advances-join, ReturnsPart-fill, not_empty_before, ends}
-use Rattle.capnp_frame.proofs.AskLemmas.{passed_on, Asked-err}
-use Rattle.capnp_pack.proofs.OverrunLemmas.{over_after}
-use Rattle.capnp_pack.proofs.ProgressLemmas.{more_taken}
-use Rattle.capnp_pack.proofs.ChunkLemmas.{group_failed, group_missing, first_missing, chunk_taken, none_taken, end_before}
+use Rattle.capnp_frame.proofs.sources.SourceLemmas.{Advances-join, ReturnsPart-fill, not_empty_before, ends}
+use Rattle.capnp_frame.proofs.sources.AskLemmas.{passed_on, Asked-err}
+use Rattle.capnp_pack.proofs.faults.OverrunLemmas.{over_after}
+use Rattle.capnp_pack.proofs.unpacking.ProgressLemmas.{more_taken}
+use Rattle.capnp_pack.proofs.faults.ChunkLemmas.{group_failed, group_missing, first_missing, chunk_taken, none_taken, end_before}
 use Rattle.capnp_pack.proofs.group.read_chunk.Goals as goal
 
 pub returns-in_err-count-clause-refused : goal.returns-in_err-count-clause-refused

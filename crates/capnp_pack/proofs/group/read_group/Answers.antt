@@ -1,10 +1,10 @@
 -- A group is a part of the result of each request that it fits into.
 use Rattle.std.proofs.Common.{rules, refl}
-use Rattle.capnp_pack.proofs.CallLemmas.{next_err, next_ok}
-use Rattle.capnp_frame.proofs.AskLemmas.{passed_on}
-use Rattle.capnp_pack.proofs.OverrunLemmas.{device_is_other, first_over}
-use Rattle.capnp_pack.proofs.GroupLemmas.{group_found}
-use Rattle.capnp_pack.proofs.FaultLemmas.{group_refused}
+use Rattle.capnp_pack.proofs.packing.CallLemmas.{next_err, next_ok}
+use Rattle.capnp_frame.proofs.sources.AskLemmas.{passed_on}
+use Rattle.capnp_pack.proofs.faults.OverrunLemmas.{device_is_other, first_over}
+use Rattle.capnp_pack.proofs.unpacking.GroupLemmas.{group_found}
+use Rattle.capnp_pack.proofs.faults.FaultLemmas.{group_refused}
 use Rattle.capnp_pack.proofs.group.read_group.Goals as goal
 
 pub returns-in_err-count-in-0-clause-takes : goal.returns-in_err-count-in-0-clause-takes

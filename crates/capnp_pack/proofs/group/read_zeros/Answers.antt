@@ -1,11 +1,11 @@
 -- The count after the tag is the length of the run.
 use Rattle.std.proofs.Common.{rules, arith, ◌+◌, ◌*◌, refl}
 use Rattle.std.proofs.lemmas.Grind.{common_steps}
-use Rattle.capnp_pack.proofs.CallLemmas.{takes_own}
-use Rattle.capnp_frame.proofs.AskLemmas.{passed_on}
-use Rattle.capnp_pack.proofs.OverrunLemmas.{device_is_other, zeros_over}
-use Rattle.capnp_pack.proofs.FaultLemmas.{run_refused, count_refused}
-use Rattle.capnp_pack.proofs.GroupLemmas.{zeros_found}
+use Rattle.capnp_pack.proofs.packing.CallLemmas.{takes_own}
+use Rattle.capnp_frame.proofs.sources.AskLemmas.{passed_on}
+use Rattle.capnp_pack.proofs.faults.OverrunLemmas.{device_is_other, zeros_over}
+use Rattle.capnp_pack.proofs.faults.FaultLemmas.{run_refused, count_refused}
+use Rattle.capnp_pack.proofs.unpacking.GroupLemmas.{zeros_found}
 use Rattle.capnp_pack.proofs.group.read_zeros.Goals as goal
 
 pub returns-then-count-buffer-clause-takes : goal.returns-then-count-buffer-clause-takes

@@ -1,8 +1,8 @@
 -- The table has each lane's place.
 use Rattle.std.proofs.Common.{rules, arith, ◌<◌, sym, subst, w8}
 use borrow.Rule.Simd.Moves.{SwzOk}
-use Rattle.capnp_pack.proofs.FrontLemmas.{spread_lanes}
-use Rattle.capnp_pack.proofs.PlaceLemmas.{row_of, row_ok}
+use Rattle.capnp_pack.proofs.tables.FrontLemmas.{spread_lanes}
+use Rattle.capnp_pack.proofs.tables.PlaceLemmas.{row_of, row_ok}
 use Rattle.capnp_pack.proofs.lanes.unpack_word.Goals as goal
 
 pub swizzle : goal.swizzle

@@ -1,11 +1,11 @@
 -- The buffer is handed on, or the group of the next word.
 use Rattle.std.proofs.Common.{[], take}
 use Rattle.std.proofs.lemmas.Bool.{false≢true}
-use Rattle.capnp_pack.proofs.BufferedLemmas.{handed_next, none_taken}
-use Rattle.capnp_pack.proofs.CallLemmas.{hands_ok, hands_passed}
-use Rattle.capnp_pack.proofs.GrantingLemmas.{granted_flushed, granted_next, group_granted}
-use Rattle.capnp_pack.proofs.LeavingLemmas.{left_buffer, left_group}
-use Rattle.capnp_pack.proofs.PackingLemmas.{next_words, other_words}
+use Rattle.capnp_pack.proofs.packing.BufferedLemmas.{handed_next, none_taken}
+use Rattle.capnp_pack.proofs.packing.CallLemmas.{hands_ok, hands_passed}
+use Rattle.capnp_pack.proofs.packing.GrantingLemmas.{granted_flushed, granted_next, group_granted}
+use Rattle.capnp_pack.proofs.packing.LeavingLemmas.{left_buffer, left_group}
+use Rattle.capnp_pack.proofs.packing.PackingLemmas.{next_words, other_words}
 use Rattle.capnp_pack.proofs.packed_write.pack_next.Goals as goal
 
 pub returns-in_err-flush-clause-hands : goal.returns-in_err-flush-clause-hands

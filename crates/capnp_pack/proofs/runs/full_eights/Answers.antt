@@ -3,8 +3,8 @@ use Rattle.std.proofs.Common.{rules, arith, ◌≡◌, ◌+◌, ◌-◌, take, d
 use Rattle.std.specs.List.{concat}
 use Rattle.capnp_pack.specs.Group.{zero_bytes}
 use Rattle.capnp_pack.specs.Steps.{HasFewZeros}
-use Rattle.capnp_pack.proofs.AllLemmas.{AllByRecursion-take}
-use Rattle.capnp_pack.proofs.EightLemmas.{all_full, all_more}
+use Rattle.capnp_pack.proofs.words.AllLemmas.{AllByRecursion-take}
+use Rattle.capnp_pack.proofs.words.EightLemmas.{all_full, all_more}
 use Rattle.capnp_pack.proofs.runs.full_eights.Goals as goal
 
 pub loop-count-preserved : goal.loop-count-preserved

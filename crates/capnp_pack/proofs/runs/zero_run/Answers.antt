@@ -6,9 +6,9 @@ use Rattle.std.specs.List.{concat}
 use Rattle.capnp_pack.specs.Group.{IsWord}
 use Rattle.capnp_pack.specs.Packed.{IfFirst}
 use Rattle.capnp_pack.specs.Steps.{IsZero, tag_of}
-use Rattle.capnp_pack.proofs.AllLemmas.{AllByRecursion-take, AllByRecursion-drop}
-use Rattle.capnp_pack.proofs.Chunks.{each_word}
-use Rattle.capnp_pack.proofs.EightLemmas.{all_one, all_zero, all_more, first_of_part, zeros_declared}
+use Rattle.capnp_pack.proofs.words.AllLemmas.{AllByRecursion-take, AllByRecursion-drop}
+use Rattle.capnp_pack.proofs.words.Chunks.{each_word}
+use Rattle.capnp_pack.proofs.words.EightLemmas.{all_one, all_zero, all_more, first_of_part, zeros_declared}
 use Rattle.capnp_pack.proofs.runs.zero_run.Goals as goal
 
 pub returns-then-marks-ne0 : goal.returns-then-marks-ne0

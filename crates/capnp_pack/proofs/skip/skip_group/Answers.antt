@@ -1,6 +1,6 @@
 -- There is room for all that is asked for, or for each group.
 use Rattle.std.proofs.Common.{rules, ◌≡◌, ◌∙◌, length}
-use Rattle.capnp_pack.proofs.SkippedLemmas.{room_of, group_skipped, over_skipped}
+use Rattle.capnp_pack.proofs.unpacking.SkippedLemmas.{room_of, group_skipped, over_skipped}
 use Rattle.capnp_pack.proofs.skip.skip_group.Goals as goal
 
 pub returns-clause-takes : goal.returns-clause-takes

@@ -1,6 +1,6 @@
 -- What a pointer leads to, and each error on the way.
 use Rattle.std.proofs.Common.{sym, subst}
-use Rattle.capnp_frame.proofs.AskLemmas.{passed_on}
+use Rattle.capnp_frame.proofs.sources.AskLemmas.{passed_on}
 use Rattle.capnp_layout.specs.Pointer.{words_of}
 use Rattle.capnp_layout.specs.Object.{message_of, IsStart}
 use Rattle.capnp_layout.specs.Landing.{IsLanding}

@@ -1,10 +1,10 @@
 -- The root that is read is the list.
-use Rattle.capnp.proofs.RootLemmas.{tree_again}
 use Rattle.capnp_orphans.specs.OrphanLaws.{root_of_value}
 use Rattle.capnp_uses.specs.AccountLists.{IsAccountList}
+use Rattle.capnp_uses.proofs.WrittenLemmas.{tree_again}
 use Rattle.capnp_uses.proofs.account_list.accounts_are_read_back.Goals as goal
 
 pub returns-clause-back : goal.returns-clause-back
-returns-clause-back c = tree_again (IsAccountList c.args.accounts.now) (λ reader. reader.segments) c.read_again.result _
+returns-clause-back c = tree_again (IsAccountList c.args.accounts.now) (λ reader. reader.segments) c.write_and_read_back.result _
     (root_of_value (IsAccountList c.args.accounts.now) c.in_ok-list.list.word c.list_of_accounts.new.objects c.set_root.new.self c.in_ok-list.ensures.adds.orphan c.set_root.ensures)
-    c.read_again.ensures.back
+    c.write_and_read_back.ensures.back

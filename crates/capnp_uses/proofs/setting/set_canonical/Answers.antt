@@ -2,7 +2,7 @@
 use Rattle.capnp_wire.specs.Readers.{pointer_of}
 use Rattle.capnp_uses.proofs.SetLemmas.{canonical_as}
 use Rattle.capnp_uses.proofs.setting.set_canonical.Goals as goal
-use Rattle.capnp_build.proofs.PlaceLemmas.{on_ok}
+use Rattle.capnp_build.proofs.layouts.PlaceLemmas.{on_ok}
 
 pub returns : goal.returns
 returns g c =

@@ -1,10 +1,10 @@
 -- Each value is measured after those before it.
 use Rattle.std.proofs.Common.{rules, ◌≡◌, Err, Result, false, subst, sym, ap, arith}
 use Rattle.capnp_frame.specs.declared.error.Error.{Error}
-use Rattle.capnp_values.specs.declared.measured.TreeWords.{TreeWords}
-use Rattle.capnp_values.proofs.ItemLemmas.{MeasuresItems, measuring_begins, measuring_goes_on, measuring_stops, measuring_ends}
-use Rattle.capnp_values.proofs.AsIsLemmas.{as_part, as_parts, as_is_part, part_found, part_refused}
-use Rattle.capnp_values.proofs.SourceLemmas.{part_declared, part_made, lacks_declared, lacks_made}
+use Rattle.capnp_wire.specs.declared.traits.TreeWords.{TreeWords}
+use Rattle.capnp_values.proofs.lists.ItemLemmas.{MeasuresItems, measuring_begins, measuring_goes_on, measuring_stops, measuring_ends}
+use Rattle.capnp_values.proofs.values.AsIsLemmas.{as_part, as_parts, as_is_part, part_found, part_refused}
+use Rattle.capnp_values.proofs.values.SourceLemmas.{part_declared, part_made, lacks_declared, lacks_made}
 use Rattle.capnp_values.proofs.items.as_is_items.Goals as goal
 
 pub loop-index-init : goal.loop-index-init

@@ -1,6 +1,6 @@
 -- What is measured of the values so far.
 use Rattle.std.proofs.Common.{false}
-use Rattle.capnp_values.proofs.ItemLemmas.{ItemsMeasured}
+use Rattle.capnp_values.proofs.lists.ItemLemmas.{ItemsMeasured}
 use Rattle.capnp_values.proofs.items.as_is_items.Given as goal
 
 abbrev pub invariant-loop-index : goal.invariant-loop-index

@@ -1,35 +1,35 @@
 -- Each value is measured after those before it.
-use Rattle.std.proofs.Common.{rules, ◌≡◌, Err, Result, false, subst, sym, arith}
+use Rattle.std.proofs.Common.{rules, ◌≡◌, ◌+◌, Err, Result, false, subst, sym, arith}
 use Rattle.capnp_frame.specs.declared.error.Error.{Error}
 use Rattle.capnp_wire.proofs.views.PartWordLemmas.{output_words}
-use Rattle.capnp_values.specs.declared.measured.TreeWords.{TreeWords}
-use Rattle.capnp_values.proofs.ItemLemmas.{MeasuresItems, measuring_begins, measuring_goes_on, measuring_stops, measuring_ends}
-use Rattle.capnp_values.proofs.SourceLemmas.{part_declared, part_made, lacks_declared, lacks_made}
+use Rattle.capnp_wire.specs.declared.traits.TreeWords.{TreeWords}
+use Rattle.capnp_values.proofs.lists.ItemLemmas.{MeasuresItems, ItemsMeasured, measuring_begins, measuring_goes_on, measuring_stops, measuring_ends}
+use Rattle.capnp_values.proofs.values.SourceLemmas.{part_declared, part_made, lacks_declared, lacks_made}
 use Rattle.capnp_values.proofs.items.measure_items.Goals as goal
 
 pub loop-index-init : goal.loop-index-init
 loop-index-init g c = measuring_begins (g.S.ValueSource.has_tree c.args.items.now) (g.S.ValueSource.refuses c.args.items.now) c.args.canonical (g.S.ValueSource.items c.args.items.now)
 
-pub overflow_add-as_is : goal.overflow_add-as_is
-overflow_add-as_is g c = record { fits = omega (arith, c.loop-index.invariant.as_is_few, c.in_ok-own.ensures.returned.few, c.loop-index-test.true, c.len-count.ensures, c.requires) }
+pub both-words-requires-clause-as_is : goal.both-words-requires-clause-as_is
+both-words-requires-clause-as_is g c = omega (arith, c.loop-index.invariant.as_is_few, c.in_ok-own.ensures.returned.few, c.loop-index-test.true, c.len-count.ensures, c.requires)
 
-pub overflow_add-output : goal.overflow_add-output
-overflow_add-output g c = record {
-  fits = omega (
-    arith,
-    c.loop-index.invariant.output_few,
-    (output_words (g.S.Value.SetterInput.has_tree c.get-item.result) c.args.canonical c.in_ok-own.own c.in_ok-own.ensures.returned).few,
-    c.loop-index-test.true,
-    c.len-count.ensures,
-    c.requires,
-  );
-}
+pub both-words-requires-clause-output : goal.both-words-requires-clause-output
+both-words-requires-clause-output g c =
+    omega (
+      arith,
+      c.loop-index.invariant.output_few,
+      (output_words (g.S.Value.SetterInput.has_tree c.get-item.result) c.args.canonical c.in_ok-own.own c.in_ok-own.ensures.returned).few,
+      c.loop-index-test.true,
+      c.len-count.ensures,
+      c.requires,
+    )
 
 pub loop-index-preserved : goal.loop-index-preserved
 loop-index-preserved g c =
-    measuring_goes_on (g.S.ValueSource.has_tree c.args.items.now) (g.S.ValueSource.refuses c.args.items.now) c.args.canonical (g.S.ValueSource.items c.args.items.now) c.loop-index.index c.loop-index.words c.get-item.ensures.0 c.measure_part.result c.in_ok-own.own
+    subst (λ (x : TreeWords). ItemsMeasured (g.S.ValueSource.has_tree c.args.items.now) (g.S.ValueSource.refuses c.args.items.now) c.args.canonical (g.S.ValueSource.items c.args.items.now) (c.loop-index.index + 1) x) (sym c.both-words.ensures)
+    (measuring_goes_on (g.S.ValueSource.has_tree c.args.items.now) (g.S.ValueSource.refuses c.args.items.now) c.args.canonical (g.S.ValueSource.items c.args.items.now) c.loop-index.index c.loop-index.words c.get-item.ensures.0 c.measure_part.result c.in_ok-own.own
     (omega (arith, c.loop-index-test.true, c.len-count.ensures)) c.get-item.ensures.1 c.in_ok-own.was (part_declared c.get-item.ensures.2 c.args.canonical c.in_ok-own.own c.in_ok-own.ensures.returned) (λ t is. g.met.S.Value.SetterInput.one c.get-item.result t (c.get-item.ensures.2.trees_are t is)) (λ words has. c.measure_part.ensures.found words (part_made c.get-item.ensures.2 c.args.canonical words has)) (λ kind lacks. c.measure_part.ensures.exact kind (lacks_made c.get-item.ensures.2 false kind lacks))
-    c.loop-index.invariant
+    c.loop-index.invariant)
 
 pub returns-in_err-own : goal.returns-in_err-own
 returns-in_err-own g c =

@@ -3,7 +3,7 @@ use Rattle.std.proofs.Common.{◌≡◌, ◌+◌, ◌/◌, ◌<◌, ◌^◌, ◌
 use Rattle.capnp_layout.specs.Pointer.{number_of, words_of}
 use Rattle.capnp_layout.specs.Element.{width, words_for}
 use Rattle.capnp_layout.proofs.words.WordLemmas.{length-words_of}
-use Rattle.capnp_values.proofs.FullWordLemmas.{parted, full_put, last_put, numbers_end}
+use Rattle.capnp_values.proofs.numbers.FullWordLemmas.{parted, full_put, last_put, numbers_end}
 use Rattle.capnp_values.proofs.number_list.put_numbers.Goals as goal
 
 pub put_word-requires : goal.put_word-requires

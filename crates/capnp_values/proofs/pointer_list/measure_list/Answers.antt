@@ -1,12 +1,12 @@
 -- A list of pointers has a word for each, and those of the values.
-use Rattle.std.proofs.Common.{rules, ◌≡◌, ◌+◌, ◌-◌, ◌^◌, ◌∙◌, ℕ, min, Ok, Err, Result, subst, sym, ap, arith}
+use Rattle.std.proofs.Common.{rules, ◌≡◌, ◌+◌, ◌-◌, ◌^◌, ◌∙◌, ℕ, min, length, Ok, Err, Result, subst, sym, ap, arith}
 use Rattle.capnp_frame.specs.declared.error.Error.{Error}
 use Rattle.capnp_frame.specs.declared.error.ErrorKind.TheVariants.{AllocationTooLarge}
 use Rattle.capnp_values.specs.Measured.{Measures}
-use Rattle.capnp_values.specs.Lists.{IsPointerList, RefusesPointerList}
-use Rattle.capnp_values.specs.declared.measured.TreeWords.{TreeWords}
-use Rattle.capnp_values.proofs.ItemLemmas.{items_few}
-use Rattle.capnp_values.proofs.PointerListLemmas.{list_measured, list_too_long, list_refused}
+use Rattle.capnp_values.specs.Lists.{AreItems, IsPointerList, RefusesPointerList}
+use Rattle.capnp_wire.specs.declared.traits.TreeWords.{TreeWords}
+use Rattle.capnp_values.proofs.lists.ItemLemmas.{items_settled, measured_few}
+use Rattle.capnp_values.proofs.lists.PointerListLemmas.{list_measured, list_too_long, list_refused}
 use Rattle.capnp_values.proofs.pointer_list.measure_list.Goals as goal
 
 pub returns-then-count : goal.returns-then-count
@@ -22,13 +22,15 @@ returns-in_err-words g c =
 
 pub overflow_add-as_is : goal.overflow_add-as_is
 overflow_add-as_is g c =
-    let few = items_few (g.S.ValueSource.has_tree c.args.items.now) (g.S.ValueSource.refuses c.args.items.now) (g.S.ValueSource.items c.args.items.now) c.args.canonical c.measure_items.result c.in_ok-words.words c.in_ok-words.was c.measure_items.ensures in
-    record { fits = omega (arith, few.0, c.if-count.false) }
+    let few = measured_few (λ t. AreItems (g.S.ValueSource.has_tree c.args.items.now) (g.S.ValueSource.items c.args.items.now) t) c.args.canonical (length (g.S.ValueSource.items c.args.items.now)) c.in_ok-words.words
+    (items_settled (g.S.ValueSource.has_tree c.args.items.now) (g.S.ValueSource.items c.args.items.now)) c.in_ok-words.ensures.returned in
+    record { fits = omega (arith, few.0, c.if-count.false, c.len-count.ensures) }
 
 pub overflow_add-output : goal.overflow_add-output
 overflow_add-output g c =
-    let few = items_few (g.S.ValueSource.has_tree c.args.items.now) (g.S.ValueSource.refuses c.args.items.now) (g.S.ValueSource.items c.args.items.now) c.args.canonical c.measure_items.result c.in_ok-words.words c.in_ok-words.was c.measure_items.ensures in
-    record { fits = omega (arith, few.1, c.if-count.false) }
+    let few = measured_few (λ t. AreItems (g.S.ValueSource.has_tree c.args.items.now) (g.S.ValueSource.items c.args.items.now) t) c.args.canonical (length (g.S.ValueSource.items c.args.items.now)) c.in_ok-words.words
+    (items_settled (g.S.ValueSource.has_tree c.args.items.now) (g.S.ValueSource.items c.args.items.now)) c.in_ok-words.ensures.returned in
+    record { fits = omega (arith, few.1, c.if-count.false, c.len-count.ensures) }
 
 pub returns : goal.returns
 returns g c =

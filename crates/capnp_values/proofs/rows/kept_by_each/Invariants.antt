@@ -1,5 +1,5 @@
 -- What the structs so far need.
-use Rattle.capnp_values.proofs.KeptRowLemmas.{NeededSoFar}
+use Rattle.capnp_values.proofs.struct_lists.KeptRowLemmas.{NeededSoFar}
 use Rattle.capnp_values.proofs.rows.kept_by_each.Given as goal
 
 abbrev pub invariant-loop-index : goal.invariant-loop-index

@@ -1,11 +1,8 @@
--- How far the structs so far reach.
-use Rattle.std.proofs.Common.{[]}
-use Rattle.capnp_layout.specs.Tree.{none}
-use Rattle.capnp_values.specs.StructLists.{reach_of}
-use Rattle.capnp_values.proofs.RowMeasureLemmas.{RowsMeasured}
+-- The words of what the structs so far lead to.
+use Rattle.capnp_values.proofs.struct_lists.RowMeasureLemmas.{RowsMeasured}
 use Rattle.capnp_values.proofs.rows.measure_rows.Given as goal
 
 abbrev pub invariant-loop-index : goal.invariant-loop-index
 invariant-loop-index g l =
     RowsMeasured (g.S.StructSource.words l.items) (g.S.StructSource.has_trees l.items) (g.S.StructSource.refuses l.items) l.canonical g.S.Value.Element.data_words g.S.Value.Fields.size (g.S.StructSource.items l.items) l.index
-    (reach_of l.canonical g.S.Value.Element.data_words g.S.Value.Fields.size [] none) l.reach
+    l.words

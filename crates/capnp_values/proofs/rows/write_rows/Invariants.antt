@@ -1,6 +1,6 @@
 -- The structs so far are written.
 use Rattle.std.proofs.Common.{◌+◌, ◌*◌, length}
-use Rattle.capnp_values.proofs.StructRowLemmas.{RowsWritten}
+use Rattle.capnp_values.proofs.struct_lists.StructRowLemmas.{RowsWritten}
 use Rattle.capnp_values.proofs.rows.write_rows.Given as goal
 
 abbrev pub invariant-loop-index : goal.invariant-loop-index

@@ -4,7 +4,7 @@ use Rattle.std.proofs.lemmas.List.{length-map}
 use Rattle.capnp_layout.specs.Pointer.{words_of}
 use Rattle.capnp_layout.proofs.layouts.SizeLemmas.{length-body}
 use Rattle.capnp_wire.proofs.layouts.OpenLemmas.{room_output}
-use Rattle.capnp_values.proofs.StructListCopyLemmas.{list_place, list_even, structs_rooms, structs_many, list_copied}
+use Rattle.capnp_values.proofs.struct_lists.StructListCopyLemmas.{list_place, list_even, structs_rooms, structs_many, list_copied}
 use Rattle.capnp_values.proofs.tagged.write_list.Goals as goal
 
 pub kept_by_each-kept-requires : goal.kept_by_each-kept-requires

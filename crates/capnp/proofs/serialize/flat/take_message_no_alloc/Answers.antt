@@ -1,10 +1,16 @@
 -- The segments are those that are found.
 use Rattle.std.proofs.Common.{ap}
-use Rattle.capnp_frame.proofs.FlatReaderLemmas.{reads_shown, reads_passed}
+use Rattle.std.proofs.lemmas.Result.{err_from_is_err_and}
+use Rattle.capnp_frame.proofs.slices.FlatReaderLemmas.{reads_shown, reads_passed}
 use Rattle.capnp.proofs.serialize.flat.take_message_no_alloc.Goals as goal
 
-pub returns-in_err-segments-clause-reads : goal.returns-in_err-segments-clause-reads
-returns-in_err-segments-clause-reads c = reads_passed _ _ _ _ _ _ _ c.from_residual.ensures.1 c.in_err-segments.ensures
+pub returns-in_err-segments : goal.returns-in_err-segments
+returns-in_err-segments c =
+    let p = err_from_is_err_and c.from_residual.result c.from_residual.ensures.1 in
+    record { reads = reads_passed _ _ _ _ _ _ _ c.from_residual.ensures.1 (rw c.new-rules.ensures at c.in_err-segments.ensures); options_are = rw p.1 tt }
 
-pub returns-clause-reads : goal.returns-clause-reads
-returns-clause-reads c = reads_shown _ _ _ _ _ _ _ (ap (λ reader. reader.segments.segments) c.new.ensures) c.in_ok-segments.ensures
+pub returns : goal.returns
+returns c = record {
+  reads = reads_shown _ _ _ _ _ _ _ (ap (λ reader. reader.segments.segments) c.new.ensures) (rw c.new-rules.ensures at c.in_ok-segments.ensures);
+  options_are = ap (λ reader. reader.options) c.new.ensures;
+}

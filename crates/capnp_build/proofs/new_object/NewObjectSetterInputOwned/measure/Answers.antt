@@ -4,7 +4,7 @@ use Rattle.capnp_layout.specs.Tree.{none, tree}
 use Rattle.capnp_wire.proofs.views.OneValueLemmas.{IsOne, measured_found, measured_exactly}
 use Rattle.capnp_build.specs.NewBody.{zero_form, words_of_body}
 use Rattle.capnp_build.specs.declared.object.NewBody.{NewBody}
-use Rattle.capnp_build.proofs.NewObjectLemmas.{new_object_words}
+use Rattle.capnp_build.proofs.layouts.NewObjectLemmas.{new_object_words}
 use Rattle.capnp_build.proofs.new_object.NewObjectSetterInputOwned.measure.Goals as goal
 
 one_new : (body : NewBody) → IsOne (λ trees. trees ≡ tree (zero_form body) none none) (λ refusal. ⊥)

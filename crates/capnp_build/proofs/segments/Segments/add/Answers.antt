@@ -3,8 +3,8 @@ use Rattle.std.proofs.Common.{rules, ◌+◌, ◌^◌, ◌<◌, List, ◌∷◌,
 use Rattle.std.specs.Prelude.{⊤}
 use Rattle.capnp_build.specs.Bytes.{Space}
 use Rattle.capnp_build.specs.BuilderState.{BuilderState, pairs}
-use Rattle.capnp_build.proofs.BuilderStateLemmas.{other_added, other_keeps, same_pair}
-use Rattle.capnp_build.proofs.OutputLemmas.{added_words, no_words}
+use Rattle.capnp_build.proofs.states.BuilderStateLemmas.{other_added, other_keeps, same_pair}
+use Rattle.capnp_build.proofs.states.OutputLemmas.{added_words, no_words}
 use Rattle.capnp_build.proofs.segments.Segments.add.Goals as goal
 
 pub invariant_of-self-2 : goal.invariant_of-self-2

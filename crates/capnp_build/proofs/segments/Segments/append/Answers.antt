@@ -3,8 +3,8 @@ use Rattle.std.proofs.Common.{◌≡◌, suc, ◌∙◌, ◌<◌, ◌≤◌, Lis
 use Rattle.capnp_build.specs.Bytes.{Space}
 use Rattle.capnp_build.specs.Filled.{with_more}
 use Rattle.capnp_build.specs.BuilderState.{BuilderState, index_of, pair, spaces_of, space_at, free_words_of}
-use Rattle.capnp_build.proofs.BuilderStateLemmas.{other_edit}
-use Rattle.capnp_build.proofs.OutputLemmas.{edited_words, more_words}
+use Rattle.capnp_build.proofs.states.BuilderStateLemmas.{other_edit}
+use Rattle.capnp_build.proofs.states.OutputLemmas.{edited_words, more_words}
 use Rattle.capnp_build.proofs.segments.Segments.append.Goals as goal
 
 pub invariant_of-self-in-Further : goal.invariant_of-self-in-Further

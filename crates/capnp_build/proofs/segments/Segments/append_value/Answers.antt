@@ -6,8 +6,8 @@ use Rattle.capnp_layout.specs.Tree.{count}
 use Rattle.capnp_layout.specs.Layout.{pointer}
 use Rattle.capnp_build.specs.BuilderState.{BuilderState}
 use Rattle.capnp_layout.proofs.words.WordLemmas.{number_of_eight}
-use Rattle.capnp_build.proofs.PointLemmas.{block_there, longer_by}
-use Rattle.capnp_build.proofs.ReadyLemmas.{ready}
+use Rattle.capnp_build.proofs.layouts.PointLemmas.{block_there, longer_by}
+use Rattle.capnp_build.proofs.layouts.ReadyLemmas.{ready}
 use Rattle.capnp_build.proofs.segments.Segments.append_value.Goals as goal
 
 pub returns-clause-body : goal.returns-clause-body

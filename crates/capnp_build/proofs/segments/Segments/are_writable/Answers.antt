@@ -2,7 +2,7 @@
 use Rattle.std.proofs.Common.{subst}
 use Rattle.capnp_build.specs.BuilderState.{BuilderState, spaces_of}
 use Rattle.capnp_build.specs.Output.{CanBeWritten}
-use Rattle.capnp_build.proofs.OutputLemmas.{used_is_writable, few_spaces}
+use Rattle.capnp_build.proofs.states.OutputLemmas.{used_is_writable, few_spaces}
 use Rattle.capnp_build.proofs.segments.Segments.are_writable.Goals as goal
 
 pub returns : goal.returns

@@ -2,8 +2,8 @@
 use Rattle.std.proofs.Common.{◌≡◌, suc, ◌∙◌, ◌<◌, ◌≤◌, ◌*◌, List, length, ap, sym, subst}
 use Rattle.capnp_build.specs.Bytes.{Space, with_block}
 use Rattle.capnp_build.specs.BuilderState.{BuilderState, index_of, pair, spaces_of, space_at, free_words_of}
-use Rattle.capnp_build.proofs.BuilderStateLemmas.{other_edit}
-use Rattle.capnp_build.proofs.OutputLemmas.{edited_words, zero_words}
+use Rattle.capnp_build.proofs.states.BuilderStateLemmas.{other_edit}
+use Rattle.capnp_build.proofs.states.OutputLemmas.{edited_words, zero_words}
 use Rattle.capnp_build.proofs.segments.Segments.grow.Goals as goal
 
 pub invariant_of-self-in-Further : goal.invariant_of-self-in-Further

@@ -2,7 +2,7 @@
 use Rattle.std.proofs.Common.{◌≡◌, List, [], refl}
 use Rattle.capnp_build.specs.Out.{Out}
 use Rattle.capnp_build.specs.BuilderState.{pair}
-use Rattle.capnp_build.proofs.BuilderStateLemmas.{last_pair, last_alone, out_first, taken_first, none_left, only_first, returned_last, returned_first}
+use Rattle.capnp_build.proofs.states.BuilderStateLemmas.{last_pair, last_alone, out_first, taken_first, none_left, only_first, returned_last, returned_first}
 use Rattle.capnp_build.proofs.segments.Segments.into_allocator.Goals as goal
 
 pub return_segment-requires : goal.return_segment-requires

@@ -3,7 +3,7 @@ use Rattle.std.proofs.Common.{◌≡◌, ℕ, suc, ◌+◌, ◌/◌, ◌<◌, Li
 use Rattle.capnp_build.specs.Bytes.{Space}
 use Rattle.capnp_build.specs.BuilderState.{space_at}
 use Rattle.capnp_build.specs.Built.{size_in_words}
-use Rattle.capnp_build.proofs.SpaceLemmas.{size_more}
+use Rattle.capnp_build.proofs.states.SpaceLemmas.{size_more}
 use Rattle.capnp_build.proofs.segments.Segments.size_in_words.Goals as goal
 
 pub loop-index-preserved : goal.loop-index-preserved

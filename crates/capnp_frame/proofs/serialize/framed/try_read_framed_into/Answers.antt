@@ -1,23 +1,26 @@
 -- The framed encoding is in the buffer, with zero padding.
 use Rattle.std.proofs.Common.{length, rules, arith, refl, sym, subst}
 use Rattle.std.proofs.lemmas.Result.{err_from_is_err_and}
-use Rattle.capnp_frame.specs.declared.serialize.segment_table.Padding.TheVariants.{Zero}
 use Rattle.capnp_frame.specs.Limits.{KeepsLimit}
 use Rattle.capnp_frame.specs.Source.{IfKnown}
 use Rattle.capnp_frame.specs.Requests.{MessageStands}
-use Rattle.capnp_frame.proofs.ProvidedLemmas.{reads_into, refused_into}
-use Rattle.capnp_frame.proofs.FramedIntoLemmas.{padding_zeroed, zeroed_begins}
+use Rattle.capnp_frame.proofs.slices.ProvidedLemmas.{reads_into, refused_into}
+use Rattle.capnp_frame.proofs.slices.FramedIntoLemmas.{padding_zeroed, zeroed_begins}
 use Rattle.capnp_frame.proofs.serialize.framed.try_read_framed_into.Goals as goal
 
-pub returns-in_err-info-clause-reads : goal.returns-in_err-info-clause-reads
-returns-in_err-info-clause-reads g c =
+pub returns-in_err-info : goal.returns-in_err-info
+returns-in_err-info g c =
     let declared = c.in_err-info.ensures.asks in
     let p = err_from_is_err_and c.from_residual.result c.from_residual.ensures.1 in
-    rw (p.1, p.2) (refused_into Zero g.R.Read g.met.R.Read.lawful _ _ c.args.options.traversal_limit_in_words (length c.args.buffer.now) _
-    declared.refused declared.end declared.short declared.kinds declared.asked.failed declared.asked.advances)
+    rw (p.1, p.2) (record {
+      reads = refused_into c.args.rules.padding g.R.Read g.met.R.Read.lawful _ _ c.args.rules.limit_in_words (length c.args.buffer.now) _
+          declared.refused declared.end declared.short declared.kinds declared.asked.failed declared.asked.advances;
+      text = tt;
+      room = tt;
+    })
 
-pub returns-clause-reads : goal.returns-clause-reads
-returns-clause-reads g c =
+pub returns : goal.returns
+returns g c =
     let declared = c.in_ok-info.ensures in
     let message = rw c.in-Some.is at declared.message in
     let holds = message.holds in
@@ -25,22 +28,14 @@ returns-clause-reads g c =
     let few = holds.table.few in
     let zeros = c.fill.ensures.after (λ y e. e) in
     let zero = padding_zeroed c.read_into.new.buffer c.fill.new.self c.in-Some.info.segments_count _ _ holds refl (omega arith) (search (rules, zeros)) in
-    let keeps = message.within in
-    let stands = message.found in
-    let limit = c.args.options.traversal_limit_in_words in
-    reads_into Zero g.R.Read g.met.R.Read.lawful _ _ limit (length c.args.buffer.now) _
-    c.in-Some.info.segments_count _ zero.holds refl (search rules)
-    (subst (λ l. KeepsLimit l limit) (sym zero.lengths_are) keeps)
-    (subst (λ m. IfKnown (g.R.Read.unread c.args.source.now) (g.R.Read.unread c.read_into.new.source) (MessageStands Zero g.R.Read.gives m)) (sym zero.segments_are) stands)
-    (λ few. (declared.asks.short few).1) declared.asks.asked.advances
-
-pub returns-clause-text : goal.returns-clause-text
-returns-clause-text g c =
-    let message = rw c.in-Some.is at c.in_ok-info.ensures.message in
-    let total = message.total_is in
-    let holds = message.holds in
-    let size = c.table_len-segment_table_length_bytes.ensures in
-    let few = holds.table.few in
-    let zeros = c.fill.ensures.after (λ y e. e) in
-    let zero = padding_zeroed c.read_into.new.buffer c.fill.new.self c.in-Some.info.segments_count _ _ holds refl (omega arith) (search (rules, zeros)) in
-    zeroed_begins c.read_into.new.buffer _ c.in-Some.info.segments_count _ _ zero size total
+    let rule = c.args.rules.padding in
+    let limit = c.args.rules.limit_in_words in
+    record {
+      reads = reads_into rule g.R.Read g.met.R.Read.lawful _ _ limit (length c.args.buffer.now) _
+          c.in-Some.info.segments_count _ zero.holds refl (search rules)
+          (subst (λ l. KeepsLimit l limit) (sym zero.lengths_are) message.within)
+          (subst (λ m. IfKnown (g.R.Read.unread c.args.source.now) (g.R.Read.unread c.read_into.new.source) (MessageStands rule g.R.Read.gives m)) (sym zero.segments_are) message.found)
+          (λ few. (declared.asks.short few).1) declared.asks.asked.advances;
+      text = zeroed_begins c.read_into.new.buffer _ c.in-Some.info.segments_count _ _ zero size message.total_is;
+      room = search rules;
+    }

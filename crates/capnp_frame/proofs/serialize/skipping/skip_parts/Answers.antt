@@ -3,20 +3,21 @@ use Rattle.std.proofs.Common.{rules, ◌≡◌, ◌-◌, length, arith}
 use Rattle.std.proofs.lemmas.Result.{on_ok_weaker}
 use Rattle.capnp_frame.specs.Skipping.{Drops}
 use Rattle.capnp_frame.specs.Source.{IfKnown}
-use Rattle.capnp_frame.proofs.AskLemmas.{passed_on, Asked-err, Asked-after}
-use Rattle.capnp_frame.proofs.SourceLemmas.{Advances-join}
-use Rattle.capnp_frame.proofs.SkippingLemmas.{Drops-join, read_dropped, short_after, fails_after}
+use Rattle.capnp_frame.proofs.sources.AskLemmas.{passed_on, Asked-err, Asked-after}
+use Rattle.capnp_frame.proofs.sources.SourceLemmas.{Advances-join}
+use Rattle.capnp_frame.proofs.sources.SkippingLemmas.{Drops-join, read_dropped, short_after, fails_after}
 use Rattle.capnp_frame.proofs.serialize.skipping.skip_parts.Goals as goal
 
-pub returns-in_err-read_exact-clause-asked : goal.returns-in_err-read_exact-clause-asked
-returns-in_err-read_exact-clause-asked g c = Asked-err {X = Unit {0}} (g.met.R.Read.keeps.transitive _ _ _) c.from_residual.ensures.1 c.loop-left.invariant.advances
-    (record { failed = c.in_err-read_exact.ensures.failed; advances = c.read_exact.ensures.advances })
-
-pub returns-in_err-read_exact-clause-refused : goal.returns-in_err-read_exact-clause-refused
-returns-in_err-read_exact-clause-refused g c =
+pub returns-in_err-read_exact : goal.returns-in_err-read_exact
+returns-in_err-read_exact g c =
     let size : length c.read_exact.new.buffer ≡ length c.args.part.now = search rules in
-    passed_on _ _ c.from_residual.ensures.1 (short_after g.R.Read.refuses (c.args.count - c.loop-left.left) (length c.read_exact.new.buffer)
-    c.args.count _ _ _ g.met.R.BufRead.plain_refusals (omega (arith, size)) c.loop-left.invariant.dropped c.in_err-read_exact.ensures.refused)
+    record {
+      dropped = search rules;
+      refused = passed_on _ _ c.from_residual.ensures.1 (short_after g.R.Read.refuses (c.args.count - c.loop-left.left) (length c.read_exact.new.buffer)
+          c.args.count _ _ _ g.met.R.BufRead.plain_refusals (omega (arith, size)) c.loop-left.invariant.dropped c.in_err-read_exact.ensures.refused);
+      asked = Asked-err {X = Unit {0}} (g.met.R.Read.keeps.transitive _ _ _) c.from_residual.ensures.1 c.loop-left.invariant.advances
+          (record { failed = c.in_err-read_exact.ensures.failed; advances = c.read_exact.ensures.advances });
+    }
 
 pub loop-left-preserved : goal.loop-left-preserved
 loop-left-preserved g c =
@@ -29,15 +30,13 @@ loop-left-preserved g c =
       advances = Advances-join _ _ _ (g.met.R.Read.keeps.transitive _ _ _) c.loop-left.invariant.advances c.read_exact.ensures.advances;
     }
 
-pub returns-clause-dropped : goal.returns-clause-dropped
-returns-clause-dropped g c = on_ok_weaker c.skip_shown.result
-    (λ (rest : IfKnown (g.R.Read.unread c.loop-left.source) (g.R.Read.unread c.skip_shown.new.source) (Drops c.loop-left.left)).
-    Drops-join (c.args.count - c.loop-left.left) c.loop-left.left c.args.count _ _ _ (omega arith) c.loop-left.invariant.dropped rest)
-    c.skip_shown.ensures.dropped
-
-pub returns-clause-refused : goal.returns-clause-refused
-returns-clause-refused g c = fails_after g.R.Read.refuses (c.args.count - c.loop-left.left) c.loop-left.left c.args.count _ _ c.skip_shown.result
-    g.met.R.BufRead.plain_refusals (omega arith) c.loop-left.invariant.dropped c.skip_shown.ensures.refused
-
-pub returns-clause-asked : goal.returns-clause-asked
-returns-clause-asked g c = Asked-after c.skip_shown.result (g.met.R.Read.keeps.transitive _ _ _) c.loop-left.invariant.advances c.skip_shown.ensures.asked
+pub returns : goal.returns
+returns g c = record {
+  dropped = on_ok_weaker c.skip_shown.result
+      (λ (rest : IfKnown (g.R.Read.unread c.loop-left.source) (g.R.Read.unread c.skip_shown.new.source) (Drops c.loop-left.left)).
+      Drops-join (c.args.count - c.loop-left.left) c.loop-left.left c.args.count _ _ _ (omega arith) c.loop-left.invariant.dropped rest)
+      c.skip_shown.ensures.dropped;
+  refused = fails_after g.R.Read.refuses (c.args.count - c.loop-left.left) c.loop-left.left c.args.count _ _ c.skip_shown.result
+      g.met.R.BufRead.plain_refusals (omega arith) c.loop-left.invariant.dropped c.skip_shown.ensures.refused;
+  asked = Asked-after c.skip_shown.result (g.met.R.Read.keeps.transitive _ _ _) c.loop-left.invariant.advances c.skip_shown.ensures.asked;
+}

@@ -1,9 +1,9 @@
 -- Which test of a complete table fails.
 use Rattle.std.proofs.Common.{◌≡◌, length, rules}
 use Rattle.capnp_frame.specs.SegmentTable.{table_size}
-use Rattle.capnp_frame.proofs.AskLemmas.{passed_on}
-use Rattle.capnp_frame.proofs.MetRefusals.{limit_refuses, padding_refuses}
-use Rattle.capnp_frame.proofs.TableReading.{tells_complete}
+use Rattle.capnp_frame.proofs.sources.AskLemmas.{passed_on}
+use Rattle.capnp_frame.proofs.errors.MetRefusals.{limit_refuses, padding_refuses}
+use Rattle.capnp_frame.proofs.tables.TableReading.{tells_complete}
 use Rattle.capnp_frame.proofs.serialize.stream_table.fill_lengths.Goals as goal
 
 pub returns-in_err-check_limit-clause-refused : goal.returns-in_err-check_limit-clause-refused
@@ -12,7 +12,7 @@ returns-in_err-check_limit-clause-refused c =
     let declared = rw c.fill_segment_ranges-total.ensures.declared at c.fill_segment_ranges-total.ensures.ranges.total_is in
     let tells = tells_complete c.args.table.now (length c.fill_segment_ranges-total.new.indices) (search rules) size c.fill_segment_ranges-total.ensures.lengths in
     passed_on _ _ c.from_residual.ensures.1
-    (limit_refuses c.args.rule c.args.limit _ c.args.table.now _ _ tells size declared c.in_err-check_limit.ensures.refused)
+    (limit_refuses c.args.rules.now.padding c.args.rules.now.limit_in_words _ c.args.table.now _ _ tells size declared c.in_err-check_limit.ensures.refused)
 
 pub returns-in_err-check_padding-clause-refused : goal.returns-in_err-check_padding-clause-refused
 returns-in_err-check_padding-clause-refused c =
@@ -20,4 +20,4 @@ returns-in_err-check_padding-clause-refused c =
     let tells = tells_complete c.args.table.now (length c.fill_segment_ranges-total.new.indices) (search rules) size c.fill_segment_ranges-total.ensures.lengths in
     let broken = c.in_err-check_padding.ensures.refused in
     passed_on _ _ c.from_residual-in_err-check_padding.ensures.1
-    (padding_refuses c.args.rule c.args.limit _ c.args.table.now _ tells size (search rules) broken.1 broken.2)
+    (padding_refuses c.args.rules.now.padding c.args.rules.now.limit_in_words _ c.args.table.now _ tells size (search rules) broken.1 broken.2)

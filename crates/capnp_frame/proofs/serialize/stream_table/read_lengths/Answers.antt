@@ -4,9 +4,9 @@ use Rattle.std.proofs.lemmas.List.{take_all, length-drop, nil_from_length}
 use Rattle.std.proofs.lemmas.Result.{on_ok_weaker, IfErr-weaker}
 use Rattle.capnp_frame.specs.SegmentTable.{table_size}
 use Rattle.capnp_frame.specs.Source.{Giving, Refusing, IsSource, IsTail, IfKnown}
-use Rattle.capnp_frame.proofs.SourceLemmas.{IfKnown-refl}
-use Rattle.capnp_frame.proofs.MetRefusals.{complete_stops, complete_kind}
-use Rattle.capnp_frame.proofs.TableReading.{rest_stands}
+use Rattle.capnp_frame.proofs.sources.SourceLemmas.{IfKnown-refl}
+use Rattle.capnp_frame.proofs.errors.MetRefusals.{complete_stops, complete_kind}
+use Rattle.capnp_frame.proofs.tables.TableReading.{rest_stands}
 use Rattle.capnp_frame.proofs.serialize.stream_table.read_lengths.Goals as goal
 
 no_more : {gives : Giving} {refuses : Refusing} → IsSource gives refuses → (word : List ℕ) → length word ≡ 8
@@ -27,16 +27,16 @@ returns-then-size-eq8 g c =
     let declared = c.fill_lengths.ensures in
     let read = c.fill_lengths.result in
     record {
-      table = on_ok_weaker read (λ kept. rw declared.declared (rest_stands c.args.rule g.R.Read.gives word word _ _ _ front size declared.tells kept given)) declared.padding;
+      table = on_ok_weaker read (λ kept. rw declared.declared (rest_stands c.args.rules.now.padding g.R.Read.gives word word _ _ _ front size declared.tells kept given)) declared.padding;
       ranges = declared.ranges;
       bound = declared.bound;
       each = on_ok_weaker read (λ kept. rw declared.declared declared.tells.lengths.each) declared.padding;
       within = declared.within;
-      refused = IfErr-weaker read _ _ (λ error met. inr (complete_stops c.args.rule g.R.Read.gives g.R.Read.refuses c.args.limit error.kind word word _ _ _
+      refused = IfErr-weaker read _ _ (λ error met. inr (complete_stops c.args.rules.now.padding g.R.Read.gives g.R.Read.refuses c.args.rules.now.limit_in_words error.kind word word _ _ _
           front size given met)) declared.refused;
-      kinds = IfErr-weaker read _ _ (λ error met. (complete_kind c.args.rule g.R.Read.refuses c.args.limit error.kind word met).0) declared.refused;
+      kinds = IfErr-weaker read _ _ (λ error met. (complete_kind c.args.rules.now.padding g.R.Read.refuses c.args.rules.now.limit_in_words error.kind word met).0) declared.refused;
       asked = record {
-        failed = IfErr-weaker read _ _ (λ error met device. absurd ((complete_kind c.args.rule g.R.Read.refuses c.args.limit error.kind word met).1 device)) declared.refused;
+        failed = IfErr-weaker read _ _ (λ error met device. absurd ((complete_kind c.args.rules.now.padding g.R.Read.refuses c.args.rules.now.limit_in_words error.kind word met).1 device)) declared.refused;
         advances = record {
           tail = IfKnown-refl IsTail _ (λ raw. ([], refl));
           counted = omega arith;

@@ -2,9 +2,9 @@
 use Rattle.std.proofs.Common.{◌≡◌, ◌*◌, ◌/◌, ◌-◌, length, inr, rules, arith}
 use Rattle.std.proofs.lemmas.Result.{on_ok_weaker, IfErr-weaker}
 use Rattle.capnp_frame.specs.SegmentTable.{table_size}
-use Rattle.capnp_frame.proofs.AskLemmas.{passed_on}
-use Rattle.capnp_frame.proofs.MetRefusals.{others_stop, complete_stops, complete_kind, source_kind}
-use Rattle.capnp_frame.proofs.TableReading.{rest_stands}
+use Rattle.capnp_frame.proofs.sources.AskLemmas.{passed_on}
+use Rattle.capnp_frame.proofs.errors.MetRefusals.{others_stop, complete_stops, complete_kind, source_kind}
+use Rattle.capnp_frame.proofs.tables.TableReading.{rest_stands}
 use Rattle.capnp_frame.proofs.serialize.stream_table.read_lengths_by.Goals as goal
 
 pub returns-in_err-complete_table : goal.returns-in_err-complete_table
@@ -20,9 +20,9 @@ returns-in_err-complete_table g c =
       bound = search rules;
       each = search rules;
       within = search rules;
-      refused = passed_on _ _ is (others_stop c.args.rule g.R.Read.gives g.R.Read.refuses _ c.args.limit _ c.args.first.now
+      refused = passed_on _ _ is (others_stop c.args.rules.now.padding g.R.Read.gives g.R.Read.refuses _ c.args.rules.now.limit_in_words _ c.args.first.now
           (length c.args.indices.now) _ _ declared.asked.advances.tail (rw others at declared.refused));
-      kinds = passed_on _ _ is (source_kind c.args.rule g.R.Read.refuses _ _ _ declared.refused);
+      kinds = passed_on _ _ is (source_kind c.args.rules.now.padding g.R.Read.refuses _ _ _ declared.refused);
       asked = search rules;
     }
 
@@ -35,16 +35,16 @@ returns g c =
     let read = c.fill_lengths.result in
     let size : length table ≡ table_size (length c.fill_lengths.new.indices) = search rules in
     record {
-      table = on_ok_weaker read (λ kept. rw declared.declared (rest_stands c.args.rule g.R.Read.gives word table _ _ _ done.front size declared.tells kept done.others)) declared.padding;
+      table = on_ok_weaker read (λ kept. rw declared.declared (rest_stands c.args.rules.now.padding g.R.Read.gives word table _ _ _ done.front size declared.tells kept done.others)) declared.padding;
       ranges = declared.ranges;
       bound = declared.bound;
       each = on_ok_weaker read (λ kept. rw declared.declared declared.tells.lengths.each) declared.padding;
       within = declared.within;
-      refused = IfErr-weaker read _ _ (λ error met. inr (complete_stops c.args.rule g.R.Read.gives g.R.Read.refuses c.args.limit error.kind word table _ _ _
+      refused = IfErr-weaker read _ _ (λ error met. inr (complete_stops c.args.rules.now.padding g.R.Read.gives g.R.Read.refuses c.args.rules.now.limit_in_words error.kind word table _ _ _
           done.front size done.others met)) declared.refused;
-      kinds = IfErr-weaker read _ _ (λ error met. (complete_kind c.args.rule g.R.Read.refuses c.args.limit error.kind table met).0) declared.refused;
+      kinds = IfErr-weaker read _ _ (λ error met. (complete_kind c.args.rules.now.padding g.R.Read.refuses c.args.rules.now.limit_in_words error.kind table met).0) declared.refused;
       asked = record {
-        failed = IfErr-weaker read _ _ (λ error met device. absurd ((complete_kind c.args.rule g.R.Read.refuses c.args.limit error.kind table met).1 device)) declared.refused;
+        failed = IfErr-weaker read _ _ (λ error met device. absurd ((complete_kind c.args.rules.now.padding g.R.Read.refuses c.args.rules.now.limit_in_words error.kind table met).1 device)) declared.refused;
         advances = c.complete_table.ensures.asked.advances;
       };
     }

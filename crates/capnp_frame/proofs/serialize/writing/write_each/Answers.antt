@@ -2,10 +2,10 @@
 use Rattle.std.proofs.Common.{rules, arith}
 use Rattle.std.proofs.lemmas.List.{take_all}
 use Rattle.std.proofs.lemmas.Result.{err_from_is_err_and}
-use Rattle.capnp_frame.proofs.SourceLemmas.{Grows-join}
-use Rattle.capnp_frame.proofs.WritingLemmas.{written_next}
-use Rattle.capnp_frame.proofs.SinkLemmas.{stopped_at}
-use Rattle.capnp_frame.proofs.GrantLemmas.{stays_granted, granted_next, never_at}
+use Rattle.capnp_frame.proofs.sources.SourceLemmas.{Grows-join}
+use Rattle.capnp_frame.proofs.sinks.WritingLemmas.{written_next}
+use Rattle.capnp_frame.proofs.sinks.SinkLemmas.{stopped_at}
+use Rattle.capnp_frame.proofs.sinks.GrantLemmas.{stays_granted, granted_next, never_at}
 use Rattle.capnp_frame.proofs.serialize.writing.write_each.Goals as goal
 
 pub returns-in_err-write_all-clause-writes : goal.returns-in_err-write_all-clause-writes

@@ -6,8 +6,8 @@ use Rattle.std.specs.List.{concat}
 use Rattle.capnp_frame.specs.SegmentTable.{table_size}
 use Rattle.capnp_frame.specs.Writing.{table_chunks, serialized_words}
 use Rattle.capnp_frame.specs.Writers.{LacksTable, RefusesUnwritten}
-use Rattle.capnp_frame.proofs.GrantLemmas.{granted_first, granted_after, granted_words}
-use Rattle.capnp_frame.proofs.SinkLemmas.{front_refused, writes_after, writes_chunks, few_written, many_refused}
+use Rattle.capnp_frame.proofs.sinks.GrantLemmas.{granted_first, granted_after, granted_words}
+use Rattle.capnp_frame.proofs.sinks.SinkLemmas.{front_refused, writes_after, writes_chunks, few_written, many_refused}
 use Rattle.capnp_frame.proofs.serialize.writing.write_segments.Goals as goal
 
 pub returns-in_err-check_count : goal.returns-in_err-check_count

@@ -3,8 +3,8 @@ use Rattle.std.proofs.Common.{rules, ◌≡◌, ◌∙◌, length}
 use Rattle.std.proofs.lemmas.List.{take_at}
 use Rattle.capnp_frame.specs.SegmentTable.{table_size}
 use Rattle.capnp_frame.specs.Writers.{LacksTable}
-use Rattle.capnp_frame.proofs.GrantLemmas.{granted_as}
-use Rattle.capnp_frame.proofs.SinkLemmas.{writes_chunks}
+use Rattle.capnp_frame.proofs.sinks.GrantLemmas.{granted_as}
+use Rattle.capnp_frame.proofs.sinks.SinkLemmas.{writes_chunks}
 use Rattle.capnp_frame.proofs.serialize.writing.write_table.Goals as goal
 
 pub returns-then-count-lt4-clause-writes : goal.returns-then-count-lt4-clause-writes

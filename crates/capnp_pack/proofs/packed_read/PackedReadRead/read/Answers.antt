@@ -1,8 +1,8 @@
 -- A request that isn't whole words fails before anything is read.
 use Rattle.std.proofs.Common.{inr, ◌≡◌}
 use Rattle.capnp_pack.specs.UnpackingLaws.{not_plain}
-use Rattle.capnp_frame.proofs.SourceLemmas.{IfErr-vacuous}
-use Rattle.capnp_pack.proofs.ChunkLemmas.{part_refused}
+use Rattle.capnp_frame.proofs.sources.SourceLemmas.{IfErr-vacuous}
+use Rattle.capnp_pack.proofs.faults.ChunkLemmas.{part_refused}
 use Rattle.capnp_frame.specs.declared.error.Error.{Error}
 use Rattle.capnp_frame.specs.declared.error.ErrorKind.TheVariants.{DeviceFailed}
 use Rattle.capnp_pack.proofs.packed_read.PackedReadRead.read.Goals as goal

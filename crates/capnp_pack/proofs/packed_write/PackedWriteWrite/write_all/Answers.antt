@@ -1,8 +1,8 @@
 -- Whole words fail only where the sink fails.
 use Rattle.std.proofs.Common.{◌≡◌}
 use Rattle.capnp_frame.specs.declared.error.ErrorKind.TheVariants.{DeviceFailed}
-use Rattle.capnp_pack.proofs.PackerLemmas.{Packs-whole}
-use Rattle.capnp_pack.proofs.HandingLemmas.{declines_whole}
+use Rattle.capnp_pack.proofs.packing.PackerLemmas.{Packs-whole}
+use Rattle.capnp_pack.proofs.packing.HandingLemmas.{declines_whole}
 use Rattle.capnp_pack.proofs.packed_write.PackedWriteWrite.write_all.Goals as goal
 
 pub returns-clause-refused : goal.returns-clause-refused

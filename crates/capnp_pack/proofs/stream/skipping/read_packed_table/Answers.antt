@@ -1,11 +1,11 @@
 -- The requests of the table are packed chunks.
 use Rattle.std.proofs.Common.{rules, ◌≡◌}
-use Rattle.capnp_pack.proofs.PackedStreamLemmas.{packed_asks}
+use Rattle.capnp_pack.proofs.encodings.PackedStreamLemmas.{packed_table}
 use Rattle.capnp_pack.proofs.stream.skipping.read_packed_table.Goals as goal
 
-pub returns-clause-asks : goal.returns-clause-asks
-returns-clause-asks g c =
-    let declared = c.read_table.ensures.asks in
+pub returns : goal.returns
+returns g c =
+    let declared = c.read_table.ensures in
     let following : c.source-1.given.0 ≡ c.read_table.new.source.source.now = search rules in
-    let asks = packed_asks (λ p. p.source.now) g.R.Read _ _ _ c.args.rule _ _ c.read_table.result declared.asked.advances.same_source.1 declared in
-    rw following (rw c.new-packed.ensures.source at asks)
+    let table = packed_table (λ p. p.source.now) g.R.Read _ _ _ c.args.rules.padding _ _ c.read_table.result declared.asks.asked.advances.same_source.1 declared in
+    rw following (rw c.new-packed.ensures.source at table)

@@ -1,10 +1,7 @@
 -- The words of a list are those of its tree.
 use Rattle.capnp_values.specs.StructLists.{IsStructList, RefusesStructList}
-use Rattle.capnp_values.proofs.MeasuredLemmas.{measured_less, part_returned, part_found, part_exact}
+use Rattle.capnp_values.proofs.values.MeasuredLemmas.{part_returned, part_found, part_exact}
 use Rattle.capnp_values.proofs.lazy_struct_list.LazyStructListSetterInputOwned.measure_part.Goals as goal
-
-pub checked_part_words-requires : goal.checked_part_words-requires
-checked_part_words-requires g c = measured_less (λ t. IsStructList (g.S.StructSource.words c.args.self.now.source) (g.S.StructSource.has_trees c.args.self.now.source) g.S.Value.Element.data_words g.S.Value.Fields.size (g.S.StructSource.items c.args.self.now.source) t) c.args.canonical c.in_ok-words.words c.in_ok-words.ensures.returned
 
 pub returns-clause-returned : goal.returns-clause-returned
 returns-clause-returned g c =

@@ -1,7 +1,7 @@
 -- A null pointer leads to no words.
 use Rattle.std.proofs.Common.{◌-◌, ◌∙◌, sym}
 use Rattle.capnp_wire.proofs.layouts.FreeLemmas.{null_copied, body_long}
-use Rattle.capnp_values.proofs.NullLemmas.{IsNull}
+use Rattle.capnp_values.proofs.values.NullLemmas.{IsNull}
 use Rattle.capnp_values.proofs.null.NullSetterInput.write.Goals as goal
 
 pub returns-clause-written : goal.returns-clause-written

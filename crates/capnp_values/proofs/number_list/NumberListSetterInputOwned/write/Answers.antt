@@ -6,7 +6,7 @@ use Rattle.capnp_layout.specs.Layout.{list_pointer}
 use Rattle.capnp_layout.proofs.words.WordLemmas.{length-words_of}
 use Rattle.capnp_wire.proofs.layouts.FreeLemmas.{numbers_copied, as_output, body_long}
 use Rattle.capnp_values.specs.NumberLists.{IsNumberList}
-use Rattle.capnp_values.proofs.NumberListLemmas.{list_fits, list_room, numbers_put, part_long}
+use Rattle.capnp_values.proofs.numbers.NumberListLemmas.{list_fits, list_room, numbers_put, part_long}
 use Rattle.capnp_values.proofs.number_list.NumberListSetterInputOwned.write.Goals as goal
 
 pub overflow_cast-count : goal.overflow_cast-count

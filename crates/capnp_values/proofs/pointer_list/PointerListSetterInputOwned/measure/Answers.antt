@@ -1,6 +1,6 @@
 -- The words of a list are those of its tree.
 use Rattle.capnp_values.specs.Lists.{IsPointerList, RefusesPointerList}
-use Rattle.capnp_values.proofs.MeasuredLemmas.{whole_returned, whole_found, whole_exact}
+use Rattle.capnp_values.proofs.values.MeasuredLemmas.{whole_returned, whole_found, whole_exact}
 use Rattle.capnp_values.proofs.pointer_list.PointerListSetterInputOwned.measure.Goals as goal
 
 pub returns-clause-returned : goal.returns-clause-returned

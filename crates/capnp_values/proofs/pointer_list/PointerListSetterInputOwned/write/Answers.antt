@@ -4,8 +4,8 @@ use Rattle.capnp_layout.specs.Pointer.{words_of}
 use Rattle.capnp_wire.proofs.layouts.FreeLemmas.{free_later}
 use Rattle.capnp_layout.proofs.layouts.SizeLemmas.{length-body}
 use Rattle.capnp_wire.proofs.layouts.OpenLemmas.{room_output}
-use Rattle.capnp_values.proofs.ItemLemmas.{items_settled}
-use Rattle.capnp_values.proofs.PointerListLemmas.{values_total, values_rooms, values_begin, list_copied}
+use Rattle.capnp_values.proofs.lists.ItemLemmas.{items_settled}
+use Rattle.capnp_values.proofs.lists.PointerListLemmas.{values_total, values_rooms, values_begin, list_copied}
 use Rattle.capnp_values.proofs.pointer_list.PointerListSetterInputOwned.write.Goals as goal
 
 pub write_items-requires-clause-room : goal.write_items-requires-clause-room

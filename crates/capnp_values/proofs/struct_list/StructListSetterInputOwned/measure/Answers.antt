@@ -6,7 +6,7 @@ use Rattle.capnp_frame.specs.declared.error.ErrorKind.{ErrorKind}
 use Rattle.capnp_layout.specs.Tree.{Trees}
 use Rattle.capnp_wire.specs.Values.{HasWords, LacksWords}
 use Rattle.capnp_values.specs.StructLists.{IsStructList, RefusesStructList}
-use Rattle.capnp_values.proofs.MeasuredLemmas.{whole_returned, whole_found, whole_exact}
+use Rattle.capnp_values.proofs.values.MeasuredLemmas.{whole_returned, whole_found, whole_exact}
 use Rattle.capnp_values.proofs.struct_list.StructListSetterInputOwned.measure.Goals as goal
 
 pub returns-clause-returned : goal.returns-clause-returned

@@ -5,13 +5,10 @@ use Rattle.capnp_frame.specs.declared.error.Error.{Error}
 use Rattle.capnp_frame.specs.declared.error.ErrorKind.{ErrorKind}
 use Rattle.capnp_layout.specs.Tree.{Trees}
 use Rattle.capnp_wire.specs.Values.{HasPart, LacksWords}
-use Rattle.capnp_wire.specs.declared.traits.PartWords.{PartWords}
+use Rattle.capnp_wire.specs.declared.traits.TreeWords.{TreeWords}
 use Rattle.capnp_values.specs.StructLists.{IsStructList, RefusesStructList}
-use Rattle.capnp_values.proofs.MeasuredLemmas.{measured_less, part_returned, part_found, part_exact}
+use Rattle.capnp_values.proofs.values.MeasuredLemmas.{part_returned, part_found, part_exact}
 use Rattle.capnp_values.proofs.struct_list.StructListSetterInputOwned.measure_part.Goals as goal
-
-pub checked_part_words-requires : goal.checked_part_words-requires
-checked_part_words-requires g c = measured_less (λ t. IsStructList g.E.Element.words g.E.Fields.has_trees g.E.Element.data_words g.E.Fields.size c.args.self.now.items.now t) c.args.canonical c.in_ok-words.words c.in_ok-words.ensures.returned
 
 pub returns-clause-returned : goal.returns-clause-returned
 returns-clause-returned g c =
@@ -30,4 +27,4 @@ returns-in_err-words-clause-returned g c =
     let h = λ (t : Trees). IsStructList g.E.Element.words g.E.Fields.has_trees g.E.Element.data_words g.E.Fields.size c.args.self.now.items.now t in
     let r = λ (k : ErrorKind). RefusesStructList g.E.Fields.has_trees g.E.Fields.refuses g.E.Element.data_words g.E.Fields.size c.args.self.now.items.now k in
     let was : c.from_residual.result ≡ Err c.in_err-words.field-0.0 = search rules in
-    subst (λ (x : Result PartWords Error). MatchResult x (λ words. HasPart h c.args.canonical words) (λ error. LacksWords h r false error.kind)) (sym was) (inl c.in_err-words.ensures.returned)
+    subst (λ (x : Result TreeWords Error). MatchResult x (λ words. HasPart h c.args.canonical words) (λ error. LacksWords h r false error.kind)) (sym was) (inl c.in_err-words.ensures.returned)

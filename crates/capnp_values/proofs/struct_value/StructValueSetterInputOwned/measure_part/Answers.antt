@@ -1,11 +1,8 @@
 -- The words of a struct are those of its tree.
 use Rattle.std.proofs.Common.{length}
 use Rattle.capnp_values.specs.Structs.{IsStruct, RefusesStruct}
-use Rattle.capnp_values.proofs.MeasuredLemmas.{measured_less, part_returned, part_found, part_exact}
+use Rattle.capnp_values.proofs.values.MeasuredLemmas.{part_returned, part_found, part_exact}
 use Rattle.capnp_values.proofs.struct_value.StructValueSetterInputOwned.measure_part.Goals as goal
-
-pub checked_part_words-requires : goal.checked_part_words-requires
-checked_part_words-requires g c = measured_less (λ t. IsStruct c.args.self.now.words g.F.Fields.size (g.F.Fields.has_trees c.args.self.now.fields) t) c.args.canonical c.in_ok-words.words c.in_ok-words.ensures.returned
 
 pub returns-clause-returned : goal.returns-clause-returned
 returns-clause-returned g c =

@@ -5,7 +5,7 @@ use Rattle.capnp_layout.specs.Pointer.{words_of}
 use Rattle.capnp_layout.specs.Reached.{root}
 use Rattle.capnp_layout.proofs.words.WordLemmas.{length-words_of}
 use Rattle.capnp_layout.proofs.objects.ElementLemmas.{all_words_below}
-use Rattle.capnp_frame.proofs.AskLemmas.{passed_on}
+use Rattle.capnp_frame.proofs.sources.AskLemmas.{passed_on}
 use Rattle.capnp_layout.proofs.pointers.LandingPadLemmas.{passed_kind}
 use Rattle.capnp_wire.proofs.walks.MetLemmas.{no_word_ends}
 use Rattle.capnp_wire.proofs.walks.OneEndLemmas.{refused_passes, one_way_to_end, one_refusal_ends}

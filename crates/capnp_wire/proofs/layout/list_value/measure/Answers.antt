@@ -14,5 +14,5 @@ returns g c =
     let own_counted = rw c.new-walk.ensures.words at c.count.ensures.words in
     let counted = rw (← c.words.ensures) at found.counted (0 + c.args.count) (own_counted 0 refl) in
     list_measured pointers m (places first.segment first.word c.args.count) c.args.nesting c.args.limit _ c.args.canonical (counted_by c.count.new.self) _ c.args.count
-    (own_pointers m first c.args.count c.args.canonical c.requires.few) found (0 + c.args.count + found.words) (omega arith) c.checked_word_count.result
-    (c.checked_word_count.ensures (0 + c.args.count + found.words) counted)
+    (own_pointers m first c.args.count c.args.canonical c.requires.few) found (0 + c.args.count + found.words) (omega arith) c.checked_walk.result
+    (c.checked_walk.ensures (0 + c.args.count + found.words) counted)

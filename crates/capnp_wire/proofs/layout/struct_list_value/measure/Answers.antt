@@ -52,4 +52,4 @@ returns g c =
     let room : first.word + elements.count * (size.data_words + size.pointers) ≤ length (words_of c.args.segment.now) = omega (arith, c.requires.room, length-words_of c.args.segment.now) in
     list_measured (structs_along words first elements) m at c.args.nesting c.args.limit _ c.args.canonical (counted_by c.count.new.self) _ _
     (own_structs m words first elements c.args.canonical c.requires.content room c.words_fit.ensures.words (omega arith) (omega arith) c.requires.few c.requires.few_words) found
-    (0 + own + found.words) (omega (arith, own_is)) c.checked_word_count.result (c.checked_word_count.ensures (0 + own + found.words) counted)
+    (0 + own + found.words) (omega (arith, own_is)) c.checked_walk.result (c.checked_walk.ensures (0 + own + found.words) counted)

@@ -2,7 +2,7 @@
 use Rattle.std.proofs.Common.{◌≡◌, ◌+◌, ◌≤◌, ◌∙◌, ap, refl, length, arith}
 use Rattle.capnp_layout.specs.Pointer.{words_of}
 use Rattle.capnp_layout.specs.Object.{message_of}
-use Rattle.capnp_layout.specs.Landing.{words_in}
+use Rattle.capnp_layout.specs.Body.{words_in}
 use Rattle.capnp_layout.specs.Output.{output_body_of}
 use Rattle.capnp_layout.specs.declared.object.Body.TheVariants.{Struct}
 use Rattle.capnp_layout.proofs.words.WordLemmas.{length-words_of}
@@ -21,5 +21,5 @@ returns g c =
     let own : c.words.result ≡ words_in (output_body_of c.args.canonical (words_of c.args.segment.now) c.args.start.word (Struct c.args.size)) = c.words.ensures ∙ ap words_in c.output_body.ensures.body in
     let room : c.args.start.word + (c.args.size.data_words + c.args.size.pointers) ≤ length (words_of c.args.segment.now) = omega (arith, c.requires.room, length-words_of c.args.segment.now) in
     struct_measured m words c.args.start c.args.size c.args.nesting c.args.limit c.walk_pointers.new.self.left c.args.canonical (counted_by c.count.new.self) (counted_by c.walk_pointers.new.self)
-    c.requires.content room (omega arith) (omega arith) c.words_fit.ensures.words found (0 + c.words.result + found.words) (omega (arith, own)) c.checked_word_count.result
-    (c.checked_word_count.ensures (0 + c.words.result + found.words) counted)
+    c.requires.content room (omega arith) (omega arith) c.words_fit.ensures.words found (0 + c.words.result + found.words) (omega (arith, own)) c.checked_walk.result
+    (c.checked_walk.ensures (0 + c.words.result + found.words) counted)

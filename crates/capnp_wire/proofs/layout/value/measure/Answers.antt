@@ -11,6 +11,6 @@ returns g c =
     let found = rw (c.new-walk.ensures.left, c.new-walk.ensures.words) at c.in_ok-walk.ensures.found in
     let all_counted = rw (← c.words.ensures) at found.counted 0 refl in
     record {
-      returned = result_fits m c.args.place c.args.nesting c.args.limit c.walk.new.self.left c.args.canonical (counted_by c.walk.new.self) found c.checked_word_count.result (c.checked_word_count.ensures
+      returned = result_fits m c.args.place c.args.nesting c.args.limit c.walk.new.self.left c.args.canonical (counted_by c.walk.new.self) found c.checked_walk.result (c.checked_walk.ensures
           (0 + found.words) all_counted);
     }

@@ -5,7 +5,7 @@ use Rattle.capnp_build.specs.Built.{HasNullRoot, message, Built, IsBuilt}
 use Rattle.capnp_layout.specs.Object.{word_at}
 use Rattle.capnp_layout.specs.Reached.{root}
 use Rattle.capnp_build.specs.declared.arena.location.RootLocation.{RootLocation}
-use Rattle.capnp_build.proofs.SpaceLemmas.{root_appended}
+use Rattle.capnp_build.proofs.states.SpaceLemmas.{root_appended}
 use Rattle.capnp_build.proofs.arena.builder_arena.BuilderArena.find_room.Goals as goal
 
 added : (spaces more : List Space) (s : Space) → 0 < length spaces → more ≡ spaces ++ s ∷ [] → HasNullRoot spaces → HasNullRoot more

@@ -4,8 +4,8 @@ use Rattle.std.proofs.lemmas.List.{length-replicate}
 use Rattle.capnp_build.specs.BuilderState.{space_at, KeepsOthers}
 use Rattle.capnp_build.specs.Built.{size_in_words, Built, state_of, KeepsBytes}
 use Rattle.capnp_build.specs.declared.arena.location.RootLocation.{RootLocation}
-use Rattle.capnp_build.proofs.PointLemmas.{longer_by, keeps_of}
-use Rattle.capnp_build.proofs.ReadyLemmas.{value_set}
+use Rattle.capnp_build.proofs.layouts.PointLemmas.{longer_by, keeps_of}
+use Rattle.capnp_build.proofs.layouts.ReadyLemmas.{value_set}
 use Rattle.capnp_build.proofs.arena.builder_arena.BuilderArena.put_far.Goals as goal
 
 pub invariant_of-self : goal.invariant_of-self

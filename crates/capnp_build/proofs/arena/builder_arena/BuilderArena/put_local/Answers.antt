@@ -4,9 +4,9 @@ use Rattle.capnp_build.specs.BuilderState.{space_at, KeepsOthers}
 use Rattle.capnp_build.specs.Built.{size_in_words, Built, state_of, IsBuilt, KeepsBytes}
 use Rattle.capnp_build.specs.Placed.{IsAtEnd}
 use Rattle.capnp_build.specs.declared.arena.location.RootLocation.{RootLocation}
-use Rattle.capnp_build.proofs.NullLemmas.{root_room}
-use Rattle.capnp_build.proofs.PointLemmas.{keeps_of}
-use Rattle.capnp_build.proofs.ReadyLemmas.{value_set, value_whole}
+use Rattle.capnp_build.proofs.roots.NullLemmas.{root_room}
+use Rattle.capnp_build.proofs.layouts.PointLemmas.{keeps_of}
+use Rattle.capnp_build.proofs.layouts.ReadyLemmas.{value_set, value_whole}
 use Rattle.capnp_build.proofs.arena.builder_arena.BuilderArena.put_local.Goals as goal
 
 pub append_value-location-requires-clause-following : goal.append_value-location-requires-clause-following

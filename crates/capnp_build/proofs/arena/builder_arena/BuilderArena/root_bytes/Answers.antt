@@ -9,9 +9,9 @@ use Rattle.capnp_build.specs.Built.{Built, message, HasNullRoot, IsBuilt}
 use Rattle.capnp_build.specs.RootKind.{HoldsForm}
 use Rattle.capnp_build.specs.RootViews.{HoldsTree}
 use Rattle.capnp_build.specs.declared.arena.location.RootLocation.{RootLocation}
-use Rattle.capnp_build.proofs.SpaceLemmas.{got_used}
-use Rattle.capnp_build.proofs.NullLemmas.{null_only}
-use Rattle.capnp_build.proofs.RootBytesLemmas.{no_bytes, its_bytes, holds_there}
+use Rattle.capnp_build.proofs.states.SpaceLemmas.{got_used}
+use Rattle.capnp_build.proofs.roots.NullLemmas.{null_only}
+use Rattle.capnp_build.proofs.roots.RootBytesLemmas.{no_bytes, its_bytes, holds_there}
 use Rattle.capnp_build.proofs.arena.builder_arena.BuilderArena.root_bytes.Goals as goal
 
 pub returns-in_default-clause-form : goal.returns-in_default-clause-form

@@ -8,9 +8,9 @@ use Rattle.capnp_layout.specs.Reached.{Root}
 use Rattle.capnp_layout.specs.Layout.{pointer, HasRoom}
 use Rattle.capnp_build.specs.declared.root_kind.RootKind.{RootKind}
 use Rattle.capnp_build.specs.declared.arena.location.RootLocation.{RootLocation}
-use Rattle.capnp_build.proofs.LaidLemmas.{laid_as}
-use Rattle.capnp_build.proofs.NullLemmas.{null_only}
-use Rattle.capnp_build.proofs.ReadLemmas.{shown_there}
+use Rattle.capnp_build.proofs.layouts.LaidLemmas.{laid_as}
+use Rattle.capnp_build.proofs.roots.NullLemmas.{null_only}
+use Rattle.capnp_build.proofs.roots.ReadLemmas.{shown_there}
 use Rattle.capnp_build.proofs.arena.builder_arena.BuilderArena.root_kind.Goals as goal
 
 shown_of : (spaces : List Space) (location : RootLocation) (s : RootKind) → IsBuilt spaces (Some location) → ((form : Form) (n : ℕ) → HasRoom form n → location.pointer_word ≡ pointer form n 0 → ShowsRoot s form)

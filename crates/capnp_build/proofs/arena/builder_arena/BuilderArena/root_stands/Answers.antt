@@ -5,8 +5,8 @@ use Rattle.capnp_build.specs.Built.{message, Built, IsBuilt}
 use Rattle.capnp_layout.specs.Tree.{Form, null, Trees, none, tree}
 use Rattle.capnp_layout.specs.Reached.{At, root}
 use Rattle.capnp_build.specs.declared.arena.location.RootLocation.{RootLocation}
-use Rattle.capnp_build.proofs.LaidLemmas.{laid_root}
-use Rattle.capnp_build.proofs.NullLemmas.{null_root}
+use Rattle.capnp_build.proofs.layouts.LaidLemmas.{laid_root}
+use Rattle.capnp_build.proofs.roots.NullLemmas.{null_root}
 use Rattle.capnp_build.proofs.arena.builder_arena.BuilderArena.root_stands.Goals as goal
 
 abbrev HasRoot : List Space → Type 0

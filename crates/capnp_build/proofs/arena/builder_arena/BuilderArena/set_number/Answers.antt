@@ -6,9 +6,9 @@ use Rattle.capnp_build.specs.BuilderState.{BuilderState}
 use Rattle.capnp_build.specs.Built.{Built, HasNullRoot, IsBuilt}
 use Rattle.capnp_build.specs.Written.{IsWritten, HasNumber, IsNumberSet}
 use Rattle.capnp_build.specs.declared.arena.location.RootLocation.{RootLocation}
-use Rattle.capnp_build.proofs.WriteLemmas.{written_at, number_known, number_inside, number_room, number_set, no_list}
-use Rattle.capnp_build.proofs.NullLemmas.{null_only}
-use Rattle.capnp_build.proofs.ReadLemmas.{number_laid}
+use Rattle.capnp_build.proofs.writes.WriteLemmas.{written_at, number_known, number_inside, number_room, number_set, no_list}
+use Rattle.capnp_build.proofs.roots.NullLemmas.{null_only}
+use Rattle.capnp_build.proofs.roots.ReadLemmas.{number_laid}
 use Rattle.capnp_build.proofs.arena.builder_arena.BuilderArena.set_number.Goals as goal
 
 pub write_at-requires-clause-room : goal.write_at-requires-clause-room

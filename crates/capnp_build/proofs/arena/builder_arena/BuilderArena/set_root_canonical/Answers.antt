@@ -3,11 +3,11 @@ use Rattle.std.proofs.Common.{rules, length, ap, arith, refl}
 use Rattle.std.proofs.lemmas.Result.{err_from_is_err_and}
 use Rattle.capnp_build.specs.BuilderState.{space_at, free_words_of}
 use Rattle.capnp_build.specs.Built.{Built}
-use Rattle.capnp_build.proofs.OutcomeLemmas.{cleared_root, still_granted}
-use Rattle.capnp_build.proofs.CanonicalLemmas.{canonical_unmeasured, canonical_full, none_refused}
-use Rattle.capnp_build.proofs.FirstLemmas.{first_put}
-use Rattle.capnp_build.proofs.KeptLemmas.{zero_stays, outside_stays}
-use Rattle.capnp_build.proofs.PlaceLemmas.{placed_local}
+use Rattle.capnp_build.proofs.outcomes.OutcomeLemmas.{cleared_root, still_granted}
+use Rattle.capnp_build.proofs.outcomes.CanonicalLemmas.{canonical_unmeasured, canonical_full, none_refused}
+use Rattle.capnp_build.proofs.outcomes.FirstLemmas.{first_put}
+use Rattle.capnp_build.proofs.states.KeptLemmas.{zero_stays, outside_stays}
+use Rattle.capnp_build.proofs.layouts.PlaceLemmas.{placed_local}
 use Rattle.capnp_build.proofs.arena.builder_arena.BuilderArena.set_root_canonical.Goals as goal
 
 pub returns : goal.returns

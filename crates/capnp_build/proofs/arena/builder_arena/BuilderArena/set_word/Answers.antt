@@ -6,9 +6,9 @@ use Rattle.capnp_build.specs.Built.{Built, HasNullRoot, IsBuilt}
 use Rattle.capnp_build.specs.Written.{IsWritten, HasField, IsFieldSet}
 use Rattle.capnp_layout.specs.Tree.{null, struct}
 use Rattle.capnp_build.specs.declared.arena.location.RootLocation.{RootLocation}
-use Rattle.capnp_build.proofs.FieldLemmas.{field_laid}
-use Rattle.capnp_build.proofs.NullLemmas.{null_only}
-use Rattle.capnp_build.proofs.WriteLemmas.{written_at, field_known, field_inside, field_room, field_set, no_struct}
+use Rattle.capnp_build.proofs.writes.FieldLemmas.{field_laid}
+use Rattle.capnp_build.proofs.roots.NullLemmas.{null_only}
+use Rattle.capnp_build.proofs.writes.WriteLemmas.{written_at, field_known, field_inside, field_room, field_set, no_struct}
 use Rattle.capnp_build.proofs.arena.builder_arena.BuilderArena.set_word.Goals as goal
 
 pub write_at-requires-clause-room : goal.write_at-requires-clause-room

@@ -7,9 +7,9 @@ use Rattle.capnp_build.specs.BuilderState.{BuilderState}
 use Rattle.capnp_build.specs.Built.{Built, HasNullRoot, IsBuilt}
 use Rattle.capnp_build.specs.Written.{IsWritten, HasBytes, IsBytesSet}
 use Rattle.capnp_build.specs.declared.arena.location.RootLocation.{RootLocation}
-use Rattle.capnp_build.proofs.SpaceLemmas.{got_low, got_none}
-use Rattle.capnp_build.proofs.NullLemmas.{null_only}
-use Rattle.capnp_build.proofs.WriteLemmas.{written_at, bytes_inside, bytes_room, bytes_rewritten, bytes_set, no_bytes}
+use Rattle.capnp_build.proofs.states.SpaceLemmas.{got_low, got_none}
+use Rattle.capnp_build.proofs.roots.NullLemmas.{null_only}
+use Rattle.capnp_build.proofs.writes.WriteLemmas.{written_at, bytes_inside, bytes_room, bytes_rewritten, bytes_set, no_bytes}
 use Rattle.capnp_build.proofs.arena.builder_arena.BuilderArena.write_bytes.Goals as goal
 
 pub returns-in_default : goal.returns-in_default

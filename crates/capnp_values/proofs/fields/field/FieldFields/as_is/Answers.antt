@@ -2,15 +2,15 @@
 use Rattle.std.proofs.Common.{rules, ◌≡◌, ap, Ok, Err, ℕ, false}
 use Rattle.capnp_layout.specs.Tree.{tree, none, total_words}
 use Rattle.capnp_wire.proofs.views.PartWordLemmas.{as_is_words}
-use Rattle.capnp_values.proofs.PartLemmas.{part_sizes, has_part}
-use Rattle.capnp_values.proofs.ResultLemmas.{ok_not_err, err_kind, refused_first, refused_rest}
-use Rattle.capnp_values.proofs.AsIsLemmas.{as_part, as_parts, part_found, part_refused, front_total, front_found}
+use Rattle.capnp_values.proofs.values.PartLemmas.{words_of_part, has_part}
+use Rattle.capnp_values.proofs.values.ResultLemmas.{ok_not_err, err_kind, refused_first, refused_rest}
+use Rattle.capnp_values.proofs.values.AsIsLemmas.{as_part, as_parts, part_found, part_refused, front_total, front_found}
 use Rattle.capnp_values.proofs.fields.field.FieldFields.as_is.Goals as goal
 
 pub returns-in_err-own-clause-found : goal.returns-in_err-own-clause-found
 returns-in_err-own-clause-found g c trees is =
     let h = g.V.SetterInput.has_tree c.args.self.now.value in
-    let found = c.measure.ensures.found (total_words (tree is.form is.children none)) (as_is_words h false (part_sizes false is.form is.children) (has_part h false is.form is.children is.part)) in
+    let found = c.measure.ensures.found (total_words (tree is.form is.children none)) (as_is_words h false (words_of_part false is.form is.children) (has_part h false is.form is.children is.part)) in
     let was : c.measure.result ≡ Err c.in_err-own.field-0.0 = c.in_err-own.was in
     absurd (cc)
 

@@ -1,6 +1,6 @@
 -- The first value is written, and its pointer put, and then those after it.
 use Rattle.std.proofs.Common.{◌≡◌, suc, ◌-◌, arith}
-use Rattle.capnp_values.proofs.RowLemmas.{first_room, row_step, row_written, none_row_written}
+use Rattle.capnp_values.proofs.structs.RowLemmas.{first_room, row_step, row_written, none_row_written}
 use Rattle.capnp_values.proofs.fields.field.FieldFields.write.Goals as goal
 
 pub returns-then-count-eq0-clause-written : goal.returns-then-count-eq0-clause-written

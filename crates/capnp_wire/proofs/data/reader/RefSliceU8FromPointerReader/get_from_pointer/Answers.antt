@@ -7,4 +7,4 @@ use Rattle.capnp_wire.proofs.data.reader.RefSliceU8FromPointerReader.get_from_po
 pub returns : goal.returns
 returns g c =
     let p = pointer_of g.S.ReaderSegments.segments c.args.reader in
-    is_view_of p (TakesNumbers 2) (DeclinesNumbers 2) _ (numbers_decide 2) (λ view shown. data_accepted p view.now shown) c.read_bytes.result c.read_bytes.ensures
+    is_view_of p (TakesNumbers 2) (DeclinesNumbers 2) _ (numbers_decide 2) (λ view shown. data_accepted p view.now shown) c.read.result c.read.ensures

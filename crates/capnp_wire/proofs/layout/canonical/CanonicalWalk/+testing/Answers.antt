@@ -4,7 +4,7 @@ use Rattle.capnp_layout.specs.Pointer.{words_of}
 use Rattle.capnp_layout.specs.Rows.{places_in}
 use Rattle.capnp_layout.proofs.words.WordLemmas.{length-words_of}
 use Rattle.capnp_layout.proofs.objects.ElementLemmas.{all_words_below}
-use Rattle.capnp_frame.proofs.AskLemmas.{passed_on}
+use Rattle.capnp_frame.proofs.sources.AskLemmas.{passed_on}
 use Rattle.capnp_wire.proofs.walks.GoingLemmas.{null_passes, going_begins, going_next, going_ends, going_done, met_passes, pointers_pass, pointers_end, pointers_refused}
 use Rattle.capnp_wire.proofs.layout.canonical.CanonicalWalk.+testing.Goals as goal
 

@@ -3,7 +3,7 @@ use Rattle.std.proofs.Common.{◌∷◌, [], ◌∙◌, Some, refl, ap}
 use Rattle.capnp_layout.specs.Pointer.{words_of}
 use Rattle.capnp_wire.specs.Tested.{far}
 use Rattle.capnp_layout.specs.Faults.{past_segment}
-use Rattle.capnp_frame.proofs.AskLemmas.{passed_on}
+use Rattle.capnp_frame.proofs.sources.AskLemmas.{passed_on}
 use Rattle.capnp_wire.proofs.walks.MetLemmas.{no_word_ends}
 use Rattle.capnp_wire.proofs.layout.canonical.CanonicalWalk.visit.Goals as goal
 

@@ -3,7 +3,7 @@ use Rattle.std.proofs.Common.{◌∙◌, refl, arith}
 use Rattle.capnp_layout.specs.Rows.{places_in}
 use Rattle.capnp_wire.specs.Traversed.{counted}
 use Rattle.capnp_wire.proofs.pointers.EmptyStructLemmas.{null_or_empty_walked}
-use Rattle.capnp_frame.proofs.AskLemmas.{passed_on}
+use Rattle.capnp_frame.proofs.sources.AskLemmas.{passed_on}
 use Rattle.capnp_wire.proofs.walks.ParentLemmas.{parent_met, parent_stops, struct_holds, going_below}
 use Rattle.capnp_wire.proofs.walks.ProgressLemmas.{going_begins, going_there, going_on, going_done, progress_done, progress_stops, progress_stopped, entered, walk_goes_on, walk_stops}
 use Rattle.capnp_wire.proofs.layout.walk.Walk.+walk.Goals as goal

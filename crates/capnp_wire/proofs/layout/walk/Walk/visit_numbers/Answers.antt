@@ -2,7 +2,7 @@
 -- it.
 use Rattle.std.proofs.Common.{◌∙◌}
 use Rattle.capnp_wire.proofs.pointers.LocalLemmas.{number_list_walked}
-use Rattle.capnp_frame.proofs.AskLemmas.{passed_on}
+use Rattle.capnp_frame.proofs.sources.AskLemmas.{passed_on}
 use Rattle.capnp_wire.proofs.walks.StopLemmas.{exceeds_stops}
 use Rattle.capnp_wire.proofs.layout.walk.Walk.visit_numbers.Goals as goal
 

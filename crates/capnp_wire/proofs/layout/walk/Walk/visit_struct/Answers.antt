@@ -5,7 +5,7 @@ use Rattle.capnp_layout.specs.Pointer.{words_of}
 use Rattle.capnp_layout.proofs.words.WordLemmas.{length-words_of}
 use Rattle.capnp_wire.proofs.pointers.LocalLemmas.{struct_enters}
 use Rattle.capnp_wire.proofs.pointers.NullRunLemmas.{nulls_walked}
-use Rattle.capnp_frame.proofs.AskLemmas.{passed_on}
+use Rattle.capnp_frame.proofs.sources.AskLemmas.{passed_on}
 use Rattle.capnp_wire.proofs.walks.StopLemmas.{exceeds_stops}
 use Rattle.capnp_wire.proofs.walks.ProgressLemmas.{entered, walk_over}
 use Rattle.capnp_wire.proofs.layout.walk.Walk.visit_struct.Goals as goal

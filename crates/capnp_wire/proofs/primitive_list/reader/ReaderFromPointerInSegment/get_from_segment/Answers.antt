@@ -1,6 +1,8 @@
 -- A list of numbers is a view that decides which objects it accepts.
 use Rattle.capnp_wire.specs.Views.{DeclinesNumbers, TakesNumbers}
+use Rattle.std.proofs.Common.{refl}
 use Rattle.capnp_wire.specs.Readers.{pointer_of}
+use Rattle.capnp_wire.proofs.pointers.OwnSegmentLemmas.{known_segment}
 use Rattle.capnp_wire.specs.NumberViews.{numbers_of}
 use Rattle.capnp_wire.proofs.views.ViewLemmas.{is_view_of, numbers_decide}
 use Rattle.capnp_wire.proofs.views.ListViewLemmas.{numbers_accepted}
@@ -11,3 +13,6 @@ returns g c =
     let p = pointer_of g.S.ReaderSegments.segments c.args.reader in
     let code = g.T.PrimitiveElement.code in
     is_view_of p (TakesNumbers code) (DeclinesNumbers code) _ (numbers_decide code) (λ view shown. numbers_accepted p code (numbers_of code view) shown) c.read.result c.read.ensures
+
+pub read-requires : goal.read-requires
+read-requires g c κs = ((refl, tt), known_segment (pointer_of g.S.ReaderSegments.segments c.args.reader) c.args.segment c.requires)

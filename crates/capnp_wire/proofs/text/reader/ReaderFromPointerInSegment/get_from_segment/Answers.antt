@@ -1,10 +1,15 @@
 -- `Text` is a view that decides which objects it accepts.
 use Rattle.capnp_wire.specs.Views.{DeclinesText, TakesText}
+use Rattle.std.proofs.Common.{refl}
 use Rattle.capnp_wire.specs.Readers.{pointer_of}
+use Rattle.capnp_wire.proofs.pointers.OwnSegmentLemmas.{known_segment}
 use Rattle.capnp_wire.proofs.views.ViewLemmas.{is_view_of, text_decides, text_accepted}
 use Rattle.capnp_wire.proofs.text.reader.ReaderFromPointerInSegment.get_from_segment.Goals as goal
 
 pub returns : goal.returns
 returns g c =
     let p = pointer_of g.S.ReaderSegments.segments c.args.reader in
-    is_view_of p TakesText DeclinesText _ text_decides (λ view shown. text_accepted p view.bytes.now shown) c.read_text.result c.read_text.ensures
+    is_view_of p TakesText DeclinesText _ text_decides (λ view shown. text_accepted p view.bytes.now shown) c.read.result c.read.ensures
+
+pub read-requires : goal.read-requires
+read-requires g c κs = ((refl, tt), known_segment (pointer_of g.S.ReaderSegments.segments c.args.reader) c.args.segment c.requires)

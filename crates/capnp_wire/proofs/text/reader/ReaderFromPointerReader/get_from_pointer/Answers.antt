@@ -7,4 +7,4 @@ use Rattle.capnp_wire.proofs.text.reader.ReaderFromPointerReader.get_from_pointe
 pub returns : goal.returns
 returns g c =
     let p = pointer_of g.S.ReaderSegments.segments c.args.reader in
-    is_view_of p TakesText DeclinesText _ text_decides (λ view shown. text_accepted p view.bytes.now shown) c.read_text.result c.read_text.ensures
+    is_view_of p TakesText DeclinesText _ text_decides (λ view shown. text_accepted p view.bytes.now shown) c.read.result c.read.ensures

@@ -1,0 +1,9 @@
+-- Either format's message.
+use Rattle.capnp.specs.Headline.{by_format}
+use Rattle.capnp.proofs.ReaderLemmas.{reads_message}
+use Rattle.capnp.proofs.RunLemmas.{format_read}
+use Rattle.capnp.proofs.streams.reading.next_message.Goals as goal
+
+pub returns : goal.returns
+returns g c = rw c.reader_of.ensures (reads_message g.R.Read _ _ (by_format c.args.padding c.args.format) c.args.options _
+    (format_read c.args.padding c.args.format) c.read_next.ensures)

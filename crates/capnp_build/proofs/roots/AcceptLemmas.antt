@@ -1,0 +1,50 @@
+-- What a type makes of the root's object.
+use Rattle.std.proofs.Common.{◌≡◌, ◌<◌, ℕ, List, [], ◌∷◌, length, Result, Ok, Err, IfErr, refl, ap, sym, subst, arith}
+use Rattle.capnp_frame.specs.declared.error.Error.{Error}
+use Rattle.capnp_frame.specs.declared.error.ErrorKind.{ErrorKind}
+use Rattle.capnp_layout.specs.Tree.{Form, null, struct, numbers, Trees, none, tree}
+use Rattle.capnp_layout.specs.Reached.{Root, root}
+use Rattle.capnp_build.specs.Bytes.{Space}
+use Rattle.capnp_build.specs.Built.{message, ForRoot, IsRootKind}
+use Rattle.capnp_build.specs.Placed.{DeclinesRoot}
+use Rattle.capnp_build.specs.Written.{HasField, HasNumber}
+use Rattle.capnp_build.specs.RootKind.{ShowsRoot, HoldsForm}
+use Rattle.capnp_build.specs.declared.root_kind.RootKind.{RootKind}
+use Rattle.capnp_build.specs.declared.root_kind.RootKind.TheVariants.{Null, Bytes, Words, Struct, Other}
+use Rattle.capnp_build.proofs.roots.NullLemmas.{root_there}
+
+-- without a segment there is no root
+no_root : (form : Form) (children : Trees) (traversed : ℕ) → Root (message []) form children traversed → ⊥
+no_root form children traversed there = let some : 0 < length {A = Space} [] = root_there [] (root ∷ []) (tree form children none) traversed refl there in absurd (omega (arith, some))
+
+pub null_kind : (shown : RootKind) → IsRootKind shown [] → shown ≡ Null
+null_kind Null stands = refl
+null_kind (Bytes n) stands = absurd (no_root (numbers 2 stands.0) none stands.1 stands.2)
+null_kind (Words n) stands = absurd (no_root (numbers 5 stands.0) none stands.1 stands.2)
+null_kind (Struct n) stands = absurd (no_root (struct stands.0) stands.1 stands.2 stands.3)
+null_kind Other stands = absurd (no_root stands.0 stands.1 stands.2 stands.3)
+
+null_shown : (shown : RootKind) → IsRootKind shown [] → ShowsRoot shown null
+null_shown shown stands = subst (λ kind. ShowsRoot kind null) (sym (null_kind shown stands)) refl
+
+-- so where a kind is tested, there is a segment
+pub no_bytes : (n : ℕ) (spaces : List Space) → IsRootKind (Bytes n) spaces → spaces ≡ [] → ⊥
+no_bytes n spaces stands empty = let none : Bytes n ≡ Null = null_kind (Bytes n) (subst (λ s. IsRootKind (Bytes n) s) empty stands) in cc
+
+pub no_field : (spaces : List Space) (index : ℕ) → HasField spaces index → spaces ≡ [] → ⊥
+no_field spaces index field empty =
+    let some = root_there spaces (root ∷ []) (tree (struct field.words) field.children none) field.traversed refl field.stands in
+    absurd (omega (arith, some, ap length empty))
+
+pub no_number : (spaces : List Space) (index : ℕ) → HasNumber spaces index → spaces ≡ [] → ⊥
+no_number spaces index number empty =
+    let some = root_there spaces (root ∷ []) (tree (numbers 5 number.values) none none) number.traversed refl number.stands in
+    absurd (omega (arith, some, ap length empty))
+
+-- a failure declines the root, which is null where there is no segment
+pub declined_there : (spaces : List Space) (declines : Form → ErrorKind → Type 0) (shown : RootKind) (bytes : List ℕ) (r : Result (Unit {0}) Error)
+    → ForRoot spaces (ShowsRoot shown) → IsRootKind shown spaces → ForRoot spaces (HoldsForm bytes)
+    → IfErr r (λ error. (form : Form) → ShowsRoot shown form → HoldsForm bytes form → declines form error.kind) → IfErr r (λ error. DeclinesRoot declines spaces error.kind)
+declined_there spaces declines shown bytes (Ok done) shows stands holds is = tt
+declined_there [] declines shown bytes (Err error) shows stands holds is = is null (null_shown shown stands) tt
+declined_there (s ∷ spaces) declines shown bytes (Err error) shows stands holds is = λ form children traversed there. is form (shows form children traversed there) (holds form children traversed there)

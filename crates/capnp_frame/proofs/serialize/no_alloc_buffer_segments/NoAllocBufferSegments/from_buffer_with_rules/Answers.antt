@@ -1,0 +1,19 @@
+-- The message at the front is the one that is held.
+use Rattle.std.proofs.Common.{rules, ap}
+use Rattle.capnp_frame.proofs.slices.FlatReaderLemmas.{reads_none, reads_held}
+use Rattle.capnp_frame.proofs.serialize.no_alloc_buffer_segments.NoAllocBufferSegments.from_buffer_with_rules.Goals as goal
+
+pub returns-in_err-info : goal.returns-in_err-info
+returns-in_err-info g c =
+    let refused = rw c.as_bytes.ensures at c.in_err-info.ensures.refused in
+    record { buffer = search rules; reads = reads_none _ _ _ _ _ _ c.from_residual.ensures.1 tt refused }
+
+pub returns : goal.returns
+returns g c =
+    let holds = rw c.as_bytes.ensures at c.in_ok-info.ensures.holds in
+    let kept = rw c.as_bytes.ensures at c.in_ok-info.ensures.padding in
+    let keeps = rw c.as_bytes.ensures at c.in_ok-info.ensures.within in
+    record {
+      buffer = search rules;
+      reads = reads_held _ _ _ _ _ c.in_ok-info.info.segments_count holds (ap (λ message. message.segments) c.of_message.ensures) keeps kept tt;
+    }

@@ -1,0 +1,7 @@
+-- Readers of slices and buffers.
+pub mod FlatLemmas
+pub mod HeldLemmas
+pub mod FlatReaderLemmas
+pub mod ProvidedLemmas
+pub mod FramedIntoLemmas
+pub mod AgreementLemmas

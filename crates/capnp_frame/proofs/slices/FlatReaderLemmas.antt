@@ -1,0 +1,103 @@
+-- What the readers of slices and buffers keep, where they find a message and where they fail.
+use Rattle.std.proofs.Common.{◌≡◌, ℕ, ◌+◌, ◌*◌, ◌<◌, Option, Some, None, IfSome, Result, Ok, Err, inl, inr, List, length, drop, refl, sym, subst}
+use Rattle.std.specs.Prelude.{sum}
+use Rattle.std.specs.Result.{IsErrAnd}
+use Rattle.capnp_frame.specs.declared.error.Error.{Error}
+use Rattle.capnp_frame.specs.declared.error.ErrorKind.{ErrorKind}
+use Rattle.capnp_frame.specs.declared.error.ErrorKind.TheVariants.{OutOfMemory}
+use Rattle.capnp_frame.specs.declared.serialize.segment_table.Padding.{Padding}
+use Rattle.capnp_frame.specs.SegmentTable.{table_size, KeepsPadding}
+use Rattle.capnp_frame.specs.Limits.{KeepsLimit}
+use Rattle.capnp_frame.specs.Front.{number, declared_lengths, declared_padding, declared_segments, HoldsMessage}
+use Rattle.capnp_frame.specs.FlatRefusals.{FlatForm, by_words, by_fields, count_of, AcceptsSeveral, RefusesFlat}
+use Rattle.capnp_frame.specs.FlatReaders.{FlatRules, StandsBy, RefusesBy, Leaves, OrLacksMemory, AcceptsFlat, ReadsFlat}
+use Rattle.capnp_frame.proofs.encodings.FrontMessages.{found_from_held, within_declared}
+use Rattle.capnp_frame.proofs.slices.FlatLemmas.{RefusesFlat-once, frame_counted, RefusesFlat-apart}
+
+-- no line holds where a message is
+stands_apart : (rules : FlatRules) (kind : ErrorKind) (bytes rest : List ℕ) (message : List (List ℕ)) → StandsBy rules message bytes rest → RefusesBy rules kind bytes → ⊥
+stands_apart rules kind bytes rest message begins =
+    RefusesFlat-apart rules.form rules.padding rules.limit kind bytes message rest (begins.text, begins.is_text, begins.spelled) begins.within
+
+-- where a call fails, it fails by its rules
+
+lacks_alone : (X : Type 0) (form : FlatForm) (rule : Padding) (limit : Option ℕ) (bytes : List ℕ) (message : List (List ℕ)) (error : Error)
+    → OrLacksMemory form ((error.kind ≡ OutOfMemory) × AcceptsSeveral form bytes) (RefusesFlat form rule limit error.kind bytes)
+    → count_of form (number bytes) ≡ length message → (RefusesFlat form rule limit error.kind bytes → ⊥)
+    → AcceptsFlat {X = X} form message (Err error)
+lacks_alone X (by_words empty) rule limit bytes message error (inl lacks) count none = (lacks.0, subst (λ k. 1 < k) count lacks.1.2)
+lacks_alone X (by_words empty) rule limit bytes message error (inr met) count none = absurd (none met)
+lacks_alone X by_fields rule limit bytes message error met count none = absurd (none met)
+
+first_line : (form : FlatForm) (rule : Padding) (limit : Option ℕ) (bytes : List ℕ) (own kind : ErrorKind)
+    → OrLacksMemory form ((own ≡ OutOfMemory) × AcceptsSeveral form bytes) (RefusesFlat form rule limit own bytes)
+    → RefusesFlat form rule limit kind bytes → OrLacksMemory form (own ≡ OutOfMemory) (own ≡ kind)
+first_line (by_words empty) rule limit bytes own kind (inl lacks) line = inl lacks.0
+first_line (by_words empty) rule limit bytes own kind (inr met) line = inr (RefusesFlat-once (by_words empty) rule limit own kind bytes met line)
+first_line by_fields rule limit bytes own kind met line = RefusesFlat-once by_fields rule limit own kind bytes met line
+
+pub reads_none : {X : Type 0} (rules : FlatRules) (bytes : List ℕ) (left : Option (List ℕ)) (segments : X → List (List ℕ))
+    (error : Error) (result : Result X Error) → IsErrAnd result (λ own. own ≡ error) → IfSome left (λ left. left ≡ bytes)
+    → OrLacksMemory rules.form ((error.kind ≡ OutOfMemory) × AcceptsSeveral rules.form bytes) (RefusesBy rules error.kind bytes)
+    → ReadsFlat rules bytes left segments result
+reads_none rules bytes left segments error (Ok x) is stays refused = absurd is
+reads_none {X} rules bytes left segments error (Err own) is stays refused =
+    subst (λ e. ReadsFlat rules bytes left segments (Err e)) (sym is) (record {
+      found = tt;
+      accepted = λ message rest begins. lacks_alone X rules.form rules.padding rules.limit bytes message error refused
+          (frame_counted rules.form rules.padding rules.limit bytes message rest (begins.text, begins.is_text, begins.spelled) begins.within)
+          (stands_apart rules error.kind bytes rest message begins);
+      unchanged = stays;
+      refused = refused;
+      exact = λ kind line. first_line rules.form rules.padding rules.limit bytes error.kind kind refused line;
+    })
+
+-- where a call finds a message, that message is there
+
+accepts : {X : Type 0} (form : FlatForm) (message : List (List ℕ)) (x : X) → AcceptsFlat form message (Ok x)
+accepts (by_words empty) message x = tt
+accepts by_fields message x = refl
+
+leaves : (left : Option (List ℕ)) (stands : List ℕ → Type 0) (rest : List ℕ) → IfSome left (λ left. left ≡ rest) → stands rest → Leaves left stands
+leaves None stands rest is begins = (rest, begins)
+leaves (Some left) stands rest is begins = subst stands (sym is) begins
+
+pub reads_held : {X : Type 0} (rules : FlatRules) (bytes : List ℕ) (left : Option (List ℕ)) (segments : X → List (List ℕ)) (x : X)
+    (count : ℕ) → HoldsMessage bytes count → segments x ≡ declared_segments count bytes
+    → KeepsLimit (declared_lengths count bytes) rules.limit → KeepsPadding rules.padding (declared_padding count bytes)
+    → IfSome left (λ left. left ≡ drop (table_size count + 8 * sum (declared_lengths count bytes)) bytes)
+    → ReadsFlat rules bytes left segments (Ok x)
+reads_held rules bytes left segments x count holds are keeps kept is =
+    let rest = drop (table_size count + 8 * sum (declared_lengths count bytes)) bytes in
+    let frame = (found_from_held rules.padding bytes count holds kept).begins in
+    let begins : StandsBy rules (segments x) bytes rest = subst (λ l. StandsBy rules l bytes rest) (sym are) (record {
+      text = frame.0;
+      is_text = frame.1;
+      within = within_declared bytes count rules.limit holds keeps;
+      spelled = frame.2;
+    }) in
+    record {
+      found = leaves left (StandsBy rules (segments x) bytes) rest is begins;
+      accepted = λ message after others. accepts rules.form message x;
+      unchanged = tt;
+      refused = tt;
+      exact = λ kind line. stands_apart rules kind bytes rest (segments x) begins line;
+    }
+
+-- what is returned, with the segments seen in another way
+
+pub reads_shown : {X Y : Type 0} (rules : FlatRules) (bytes : List ℕ) (left : Option (List ℕ)) (segments : X → List (List ℕ))
+    (others : Y → List (List ℕ)) (x : X) (y : Y) → others y ≡ segments x → ReadsFlat rules bytes left segments (Ok x)
+    → ReadsFlat rules bytes left others (Ok y)
+reads_shown rules bytes left segments others x y same declared = record {
+  found = subst (λ l. Leaves left (StandsBy rules l bytes)) (sym same) declared.found;
+  accepted = λ message rest begins. accepts rules.form message y;
+  unchanged = tt;
+  refused = tt;
+  exact = declared.exact;
+}
+
+pub reads_passed : {X Y : Type 0} (rules : FlatRules) (bytes : List ℕ) (left : Option (List ℕ)) (segments : X → List (List ℕ))
+    (others : Y → List (List ℕ)) (error : Error) (result : Result Y Error) → IsErrAnd result (λ own. own ≡ error)
+    → ReadsFlat rules bytes left segments (Err error) → ReadsFlat rules bytes left others result
+reads_passed rules bytes left segments others error result is declared = reads_none rules bytes left others error result is declared.unchanged declared.refused

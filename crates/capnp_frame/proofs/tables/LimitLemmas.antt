@@ -1,0 +1,63 @@
+-- What comes after a table that is at the front: the limit of words, the padding, and the lines after these.
+use Rattle.std.proofs.Common.{◌≡◌, ℕ, ◌+◌, ◌-◌, ◌%◌, ◌<◌, ◌^◌, Option, None, inl, inr, List, ◌++◌, length, take, refl, sym, ap, ◌∙◌, arith}
+use Rattle.std.proofs.lemmas.List.{length-map}
+use Rattle.std.specs.Prelude.{sum}
+use lib.Seq.{take-append-le}
+use Rattle.capnp_frame.specs.declared.error.ErrorKind.{ErrorKind}
+use Rattle.capnp_frame.specs.declared.error.ErrorKind.TheVariants.{MessageTooLarge, NonZeroPadding}
+use Rattle.capnp_frame.specs.declared.serialize.segment_table.Padding.{Padding}
+use Rattle.capnp_frame.specs.SegmentTable.{field, table_size, IsTable}
+use Rattle.capnp_frame.specs.Message.{lengths, word_count}
+use Rattle.capnp_frame.specs.Limits.{AreWithin}
+use Rattle.capnp_frame.specs.Source.{Giving, Refusing, IsSource}
+use Rattle.capnp_frame.specs.Requests.{TableStands, MessageStands}
+use Rattle.capnp_frame.specs.Refusals.{Unless, Tells, IsTooLarge, LacksRoom, StopsBy, BreaksPadding, RefusesAtLimit, RefusesAtCount, RefusesAtStart, RefusesStream}
+use Rattle.capnp_frame.proofs.tables.TableLemmas.{any_table}
+use Rattle.capnp_frame.proofs.errors.RefusalLemmas.{in_range, within_limit, small_room, given_some}
+
+table_tells : {rule : Padding} (word others ns : List ℕ) → IsTable rule (word ++ others) ns → length ns < 512 → length word ≡ 8 → Tells word (length ns)
+table_tells word others ns table few long =
+    let front : take 4 (word ++ others) ≡ take 4 word = take-append-le 4 word others (omega arith) in
+    let declared : field (length ns - 1) ≡ take 4 (word ++ others) = ap (take 4) (sym table.spelled) in
+    let some = table.can.some in
+    (length ns - 1, omega arith, declared ∙ front, same (length ns) some few)
+  where
+    same : (k : ℕ) → 0 < k → k < 512 → k ≡ (k - 1 + 1) % 2 ^ 32
+    same k some few = omega arith
+
+-- the line of the limit and those after it
+RefusesAtStart-table : {gives : Giving} {refuses : Refusing} (rule : Padding) (laws : IsSource gives refuses) (limit room : Option ℕ)
+    (kind : ErrorKind) (A : List ℕ → List ℕ → Type 0) (raw left ns following : List ℕ)
+    → (LacksRoom room (table_size (length ns)) → ⊥) → (sent : TableStands rule gives ns raw following) → 0 < length ns → length ns < 512
+    → Unless (IsTooLarge ns limit) (StopsBy (MessageTooLarge (sum ns)) kind following left)
+    (Unless (BreaksPadding rule (sent.first ++ sent.others) ns) (StopsBy NonZeroPadding kind following left) (A ns following))
+    → RefusesAtStart rule gives refuses limit room kind A raw left
+RefusesAtStart-table {gives} {refuses} rule laws limit room kind A raw left ns following fits sent some few lines =
+    let long = laws.gives_all raw 8 sent.first sent.between sent.first_given in
+    let declared = table_tells sent.first sent.others ns sent.table few long in
+    let unread = given_some laws raw 8 sent.first sent.between sent.first_given (omega arith) in
+    let at_limit : RefusesAtLimit rule limit kind A left sent.first sent.others following =
+    (ns, any_table (sent.first ++ sent.others) ns sent.table, lines) in
+    let at_count : RefusesAtCount rule gives refuses limit room kind A left sent.first sent.between =
+    (length ns, declared, inr (in_range (length ns) some few, inr (fits, inr (sent.others, following, sent.others_given, at_limit)))) in
+    inr (small_room room 8 (table_size (length ns)) (omega arith) fits, (unread, inr (sent.first, sent.between, sent.first_given, at_count)))
+
+-- the lines after a table that is accepted
+pub RefusesAtStart-from : {gives : Giving} {refuses : Refusing} (rule : Padding) (laws : IsSource gives refuses) (limit room : Option ℕ)
+    (kind : ErrorKind) (A : List ℕ → List ℕ → Type 0) (raw left ns following : List ℕ)
+    → (LacksRoom room (table_size (length ns)) → ⊥) → TableStands rule gives ns raw following → AreWithin ns limit
+    → A ns following → RefusesAtStart rule gives refuses limit room kind A raw left
+RefusesAtStart-from rule laws limit room kind A raw left ns following fits sent accepts after =
+    RefusesAtStart-table rule laws limit room kind A raw left ns following fits sent accepts.some accepts.few
+    (inr (within_limit ns limit accepts.size, inr ((λ breaks. breaks sent.table), after)))
+
+-- a message of more words than the limit fails for it
+pub past_limit : {gives : Giving} {refuses : Refusing} (rule : Padding) (laws : IsSource gives refuses) (limit : Option ℕ)
+    (m : List (List ℕ)) (raw rest : List ℕ) → MessageStands rule gives m raw rest → length m < 512 → IsTooLarge (lengths m) limit
+    → (left : List ℕ) × RefusesStream rule gives refuses limit None (MessageTooLarge (sum (lengths m))) raw left
+past_limit rule laws limit m raw rest stands few over =
+    let some = stands.table.table.can.some in (
+      stands.between,
+      RefusesAtStart-table rule laws limit None (MessageTooLarge (sum (lengths m))) _ raw stands.between (lengths m) stands.between
+          (λ none. none) stands.table some (omega (arith, length-map m word_count)) (inl (over, (refl, refl))),
+    )

@@ -1,0 +1,54 @@
+-- What the requests of a message say of its packed encoding.
+use Rattle.std.proofs.Common.{◌≡◌, ◌++◌, ℕ, Option, Some, None, IfSome, Result, Ok, Err, IfOk, List}
+use Rattle.capnp_frame.specs.declared.error.Error.{Error}
+use Rattle.capnp_frame.specs.declared.serialize.segment_table.Padding.{Padding}
+use Rattle.capnp_frame.specs.Limits.{IsWithin}
+use Rattle.capnp_frame.specs.Source.{IfKnown}
+use Rattle.capnp_frame.specs.Requests.{MessageStands}
+use Rattle.capnp_frame.proofs.sources.SourceLemmas.{IfKnown-weaker}
+use Rattle.capnp_frame.proofs.tables.TableLemmas.{any_table}
+use Rattle.capnp_frame.proofs.encodings.TextLemmas.{texts_part}
+use Rattle.capnp_frame.specs.Message.{lengths}
+use Rattle.capnp_frame.specs.declared.serialize.segment_table.Padding.TheVariants.{Any}
+use Rattle.capnp_pack.specs.PackedFrame.{IsPackedFrame, PackedStands}
+use Rattle.capnp_pack.specs.PackedSource.{Unpacks}
+use Rattle.capnp_pack.specs.RefusingLaws.{unpacking}
+use Rattle.capnp_pack.proofs.encodings.PackedFrameLemmas.{packed_requests}
+
+-- the readers over a packed source, in packed encodings
+pub found_packed : (rule : Padding) (r : Result (Option (List (List ℕ))) Error) (old new : Option (List ℕ))
+    → IfOk r (λ found. IfSome found (λ segments. IfKnown old new (MessageStands rule Unpacks segments)))
+    → IfOk r (λ found. IfSome found (λ segments. IfKnown old new (PackedStands rule segments)))
+found_packed rule (Ok None) old new found = tt
+found_packed rule (Ok (Some segments)) old new found = IfKnown-weaker old new (λ raw rest. (packed_requests rule segments raw rest).0) found
+found_packed rule (Err e) old new found = tt
+
+pub accepted_packed : (rule : Padding) (limit : Option ℕ) (F : List (List ℕ) → Type 0) (old : Option (List ℕ))
+    → IfSome old (λ raw. (m : List (List ℕ)) (rest : List ℕ) → MessageStands rule Unpacks m raw rest → IsWithin m limit → F m)
+    → IfSome old (λ raw. (m : List (List ℕ)) (rest : List ℕ) → PackedStands rule m raw rest → IsWithin m limit → F m)
+accepted_packed rule limit F None accepted = tt
+accepted_packed rule limit F (Some raw) accepted = λ m rest stands within. accepted m rest ((packed_requests rule m raw rest).1 stands) within
+
+-- a packed encoding by a rule is one of any padding
+any_packed : {rule : Padding} (text : List ℕ) (segments : List (List ℕ)) → IsPackedFrame rule text segments → IsPackedFrame Any text segments
+any_packed text segments frame = record {
+  first = frame.first;
+  others = frame.others;
+  one_word = frame.one_word;
+  table = any_table (frame.first ++ frame.others) (lengths segments) frame.table;
+  whole = frame.whole;
+  first_text = frame.first_text;
+  others_text = frame.others_text;
+  segments_encoding = frame.segments_encoding;
+  first_packed = frame.first_packed;
+  others_packed = frame.others_packed;
+  segments_packed = frame.segments_packed;
+  spelled = frame.spelled;
+}
+
+-- no packed encoding is the start of a different one
+pub packed_frames_part : (rule also : Padding) (text other rest left : List ℕ) (segments others : List (List ℕ))
+    → IsPackedFrame rule text segments → IsPackedFrame also other others → text ++ rest ≡ other ++ left
+    → (text ≡ other) × (segments ≡ others) × (rest ≡ left)
+packed_frames_part rule also text other rest left segments others is so =
+    texts_part Any unpacking (packed_requests Any) text other rest left segments others (any_packed text segments is) (any_packed other others so)

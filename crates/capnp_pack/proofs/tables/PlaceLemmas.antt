@@ -1,0 +1,129 @@
+-- The places of a word's bytes after its tag, as a table has them.
+use Rattle.std.proofs.Common.{◌≡◌, ℕ, zero, suc, ◌+◌, ◌*◌, ◌/◌, ◌%◌, ◌^◌, ◌<◌, ◌≤◌, Bool, true, false, cond, List, [], ◌∷◌, ◌++◌, length}
+use Rattle.std.proofs.Common.{take, drop, get_or, replicate, refl, sym, ap, ◌∙◌, subst, arith, length-append, length-drop, w8}
+use Rattle.std.specs.Prelude.{◌==◌, if◌then◌else◌}
+use Rattle.std.proofs.Math.Nat.{pow-suc}
+use Rattle.std.proofs.lemmas.List.{take-append-drop}
+use Rattle.std.proofs.Math.Seq.{take-append_seam}
+use Rattle.std.proofs.lemmas.Simd.{SwzOk-from_Each1, get_or-swz_l_below}
+use Rattle.std.specs.Simd.Lanes.{Each1}
+use mathlib.Core.Bool.{◌||◌}
+use lib.Dec.{T, ltb, lt→ltb}
+use lib.Count.{ones, ones_step, ones-le}
+use mir.Val.{zeroes}
+use borrow.Rule.Simd.Moves.{SwzOk, swz_l}
+use Rattle.capnp_pack.proofs.tables.TableRows.{rows, row_at}
+use Rattle.capnp_pack.specs.declared.expand_shuffle.TheConstants.{EXPAND_SHUFFLE}
+use Rattle.capnp_pack.specs.Group.{marked}
+use Rattle.capnp_pack.specs.Steps.{MarkedAt}
+use Rattle.capnp_pack.proofs.words.WordLemmas.{byte_joins}
+use Rattle.capnp_pack.proofs.unpacking.UnpackedLemmas.{bit_here}
+
+-- for each of n bits its index among those that are set, counted from `rank`, or 128
+abbrev pub places : ℕ → ℕ → ℕ → List ℕ
+places zero rank tag = []
+places (suc n) rank tag = (if tag % 2 == 1 then rank else 128) ∷ places n (rank + tag % 2) (tag / 2)
+
+abbrev pub row : ℕ → List ℕ
+row tag = places 8 0 tag ++ replicate 8 128
+
+-- the table has each tag's row
+table : EXPAND_SHUFFLE ≡ rows row 0 256
+table = refl
+
+pub row_of : (tag : ℕ) (none : List ℕ) → tag < 256 → get_or EXPAND_SHUFFLE tag none ≡ row tag
+row_of tag none low = row_at row EXPAND_SHUFFLE tag none table low
+
+-- each place is one of 16, or 128
+
+abbrev pub IsPlace : ℕ → Type 0
+IsPlace j = T (zeroes 16 w8 j || ltb j 16)
+
+pub later : (a b : Bool) → T b → T (a || b)
+later true b t = tt
+later false b t = t
+
+place_ok : (rank : ℕ) (set : Bool) → rank < 16 → IsPlace (if set then rank else 128)
+place_ok rank true low = later (zeroes 16 w8 rank) (ltb rank 16) (lt→ltb rank 16 low)
+place_ok rank false low = tt
+
+places_ok : (n rank tag : ℕ) → rank + n ≤ 16 → Each1 IsPlace (places n rank tag)
+places_ok zero rank tag low = tt
+places_ok (suc n) rank tag low = (place_ok rank (tag % 2 == 1) (omega arith), places_ok n (rank + tag % 2) (tag / 2) (omega arith))
+
+padded_ok : (js : List ℕ) → Each1 IsPlace js → Each1 IsPlace (js ++ replicate 8 128)
+padded_ok [] ok = (tt, (tt, (tt, (tt, (tt, (tt, (tt, (tt, tt))))))))
+padded_ok (j ∷ js) ok = (ok.0, padded_ok js ok.1)
+
+length-places : (n rank tag : ℕ) → length (places n rank tag) ≡ n
+length-places zero rank tag = refl
+length-places (suc n) rank tag = ap suc (length-places n (rank + tag % 2) (tag / 2))
+
+pub row_len : (tag : ℕ) → length (row tag) ≡ 16
+row_len tag = omega (arith, length-append (places 8 0 tag) (replicate 8 128), length-places 8 0 tag)
+
+pub row_ok : (tag : ℕ) → SwzOk w8 16 16 0 (row tag)
+row_ok tag = SwzOk-from_Each1 w8 16 1 16 0 (row tag) refl (omega (arith, length-append (places 8 0 tag) (replicate 8 128), length-places 8 0 tag))
+    (padded_ok (places 8 0 tag) (places_ok 8 0 tag (omega arith)))
+
+-- eight bytes, and zeros after them, as a vector
+
+abbrev pub padded : List ℕ → List ℕ
+padded word = get_or word 0 0 ∷ get_or word 1 0 ∷ get_or word 2 0 ∷ get_or word 3 0 ∷ get_or word 4 0 ∷ get_or word 5 0 ∷ get_or word 6 0 ∷ get_or word 7 0 ∷ replicate 8 0
+
+pub padded_at : (word : List ℕ) (j : ℕ) → j < 8 → get_or (padded word) j 0 ≡ get_or word j 0
+padded_at word zero low = refl
+padded_at word (suc zero) low = refl
+padded_at word (suc (suc zero)) low = refl
+padded_at word (suc (suc (suc zero))) low = refl
+padded_at word (suc (suc (suc (suc zero)))) low = refl
+padded_at word (suc (suc (suc (suc (suc zero))))) low = refl
+padded_at word (suc (suc (suc (suc (suc (suc zero)))))) low = refl
+padded_at word (suc (suc (suc (suc (suc (suc (suc zero))))))) low = refl
+padded_at word (suc (suc (suc (suc (suc (suc (suc (suc j)))))))) low = absurd (omega arith)
+
+-- a lane at a place
+
+abbrev pub lane_at : List ℕ → ℕ → ℕ → ℕ
+lane_at xs i j = cond (zeroes 16 w8 j) 0 (get_or xs (16 * (i / 16) + j) 0)
+
+clear_lane : (xs : List ℕ) (i rank bit : ℕ) → bit ≡ 0 → lane_at xs i (if bit == 1 then rank else 128) ≡ 0
+clear_lane xs i rank bit e = ap (λ b. lane_at xs i (if b == 1 then rank else 128)) e
+
+set_lane : (text : List ℕ) (i rank bit : ℕ) → bit ≡ 1 → rank < 8 → i < 8 → lane_at (padded text) i (if bit == 1 then rank else 128) ≡ get_or text rank 0
+set_lane text i rank bit e low small =
+    let first : 16 * ((i + 0) / 16) + rank ≡ rank = omega arith in
+    ap (λ b. lane_at (padded text) i (if b == 1 then rank else 128)) e
+    ∙ get_or-swz_l_below w8 16 (padded text) i (rank ∷ []) 0 (omega arith) (omega arith)
+    ∙ ap (λ k. get_or (padded text) k 0) first
+    ∙ padded_at text rank low
+
+-- the lanes at their places are a word under the tag
+spread : (n rank tag i : ℕ) (text : List ℕ) → n + i ≤ 8 → rank ≤ i → 8 ≤ length text → tag < 2 ^ n →
+    MarkedAt tag (swz_l w8 16 (padded text) i (places n rank tag)) (drop rank text) (drop (rank + ones tag) text)
+spread zero rank tag i text room following long low =
+    let none : rank ≡ rank + ones tag = omega (arith, ones-le 0 tag low) in
+    (ap (λ k. drop k text) none, tt)
+spread (suc n) rank tag i text room following long low =
+    let lane = lane_at (padded text) i (if tag % 2 == 1 then rank else 128) in
+    let here = bit_here tag rank lane text (clear_lane (padded text) i rank (tag % 2)) (λ e. (omega arith, set_lane text i rank (tag % 2) e (omega arith) (omega arith))) in
+    let others = spread n (rank + tag % 2) (tag / 2) (suc i) text (omega arith) (omega arith) long (omega (arith, pow-suc 2 n)) in
+    let counted : rank + tag % 2 + ones (tag / 2) ≡ rank + ones tag = omega (arith, ones_step tag) in
+    byte_joins tag lane (swz_l w8 16 (padded text) (suc i) (places n (rank + tag % 2) (tag / 2))) (drop rank text) (drop (rank + tag % 2) text) (drop (rank + ones tag) text) here
+    (subst (λ k. MarkedAt (tag / 2) (swz_l w8 16 (padded text) (suc i) (places n (rank + tag % 2) (tag / 2))) (drop (rank + tag % 2) text) (drop k text)) counted others)
+
+pub spread_word : (tag : ℕ) (text word : List ℕ) → tag < 256 → 8 ≤ length text → word ≡ take 8 (swz_l w8 16 (padded text) 0 (row tag)) → MarkedAt tag word text (drop (ones tag) text)
+spread_word tag text word low long is =
+    let front : take 8 (swz_l w8 16 (padded text) 0 (row tag)) ≡ swz_l w8 16 (padded text) 0 (places 8 0 tag) = refl in
+    let none : 0 + ones tag ≡ ones tag = omega arith in
+    subst (λ w. MarkedAt tag w text (drop (ones tag) text)) (sym (is ∙ front))
+    (subst (λ k. MarkedAt tag (swz_l w8 16 (padded text) 0 (places 8 0 tag)) text (drop k text)) none (spread 8 0 tag 0 text (omega arith) (omega arith) long low))
+
+-- and from bytes that have the marked bytes, and no others, in common with these
+pub spread_front : (tag used : ℕ) (text front word : List ℕ) → used ≤ length front → take used front ≡ take used text →
+    MarkedAt tag word front (drop used front) → MarkedAt tag word text (drop used text)
+spread_front tag used text front word within same at =
+    let counted : length (marked tag word) ≡ used = omega (arith, ap length at.0, length-append (marked tag word) (drop used front), length-drop used front) in
+    let long : take used front ≡ marked tag word =
+    ap (take used) at.0 ∙ ap (λ k. take k (marked tag word ++ drop used front)) (sym counted) ∙ take-append_seam (marked tag word) (drop used front) in
+    (sym (take-append-drop used text) ∙ ap (λ l. l ++ drop used text) (sym same ∙ long), at.1)

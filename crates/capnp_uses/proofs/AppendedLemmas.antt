@@ -1,0 +1,85 @@
+-- Messages that are written one after the other, and read back.
+use Rattle.std.proofs.Common.{◌≡◌, ◌⊎◌, inl, inr, ℕ, ◌+◌, ◌-◌, ◌^◌, ◌≤◌, min, Option, Some, None, Ok, List, [], ◌∷◌, ◌++◌, length, map, refl, sym, ap, ◌∙◌, subst, arith}
+use Rattle.std.proofs.lemmas.List.{length-map}
+use Rattle.std.specs.List.{AllByRecursion}
+use Rattle.capnp_frame.specs.declared.serialize.segment_table.Padding.{Padding}
+use Rattle.capnp_frame.specs.declared.error.ErrorKind.{ErrorKind}
+use Rattle.capnp_frame.specs.declared.error.ErrorKind.TheVariants.{DeviceFailed, OutOfMemory}
+use Rattle.capnp_frame.specs.declared.io.Read.{Ghosts}
+use Rattle.capnp_frame.specs.Sink.{Adds, ByKind}
+use Rattle.capnp_frame.specs.Limits.{KeepsLimit}
+use Rattle.capnp_frame.specs.Message.{lengths}
+use Rattle.capnp_frame.specs.Source.{Giving, Refusing, Fails}
+use Rattle.capnp_frame.specs.Streams.{next_in, ReadsStream}
+use Rattle.capnp_frame.specs.Texts.{Grammar, AreEncodings}
+use Rattle.capnp_frame.specs.Writing.{IsWritable, IsWithinSegmentLimit}
+use Rattle.capnp_frame.proofs.sources.SourceLemmas.{IfKnown-weaker}
+use Rattle.capnp_frame.proofs.encodings.TextLemmas.{PartsStreams}
+use Rattle.capnp.specs.declared.streams.Format.{Format}
+use Rattle.capnp.specs.Streams.{grammar_of, rules_of}
+use Rattle.capnp.specs.Written.{IsTextOf, DeclinesAs, AppendsEach, RefusesManyOf, RefusesOneOf}
+use Rattle.capnp.proofs.ChunkLemmas.{format_memory}
+use Rattle.capnp.proofs.RunLemmas.{format_lawful, format_requested, format_parts}
+use Rattle.capnp.proofs.ReaderLemmas.{nothing_stands}
+use Rattle.capnp.proofs.AppendedLemmas.{appended_texts}
+
+-- encodings of as many messages are those of the same messages
+texts_same : {IsText : Grammar} {rule : Padding} {gives : Giving} {refuses : Refusing} {limit : Option ℕ}
+    → PartsStreams IsText rule gives refuses limit
+    → (ns ms : List (List (List ℕ))) (raw left rest : List ℕ) → AreEncodings IsText limit ns raw left
+    → AreEncodings IsText limit ms raw rest → length ns ≡ length ms → (ns ≡ ms) × (left ≡ rest)
+texts_same parts [] [] raw left rest had texts many = (refl, had ∙ sym texts)
+texts_same parts [] (m ∷ ms) raw left rest had texts many = absurd (omega arith)
+texts_same parts (n ∷ ns) [] raw left rest had texts many = absurd (omega arith)
+texts_same {IsText} {limit = limit} parts (n ∷ ns) (m ∷ ms) raw left rest had texts many =
+    let same = parts.begins_once n m raw had.0 texts.0 had.1 texts.1 in
+    let inner = texts_same parts ns ms texts.0 left rest (subst (λ l. AreEncodings IsText limit ns l left) same.1 had.2) texts.2 (omega arith) in
+    (ap (λ x. x ∷ ns) same.0 ∙ ap (λ l. m ∷ l) inner.0, inner.1)
+
+-- what was appended to nothing is what was written
+pub appended_alone : (P : List ℕ → Type 0) (start new : List ℕ) → start ≡ [] → Adds P start new → P new
+appended_alone P start new none (text, holds, e) = subst P (sym (e ∙ ap (λ l. l ++ text) none)) holds
+
+-- what was appended to nothing is encodings
+pub read_texts : (rule : Padding) (format : Format) (limit : Option ℕ) (ms : List (List (List ℕ))) (start new shown : List ℕ)
+    → start ≡ [] → shown ≡ new → AllByRecursion IsWritable ms → AllByRecursion IsWithinSegmentLimit ms
+    → AllByRecursion (λ m. KeepsLimit (lengths m) limit) ms → Adds (AppendsEach (IsTextOf format) ms) start new
+    → AreEncodings (grammar_of rule format) limit ms shown []
+read_texts rule format limit ms start new shown none same writable few size (text, all, e) =
+    subst (λ l. AreEncodings (grammar_of rule format) limit ms l []) (ap (λ l. l ++ text) (sym none) ∙ sym e ∙ sym same)
+    (appended_texts rule format limit ms text writable few size all)
+
+-- and just these are read of it
+pub read_same : {X S : Type 0} (rule : Padding) (format : Format) (limit : Option ℕ) (segments : X → List (List ℕ))
+    (of : S → List (List ℕ)) (xs : List X) (ms : List S) (raw left : List ℕ)
+    → AreEncodings (grammar_of rule format) limit (map segments xs) raw left
+    → AreEncodings (grammar_of rule format) limit (map of ms) raw [] → length xs ≡ length ms
+    → (map segments xs ≡ map of ms) × (left ≡ [])
+read_same rule format limit segments of xs ms raw left had texts many =
+    texts_same (format_parts rule format limit) (map segments xs) (map of ms) raw left [] had texts
+    (length-map xs segments ∙ many ∙ sym (length-map ms of))
+
+-- after them none is
+pub none_left : {S X : Type 0} (rule : Padding) (format : Format) (limit : Option ℕ) (segments : X → List (List ℕ)) (end : Option X)
+    (source : Ghosts S) (old new : S) → source.unread old ≡ Some []
+    → ReadsStream source old new (rules_of rule format) limit (next_in segments (Ok end)) → end ≡ None
+none_left rule format limit segments None source old new none reads = refl
+none_left rule format limit segments (Some x) source old new none reads = absurd (nothing_stands rule (format_lawful format) (segments x) (source.unread old) (source.unread new) none
+    (IfKnown-weaker (source.unread old) (source.unread new) (λ raw rest. (format_requested rule format (segments x) raw rest).1) reads.found))
+
+-- what is appended to a vector fails for too many segments, or for want of memory
+pub appending_memory : (format : Format) (ms : List (List (List ℕ))) (kind : ErrorKind) → AllByRecursion IsWritable ms → (kind ≡ DeviceFailed → Fails 0 0)
+    → RefusesOneOf (DeclinesAs format (ByKind OutOfMemory)) ms kind → RefusesManyOf ms kind ⊎ (kind ≡ OutOfMemory)
+appending_memory format [] kind writable failed refused = absurd refused
+appending_memory format (m ∷ ms) kind writable failed (inl refused) = elim (format_memory format m kind writable.0 refused failed) [
+  | inl many ↦ inl (inl many)
+  | inr memory ↦ inr memory
+]
+appending_memory format (m ∷ ms) kind writable failed (inr later) = elim (appending_memory format ms kind writable.1 failed later) [
+  | inl many ↦ inl (inr many)
+  | inr memory ↦ inr memory
+]
+
+pub memory_only : (kind : ErrorKind) → (kind ≡ DeviceFailed) ⊎ (kind ≡ OutOfMemory) → (kind ≡ DeviceFailed → min (0 + 1) (2 ^ 64 - 1) ≤ 0) → kind ≡ OutOfMemory
+memory_only kind (inl device) failed = let fails = failed device in absurd (omega arith)
+memory_only kind (inr memory) failed = memory

@@ -1,0 +1,147 @@
+-- A message that was written and is read back.
+use Rattle.std.proofs.Common.{◌≡◌, ◌⊎◌, inl, inr, false, ℕ, ◌+◌, ◌-◌, ◌^◌, ◌<◌, ◌≤◌, Option, Some, None, Result, Ok, Err, IfOk, IfErr, OnOk, List, [], ◌∷◌, ◌++◌, length, min, sym, ap, ◌∙◌, subst, arith}
+use Rattle.std.proofs.lemmas.List.{append-nil, length-map}
+use Rattle.capnp_frame.specs.declared.serialize.segment_table.Padding.{Padding}
+use Rattle.capnp_frame.specs.declared.error.Error.{Error}
+use Rattle.capnp_frame.specs.declared.error.ErrorKind.{ErrorKind}
+use Rattle.capnp_frame.specs.declared.error.ErrorKind.TheVariants.{DeviceFailed, OutOfMemory, MessageTooLarge}
+use Rattle.capnp_frame.specs.declared.message.options.ReaderOptions.{ReaderOptions}
+use Rattle.capnp_frame.specs.Limits.{KeepsLimit, AreWithin}
+use Rattle.capnp_frame.specs.Refusals.{IsTooLarge}
+use Rattle.capnp_frame.specs.Message.{word_count, lengths, size_in_words}
+use Rattle.capnp_frame.specs.declared.io.Read.{Ghosts}
+use Rattle.capnp_frame.specs.Sink.{Adds}
+use Rattle.capnp_frame.specs.Source.{IfKnown}
+use Rattle.capnp_frame.specs.Streams.{ReadsStream}
+use Rattle.capnp_frame.specs.Writing.{IsWritable, IsWithinSegmentLimit}
+use Rattle.capnp_frame.proofs.slices.AgreementLemmas.{limit_cases}
+use Rattle.capnp_frame.proofs.tables.LimitLemmas.{past_limit}
+use Rattle.capnp_layout.specs.Tree.{Trees}
+use Rattle.capnp_layout.specs.Reached.{At, at, root}
+use Rattle.capnp_wire.specs.Values.{HasWords}
+use Rattle.capnp_wire.proofs.layouts.LaidOutLemmas.{word_stands}
+use Rattle.capnp_build.specs.Bytes.{Space}
+use Rattle.capnp_build.specs.declared.allocator.Allocator as allocator
+use Rattle.capnp_build.specs.Built.{Built, message, IsSet}
+use Rattle.capnp_build.specs.Placed.{IsPut}
+use Rattle.capnp_build.proofs.roots.NullLemmas.{root_stands}
+use Rattle.capnp_message.specs.Seen.{ReadMessage}
+use Rattle.capnp.specs.declared.streams.Format.{Format}
+use Rattle.capnp.specs.Headline.{IsFault, by_format, ReadsMessage, OrFailsAtEnd}
+use Rattle.capnp.specs.Streams.{rules_of, StandsNext}
+use Rattle.capnp.specs.Written.{IsTextOf, output_of}
+use Rattle.capnp.proofs.AppendedLemmas.{text_stands}
+use Rattle.capnp.proofs.FormatLemmas.{or_fails_failed}
+use Rattle.capnp.proofs.ReaderLemmas.{or_fails_accepted, or_fails_reads}
+use Rattle.capnp.proofs.RunLemmas.{format_lawful, format_requested, format_parts}
+use Rattle.capnp_uses.specs.Roots.{HasRootOf, ReadsWritten, RefusesAgain, StaysUnset, StaysUnread}
+use Rattle.capnp_uses.proofs.AppendedLemmas.{memory_only}
+
+-- where there is a tree at the root, there is a segment
+pub has_segment : (spaces : List Space) (trees : Trees) (traversed : ℕ) → At (message spaces) (root ∷ []) trees traversed → 0 < length spaces
+has_segment spaces trees traversed (at points inside following) =
+    let word = word_stands (message spaces) root _ points in (root_stands spaces word.0 word.1).0
+
+-- what was added to nothing is its encoding, and no more
+added_stands : (rule : Padding) (format : Format) (limit : Option ℕ) (m : List (List ℕ)) (shown : List ℕ) → IsWritable m
+    → IsTextOf format m shown → IsWithinSegmentLimit m → KeepsLimit (lengths m) limit → StandsNext rule format limit m shown []
+added_stands rule format limit m shown writable here few size =
+    subst (λ (l : List ℕ). StandsNext rule format limit m l []) (append-nil shown) (text_stands rule format limit m shown [] writable few size here)
+
+pub added_alone : (format : Format) (m : List (List ℕ)) (start new shown : List ℕ) → start ≡ [] → shown ≡ new
+    → Adds (IsTextOf format m) start new → IsTextOf format m shown
+added_alone format m start new shown none same (text, here, e) =
+    subst (IsTextOf format m) (sym (same ∙ e ∙ ap (λ (l : List ℕ). l ++ text) none)) here
+
+-- without a limit of words
+unlimited : (rule : Padding) (format : Format) (limit : Option ℕ) (m : List (List ℕ)) (raw rest : List ℕ) → StandsNext rule format limit m raw rest
+    → StandsNext rule format None m raw rest
+unlimited rule format limit m raw rest stands = let within = stands.within in record {
+  text = stands.text;
+  is_text = stands.is_text;
+  within = record { some = within.some; few = within.few; each = within.each; size = tt };
+  spelled = stands.spelled;
+}
+
+-- what is read of it is the message, which is within the limit
+read_again : (rule : Padding) (format : Format) (limit : Option ℕ) (read m : List (List ℕ)) (shown : List ℕ) (left : Option (List ℕ))
+    → StandsNext rule format None m shown [] → IfKnown (Some shown) left (StandsNext rule format limit read) → (read ≡ m) × KeepsLimit (lengths m) limit
+read_again rule format limit read m shown None stands found = absurd found
+read_again rule format limit read m shown (Some rest) stands found =
+    let same = ((format_parts rule format None).begins_once read m shown rest [] (unlimited rule format limit read shown rest found) stands).0 in
+    (same, subst (λ m. KeepsLimit (lengths m) limit) same found.within.size)
+
+-- past the limit of words it fails with that line of the table of errors
+reads_too_many : {S : Type 0} (rule : Padding) (format : Format) (limit : Option ℕ) (source : Ghosts S) (old new : S) (m : List (List ℕ)) (e : Error)
+    (shown : List ℕ) → StandsNext rule format None m shown [] → source.unread old ≡ Some shown → IsTooLarge (lengths m) limit
+    → OrFailsAtEnd (ReadsStream source old new (rules_of rule format) limit) (Err e)
+    → (e.kind ≡ DeviceFailed) ⊎ (e.kind ≡ OutOfMemory) ⊎ (e.kind ≡ MessageTooLarge (size_in_words m))
+reads_too_many rule format limit source old new m e shown stands unread over reads =
+    let requested = (format_requested rule format m shown []).1 (stands.text, stands.is_text, stands.spelled) in
+    let (left, line) = past_limit rule (format_lawful format) limit m shown [] requested (few_segments stands.within) over in
+    elim reads [
+      | inl declared ↦ (rw unread at declared.exact) (MessageTooLarge (size_in_words m)) left line
+      | inr (end, declared) ↦ absurd ((rw unread at declared.exact) (MessageTooLarge (size_in_words m)) left line)
+    ]
+  where
+    few_segments : AreWithin (lengths m) None → length m < 512
+    few_segments within = let few = within.few in omega (arith, few, length-map m word_count)
+
+-- so of what is written and read nothing else comes than the limit and want of memory
+refused_again : {S : Type 0} (rule : Padding) (format : Format) (limit : Option ℕ) (source : Ghosts S) (old new : S) (m : List (List ℕ)) (e : Error) (shown : List ℕ)
+    → IsTextOf format m shown → IsWritable m → IsWithinSegmentLimit m → source.unread old ≡ Some shown → source.failures old ≡ 0 → source.failures new ≡ 0
+    → (StandsNext rule format limit m shown [] → IsFault e.kind)
+    → OrFailsAtEnd (ReadsStream source old new (rules_of rule format) limit) (Err e)
+    → RefusesAgain m limit e.kind
+refused_again rule format limit source old new m e shown here writable few unread none still accepted reads = elim (limit_cases (lengths m) limit) [
+  | inr keeps ↦ inr (inr (memory_only e.kind (accepted (added_stands rule format limit m shown writable here few keeps)) never))
+  | inl over ↦ elim (reads_too_many rule format limit source old new m e shown (added_stands rule format None m shown writable here few tt) unread over reads) [
+    | inl device ↦ inr (inr (memory_only e.kind (inl device) never))
+    | inr (inl memory) ↦ inr (inr memory)
+    | inr (inr size) ↦ inr (inl (over, size))
+  ]
+]
+  where
+    never : e.kind ≡ DeviceFailed → min (0 + 1) (2 ^ 64 - 1) ≤ 0
+    never device = let fails = or_fails_failed source old new (rules_of rule format) limit e reads device in omega (arith, fails, none, still)
+
+-- what is returned of a message that is written and read
+pub written_and_read : {S : Type 0} (rule : Padding) (format : Format) (options : ReaderOptions) (source : Ghosts S) (old new : S) (m : List (List ℕ))
+    (r : Result (ReadMessage (List (List ℕ))) Error) (shown : List ℕ)
+    → IsTextOf format m shown → IsWritable m → IsWithinSegmentLimit m → source.unread old ≡ Some shown → source.failures old ≡ 0 → source.failures new ≡ 0
+    → OrFailsAtEnd (ReadsMessage source old new (by_format rule format) options) r
+    → ReadsWritten m options (λ reader. reader.segments) (λ reader. reader.options) r
+written_and_read rule format options source old new m (Ok x) shown here writable few unread none still reads =
+    let limit = options.traversal_limit_in_words in
+    let again = read_again rule format limit x.segments m shown (source.unread new) (added_stands rule format None m shown writable here few tt) (rw unread at (reads.texts tt).found) in
+    record { back = again.0; size = again.1; few = few; options_are = reads.options_are; refused = tt }
+written_and_read rule format options source old new m (Err e) shown here writable few unread none still reads =
+    let accepted : (raw : List ℕ) → source.unread old ≡ Some raw → (message : List (List ℕ)) (rest : List ℕ)
+    → StandsNext rule format options.traversal_limit_in_words message raw rest → IsFault e.kind
+    = λ raw is. rw is at (or_fails_accepted source old new (by_format rule format) options e tt reads) in
+    record {
+      back = tt;
+      size = tt;
+      few = tt;
+      options_are = tt;
+      refused = refused_again rule format options.traversal_limit_in_words source old new m e shown here writable few unread none still (accepted shown unread m [])
+          (or_fails_reads source old new (by_format rule format) options e reads);
+    }
+
+-- the root of what is read is that of what was built
+pub tree_again : {X : Type 0} (has_tree : Trees → Type 0) (segments : X → List (List ℕ)) (r : Result X Error) (m : List (List ℕ)) → HasRootOf has_tree m
+    → IfOk r (λ x. segments x ≡ m) → IfOk r (λ x. HasRootOf has_tree (segments x))
+tree_again has_tree segments (Err e) m stands back = tt
+tree_again has_tree segments (Ok x) m stands back = subst (HasRootOf has_tree) (sym back) stands
+
+-- a message whose root is set, and that is not read back
+pub unread : {A S X : Type 0} (alloc : allocator.Ghosts A S) (has_tree : Trees → Type 0) (refuses : ErrorKind → Type 0) (limit : Option ℕ) (old new : Built A) (r : Result X Error) → IsSet has_tree false new.spaces
+    → IsPut alloc (HasWords has_tree false) old new → IfErr r (λ error. RefusesAgain (output_of new) limit error.kind)
+    → IfErr r (λ error. StaysUnset alloc has_tree refuses old new error.kind ⊎ StaysUnread alloc has_tree limit old new error.kind)
+unread alloc has_tree refuses limit old new (Ok x) set placed refused = tt
+unread alloc has_tree refuses limit old new (Err error) set placed refused = inr (record { set = set; placed = placed; refused = refused })
+
+-- what holds either way
+pub holds_at_ok : {X E P : Type 0} (r : Result X E) → P → OnOk r P
+holds_at_ok (Ok x) holds = holds
+holds_at_ok (Err e) holds = tt

@@ -1,0 +1,161 @@
+-- Lists of structs: what is written of their elements.
+use Rattle.std.proofs.Common.{◌≡◌, ℕ, ◌+◌, ◌*◌, ◌<◌, ◌≤◌, Bool, true, false, List, ◌∷◌, length, map, take, drop, refl, sym, ◌∙◌, ap, subst, arith, get_or, length-take}
+use Rattle.std.proofs.Math.Nat.{mul-le-mul_left}
+use Rattle.capnp_layout.specs.Pointer.{words_of}
+use Rattle.capnp_layout.specs.Tree.{Trees, count, total_words}
+use Rattle.capnp_layout.specs.Trim.{first, following, before, trim}
+use Rattle.capnp_layout.specs.Layout.{run, output}
+use Rattle.capnp_layout.specs.Block.{put, fill}
+use Rattle.capnp_wire.specs.Values.{IsFreeFrom}
+use Rattle.capnp_layout.proofs.trees.ChunkLemmas.{count-first, total-before, least_pointers_within}
+use Rattle.capnp_layout.proofs.trees.NarrowLemmas.{first-before, following-before}
+use Rattle.capnp_values.specs.Fields.{IsSettled, IsRowWritten}
+use Rattle.capnp_values.specs.StructLists.{AreRows, element_pointers, shown, fill_rows, HasRoomForRows}
+use Rattle.capnp_values.specs.StructListPlaces.{ElementPlace}
+use Rattle.capnp_values.proofs.lists.PointerListLemmas.{count_output}
+use Rattle.capnp_values.proofs.lists.ItemLemmas.{from_here, none_left}
+use Rattle.capnp_values.proofs.struct_lists.StructListLemmas.{shown_front}
+
+shown_total : (c : Bool) (m p : ℕ) (words : List ℕ) (rows : List (List ℕ)) (row rest children : Trees) → children ≡ before row rest → count row ≡ p
+    → total_words (shown c m p (words ∷ rows) children) ≡ total_words (first m (output c row)) + total_words (shown c m p rows rest)
+shown_total c m p words rows row rest children whole many =
+    ap total_words (shown_front c m p words rows row rest children whole many) ∙ total-before (first m (output c row)) (shown c m p rows rest)
+
+-- no more pointers are kept than there are
+pub pointers_within : (c : Bool) (p : ℕ) (rows : List (List ℕ)) (children : Trees) → element_pointers c p rows children ≤ p
+pointers_within true p rows children = least_pointers_within p rows (trim children)
+pointers_within false p rows children = omega arith
+
+-- the words and the pointers of one element, put into a block in front of those of others
+rows_next : (c : Bool) (d m p at free : ℕ) (words : List ℕ) (rows : List (List ℕ)) (row rest children : Trees) (block : List ℕ) → children ≡ before row rest → count row ≡ p → m ≤ p → d ≤ length words
+    → fill_rows m at (map (take d) (words ∷ rows)) free (shown c m p (words ∷ rows) children) block
+    ≡ fill_rows m (at + (d + m)) (map (take d) rows) (free + total_words (first m (output c row))) (shown c m p rows rest)
+    (fill (run (at + d) m) free (first m (output c row)) (put at (take d words) block))
+rows_next c d m p at free words rows row rest children block whole many le within =
+    let a : Trees = first m (output c row) in
+    let b : Trees = shown c m p rows rest in
+    let some : count (first m (output c row)) ≡ m = count-first m (output c row) (omega (arith, count_output c row, many, le)) in
+    let long : length (take d words) ≡ d = omega (arith, length-take d words, within) in
+    let own_is : first m (before (first m (output c row)) (shown c m p rows rest)) ≡ first m (output c row) = first-before m a b some in
+    let rest_is : following m (before (first m (output c row)) (shown c m p rows rest)) ≡ shown c m p rows rest = following-before m a b some in
+    let on : at + d + m ≡ at + (d + m) = omega arith in
+    let next : Trees → Trees → ℕ → ℕ → List ℕ =
+    λ x y k e. fill_rows m e (map (take d) rows) (free + total_words x) y (fill (run (at + k) m) free x (put at (take d words) block)) in
+    ap (λ (t : Trees). fill_rows m at (map (take d) (words ∷ rows)) free t block) (shown_front c m p words rows row rest children whole many)
+    ∙ ap (λ (t : Trees). next t (following m (before a b)) (length (take d words)) (at + length (take d words) + m)) own_is
+    ∙ ap (λ (t : Trees). next a t (length (take d words)) (at + length (take d words) + m)) rest_is
+    ∙ ap (λ (k : ℕ). next a b k (at + k + m)) long
+    ∙ ap (λ (e : ℕ). next a b d e) on
+
+-- The first i of some structs are written: what is left to be put into the block, with which all are written, and the room for it.
+pub record Left {V : Type 0} (w : V → List ℕ) (h : V → Trees → Type 0) (c : Bool) (d m p : ℕ) (items : List V) (start begin i at free : ℕ) (old block : List ℕ) (children : Trees) : Type 0 where
+  pub rest : Trees
+  pub rest_is : AreRows h (drop i items) rest
+  pub fills : fill_rows m start (map (take d) (map w items)) begin (shown c m p (map w items) children) old
+      ≡ fill_rows m at (map (take d) (map w (drop i items))) free (shown c m p (map w (drop i items)) rest) block
+  pub totals : begin + total_words (shown c m p (map w items) children) ≡ free + total_words (shown c m p (map w (drop i items)) rest)
+
+pub record RowsWritten {V : Type 0} (w : V → List ℕ) (h : V → Trees → Type 0) (c : Bool) (d m p : ℕ) (items : List V) (start begin i at free : ℕ) (old block : List ℕ) : Type 0 where
+  pub long : length block ≡ length old
+  pub same : length (words_of block) ≡ length (words_of old)
+  pub at_is : at ≡ start + i * (d + m)
+  pub after : start + length items * (d + m) ≤ free
+  pub free_from : IsFreeFrom free block
+  pub room : (children : Trees) × AreRows h (drop i items) children × (free + total_words (shown c m p (map w (drop i items)) children) ≤ length (words_of block))
+  pub left : (children : Trees) → AreRows h items children → Left w h c d m p items start begin i at free (words_of old) (words_of block) children
+
+pub writing_begins : {V : Type 0} (w : V → List ℕ) (h : V → Trees → Type 0) (c : Bool) (d m e p : ℕ) (items : List V) (start begin : ℕ) (block : List ℕ)
+    → HasRoomForRows w h c d m e p items begin (length (words_of block)) → begin ≡ start + length items * (d + m) → IsFreeFrom begin block
+    → RowsWritten w h c d m p items start begin 0 start begin block block
+writing_begins w h c d m e p items start begin block r begin_is f = record {
+  long = refl;
+  same = refl;
+  at_is = omega arith;
+  after = omega (arith, begin_is);
+  free_from = f;
+  room = (r.children, r.children_is, r.fits);
+  left = λ children is. record { rest = children; rest_is = is; fills = refl; totals = refl };
+}
+
+-- where an element is in the block
+spread : (n i w : ℕ) → i < n → i * w + w ≤ n * w
+spread n i w within =
+    let area : w * (i + 1) ≤ w * n = mul-le-mul_left w (omega (arith, within)) in
+    omega (arith, area)
+
+-- the next struct has room
+pub row_room : {V : Type 0} (w : V → List ℕ) (h : V → Trees → Type 0) (c : Bool) (d m most p : ℕ) → ((v : V) (t : Trees) → h v t → IsSettled p t) → (items : List V) (start begin i at free room : ℕ) (v : V)
+    (old block : List ℕ) → HasRoomForRows w h c d m most p items begin room → i < length items → v ≡ get_or items i v → RowsWritten w h c d m p items start begin i at free old block
+    → ElementPlace (h v) c d m at free (length (words_of block))
+row_room {V = V} w h c d m most p s items start begin i at free room v old block has within is so_far =
+    let le : m ≤ p = omega (arith, has.pointers_are, pointers_within c p (map w items) has.children) in
+    let here = from_here items i v within is in
+    let r = subst (λ (l : List V). (children : Trees) × AreRows h l children × (free + total_words (shown c m p (map w l) children) ≤ length (words_of block))) here so_far.room in
+    let f = r.1 in
+    let settled = s v f.row f.row_is in
+    record {
+      can = record {
+        trees = f.row;
+        trees_are = f.row_is;
+        some = omega (arith, le, settled.many);
+        fits = omega (arith, r.2, shown_total c m p (w v) (map w (drop (i + 1) items)) f.row f.rest r.0 f.whole settled.many);
+      };
+      before_it = omega (arith, so_far.at_is, so_far.after, spread (length items) i (d + m) within);
+    }
+
+-- one more is written
+pub writing_goes_on : {V : Type 0} (w : V → List ℕ) (h : V → Trees → Type 0) (c : Bool) (d m most p : ℕ) → ((v : V) (t : Trees) → h v t → IsSettled p t) → (items : List V)
+    (start begin i at free next room : ℕ) (v : V) (old block new : List ℕ) → HasRoomForRows w h c d m most p items begin room → d ≤ length (w v) → i < length items → v ≡ get_or items i v → length new ≡ length block
+    → length (words_of new) ≡ length (words_of block) → IsFreeFrom next new
+    → IsRowWritten (h v) c (at + d) m free (put at (take d (w v)) (words_of block)) (words_of new) next → RowsWritten w h c d m p items start begin i at free old block
+    → RowsWritten w h c d m p items start begin (i + 1) (at + (d + m)) next old new
+writing_goes_on {V = V} w h c d m most p s items start begin i at free next room v old block new has wide within is long same free_from written so_far =
+    let le : m ≤ p = omega (arith, has.pointers_are, pointers_within c p (map w items) has.children) in
+    let here = from_here items i v within is in
+    let r = subst (λ (l : List V). (children : Trees) × AreRows h l children × (free + total_words (shown c m p (map w l) children) ≤ length (words_of block))) here so_far.room in
+    let f = r.1 in
+    let next_is = written.next_is f.row f.row_is in
+    record {
+      long = long ∙ so_far.long;
+      same = same ∙ so_far.same;
+      at_is = omega (arith, so_far.at_is);
+      after = omega (arith, so_far.after, next_is);
+      free_from = free_from;
+      room = (
+        f.rest,
+        f.others,
+        omega (arith, r.2, same, next_is, shown_total c m p (w v) (map w (drop (i + 1) items)) f.row f.rest r.0 f.whole (s v f.row f.row_is).many),
+      );
+      left = λ children there.
+          let l = so_far.left children there in
+          let row : AreRows h (v ∷ drop (i + 1) items) l.rest = subst (λ (x : List V). AreRows h x l.rest) here l.rest_is in
+          let many = (s v row.row row.row_is).many in
+          let others : List (List ℕ) = map w (drop (i + 1) items) in
+          let on = written.next_is row.row row.row_is in
+          let all : List V → List ℕ = λ x. fill_rows m at (map (take d) (map w x)) free (shown c m p (map w x) l.rest) (words_of block) in
+          record {
+            rest = row.rest;
+            rest_is = row.others;
+            fills = l.fills ∙ ap all here
+                ∙ rows_next c d m p at free (w v) others row.row row.rest l.rest (words_of block) row.whole many le wide
+                ∙ ap (λ (x : List ℕ). fill_rows m (at + (d + m)) (map (take d) others) (free + total_words (first m (output c row.row))) (shown c m p others row.rest) x) (sym (written.words_are row.row row.row_is))
+                ∙ ap (λ (k : ℕ). fill_rows m (at + (d + m)) (map (take d) others) k (shown c m p others row.rest) (words_of new)) (sym on);
+            totals = l.totals ∙ ap (λ (x : List V). free + total_words (shown c m p (map w x) l.rest)) here
+                ∙ omega (arith, on, shown_total c m p (w v) others row.row row.rest l.rest row.whole many);
+          };
+    }
+
+-- all are written
+pub record AllWritten {V : Type 0} (w : V → List ℕ) (c : Bool) (d m p : ℕ) (items : List V) (start begin free : ℕ) (children : Trees) (old new : List ℕ) : Type 0 where
+  pub words_are : new ≡ fill_rows m start (map (take d) (map w items)) begin (shown c m p (map w items) children) old
+  pub next_is : free ≡ begin + total_words (shown c m p (map w items) children)
+
+pub writing_ends : {V : Type 0} (w : V → List ℕ) (h : V → Trees → Type 0) (c : Bool) (d m p : ℕ) (items : List V) (start begin i at free : ℕ) (old block : List ℕ) → length items ≤ i
+    → RowsWritten w h c d m p items start begin i at free old block → (children : Trees) → AreRows h items children → AllWritten w c d m p items start begin free children (words_of old) (words_of block)
+writing_ends {V = V} w h c d m p items start begin i at free old block past so_far children is =
+    let l = so_far.left children is in
+    let empty = none_left items i past in
+    record {
+      words_are = sym (l.fills ∙ ap (λ (x : List V). fill_rows m at (map (take d) (map w x)) free (shown c m p (map w x) l.rest) (words_of block)) empty);
+      next_is = omega (arith, l.totals, ap (λ (x : List V). total_words (shown c m p (map w x) l.rest)) empty);
+    }

@@ -1,0 +1,94 @@
+-- Values by the words that are measured of their trees.
+use Rattle.std.proofs.Common.{◌≡◌, ℕ, ◌<◌, ◌≤◌, ◌^◌, Bool, false, Result, Ok, Err, MatchResult, inl, inr, sym, ◌∙◌, ap, arith}
+use Rattle.std.specs.Result.{IsErrAnd}
+use Rattle.capnp_frame.specs.declared.error.Error.{Error}
+use Rattle.capnp_frame.specs.declared.error.ErrorKind.{ErrorKind}
+use Rattle.capnp_layout.specs.Tree.{Trees, total_words}
+use Rattle.capnp_layout.specs.Layout.{output, AllHaveRoom}
+use Rattle.capnp_wire.specs.Values.{HasWords, LacksWords, HasPart}
+use Rattle.capnp_layout.specs.Limits.{too_large}
+use Rattle.capnp_wire.specs.declared.traits.TreeWords.{TreeWords}
+use Rattle.capnp_wire.proofs.views.PartWordLemmas.{same_tree_words}
+use Rattle.capnp_values.specs.Measured.{tree_words, Measures}
+use Rattle.capnp_values.proofs.values.ResultLemmas.{ok_not_err, same_words}
+
+-- a number of words is returned where it fits
+abbrev pub Fitted : Bool → ℕ → Result ℕ Error → Type 0
+Fitted c total r = MatchResult r (λ number. (number ≡ total) × (number < 2 ^ 29)) (λ error. (2 ^ 29 ≤ total) × (error.kind ≡ too_large c total))
+
+abbrev pub FittedPart : TreeWords → Result TreeWords Error → Type 0
+FittedPart words r = MatchResult r (λ part. (part ≡ words) × (words.as_is < 2 ^ 29)) (λ error. (2 ^ 29 ≤ words.as_is) × (error.kind ≡ too_large false words.as_is))
+
+-- trees that have room, by their words
+abbrev pub AreMeasured : (Trees → Type 0) → Bool → TreeWords → Type 0
+AreMeasured h c words = (trees : Trees) × h trees × AllHaveRoom trees × (words ≡ tree_words c trees)
+
+-- the words of a value
+pub whole_returned : (h : Trees → Type 0) (r : ErrorKind → Type 0) (c : Bool) (words : TreeWords) (res : Result ℕ Error) → AreMeasured h c words → Fitted c words.output res
+    → MatchResult res (λ n. HasWords h c n) (λ error. LacksWords h r c error.kind)
+whole_returned h r c words (Ok n) t f =
+    record { trees = t.0; tree_is = t.1; rooms = t.2; words_are = f.0 ∙ ap (λ (w : TreeWords). w.output) t.3; few = f.1 }
+whole_returned h r c words (Err error) t f =
+    let total : words.output ≡ total_words (output c t.0) = ap (λ (w : TreeWords). w.output) t.3 in
+    inr (t.0, t.1, omega (arith, f.0, total), f.1 ∙ ap (too_large c) total)
+
+fitted_found : (c : Bool) (total words : ℕ) (r : Result ℕ Error) → Fitted c total r → words ≡ total → words < 2 ^ 29 → r ≡ Ok words
+fitted_found c total words (Ok n) f is few = ap (λ (k : ℕ). Ok k) (f.0 ∙ sym is)
+fitted_found c total words (Err e) f is few = absurd (omega (arith, f.0, is, few))
+
+fitted_lacks : (c : Bool) (total words : ℕ) (kind : ErrorKind) (r : Result ℕ Error) → Fitted c total r → words ≡ total → 2 ^ 29 ≤ words → kind ≡ too_large c words
+    → IsErrAnd r (λ e. e.kind ≡ kind)
+fitted_lacks c total words kind (Ok n) f is many k = absurd (omega (arith, f.0, f.1, is, many))
+fitted_lacks c total words kind (Err e) f is many k = f.1 ∙ ap (too_large c) (sym is) ∙ sym k
+
+pub whole_found : (h : Trees → Type 0) (r : ErrorKind → Type 0) (c : Bool) (words : TreeWords) (returned : Result TreeWords Error) (res : Result ℕ Error) → returned ≡ Ok words
+    → Measures h r c returned → Fitted c words.output res → (n : ℕ) → HasWords h c n → res ≡ Ok n
+whole_found h r c words returned res was m f n w =
+    let same : words ≡ tree_words c w.trees = same_words returned words (tree_words c w.trees) was (m.found w.trees w.tree_is) in
+    fitted_found c words.output n res f (w.words_are ∙ sym (ap (λ (x : TreeWords). x.output) same)) w.few
+
+pub whole_exact : (h : Trees → Type 0) (r : ErrorKind → Type 0) (c : Bool) (words : TreeWords) (returned : Result TreeWords Error) (res : Result ℕ Error) → returned ≡ Ok words
+    → Measures h r c returned → Fitted c words.output res → (kind : ErrorKind) → LacksWords h r c kind → IsErrAnd res (λ e. e.kind ≡ kind)
+whole_exact h r c words returned res was m f kind (inl refused) = absurd (ok_not_err returned words (λ e. e.kind ≡ kind) was (m.exact kind refused))
+whole_exact h r c words returned res was m f kind (inr lacks) =
+    let same : words ≡ tree_words c lacks.0 = same_words returned words (tree_words c lacks.0) was (m.found lacks.0 lacks.1) in
+    fitted_lacks c words.output (total_words (output c lacks.0)) kind res f (sym (ap (λ (x : TreeWords). x.output) same)) lacks.2 lacks.3
+
+-- the words of a part
+pub part_returned : (h : Trees → Type 0) (r : ErrorKind → Type 0) (c : Bool) (words : TreeWords) (res : Result TreeWords Error) → AreMeasured h c words → FittedPart words res
+    → MatchResult res (λ p. HasPart h c p) (λ error. LacksWords h r false error.kind)
+part_returned h r c words (Ok p) t f =
+    let is : p ≡ tree_words c t.0 = f.0 ∙ t.3 in
+    record {
+      trees = t.0;
+      tree_is = t.1;
+      rooms = t.2;
+      as_is_same = ap (λ (w : TreeWords). w.as_is) is;
+      output_is = ap (λ (w : TreeWords). w.output) is;
+      few = omega (arith, f.1, ap (λ (w : TreeWords). w.as_is) f.0);
+    }
+part_returned h r c words (Err error) t f =
+    let total : words.as_is ≡ total_words t.0 = ap (λ (w : TreeWords). w.as_is) t.3 in
+    inr (t.0, t.1, omega (arith, f.0, total), f.1 ∙ ap (too_large false) total)
+
+part_fits : (words p : TreeWords) (res : Result TreeWords Error) → FittedPart words res → p ≡ words → p.as_is < 2 ^ 29 → res ≡ Ok p
+part_fits words p (Ok q) f is few = ap (λ (x : TreeWords). Ok x) (f.0 ∙ sym is)
+part_fits words p (Err e) f is few = absurd (omega (arith, f.0, ap (λ (w : TreeWords). w.as_is) is, few))
+
+pub part_found : (h : Trees → Type 0) (r : ErrorKind → Type 0) (c : Bool) (words : TreeWords) (returned : Result TreeWords Error) (res : Result TreeWords Error) → returned ≡ Ok words
+    → Measures h r c returned → FittedPart words res → (p : TreeWords) → HasPart h c p → res ≡ Ok p
+part_found h r c words returned res was m f p w =
+    let same : words ≡ tree_words c w.trees = same_words returned words (tree_words c w.trees) was (m.found w.trees w.tree_is) in
+    part_fits words p res f (same_tree_words p (tree_words c w.trees) w.as_is_same w.output_is ∙ sym same) w.few
+
+part_lacks : (words : TreeWords) (total : ℕ) (kind : ErrorKind) (res : Result TreeWords Error) → FittedPart words res → total ≡ words.as_is → 2 ^ 29 ≤ total → kind ≡ too_large false total
+    → IsErrAnd res (λ e. e.kind ≡ kind)
+part_lacks words total kind (Ok p) f is many k = absurd (omega (arith, f.1, is, many))
+part_lacks words total kind (Err e) f is many k = f.1 ∙ ap (too_large false) (sym is) ∙ sym k
+
+pub part_exact : (h : Trees → Type 0) (r : ErrorKind → Type 0) (c : Bool) (words : TreeWords) (returned : Result TreeWords Error) (res : Result TreeWords Error) → returned ≡ Ok words
+    → Measures h r c returned → FittedPart words res → (kind : ErrorKind) → LacksWords h r false kind → IsErrAnd res (λ e. e.kind ≡ kind)
+part_exact h r c words returned res was m f kind (inl refused) = absurd (ok_not_err returned words (λ e. e.kind ≡ kind) was (m.exact kind refused))
+part_exact h r c words returned res was m f kind (inr lacks) =
+    let same : words ≡ tree_words c lacks.0 = same_words returned words (tree_words c lacks.0) was (m.found lacks.0 lacks.1) in
+    part_lacks words (total_words lacks.0) kind res f (sym (ap (λ (x : TreeWords). x.as_is) same)) lacks.2 lacks.3

@@ -1,0 +1,12 @@
+-- The numbers of a list are those of the pointer.
+use Rattle.capnp_wire.specs.Views.{DeclinesNumbers}
+use Rattle.capnp_wire.specs.NumberViews.{numbers_of, IsNumbers}
+use Rattle.capnp_wire.specs.Readers.{pointer_of}
+use Rattle.capnp_wire.proofs.views.FormLemmas.{entered_view}
+use Rattle.capnp_wire.proofs.primitive_list.reader.ReaderObjectView.of_object.Goals as goal
+
+pub returns : goal.returns
+returns g c =
+    let pointer = pointer_of g.S.ReaderSegments.segments c.args._reader.now in
+    let code = g.T.PrimitiveElement.code in
+    entered_view pointer c.args.object.now (λ view form. IsNumbers code form (numbers_of code view)) (DeclinesNumbers code) c.in_object.result c.requires c.in_object.ensures
