@@ -9,7 +9,7 @@ ghost use Rattle.capnp_wire.specs.Values.{HasRoomAt, LeadsToTree};
 mod fast_path;
 mod reader;
 
-use crate::layout::copy::{Copied, copy};
+use crate::layout::copy::{Copied, CopySource, Destination, copy};
 use crate::layout::value;
 use crate::read_limiter::limit_in_words;
 use crate::traits::{self, SetterInput};
@@ -82,13 +82,14 @@ pub(crate) fn write_into<S: ReaderSegments, T: BlockItem>(
     match reader.place {
         None => Copied { pointer: 0, next },
         Some(place) => copy(
-            reader.segments,
+            &CopySource {
+                segments: reader.segments,
+                canonical,
+            },
             place,
             reader.nesting,
-            canonical,
             block,
-            following,
-            next,
+            Destination { following, next },
         ),
     }
 }

@@ -1,7 +1,7 @@
 //! Lists of pointers that may lead to anything.
 mod reader;
 
-use crate::layout::copy::Copied;
+use crate::layout::copy::{Copied, CopySource, Destination};
 use crate::layout::list_value;
 use crate::read_limiter::limit_in_words;
 use crate::traits::{self, SetterInput};
@@ -48,14 +48,15 @@ impl<'a, S: ReaderSegments> SetterInput<Owned> for Reader<'a, S> {
 
     fn write(&self, canonical: bool, block: &mut [u8], following: usize, next: usize) -> Copied {
         list_value::write(
-            self.segments,
+            &CopySource {
+                segments: self.segments,
+                canonical,
+            },
             self.first,
             self.count,
             self.nesting,
-            canonical,
             block,
-            following,
-            next,
+            Destination { following, next },
         )
     }
 }

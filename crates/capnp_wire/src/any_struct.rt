@@ -3,12 +3,13 @@ mod fields;
 pub(crate) mod part;
 mod reader;
 
-use crate::layout::copy::Copied;
+use crate::layout::copy::{Copied, CopySource, Destination};
 use crate::layout::struct_value;
 use crate::read_limiter::limit_in_words;
 use crate::traits::{self, SetterInput};
 use capnp_frame::Result;
 use capnp_frame::message::ReaderSegments;
+use capnp_layout::fast_path::LocalStruct;
 use capnp_layout::place::Place;
 pub use reader::StructReader;
 
@@ -43,18 +44,22 @@ impl<'a, S: ReaderSegments> SetterInput<Owned> for StructReader<'a, S> {
         match self.part {
             None => struct_value::measure(
                 self.segments,
-                self.segment,
-                self.start,
-                self.size,
+                LocalStruct {
+                    segment: self.segment,
+                    start: self.start,
+                    size: self.size,
+                },
                 self.nesting,
                 limit,
                 canonical,
             ),
             Some(_) => struct_value::measure(
                 self.segments,
-                &self.get_word(0).to_le_bytes(),
-                ALONE,
-                self.size,
+                LocalStruct {
+                    segment: &self.get_word(0).to_le_bytes(),
+                    start: ALONE,
+                    size: self.size,
+                },
                 self.nesting,
                 limit,
                 canonical,
@@ -67,28 +72,33 @@ impl<'a, S: ReaderSegments> SetterInput<Owned> for StructReader<'a, S> {
     }
 
     fn write(&self, canonical: bool, block: &mut [u8], following: usize, next: usize) -> Copied {
+        let source = CopySource {
+            segments: self.segments,
+            canonical,
+        };
+        let to = Destination { following, next };
         match self.part {
             None => struct_value::write(
-                self.segments,
-                self.segment,
-                self.start,
-                self.size,
+                &source,
+                LocalStruct {
+                    segment: self.segment,
+                    start: self.start,
+                    size: self.size,
+                },
                 self.nesting,
-                canonical,
                 block,
-                following,
-                next,
+                to,
             ),
             Some(_) => struct_value::write(
-                self.segments,
-                &self.get_word(0).to_le_bytes(),
-                ALONE,
-                self.size,
+                &source,
+                LocalStruct {
+                    segment: &self.get_word(0).to_le_bytes(),
+                    start: ALONE,
+                    size: self.size,
+                },
                 self.nesting,
-                canonical,
                 block,
-                following,
-                next,
+                to,
             ),
         }
     }

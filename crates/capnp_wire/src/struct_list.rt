@@ -1,8 +1,9 @@
 //! Lists of structs.
 mod reader;
 
-use crate::layout::copy::Copied;
+use crate::layout::copy::{Copied, CopySource, Destination};
 use crate::layout::struct_list_value;
+use crate::layout::struct_list_value::StructRun;
 use crate::read_limiter::limit_in_words;
 use crate::traits::{self, SetterInput};
 use capnp_frame::Result;
@@ -34,9 +35,11 @@ impl<'a, S: ReaderSegments> SetterInput<Owned> for Reader<'a, S> {
     fn measure(&self, canonical: bool) -> Result<u32> {
         struct_list_value::measure(
             self.segments,
-            self.segment,
-            self.first,
-            self.elements,
+            StructRun {
+                segment: self.segment,
+                first: self.first,
+                elements: self.elements,
+            },
             self.nesting,
             limit_in_words(self.limiter),
             canonical,
@@ -49,15 +52,18 @@ impl<'a, S: ReaderSegments> SetterInput<Owned> for Reader<'a, S> {
 
     fn write(&self, canonical: bool, block: &mut [u8], following: usize, next: usize) -> Copied {
         struct_list_value::write(
-            self.segments,
-            self.segment,
-            self.first,
-            self.elements,
+            &CopySource {
+                segments: self.segments,
+                canonical,
+            },
+            StructRun {
+                segment: self.segment,
+                first: self.first,
+                elements: self.elements,
+            },
             self.nesting,
-            canonical,
             block,
-            following,
-            next,
+            Destination { following, next },
         )
     }
 }

@@ -23,41 +23,54 @@ pub struct Copied {
     pub next: usize,
 }
 
-/// Copies the object that the pointer at a place leads to, with all below it, into a block from the
-/// word `next` on. The pointer to the copy is to be put into the word before `following`.
+/// What is copied from: the segments of a message, and whether copies are in canonical form.
+#[derive(Drop)]
+pub(crate) struct CopySource<'a, S> {
+    pub segments: &'a S,
+    pub canonical: bool,
+}
+
+/// Where a copy goes in a block.
+#[derive(Clone, Copy)]
+pub(crate) struct Destination {
+    /// The index of the word just after the pointer to the copy.
+    pub following: usize,
+
+    /// The word at which the copy begins, the first free one.
+    pub next: usize,
+}
+
+/// Copies the object that the pointer at a place leads to, with all below it, into a block.
 #[inline(always)]
 pub(crate) fn copy<S: ReaderSegments, T: BlockItem>(
-    segments: &S,
+    source: &CopySource<'_, S>,
     place: Place,
     nesting: u32,
-    canonical: bool,
     block: &mut [T],
-    following: usize,
-    next: usize,
+    to: Destination,
 ) -> Copied
-    requires there { CanCopy (message_of (S.segments segments.now)) (place ∷ []) nesting canonical
-        next (length (T.as_words block.old)) }
-    requires following { following ≤ next }
+    requires there { CanCopy (message_of (S.segments source.now.segments.now)) (place ∷ []) nesting
+        source.now.canonical to.next (length (T.as_words block.old)) }
+    requires following { to.following ≤ to.next }
     requires small { length (T.as_words block.old) < 2 ^ 29 }
-    ensures copied { Copies (message_of (S.segments segments.now)) place canonical
-        (next - following) next (T.as_words block.old) (T.as_words block.new) result }
+    ensures copied { Copies (message_of (S.segments source.now.segments.now)) place source.now.canonical
+        (to.next - to.following) to.next (T.as_words block.old) (T.as_words block.new) result }
     ensures len { length (T.as_words block.new) ≡ length (T.as_words block.old) }
 {
-    match segments.get_segment(place.segment) {
+    match source.segments.get_segment(place.segment) {
         Some(found) => {
             if let Some(pointer) = word(found, place.word)
                 && !has_fast_path(pointer)
             {
-                return copy_object(
-                    segments, found, place, nesting, canonical, block, following, next,
-                );
+                return copy_object(source, found, place, nesting, block, to);
             }
-            copy_target(
-                segments, found, place, nesting, canonical, block, following, next,
-            )
+            copy_target(source, found, place, nesting, block, to)
         }
         // There is a tree at the place, so this can't happen.
-        None => Copied { pointer: 0, next },
+        None => Copied {
+            pointer: 0,
+            next: to.next,
+        },
     }
 }
 
@@ -67,49 +80,47 @@ pub(crate) fn copy<S: ReaderSegments, T: BlockItem>(
 #[inline(always)]
 #[cycle(copy)]
 pub(crate) fn copy_target<S: ReaderSegments, T: BlockItem>(
-    segments: &S,
+    source: &CopySource<'_, S>,
     segment: &[u8],
     place: Place,
     nesting: u32,
-    canonical: bool,
     block: &mut [T],
-    following: usize,
-    next: usize,
+    to: Destination,
 ) -> Copied
-    requires there { CanCopy (message_of (S.segments segments.now)) (place ∷ []) nesting canonical
-        next (length (T.as_words block.old)) }
-    requires content { slice_get (message_of (S.segments segments.now)) place.segment
+    requires there { CanCopy (message_of (S.segments source.now.segments.now)) (place ∷ []) nesting
+        source.now.canonical to.next (length (T.as_words block.old)) }
+    requires content { slice_get (message_of (S.segments source.now.segments.now)) place.segment
         ≡ Some (words_of segment.now) }
-    requires following { following ≤ next }
+    requires following { to.following ≤ to.next }
     requires small { length (T.as_words block.old) < 2 ^ 29 }
-    ensures copied { Copies (message_of (S.segments segments.now)) place canonical
-        (next - following) next (T.as_words block.old) (T.as_words block.new) result }
+    ensures copied { Copies (message_of (S.segments source.now.segments.now)) place source.now.canonical
+        (to.next - to.following) to.next (T.as_words block.old) (T.as_words block.new) result }
     ensures len { length (T.as_words block.new) ≡ length (T.as_words block.old) }
 {
     if let Some(pointer) = null_or_empty_struct(segment, place.word, nesting) {
-        return Copied { pointer, next };
+        return Copied {
+            pointer,
+            next: to.next,
+        };
     }
     let (owner, left) = if let Some(found) = local_struct(segment, place, nesting) {
-        match begin_struct(&found, canonical, block, following, next) {
+        match begin_struct(&found, source.canonical, block, to) {
             StructCopy::Whole(copied) => return copied,
             StructCopy::Pending(left) => (found.segment, left),
         }
     } else if let Some(list) = local_list(segment, place, nesting) {
-        return copy_list(&list, block, following, next);
+        return copy_list(&list, block, to);
     } else if let Some(list) = local_pointers(segment, place, nesting) {
-        (list.segment, begin_list(&list, following, next))
+        (list.segment, begin_list(&list, to))
     } else {
-        return copy_object(
-            segments, segment, place, nesting, canonical, block, following, next,
-        );
+        return copy_object(source, segment, place, nesting, block, to);
     };
     let free = copy_run(
-        segments,
+        source,
         owner,
         left.first,
         left.count,
         nesting - 1,
-        canonical,
         block,
         left.slot,
         left.next,
@@ -124,39 +135,36 @@ pub(crate) fn copy_target<S: ReaderSegments, T: BlockItem>(
 #[inline(never)]
 #[cycle(copy)]
 fn copy_object<S: ReaderSegments, T: BlockItem>(
-    segments: &S,
+    source: &CopySource<'_, S>,
     segment: &[u8],
     place: Place,
     nesting: u32,
-    canonical: bool,
     block: &mut [T],
-    following: usize,
-    next: usize,
+    to: Destination,
 ) -> Copied
-    requires there { CanCopy (message_of (S.segments segments.now)) (place ∷ []) nesting canonical
-        next (length (T.as_words block.old)) }
-    requires content { slice_get (message_of (S.segments segments.now)) place.segment
+    requires there { CanCopy (message_of (S.segments source.now.segments.now)) (place ∷ []) nesting
+        source.now.canonical to.next (length (T.as_words block.old)) }
+    requires content { slice_get (message_of (S.segments source.now.segments.now)) place.segment
         ≡ Some (words_of segment.now) }
-    requires following { following ≤ next }
+    requires following { to.following ≤ to.next }
     requires small { length (T.as_words block.old) < 2 ^ 29 }
-    ensures copied { Copies (message_of (S.segments segments.now)) place canonical
-        (next - following) next (T.as_words block.old) (T.as_words block.new) result }
+    ensures copied { Copies (message_of (S.segments source.now.segments.now)) place source.now.canonical
+        (to.next - to.following) to.next (T.as_words block.old) (T.as_words block.new) result }
     ensures len { length (T.as_words block.new) ≡ length (T.as_words block.old) }
 {
-    let begun = begin(
-        segments, segment, place, nesting, canonical, block, following, next,
-    );
-    let Some(begun) = begun else {
-        return Copied { pointer: 0, next };
+    let Some(begun) = begin(&*source, segment, place, nesting, block, to) else {
+        return Copied {
+            pointer: 0,
+            next: to.next,
+        };
     };
     let free = copy_pointers(
-        segments,
+        source,
         &begun.object,
         begun.body,
         nesting - 1,
-        canonical,
         block,
-        next,
+        to.next,
     );
     Copied {
         pointer: begun.pointer,

@@ -8,7 +8,7 @@ ghost use Rattle.capnp_layout.specs.Rows.{row_size, kept_in, slots_of, places_in
 ghost use Rattle.capnp_wire.specs.Copy.{CanCopy, CanCopyRows, CopiesAll};
 ghost use Rattle.capnp_layout.specs.Output.{IsNarrower};
 
-use crate::layout::copy::copy_target;
+use crate::layout::copy::{CopySource, Destination, copy_target};
 use crate::layout::copy_cursor::CopyCursor;
 use capnp_frame::message::ReaderSegments;
 use capnp_layout::block::{BlockItem, put_word};
@@ -21,18 +21,17 @@ use capnp_layout::place::Place;
 #[inline(always)]
 #[cycle(copy)]
 pub(crate) fn copy_pointers<S: ReaderSegments, T: BlockItem>(
-    segments: &S,
+    source: &CopySource<'_, S>,
     object: &Object<'_>,
     copied: Body,
     nesting: u32,
-    canonical: bool,
     block: &mut [T],
     next: usize,
 ) -> usize
-    requires there { CanCopy (message_of (S.segments segments.now))
+    requires there { CanCopy (message_of (S.segments source.now.segments.now))
         (kept_in object.now.start object.now.body (row_size copied).pointers)
-        nesting canonical (next + words_in copied) (length (T.as_words block.old)) }
-    requires content { let m = message_of (S.segments segments.now) in
+        nesting source.now.canonical (next + words_in copied) (length (T.as_words block.old)) }
+    requires content { let m = message_of (S.segments source.now.segments.now) in
         kept_in object.now.start object.now.body (row_size copied).pointers ≢ [] →
         slice_get m object.now.start.segment ≡ Some (words_of object.now.segment.now) }
     requires narrower { IsNarrower object.now.body copied }
@@ -40,8 +39,8 @@ pub(crate) fn copy_pointers<S: ReaderSegments, T: BlockItem>(
         ≤ length object.now.segment.now / 8 }
     requires elements { words_in object.now.body ≤ room_of object.now.body }
     requires small { length (T.as_words block.old) < 2 ^ 29 }
-    ensures copied { CopiesAll (message_of (S.segments segments.now))
-        (kept_in object.now.start object.now.body (row_size copied).pointers) canonical
+    ensures copied { CopiesAll (message_of (S.segments source.now.segments.now))
+        (kept_in object.now.start object.now.body (row_size copied).pointers) source.now.canonical
         (slots_of next copied) (next + words_in copied)
         (T.as_words block.old) (T.as_words block.new) result }
     ensures len { length (T.as_words block.new) ≡ length (T.as_words block.old) }
@@ -50,12 +49,11 @@ pub(crate) fn copy_pointers<S: ReaderSegments, T: BlockItem>(
         // For the prover: each word is below 2^64, and so is the number of bytes.
         words_fit(object.segment);
         return copy_run(
-            segments,
+            source,
             object.segment,
             object.start,
             count,
             nesting,
-            canonical,
             block,
             next,
             next + count as usize,
@@ -63,15 +61,7 @@ pub(crate) fn copy_pointers<S: ReaderSegments, T: BlockItem>(
     }
     let free = next + copied.words() as usize;
     let rows = CopyCursor::of(object, copied, next);
-    copy_rows(
-        segments,
-        object.segment,
-        rows,
-        nesting,
-        canonical,
-        block,
-        free,
-    )
+    copy_rows(source, object.segment, rows, nesting, block, free)
 }
 
 /// Copies what these pointers of a segment lead to, one after the other from the word `next` on,
@@ -79,33 +69,33 @@ pub(crate) fn copy_pointers<S: ReaderSegments, T: BlockItem>(
 #[inline(always)]
 #[cycle(copy)]
 pub(crate) fn copy_rows<S: ReaderSegments, T: BlockItem>(
-    segments: &S,
+    source: &CopySource<'_, S>,
     segment: &[u8],
     mut rows: CopyCursor,
     nesting: u32,
-    canonical: bool,
     block: &mut [T],
     next: usize,
 ) -> usize
-    requires there { CanCopyRows (message_of (S.segments segments.now)) (words_of segment.now) rows
-        nesting canonical next (length (T.as_words block.old)) }
+    requires there { CanCopyRows (message_of (S.segments source.now.segments.now)) (words_of segment.now) rows
+        nesting source.now.canonical next (length (T.as_words block.old)) }
     requires small { length (T.as_words block.old) < 2 ^ 29 }
-    ensures copied { CopiesAll (message_of (S.segments segments.now)) (places_in rows.from) canonical
-        (slots_in rows.to) next (T.as_words block.old) (T.as_words block.new) result }
+    ensures copied { CopiesAll (message_of (S.segments source.now.segments.now)) (places_in rows.from)
+        source.now.canonical (slots_in rows.to) next (T.as_words block.old) (T.as_words block.new) result }
     ensures len { length (T.as_words block.new) ≡ length (T.as_words block.old) }
 {
     let mut free = next;
     'pointers: while !rows.is_empty() {
-        let (source, slot) = rows.take();
+        let (place, slot) = rows.take();
         let inner = copy_target(
-            segments,
-            segment,
             source,
+            segment,
+            place,
             nesting,
-            canonical,
             block,
-            slot + 1,
-            free,
+            Destination {
+                following: slot + 1,
+                next: free,
+            },
         );
         put_word(block, slot, inner.pointer);
         free = inner.next;
@@ -114,34 +104,34 @@ pub(crate) fn copy_rows<S: ReaderSegments, T: BlockItem>(
 }
 
 // Copies what this many consecutive pointers lead to, whose slots are consecutive, too.
-// Speed: the arguments fit in registers (`tools/time-building`).
+// Speed: each argument is a scalar; with the pointers and slots as one struct, this function takes
+// 5 % more instructions (workload `canon`).
 #[inline(never)]
 #[cycle(copy)]
 pub(crate) fn copy_run<S: ReaderSegments, T: BlockItem>(
-    segments: &S,
+    source: &CopySource<'_, S>,
     segment: &[u8],
     first: Place,
     count: u32,
     nesting: u32,
-    canonical: bool,
     block: &mut [T],
     slot: usize,
     next: usize,
 ) -> usize
     requires bound { first.word + count < 2 ^ 61 }
-    requires there { CanCopy (message_of (S.segments segments.now))
-        (places first.segment first.word count) nesting canonical
+    requires there { CanCopy (message_of (S.segments source.now.segments.now))
+        (places first.segment first.word count) nesting source.now.canonical
         next (length (T.as_words block.old)) }
     requires content { places first.segment first.word count ≢ [] →
-        slice_get (message_of (S.segments segments.now)) first.segment
+        slice_get (message_of (S.segments source.now.segments.now)) first.segment
         ≡ Some (words_of segment.now) }
     requires before { slot + count ≤ next }
     requires small { length (T.as_words block.old) < 2 ^ 29 }
-    ensures copied { CopiesAll (message_of (S.segments segments.now))
-        (places first.segment first.word count) canonical (run slot count) next
+    ensures copied { CopiesAll (message_of (S.segments source.now.segments.now))
+        (places first.segment first.word count) source.now.canonical (run slot count) next
         (T.as_words block.old) (T.as_words block.new) result }
     ensures len { length (T.as_words block.new) ≡ length (T.as_words block.old) }
 {
     let rows = CopyCursor::run(first, count, slot);
-    copy_rows(segments, segment, rows, nesting, canonical, block, next)
+    copy_rows(source, segment, rows, nesting, block, next)
 }

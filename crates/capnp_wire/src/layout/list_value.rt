@@ -10,7 +10,7 @@ ghost use Rattle.capnp_wire.specs.Copy.{IsCopied};
 ghost use Rattle.capnp_wire.specs.Values.{HasWords, LacksWords, HasRoomAt};
 ghost use Rattle.capnp_wire.specs.ListValues.{IsListTree, StopsInList, pointers_along};
 
-use crate::layout::copy::Copied;
+use crate::layout::copy::{Copied, CopySource, Destination};
 use crate::layout::copy_rows::copy_run;
 use crate::layout::value::checked_walk;
 use crate::layout::walk::Walk;
@@ -68,38 +68,34 @@ fn walk_list<S: ReaderSegments>(
     walk.walk_pointers(segments, segment, pointers, nesting, canonical)
 }
 
-/// Writes the words of a list of pointers with all below it into a block, from the word `next` on.
-/// The pointer to it is to be put into the word before `following`.
+/// Writes the words of a list of pointers with all below it into a block.
 pub(crate) fn write<S: ReaderSegments>(
-    segments: &S,
+    source: &CopySource<'_, S>,
     first: Place,
     count: u32,
     nesting: u32,
-    canonical: bool,
     block: &mut [u8],
-    following: usize,
-    next: usize,
+    to: Destination,
 ) -> Copied
     requires bound { first.word + count < 2 ^ 61 }
     requires value { (limit : Option ℕ) × HasRoomAt (IsListTree pointers
-        (pointers_along (message_of (S.segments segments.now)) first count nesting limit))
-        canonical next (length (words_of block.old)) }
+        (pointers_along (message_of (S.segments source.now.segments.now)) first count nesting limit))
+        source.now.canonical to.next (length (words_of block.old)) }
     requires small { length (words_of block.old) < 2 ^ 29 }
-    requires following { following ≤ next }
+    requires following { to.following ≤ to.next }
     ensures written { (limit : Option ℕ) (trees : Trees) → IsListTree pointers
-        (pointers_along (message_of (S.segments segments.now)) first count nesting limit) trees →
-        IsCopied (output canonical trees) (next - following) next
+        (pointers_along (message_of (S.segments source.now.segments.now)) first count nesting limit) trees →
+        IsCopied (output source.now.canonical trees)
+        (to.next - to.following) to.next
         (words_of block.old) (words_of block.new) result }
     ensures len { length block.new ≡ length block.old }
 {
-    let pointer = list_word((next - following) as u64, POINTER_LIST, count as u64);
-    let end = next + count as usize;
-    match segments.get_segment(first.segment) {
+    let pointer = list_word((to.next - to.following) as u64, POINTER_LIST, count as u64);
+    let end = to.next + count as usize;
+    match source.segments.get_segment(first.segment) {
         Some(segment) => Copied {
             pointer,
-            next: copy_run(
-                segments, segment, first, count, nesting, canonical, block, next, end,
-            ),
+            next: copy_run(source, segment, first, count, nesting, block, to.next, end),
         },
         // There is a tree at each pointer, and so a segment: here the list has no pointers.
         None => Copied { pointer, next: end },

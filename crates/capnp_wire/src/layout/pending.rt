@@ -8,7 +8,7 @@ ghost use Rattle.capnp_layout.specs.Local.{object_of, local_struct_of, pointers_
 ghost use Rattle.capnp_wire.specs.Copy.{CanCopy, Copies, IsCopyable, BeginsObject, BeginsRun, BeginsStruct};
 ghost use Rattle.capnp_wire.specs.declared.layout.copy.Copied.{Copied};
 
-use crate::layout::copy::Copied;
+use crate::layout::copy::{Copied, CopySource, Destination};
 use crate::layout::data_words::put_data_words;
 use capnp_frame::message::ReaderSegments;
 use capnp_layout::block::{BlockItem, put_elements, put_words};
@@ -47,28 +47,27 @@ pub(crate) struct PendingPointers {
     pub next: usize,
 }
 
-/// Begins the copy of the object that the pointer at a place of this segment leads to, at the word
-/// `next` of a block; `None` for null. The pointer to the copy is to be put into the word before
-/// `following`.
+/// Begins the copy of the object that the pointer at a place of this segment leads to; `None` for
+/// null.
 #[inline(always)]
 pub(crate) fn begin<'a, S: ReaderSegments, T: BlockItem>(
-    segments: &'a S,
+    source: &CopySource<'a, S>,
     segment: &'a [u8],
     place: Place,
     nesting: u32,
-    canonical: bool,
     block: &mut [T],
-    following: usize,
-    next: usize,
+    to: Destination,
 ) -> Option<PendingCopy<'a>>
-    requires there { CanCopy (message_of (S.segments segments.now)) (place ∷ []) nesting canonical
-        next (length (T.as_words block.old)) }
-    requires content { slice_get (message_of (S.segments segments.now)) place.segment
+    requires there { CanCopy (message_of (S.segments source.now.segments.now)) (place ∷ []) nesting
+        source.now.canonical to.next (length (T.as_words block.old)) }
+    requires content { slice_get (message_of (S.segments source.now.segments.now)) place.segment
         ≡ Some (words_of segment.now) }
-    requires following { following ≤ next }
+    requires following { to.following ≤ to.next }
     requires small { length (T.as_words block.old) < 2 ^ 29 }
-    ensures begun { let m = message_of (S.segments segments.now) in
-        let gap = next - following in
+    ensures begun { let m = message_of (S.segments source.now.segments.now) in
+        let canonical = source.now.canonical in
+        let next = to.next in
+        let gap = next - to.following in
         let nothing : Copied = record { pointer = 0; next = next } in
         MatchOption result
         (Copies m place canonical gap next (T.as_words block.old) (T.as_words block.new) nothing)
@@ -76,12 +75,12 @@ pub(crate) fn begin<'a, S: ReaderSegments, T: BlockItem>(
         (T.as_words block.old) (T.as_words block.new) begun) }
     ensures len { length (T.as_words block.new) ≡ length (T.as_words block.old) }
 {
-    let Some(object) = object_there(segments, segment, place, nesting) else {
+    let Some(object) = object_there(source.segments, segment, place, nesting) else {
         return None;
     };
-    let body = output_body(&object, canonical);
-    put_data_words(&object, body, block, next);
-    let pointer = pointer_word(body, (next - following) as u64);
+    let body = output_body(&object, source.canonical);
+    put_data_words(&object, body, block, to.next);
+    let pointer = pointer_word(body, (to.next - to.following) as u64);
     Some(PendingCopy {
         object,
         body,
@@ -96,88 +95,89 @@ pub(crate) fn begin_struct<T: BlockItem>(
     found: &LocalStruct<'_>,
     canonical: bool,
     block: &mut [T],
-    following: usize,
-    next: usize,
+    to: Destination,
 ) -> StructCopy
     requires there { IsCopyable (local_struct_of found.now) canonical
-        next (length (T.as_words block.old)) }
-    requires following { following ≤ next }
+        to.next (length (T.as_words block.old)) }
+    requires following { to.following ≤ to.next }
     requires small { length (T.as_words block.old) < 2 ^ 29 }
     ensures begun { (m : List (List ℕ)) (place : Place) (nesting : ℕ) →
-        CanCopy m (place ∷ []) nesting canonical next (length (T.as_words block.old)) →
+        CanCopy m (place ∷ []) nesting canonical to.next (length (T.as_words block.old)) →
         IsObject m place (local_struct_of found.now) →
         BeginsStruct m place (words_of found.now.segment.now) nesting canonical
-        (next - following) next (T.as_words block.old) (T.as_words block.new) result }
+        (to.next - to.following) to.next (T.as_words block.old) (T.as_words block.new) result }
     ensures len { length (T.as_words block.new) ≡ length (T.as_words block.old) }
 {
     let size = found.output(canonical);
     let words = size.words() as usize;
-    let pointer = struct_pointer_word(size, (next - following) as u64);
+    let pointer = struct_pointer_word(size, (to.next - to.following) as u64);
     if found.holds_nulls(size.pointers) {
-        put_words(block, next, found.segment, found.start.word, words);
+        put_words(block, to.next, found.segment, found.start.word, words);
         return StructCopy::Whole(Copied {
             pointer,
-            next: next + words,
+            next: to.next + words,
         });
     }
     let data_words = size.data_words as usize;
-    put_words(block, next, found.segment, found.start.word, data_words);
+    put_words(block, to.next, found.segment, found.start.word, data_words);
     StructCopy::Pending(PendingPointers {
         pointer,
         first: found.first_pointer(),
         count: size.pointers as u32,
-        slot: next + data_words,
-        next: next + words,
+        slot: to.next + data_words,
+        next: to.next + words,
     })
 }
 
-/// Copies a list of numbers to the words of a block from `next` on. It has no pointers, so the copy
-/// is complete.
+/// Copies a list of numbers. It has no pointers, so the copy is complete.
 #[inline(always)]
 pub(crate) fn copy_list<T: BlockItem>(
     list: &NumberList<'_>,
     block: &mut [T],
-    following: usize,
-    next: usize,
+    to: Destination,
 ) -> Copied
     requires there { (canonical : Bool)
-        × IsCopyable (object_of list.now) canonical next (length (T.as_words block.old)) }
-    requires following { following ≤ next }
+        × IsCopyable (object_of list.now) canonical to.next (length (T.as_words block.old)) }
+    requires following { to.following ≤ to.next }
     requires small { length (T.as_words block.old) < 2 ^ 29 }
     ensures copied { (m : List (List ℕ)) (place : Place) (nesting : ℕ) (canonical : Bool) →
-        CanCopy m (place ∷ []) nesting canonical next (length (T.as_words block.old)) →
+        CanCopy m (place ∷ []) nesting canonical to.next (length (T.as_words block.old)) →
         IsObject m place (object_of list.now) → Copies m place canonical
-        (next - following) next (T.as_words block.old) (T.as_words block.new) result }
+        (to.next - to.following) to.next (T.as_words block.old) (T.as_words block.new) result }
     ensures len { length (T.as_words block.new) ≡ length (T.as_words block.old) }
 {
-    put_elements(block, next, list);
+    put_elements(block, to.next, list);
     Copied {
         pointer: list_word(
-            (next - following) as u64,
+            (to.next - to.following) as u64,
             list.size.code(),
             list.count as u64,
         ),
-        next: next + list.words() as usize,
+        next: to.next + list.words() as usize,
     }
 }
 
 /// Begins the copy of a list of pointers, which has no other words.
 #[inline(always)]
-pub(crate) fn begin_list(list: &PointerRun<'_>, following: usize, next: usize) -> PendingPointers
+pub(crate) fn begin_list(list: &PointerRun<'_>, to: Destination) -> PendingPointers
     requires there { (canonical : Bool) × (room : ℕ) × (room < 2 ^ 29)
-        × IsCopyable (pointers_of list.now) canonical next room }
-    requires following { following ≤ next }
+        × IsCopyable (pointers_of list.now) canonical to.next room }
+    requires following { to.following ≤ to.next }
     ensures { (m : List (List ℕ)) (place : Place) (nesting : ℕ) (canonical : Bool) (old : List ℕ) →
-        CanCopy m (place ∷ []) nesting canonical next (length old) →
+        CanCopy m (place ∷ []) nesting canonical to.next (length old) →
         IsObject m place (pointers_of list.now) →
         BeginsRun m place (words_of list.now.segment.now) nesting canonical
-        (next - following) next old old result }
+        (to.next - to.following) to.next old old result }
 {
     PendingPointers {
-        pointer: list_word((next - following) as u64, POINTER_LIST, list.count as u64),
+        pointer: list_word(
+            (to.next - to.following) as u64,
+            POINTER_LIST,
+            list.count as u64,
+        ),
         first: list.first,
         count: list.count,
-        slot: next,
-        next: next + list.count as usize,
+        slot: to.next,
+        next: to.next + list.count as usize,
     }
 }

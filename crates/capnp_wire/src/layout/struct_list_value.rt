@@ -9,7 +9,7 @@ ghost use Rattle.capnp_layout.specs.Output.{least_size};
 ghost use Rattle.capnp_wire.specs.Values.{HasWords, LacksWords, HasRoomAt, HoldsPointers};
 ghost use Rattle.capnp_wire.specs.ListValues.{IsListTree, StopsInList, pointers_of_structs, structs_along};
 
-use crate::layout::copy::Copied;
+use crate::layout::copy::{Copied, CopySource, Destination};
 use crate::layout::copy_cursor::CopyCursor;
 use crate::layout::copy_rows::copy_rows;
 use crate::layout::data_words::put_rows;
@@ -25,84 +25,90 @@ use capnp_layout::pointer::Elements;
 use capnp_layout::pointer_slots::PointerSlots;
 use capnp_layout::pointer_word::{STRUCT_LIST, list_word, struct_word};
 
+/// Some consecutive structs of a segment, all of one size.
+#[derive(Drop)]
+pub(crate) struct StructRun<'a> {
+    pub segment: &'a [u8],
+    pub first: Place,
+    pub elements: Elements,
+}
+
 /// The number of words of a list of structs with all below it, without the pointer to it, as it is
-/// or in canonical form. The elements begin at a place of a segment.
+/// or in canonical form.
 pub(crate) fn measure<S: ReaderSegments>(
     segments: &S,
-    segment: &[u8],
-    first: Place,
-    elements: Elements,
+    list: StructRun<'_>,
     nesting: u32,
     limit: Option<usize>,
     canonical: bool,
 ) -> Result<u32>
-    requires room { first.word + elements.count * (elements.size.data_words + elements.size.pointers)
-        ≤ length segment.now / 8 }
+    requires room { list.first.word
+        + list.elements.count * (list.elements.size.data_words + list.elements.size.pointers)
+        ≤ length list.segment.now / 8 }
     requires content { HoldsPointers (message_of (S.segments segments.now))
-        (words_of segment.now) first elements.size }
-    requires few { elements.count < 2 ^ 30 }
-    requires few_words { elements.count * (elements.size.data_words + elements.size.pointers)
-        < 2 ^ 29 }
-    ensures { let form = structs_along (words_of segment.now) first elements in
-        let list = pointers_of_structs (message_of (S.segments segments.now))
-        first elements nesting limit in
-        MatchResult result (λ words. HasWords (IsListTree form list) canonical words)
-        (λ error. LacksWords (IsListTree form list) (StopsInList list) canonical error.kind) }
+        (words_of list.segment.now) list.first list.elements.size }
+    requires few { list.elements.count < 2 ^ 30 }
+    requires few_words { list.elements.count
+        * (list.elements.size.data_words + list.elements.size.pointers) < 2 ^ 29 }
+    ensures { let form = structs_along (words_of list.entry.segment.now) list.entry.first list.entry.elements in
+        let pointers = pointers_of_structs (message_of (S.segments segments.now))
+        list.entry.first list.entry.elements nesting limit in
+        MatchResult result (λ words. HasWords (IsListTree form pointers) canonical words)
+        (λ error. LacksWords (IsListTree form pointers) (StopsInList pointers) canonical error.kind) }
 {
     // For the prover: each word is below 2^64, and so is the number of bytes.
-    words_fit(segment);
-    let kept = output_elements(segment, first, elements, canonical);
+    words_fit(list.segment);
+    let kept = output_elements(list.segment, list.first, list.elements, canonical);
     let mut walk = Walk::new(limit);
     walk.count(1 + kept.words());
-    let size = elements.size.row_size();
-    let pointers = PointerSlots::new(first, size, size.pointers, elements.count);
-    walk.walk_pointers(segments, segment, pointers, nesting, canonical)?;
+    let size = list.elements.size.row_size();
+    let pointers = PointerSlots::new(list.first, size, size.pointers, list.elements.count);
+    walk.walk_pointers(segments, list.segment, pointers, nesting, canonical)?;
     checked_walk(walk.words(), canonical)
 }
 
-/// Writes the words of a list of structs with all below it into a block, from the word `next` on.
-/// The pointer to it is to be put into the word before `following`.
+/// Writes the words of a list of structs with all below it into a block.
 pub(crate) fn write<S: ReaderSegments>(
-    segments: &S,
-    segment: &[u8],
-    first: Place,
-    elements: Elements,
+    source: &CopySource<'_, S>,
+    list: StructRun<'_>,
     nesting: u32,
-    canonical: bool,
     block: &mut [u8],
-    following: usize,
-    next: usize,
+    to: Destination,
 ) -> Copied
-    requires room { first.word + elements.count * (elements.size.data_words + elements.size.pointers)
-        ≤ length segment.now / 8 }
-    requires content { HoldsPointers (message_of (S.segments segments.now))
-        (words_of segment.now) first elements.size }
+    requires room { list.first.word
+        + list.elements.count * (list.elements.size.data_words + list.elements.size.pointers)
+        ≤ length list.segment.now / 8 }
+    requires content { HoldsPointers (message_of (S.segments source.now.segments.now))
+        (words_of list.segment.now) list.first list.elements.size }
     requires value { (limit : Option ℕ) × HasRoomAt
-        (IsListTree (structs_along (words_of segment.now) first elements)
-        (pointers_of_structs (message_of (S.segments segments.now)) first elements nesting limit))
-        canonical next (length (words_of block.old)) }
+        (IsListTree (structs_along (words_of list.segment.now) list.first list.elements)
+        (pointers_of_structs (message_of (S.segments source.now.segments.now))
+        list.first list.elements nesting limit))
+        source.now.canonical to.next (length (words_of block.old)) }
     requires small { length (words_of block.old) < 2 ^ 29 }
-    requires following { following ≤ next }
+    requires following { to.following ≤ to.next }
     ensures written { (limit : Option ℕ) (trees : Trees) →
-        IsListTree (structs_along (words_of segment.now) first elements)
-        (pointers_of_structs (message_of (S.segments segments.now)) first elements nesting limit)
-        trees → IsCopied (output canonical trees) (next - following) next
+        IsListTree (structs_along (words_of list.entry.segment.now) list.entry.first list.entry.elements)
+        (pointers_of_structs (message_of (S.segments source.now.segments.now))
+        list.entry.first list.entry.elements nesting limit)
+        trees → IsCopied (output source.now.canonical trees)
+        (to.next - to.following) to.next
         (words_of block.old) (words_of block.new) result }
     ensures len { length block.new ≡ length block.old }
 {
     // For the prover: each word is below 2^64, and so is the number of bytes.
-    words_fit(segment);
-    let kept = output_elements(segment, first, elements, canonical);
+    words_fit(list.segment);
+    let kept = output_elements(list.segment, list.first, list.elements, source.canonical);
     let tag = struct_word(kept.count as u64, kept.size.data_words, kept.size.pointers);
-    put_word(block, next, tag);
-    let slots = next + 1;
-    let step = elements.size.words() as usize;
-    put_rows(block, slots, kept, segment, first.word, step);
+    put_word(block, to.next, tag);
+    let slots = to.next + 1;
+    let step = list.elements.size.words() as usize;
+    put_rows(block, slots, kept, list.segment, list.first.word, step);
     let end = slots + kept.words() as usize;
-    let rows = CopyCursor::elements(first, elements.size, kept, slots);
+    let rows = CopyCursor::elements(list.first, list.elements.size, kept, slots);
     Copied {
-        pointer: list_word((next - following) as u64, STRUCT_LIST, kept.words()),
-        next: copy_rows(segments, segment, rows, nesting, canonical, block, end),
+        pointer: list_word((to.next - to.following) as u64, STRUCT_LIST, kept.words()),
+        next: copy_rows(source, list.segment, rows, nesting, block, end),
     }
 }
 

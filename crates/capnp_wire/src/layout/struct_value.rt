@@ -7,7 +7,7 @@ ghost use Rattle.capnp_layout.specs.Layout.{output};
 ghost use Rattle.capnp_wire.specs.Copy.{IsCopied};
 ghost use Rattle.capnp_wire.specs.Values.{HasWords, LacksWords, HasRoomAt, IsTreeOf, StopsInside, HoldsPointers, fields_at};
 
-use crate::layout::copy::Copied;
+use crate::layout::copy::{Copied, CopySource, Destination};
 use crate::layout::copy_rows::copy_pointers;
 use crate::layout::data_words::put_data_words;
 use crate::layout::value::checked_walk;
@@ -15,83 +15,85 @@ use crate::layout::walk::Walk;
 use capnp_frame::Result;
 use capnp_frame::message::ReaderSegments;
 use capnp_layout::body_word::pointer_word;
+use capnp_layout::fast_path::LocalStruct;
 use capnp_layout::object::{Body, Object, words_fit};
 use capnp_layout::output_size::output_body;
-use capnp_layout::place::Place;
-use capnp_layout::pointer::StructSize;
 
 /// The number of words of a struct with all below it, without the pointer to it, as it is or in
 /// canonical form.
 pub(crate) fn measure<S: ReaderSegments>(
     segments: &S,
-    segment: &[u8],
-    start: Place,
-    size: StructSize,
+    fields: LocalStruct<'_>,
     nesting: u32,
     limit: Option<usize>,
     canonical: bool,
 ) -> Result<u32>
-    requires room { start.word + (size.data_words + size.pointers) ≤ length segment.now / 8 }
+    requires room { fields.start.word + (fields.size.data_words + fields.size.pointers)
+        ≤ length fields.segment.now / 8 }
     requires content { HoldsPointers (message_of (S.segments segments.now))
-        (words_of segment.now) start size }
-    ensures { let fields = fields_at (message_of (S.segments segments.now))
-        (words_of segment.now) start size nesting limit in
-        MatchResult result (λ words. HasWords (IsTreeOf fields) canonical words)
-        (λ error. LacksWords (IsTreeOf fields) (StopsInside fields) canonical error.kind) }
+        (words_of fields.segment.now) fields.start fields.size }
+    ensures { let shown = fields_at (message_of (S.segments segments.now))
+        (words_of fields.entry.segment.now) fields.entry.start fields.entry.size nesting limit in
+        MatchResult result (λ words. HasWords (IsTreeOf shown) canonical words)
+        (λ error. LacksWords (IsTreeOf shown) (StopsInside shown) canonical error.kind) }
 {
     // For the prover: each word is below 2^64, and so is the number of bytes.
-    words_fit(segment);
+    words_fit(fields.segment);
     let object = Object {
-        segment,
-        start,
-        body: Body::Struct(size),
+        segment: fields.segment,
+        start: fields.start,
+        body: Body::Struct(fields.size),
         traversed: 0,
     };
     let mut walk = Walk::new(limit);
     walk.count(output_body(&object, canonical).words());
-    walk.walk_pointers(segments, segment, object.pointers(), nesting, canonical)?;
+    walk.walk_pointers(
+        segments,
+        fields.segment,
+        object.pointers(),
+        nesting,
+        canonical,
+    )?;
     checked_walk(walk.words(), canonical)
 }
 
-/// Writes the words of a struct with all below it into a block, from the word `next` on. The
-/// pointer to it is to be put into the word before `following`.
+/// Writes the words of a struct with all below it into a block.
 pub(crate) fn write<S: ReaderSegments>(
-    segments: &S,
-    segment: &[u8],
-    start: Place,
-    size: StructSize,
+    source: &CopySource<'_, S>,
+    fields: LocalStruct<'_>,
     nesting: u32,
-    canonical: bool,
     block: &mut [u8],
-    following: usize,
-    next: usize,
+    to: Destination,
 ) -> Copied
-    requires room { start.word + (size.data_words + size.pointers) ≤ length segment.now / 8 }
-    requires content { HoldsPointers (message_of (S.segments segments.now))
-        (words_of segment.now) start size }
+    requires room { fields.start.word + (fields.size.data_words + fields.size.pointers)
+        ≤ length fields.segment.now / 8 }
+    requires content { HoldsPointers (message_of (S.segments source.now.segments.now))
+        (words_of fields.segment.now) fields.start fields.size }
     requires value { (limit : Option ℕ) × HasRoomAt (IsTreeOf
-        (fields_at (message_of (S.segments segments.now))
-        (words_of segment.now) start size nesting limit)) canonical next (length (words_of block.old)) }
+        (fields_at (message_of (S.segments source.now.segments.now))
+        (words_of fields.segment.now) fields.start fields.size nesting limit))
+        source.now.canonical to.next (length (words_of block.old)) }
     requires small { length (words_of block.old) < 2 ^ 29 }
-    requires following { following ≤ next }
+    requires following { to.following ≤ to.next }
     ensures written { (limit : Option ℕ) (trees : Trees) →
-        IsTreeOf (fields_at (message_of (S.segments segments.now))
-        (words_of segment.now) start size nesting limit) trees →
-        IsCopied (output canonical trees) (next - following) next
+        IsTreeOf (fields_at (message_of (S.segments source.now.segments.now))
+        (words_of fields.entry.segment.now) fields.entry.start fields.entry.size nesting limit) trees →
+        IsCopied (output source.now.canonical trees)
+        (to.next - to.following) to.next
         (words_of block.old) (words_of block.new) result }
     ensures len { length block.new ≡ length block.old }
 {
     let object = Object {
-        segment,
-        start,
-        body: Body::Struct(size),
+        segment: fields.segment,
+        start: fields.start,
+        body: Body::Struct(fields.size),
         traversed: 0,
     };
-    let copied = output_body(&object, canonical);
-    put_data_words(&object, copied, block, next);
-    let free = copy_pointers(segments, &object, copied, nesting, canonical, block, next);
+    let copied = output_body(&object, source.canonical);
+    put_data_words(&object, copied, block, to.next);
+    let free = copy_pointers(source, &object, copied, nesting, block, to.next);
     Copied {
-        pointer: pointer_word(copied, (next - following) as u64),
+        pointer: pointer_word(copied, (to.next - to.following) as u64),
         next: free,
     }
 }

@@ -7,13 +7,13 @@ use Rattle.capnp_wire.proofs.layout.+copy.Goals.{copy::copy_target-in-Some-local
 use Rattle.capnp_wire.proofs.layout.+copy.Goals as goal
 
 pub copy::copy_target-returns-in-Some-clause-copied : goal.copy::copy_target-returns-in-Some-clause-copied
-copy::copy_target-returns-in-Some-clause-copied g t c = null_or_empty_copied c.args.canonical c.requires.content c.in-Some.ensures.0 c.in-Some.ensures.1
+copy::copy_target-returns-in-Some-clause-copied g t c = null_or_empty_copied c.args.source.now.canonical c.requires.content c.in-Some.ensures.0 c.in-Some.ensures.1
 
 pub copy::copy_target-begin_struct-requires-clause-there : goal.copy::copy_target-begin_struct-requires-clause-there
 copy::copy_target-begin_struct-requires-clause-there g t c = copyable c.requires.there (c.in-Some-local_struct.ensures _ c.requires.content).0
 
 pub copy::copy_target-copy_list-requires-clause-there : goal.copy::copy_target-copy_list-requires-clause-there
-copy::copy_target-copy_list-requires-clause-there g t c = (c.args.canonical, copyable c.requires.there (c.in-Some-local_list.ensures _ c.requires.content).0)
+copy::copy_target-copy_list-requires-clause-there g t c = (c.args.source.now.canonical, copyable c.requires.there (c.in-Some-local_list.ensures _ c.requires.content).0)
 
 pub copy_rows::copy_pointers-copy_rows-requires : goal.copy_rows::copy_pointers-copy_rows-requires
 copy_rows::copy_pointers-copy_rows-requires g t c κs within =
@@ -46,7 +46,7 @@ copy::copy_target-copy_run-free-requires g t c κs within = elim c.match-local_s
       rw w.t-21-is (rw w.block-is (omega (arith, local.1), (within.0, (within.1, (b.bound, (b.begins.there, (λ _. b.content, (b.before, omega (arith, w.begin_struct.ensures.len, c.requires.small)))))))))
   | copy::copy_target-in_default-local_struct+in_default-local_list+in-Some-local_pointers w ↦
       let local = w.in-Some-local_pointers.ensures _ c.requires.content in
-      let b = w.begin_list.ensures _ _ _ c.args.canonical _ c.requires.there local.0 in
+      let b = w.begin_list.ensures _ _ _ c.args.source.now.canonical _ c.requires.there local.0 in
       rw w.t-21-is (rw w.block-is (omega (arith, local.1), (within.0, (within.1, (b.bound, (b.begins.there, (λ _. b.content, (b.before, c.requires.small))))))))
 ]
 
@@ -59,6 +59,6 @@ copy::copy_target-returns-clause-copied g t c = elim c.match-local_struct.branch
       rw w.t-21-is ((w.in-Pending.ensures.begun _ _ _ c.requires.there (w.in-Some-local_struct.ensures _ c.requires.content).0).begins.ends _ _
       (rw w.t-21-is at (rw w.block-is at c.copy_run-free.ensures.copied)))
   | copy::copy_target-in_default-local_struct+in_default-local_list+in-Some-local_pointers w ↦
-      rw w.t-21-is ((w.begin_list.ensures _ _ _ c.args.canonical _ c.requires.there (w.in-Some-local_pointers.ensures _ c.requires.content).0).begins.ends _ _
+      rw w.t-21-is ((w.begin_list.ensures _ _ _ c.args.source.now.canonical _ c.requires.there (w.in-Some-local_pointers.ensures _ c.requires.content).0).begins.ends _ _
       (rw w.t-21-is at (rw w.block-is at c.copy_run-free.ensures.copied)))
 ]

@@ -23,7 +23,7 @@ decreases-copy_rows::copy_pointers g l = 5 * l.nesting + 4
 
 abbrev pub invariant-copy_rows::copy_rows-pointers : goal.invariant-copy_rows::copy_rows-pointers
 invariant-copy_rows::copy_rows-pointers g l =
-    Copying (message_of (g.S.ReaderSegments.segments l.segments)) (words_of l.segment) l.nesting l.canonical l.fn.rows l.fn.next (g.T.BlockItem.as_words l.fn.block) l.rows l.free
+    Copying (message_of (g.S.ReaderSegments.segments l.source.segments.now)) (words_of l.segment) l.nesting l.source.canonical l.fn.rows l.fn.next (g.T.BlockItem.as_words l.fn.block) l.rows l.free
     (g.T.BlockItem.as_words l.block)
 
 abbrev pub decreases-copy_rows::copy_rows-pointers : goal.decreases-copy_rows::copy_rows-pointers

@@ -4,7 +4,7 @@ use Rattle.capnp_wire.proofs.layouts.CopiedLemmas.{opened_here, object_begins, n
 use Rattle.capnp_wire.proofs.layout.pending.begin.Goals as goal
 
 pub returns-in_default-clause-begun : goal.returns-in_default-clause-begun
-returns-in_default-clause-begun g c = null_is_copied c.args.canonical c.in_default.ensures
+returns-in_default-clause-begun g c = null_is_copied c.args.source.now.canonical c.in_default.ensures
 
 pub put_data_words-requires-clause-many : goal.put_data_words-requires-clause-many
 put_data_words-requires-clause-many g c = (opened_here c.requires.there c.in-Some.ensures.0 c.output_body-body.ensures.body).few_elements

@@ -14,68 +14,68 @@ use Rattle.capnp_wire.proofs.layout.struct_list_value.write.Goals as goal
 
 pub struct_word-tag-requires : goal.struct_word-tag-requires
 struct_word-tag-requires g c =
-    let m = message_of (g.S.ReaderSegments.segments c.args.segments.now) in
+    let m = message_of (g.S.ReaderSegments.segments c.args.source.now.segments.now) in
     let kept = c.output_elements-kept.ensures in
-    let room : c.args.first.word + c.args.elements.count * (c.args.elements.size.data_words + c.args.elements.size.pointers) ≤ length (words_of c.args.segment.now) =
-    omega (arith, c.requires.room, length-words_of c.args.segment.now) in
+    let room : c.args.list.first.word + c.args.list.elements.count * (c.args.list.elements.size.data_words + c.args.list.elements.size.pointers) ≤ length (words_of c.args.list.segment.now) =
+    omega (arith, c.requires.room, length-words_of c.args.list.segment.now) in
     (rows_opened c.requires.content room kept.size kept.count c.requires.value.1).few_elements
 
 pub put_rows-requires-clause-room : goal.put_rows-requires-clause-room
 put_rows-requires-clause-room g c =
-    let m = message_of (g.S.ReaderSegments.segments c.args.segments.now) in
+    let m = message_of (g.S.ReaderSegments.segments c.args.source.now.segments.now) in
     let kept = c.output_elements-kept.ensures in
-    let room : c.args.first.word + c.args.elements.count * (c.args.elements.size.data_words + c.args.elements.size.pointers) ≤ length (words_of c.args.segment.now) =
-    omega (arith, c.requires.room, length-words_of c.args.segment.now) in
+    let room : c.args.list.first.word + c.args.list.elements.count * (c.args.list.elements.size.data_words + c.args.list.elements.size.pointers) ≤ length (words_of c.args.list.segment.now) =
+    omega (arith, c.requires.room, length-words_of c.args.list.segment.now) in
     let o = rows_opened c.requires.content room kept.size kept.count c.requires.value.1 in
     omega (arith, o.kept.fits, c.put_word.ensures.len)
 
 pub list_word-requires-clause-count : goal.list_word-requires-clause-count
 list_word-requires-clause-count g c =
-    let m = message_of (g.S.ReaderSegments.segments c.args.segments.now) in
+    let m = message_of (g.S.ReaderSegments.segments c.args.source.now.segments.now) in
     let kept = c.output_elements-kept.ensures in
-    let room : c.args.first.word + c.args.elements.count * (c.args.elements.size.data_words + c.args.elements.size.pointers) ≤ length (words_of c.args.segment.now) =
-    omega (arith, c.requires.room, length-words_of c.args.segment.now) in
+    let room : c.args.list.first.word + c.args.list.elements.count * (c.args.list.elements.size.data_words + c.args.list.elements.size.pointers) ≤ length (words_of c.args.list.segment.now) =
+    omega (arith, c.requires.room, length-words_of c.args.list.segment.now) in
     let o = rows_opened c.requires.content room kept.size kept.count c.requires.value.1 in
     rw c.words-2.ensures.words o.few
 
 pub copy_rows-requires-clause-there : goal.copy_rows-requires-clause-there
 copy_rows-requires-clause-there g c =
-    let m = message_of (g.S.ReaderSegments.segments c.args.segments.now) in
+    let m = message_of (g.S.ReaderSegments.segments c.args.source.now.segments.now) in
     let kept = c.output_elements-kept.ensures in
-    let room : c.args.first.word + c.args.elements.count * (c.args.elements.size.data_words + c.args.elements.size.pointers) ≤ length (words_of c.args.segment.now) =
-    omega (arith, c.requires.room, length-words_of c.args.segment.now) in
+    let room : c.args.list.first.word + c.args.list.elements.count * (c.args.list.elements.size.data_words + c.args.list.elements.size.pointers) ≤ length (words_of c.args.list.segment.now) =
+    omega (arith, c.requires.room, length-words_of c.args.list.segment.now) in
     let o = rows_opened c.requires.content room kept.size kept.count c.requires.value.1 in
-    let first = c.args.first in
-    let size = c.args.elements.size in
+    let first = c.args.list.first in
+    let size = c.args.list.elements.size in
     let to = c.output_elements-kept.result.size in
     let n = c.output_elements-kept.result.count in
     let at = kept_places first.segment first.word size.data_words size.pointers to.pointers n in
-    let end : ℕ = c.args.next + (1 + n * (to.data_words + to.pointers)) in
-    let end_is : c.args.next + 1 + c.words.result ≡ end = omega (arith, c.words.ensures.words) in
+    let end : ℕ = c.args.to.next + (1 + n * (to.data_words + to.pointers)) in
+    let end_is : c.args.to.next + 1 + c.words.result ≡ end = omega (arith, c.words.ensures.words) in
     let long : length (words_of c.put_rows.new.block) ≡ length (words_of c.args.block.now) = omega (arith, c.put_rows.ensures.len, c.put_word.ensures.len) in
-    c.elements-rows.ensures.can m (words_of c.args.segment.now) c.args.nesting c.args.canonical _ _
-    (subst (λ (k : ℕ). CanCopy m at c.args.nesting c.args.canonical k (length (words_of c.put_rows.new.block))) (sym end_is)
-    (subst (λ (k : ℕ). CanCopy m at c.args.nesting c.args.canonical end k) (sym long) o.kept))
-    (rows_children m (words_of c.args.segment.now) first size to.pointers n c.requires.content kept.pointers) (omega (arith, c.words.ensures.words))
+    c.elements-rows.ensures.can m (words_of c.args.list.segment.now) c.args.nesting c.args.source.now.canonical _ _
+    (subst (λ (k : ℕ). CanCopy m at c.args.nesting c.args.source.now.canonical k (length (words_of c.put_rows.new.block))) (sym end_is)
+    (subst (λ (k : ℕ). CanCopy m at c.args.nesting c.args.source.now.canonical end k) (sym long) o.kept))
+    (rows_children m (words_of c.args.list.segment.now) first size to.pointers n c.requires.content kept.pointers) (omega (arith, c.words.ensures.words))
 
 pub returns-clause-written : goal.returns-clause-written
 returns-clause-written g c limit trees is =
-    let m = message_of (g.S.ReaderSegments.segments c.args.segments.now) in
+    let m = message_of (g.S.ReaderSegments.segments c.args.source.now.segments.now) in
     let kept = c.output_elements-kept.ensures in
-    let room : c.args.first.word + c.args.elements.count * (c.args.elements.size.data_words + c.args.elements.size.pointers) ≤ length (words_of c.args.segment.now) =
-    omega (arith, c.requires.room, length-words_of c.args.segment.now) in
+    let room : c.args.list.first.word + c.args.list.elements.count * (c.args.list.elements.size.data_words + c.args.list.elements.size.pointers) ≤ length (words_of c.args.list.segment.now) =
+    omega (arith, c.requires.room, length-words_of c.args.list.segment.now) in
     let o = rows_opened c.requires.content room kept.size kept.count c.requires.value.1 in
-    let first = c.args.first in
-    let elements = c.args.elements in
+    let first = c.args.list.first in
+    let elements = c.args.list.elements in
     let size = elements.size in
     let w = c.requires.value.1 in
-    let form = structs_along (words_of c.args.segment.now) first elements in
+    let form = structs_along (words_of c.args.list.segment.now) first elements in
     let at = row_places first.segment first.word size.data_words size.pointers elements.count in
     let same = same_list form m at c.args.nesting c.requires.value.0 limit w.trees trees w.tree_is is in
-    let gap : ℕ = c.args.next - c.args.following in
-    let tagged = c.put_word.ensures.words ∙ ap (λ (tag : ℕ). put c.args.next (tag ∷ []) (words_of c.args.block.now)) c.struct_word-tag.ensures in
+    let gap : ℕ = c.args.to.next - c.args.to.following in
+    let tagged = c.put_word.ensures.words ∙ ap (λ (tag : ℕ). put c.args.to.next (tag ∷ []) (words_of c.args.block.now)) c.struct_word-tag.ensures in
     let mid = rw c.words-step.ensures at c.put_rows.ensures.words in
-    subst (λ (t : Trees). IsCopied (output c.args.canonical t) gap c.args.next (words_of c.args.block.now) (words_of c.copy_rows.new.block)
+    subst (λ (t : Trees). IsCopied (output c.args.source.now.canonical t) gap c.args.to.next (words_of c.args.block.now) (words_of c.copy_rows.new.block)
     (record { pointer = c.list_word.result; next = c.copy_rows.result })) same
-    (rows_written o refl tagged mid (omega (arith, c.words.ensures.words)) (c.elements-rows.ensures.copied m c.args.canonical _ _ _ _ c.copy_rows.ensures.copied)
+    (rows_written o refl tagged mid (omega (arith, c.words.ensures.words)) (c.elements-rows.ensures.copied m c.args.source.now.canonical _ _ _ _ c.copy_rows.ensures.copied)
     (c.list_word.ensures ∙ ap (λ (k : ℕ). list_pointer gap 7 k) c.words-2.ensures.words))

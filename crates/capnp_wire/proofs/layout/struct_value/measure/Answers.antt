@@ -13,13 +13,13 @@ use Rattle.capnp_wire.proofs.layout.struct_value.measure.Goals as goal
 pub returns : goal.returns
 returns g c =
     let m = message_of (g.S.ReaderSegments.segments c.args.segments.now) in
-    let words = words_of c.args.segment.now in
-    let size = c.args.size in
+    let words = words_of c.args.fields.segment.now in
+    let size = c.args.fields.size in
     let found = rw (c.pointers.ensures.places, c.count.ensures.left, c.new-walk.ensures.left) at c.in_ok-walk_pointers.ensures.found in
     let first = rw c.new-walk.ensures.words at c.count.ensures.words in
     let counted = rw (← c.words-2.ensures) at found.counted (0 + c.words.result) (first 0 refl) in
-    let own : c.words.result ≡ words_in (output_body_of c.args.canonical (words_of c.args.segment.now) c.args.start.word (Struct c.args.size)) = c.words.ensures ∙ ap words_in c.output_body.ensures.body in
-    let room : c.args.start.word + (c.args.size.data_words + c.args.size.pointers) ≤ length (words_of c.args.segment.now) = omega (arith, c.requires.room, length-words_of c.args.segment.now) in
-    struct_measured m words c.args.start c.args.size c.args.nesting c.args.limit c.walk_pointers.new.self.left c.args.canonical (counted_by c.count.new.self) (counted_by c.walk_pointers.new.self)
+    let own : c.words.result ≡ words_in (output_body_of c.args.canonical (words_of c.args.fields.segment.now) c.args.fields.start.word (Struct c.args.fields.size)) = c.words.ensures ∙ ap words_in c.output_body.ensures.body in
+    let room : c.args.fields.start.word + (c.args.fields.size.data_words + c.args.fields.size.pointers) ≤ length (words_of c.args.fields.segment.now) = omega (arith, c.requires.room, length-words_of c.args.fields.segment.now) in
+    struct_measured m words c.args.fields.start c.args.fields.size c.args.nesting c.args.limit c.walk_pointers.new.self.left c.args.canonical (counted_by c.count.new.self) (counted_by c.walk_pointers.new.self)
     c.requires.content room (omega arith) (omega arith) c.words_fit.ensures.words found (0 + c.words.result + found.words) (omega (arith, own)) c.checked_walk.result
     (c.checked_walk.ensures (0 + c.words.result + found.words) counted)
