@@ -17,7 +17,7 @@ use Rattle.capnp_frame.specs.Message.{lengths}
 use Rattle.capnp_frame.specs.Source.{Giving, Refusing, IfKnown, Advances}
 use Rattle.capnp_frame.specs.Texts.{Grammar, BeginsWith, AreEncodings}
 use Rattle.capnp_frame.specs.Writing.{IsWritable, IsWithinSegmentLimit}
-use Rattle.capnp_frame.proofs.sources.SourceLemmas.{IfKnown-join, IfKnown-refl, Advances-join, Fails-join}
+use Rattle.capnp_frame.proofs.sources.SourceLemmas.{IfKnown-join, Advances-join, Fails-join}
 use Rattle.capnp_frame.proofs.encodings.FrameLemmas.{frame_bytes_are}
 use Rattle.capnp_frame.proofs.encodings.SizeLemmas.{HasTable-writable}
 use Rattle.capnp_frame.proofs.encodings.TextLemmas.{PartsStreams, AreEncodings-push}
@@ -147,9 +147,6 @@ pub appended_next : {S : Type 0} (segments : S → List (List ℕ)) (Writes : Li
 appended_next segments Writes xs index x old mid new here is before next =
     subst (λ ms. IfKnown old new (Adds (AppendsEach Writes ms))) (sym (map-next segments xs index x here is))
     (IfKnown-join old mid new (λ a b c (text, all, e) (last, this, f). (text ++ last, AppendsEach-push Writes (map segments (take index xs)) (segments x) text last all this, f ∙ ap (λ l. l ++ last) e ∙ append_assoc a text last)) before next)
-
-pub appended_none : (Writes : List (List ℕ) → List ℕ → Type 0) (written : Option (List ℕ)) → IfKnown written written (Adds (AppendsEach Writes []))
-appended_none Writes written = IfKnown-refl (Adds (AppendsEach Writes [])) written (λ l. ([], refl, sym (append-nil l)))
 
 -- each of them can be written
 pub writable_at : {S : Type 0} (segments : S → List (List ℕ)) (xs : List S) (index : ℕ) (x : S) → index < length xs → x ≡ get_or xs index x → AllByRecursion IsWritable (map segments xs) → IsWritable (segments x)

@@ -1,5 +1,5 @@
 -- What writers add to a plain sink, and what a reader's message is to a writer.
-use Rattle.std.proofs.Common.{◌≡◌, ◌⊎◌, ◌≤◌, inl, inr, ℕ, Option, None, Result, Ok, Err, OnOk, OnErr, IfOk, IfErr, List, [], ◌∷◌, length, ◌*◌, ap, sym, ◌∙◌, arith}
+use Rattle.std.proofs.Common.{◌≡◌, ◌⊎◌, ◌≤◌, inl, inr, ℕ, Option, Result, Ok, Err, OnOk, OnErr, IfOk, IfErr, List, [], ◌∷◌, length, ◌*◌, ap, sym, ◌∙◌, arith}
 use Rattle.std.specs.List.{AllByRecursion}
 use Rattle.capnp_frame.specs.declared.error.Error.{Error}
 use Rattle.capnp_frame.specs.declared.error.ErrorKind.{ErrorKind}
@@ -54,9 +54,6 @@ IsWritable-within message limit within whole =
       whole = whole;
       each = within.each;
     }
-
-pub IsWithin-any : (message : List (List ℕ)) (limit : Option ℕ) → IsWithin message limit → IsWithin message None
-IsWithin-any message limit within = record { some = within.some; few = within.few; each = within.each; size = tt }
 
 -- a message that keeps the limit of words, and that a writer took, is one that a reader accepts
 pub IsWithin-written : (message : List (List ℕ)) (limit : Option ℕ) → IsWritable message → IsWithinSegmentLimit message → KeepsLimit (lengths message) limit → IsWithin message limit

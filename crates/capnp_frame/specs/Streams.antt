@@ -25,9 +25,6 @@ Standing = List (List ℕ) → List ℕ → List ℕ → Type 0
 abbrev pub next_in : {X : Type 0} → (X → List (List ℕ)) → Result (Option X) Error → Result (Option (List (List ℕ))) Error
 next_in segments result = result_map_both (option_map segments) (λ error. error) result
 
-abbrev pub message_in : {X : Type 0} → (X → List (List ℕ)) → Result X Error → Result (Option (List (List ℕ))) Error
-message_in segments result = result_map_both (λ held. Some (segments held)) (λ error. error) result
-
 -- What a reader of streams goes by: the format, and in it the rule of padding.
 pub record StreamRules : Type 1 where
   -- where a message is

@@ -33,11 +33,6 @@ pub middle_long : (m n : ℕ) (xs w : List ℕ) → m + n ≤ length xs → leng
 middle_long m n xs w within long =
     omega (arith, length-append (take m xs) (w ++ drop n (drop m xs)), length-append w (drop n (drop m xs)), length-take m xs, length-drop n (drop m xs), length-drop m xs, within, long)
 
-pub middle_front : (m n : ℕ) (xs w : List ℕ) → m ≤ length xs → take m (take m xs ++ (w ++ drop n (drop m xs))) ≡ take m xs
-middle_front m n xs w within =
-    let long : m ≡ length (take m xs) = omega (arith, length-take m xs, within) in
-    ap (λ (k : ℕ). take k (take m xs ++ (w ++ drop n (drop m xs)))) long ∙ take-append_seam (take m xs) (w ++ drop n (drop m xs))
-
 pub middle_part : (m n : ℕ) (xs w : List ℕ) → m ≤ length xs → length w ≡ n → take (m + n) (take m xs ++ (w ++ drop n (drop m xs))) ≡ take m xs ++ w
 middle_part m n xs w within long =
     let rest : List ℕ = drop n (drop m xs) in

@@ -55,10 +55,6 @@ pub on_ok : {A E : Type 0} (r : Result A E) (P Q : Type 0) → (P → Q) → OnO
 on_ok (Ok a) P Q step p = step p
 on_ok (Err e) P Q step p = tt
 
-on_err : {A E : Type 0} (r : Result A E) (P Q : Type 0) → (P → Q) → OnErr r P → OnErr r Q
-on_err (Ok a) P Q step p = tt
-on_err (Err e) P Q step p = step p
-
 -- what fails after the root is cleared leaves it cleared
 pub still_cleared : {A S : Type 0} (alloc : Ghosts A S) (old cleared last : Built A) (r : Result (Unit {0}) Error) → IsPreorder alloc.same → IsCleared alloc old cleared → OnErr r (last.location ≡ None)
     → OnErr r (last.spaces ≡ cleared.spaces) → alloc.same cleared.allocator last.allocator → KeepsOthers alloc.out (state_of cleared) (state_of last) → OnErr r (IsCleared alloc old last)

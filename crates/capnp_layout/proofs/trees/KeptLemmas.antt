@@ -185,8 +185,5 @@ rooms_first n t rooms = room_each (first n t) (each_first RoomOne n t (each_room
 pub rooms_narrowed : (q p : ℕ) (rows : List (List ℕ)) (t : Trees) → AllHaveRoom t → AllHaveRoom (narrowed q p rows t)
 rooms_narrowed q p rows t rooms = room_each (narrowed q p rows t) (each_narrowed RoomOne q p rows t (each_room t rooms))
 
-pub shallow_after : (nesting n : ℕ) (t : Trees) → depth t ≤ nesting → depth (following n t) ≤ nesting
-shallow_after nesting n t le = shallow_each nesting (following n t) (each_after (Shallow nesting) n t (each_shallow nesting t le))
-
 pub rooms_after : (n : ℕ) (t : Trees) → AllHaveRoom t → AllHaveRoom (following n t)
 rooms_after n t rooms = room_each (following n t) (each_after RoomOne n t (each_room t rooms))

@@ -1,5 +1,5 @@
 -- How many of some words are left without the zeros at their end.
-use Rattle.std.proofs.Common.{◌≡◌, ℕ, zero, suc, ◌+◌, ◌-◌, ◌*◌, ◌<◌, ◌≤◌, max, List, [], ◌∷◌, ◌++◌, length, take, drop, Some, None, slice_get, refl, sym, ◌∙◌, ap, arith, length-append}
+use Rattle.std.proofs.Common.{◌≡◌, ℕ, zero, suc, ◌+◌, ◌-◌, ◌*◌, ◌<◌, ◌≤◌, max, List, [], ◌∷◌, ◌++◌, length, take, drop, Some, slice_get, refl, sym, ◌∙◌, ap, arith, length-append}
 use Rattle.std.proofs.Common.{length-take, length-drop}
 use Rattle.capnp_layout.specs.Pointer.{words_from}
 use Rattle.capnp_layout.specs.Trim.{keep_word, cut_zeros}
@@ -54,11 +54,6 @@ last_unused words start (suc k) some there =
     let at : start + suc k - 1 ≡ start + k = omega arith in
     let less : suc k - 1 ≡ k = omega arith in
     ap (λ (n : ℕ). length (cut_zeros (words_from words start n))) less ∙ sym (one_unused words start k (ap (λ (n : ℕ). slice_get words n) (sym at) ∙ there))
-
-pub word_is_there : (words : List ℕ) (i : ℕ) → i < length words → None ≡ slice_get words i → ⊥
-word_is_there [] i within none = omega arith
-word_is_there (x ∷ words) zero within none = cc
-word_is_there (x ∷ words) (suc i) within none = word_is_there words i (omega arith) none
 
 -- consecutive parts
 pub most_next : (words : List ℕ) (start k step n so_far : ℕ) → 0 < n

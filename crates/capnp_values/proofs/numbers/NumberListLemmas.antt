@@ -10,7 +10,7 @@ use Rattle.capnp_layout.specs.Element.{width, words_for}
 use Rattle.capnp_layout.specs.Tree.{numbers, Trees, none, tree, total_words}
 use Rattle.capnp_layout.specs.Layout.{own, output, AllHaveRoom}
 use Rattle.capnp_layout.specs.Block.{put}
-use Rattle.capnp_wire.specs.Values.{HasWords, HasRoomAt}
+use Rattle.capnp_wire.specs.Values.{HasRoomAt}
 use Rattle.capnp_layout.proofs.words.WordLemmas.{length-words_of}
 use Rattle.capnp_layout.proofs.words.PutLemmas.{put_mid_words}
 use Rattle.capnp_wire.proofs.layouts.FreeLemmas.{numbers_total as numbers_total_of}
@@ -24,16 +24,6 @@ use Rattle.capnp_values.proofs.lists.ItemLemmas.{from_here}
 numbers_total : (c : Bool) (code : ℕ) (bits : List ℕ) → words_for (length bits) (width code) ≡ total_words (output c (tree (numbers code bits) none none))
 numbers_total true code bits = omega arith
 numbers_total false code bits = omega arith
-
-pub numbers_have : (c : Bool) (code words : ℕ) (bits : List ℕ) → code < 6 → length bits < 2 ^ 29 → All (λ v. v < 2 ^ width code) bits → words ≡ words_for (length bits) (width code) → words < 2 ^ 29
-    → HasWords (λ t. IsNumberList code bits t) c words
-numbers_have c code words bits known few fit words_are small = record {
-  trees = tree (numbers code bits) none none;
-  tree_is = (few, refl);
-  rooms = ((known, few, refl, fit), tt, tt);
-  words_are = words_are ∙ numbers_total c code bits;
-  few = small;
-}
 
 pub one_of_numbers : (code : ℕ) (bits : List ℕ) (n : ℕ) → n ≡ length bits → IsOne (λ t. IsNumberList code bits t) (λ k. ManyNumbers n k)
 one_of_numbers code bits n n_is = record {

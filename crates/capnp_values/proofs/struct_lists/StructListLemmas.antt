@@ -12,7 +12,6 @@ use Rattle.capnp_layout.proofs.trees.ChunkLemmas.{count-first, count-before, cou
 use Rattle.capnp_layout.proofs.trees.StoodLemmas.{total_narrowed}
 use Rattle.capnp_layout.proofs.trees.TrimLemmas.{room_trim}
 use Rattle.capnp_values.specs.Fields.{IsSettled, kept_row}
-use Rattle.capnp_values.specs.Structs.{kept_words}
 use Rattle.capnp_values.specs.StructLists.{AreRows, element_data, element_pointers, shown, AreEven}
 use Rattle.capnp_values.proofs.lists.PointerListLemmas.{count_output}
 
@@ -69,10 +68,6 @@ pointers_front true p ws rows row rest children whole many =
     ap (λ (t : Trees). max (count (cut_nulls t)) (least_pointers p rows (following p (trim children)))) f.own
     ∙ ap (λ (t : Trees). max (count (cut_nulls (trim row))) (least_pointers p rows t)) f.others
 pointers_front false p ws rows row rest children whole many = omega (arith, many)
-
-pub data_front : (c : Bool) (d : ℕ) (ws : List ℕ) (rows : List (List ℕ)) → length ws ≡ d → element_data c d (ws ∷ rows) ≡ max (length (kept_words c ws)) (element_data c d rows)
-data_front true d ws rows long = refl
-data_front false d ws rows long = omega (arith, long)
 
 pub total_front : (c : Bool) (row rest children : Trees) → children ≡ before row rest → total_words (output c children) ≡ total_words (output c row) + total_words (output c rest)
 total_front c row rest children whole = ap total_words (ap (output c) whole ∙ output_before c row rest) ∙ total-before (output c row) (output c rest)

@@ -14,7 +14,6 @@ use Rattle.capnp_wire.specs.Copy.{IsCopied}
 use Rattle.capnp_wire.specs.Values.{HasRoomAt}
 use Rattle.capnp_layout.proofs.trees.FrontLemmas.{first_cut, cut_front}
 use Rattle.capnp_layout.proofs.trees.NarrowLemmas.{first_all}
-use Rattle.capnp_layout.proofs.words.CutLemmas.{length-cut}
 use Rattle.capnp_layout.proofs.trees.TrimLemmas.{count-trim, room_trim}
 use Rattle.capnp_layout.proofs.trees.StoodLemmas.{total_cut}
 use Rattle.capnp_wire.proofs.views.PartWordLemmas.{same_tree_words}
@@ -38,10 +37,6 @@ kept_within false t = omega arith
 pub kept_front : (c : Bool) (words : List ℕ) → take (length (kept_words c words)) words ≡ kept_words c words
 kept_front true words = cut_front words
 kept_front false words = take_all (length words) words (omega arith)
-
-pub kept_fewer : (c : Bool) (words : List ℕ) → length (kept_words c words) ≤ length words
-kept_fewer true words = length-cut words
-kept_fewer false words = omega arith
 
 -- a struct in the form that is written
 pub struct_output : (c : Bool) (words : List ℕ) (children : Trees) → output c (tree (struct words) children none) ≡ tree (struct (kept_words c words)) (kept_row c children) none

@@ -18,10 +18,6 @@ abbrev pub own_children : Bool → Form → Trees → Trees
 own_children true form children = trim_children form (trim children)
 own_children false form children = children
 
-pub output_tree : (c : Bool) (form : Form) (children rest : Trees) → output c (tree form children rest) ≡ tree (own_form c form children) (own_children c form children) (output c rest)
-output_tree true form children rest = refl
-output_tree false form children rest = refl
-
 -- the words of a part
 abbrev pub part_total : Bool → Form → Trees → ℕ
 part_total c form children = total_words (output c (tree form children none))

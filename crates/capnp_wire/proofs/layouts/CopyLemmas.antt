@@ -115,10 +115,6 @@ pub record Copying (m : List (List ℕ)) (words : List ℕ) (nesting : ℕ) (c :
   pub ends : (new : List ℕ) (after : ℕ) → CopiesAll m (places_in rows.from) c (slots_in rows.to) free now new after
       → CopiesAll m (places_in whole.from) c (slots_in whole.to) start old new after
 
-pub copying_begins : {m : List (List ℕ)} {words : List ℕ} {nesting : ℕ} {c : Bool} {rows : CopyCursor} {start : ℕ} {old : List ℕ} → CanCopyRows m words rows nesting c start (length old)
-    → Copying m words nesting c rows start old rows start old
-copying_begins can = record { can = can; long = refl; ends = λ new after done. done }
-
 -- what is to be copied next
 pub record CanCopyNext (m : List (List ℕ)) (words : List ℕ) (place : Place) (nesting : ℕ) (c : Bool) (slot free room : ℕ) : Type 0 where
   pub there : CanCopy m (place ∷ []) nesting c free room

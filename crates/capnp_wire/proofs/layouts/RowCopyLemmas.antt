@@ -23,13 +23,6 @@ put_rows_next words from step d p (suc n) to block now some inside room e =
     let further : to + (d + p) ≡ to + length (words_from words from d) + p = omega arith in
     rw (less, on, further, e) refl
 
-pub one_row : (s w k there : ℕ) → 0 < k → s + k * w ≤ there → s + w ≤ there
-one_row s w zero there some room = absurd (omega arith)
-one_row s w (suc k) there some room =
-    let split : suc k * w ≡ w + k * w = omega arith in
-    let least : 0 ≤ k * w = omega arith in
-    omega arith
-
 -- rows of no data
 pub put_no_data : (words : List ℕ) (start step p n to : ℕ) (block : List ℕ) → put_rows to p (rows_from words start 0 step n) block ≡ block
 put_no_data words start step p zero to block = refl

@@ -1,7 +1,7 @@
 -- Structs that are elements of a list of numbers.
-use Rattle.std.proofs.lemmas.List.{length-map, get_or_past}
+use Rattle.std.proofs.lemmas.List.{length-map}
 use Rattle.std.proofs.Math.Nat.{zero-div}
-use Rattle.std.proofs.Common.{◌≡◌, ℕ, ◌+◌, ◌*◌, ◌/◌, ◌%◌, ◌^◌, ◌<◌, ◌≤◌, List, [], ◌∷◌, length, Option, Some, None, slice_index_or, refl, sym, ◌∙◌, ap, arith}
+use Rattle.std.proofs.Common.{◌≡◌, ℕ, ◌+◌, ◌*◌, ◌/◌, ◌%◌, ◌^◌, ◌<◌, List, [], ◌∷◌, length, Option, Some, None, slice_index_or, refl, sym, ◌∙◌, ap, arith}
 use Rattle.std.specs.Prelude.{All}
 use Rattle.capnp_layout.specs.Pointer.{words_from}
 use Rattle.capnp_layout.specs.Element.{code_of, width}
@@ -30,10 +30,6 @@ own_part_zero (Some part) =
 pub own_data_at : (part : Option WordPart) (words : List ℕ) (i : ℕ) → slice_index_or (own_data part words) i 0 ≡ own_part part (slice_index_or words i 0)
 own_data_at None words i = refl
 own_data_at (Some part) words i = map_at (own_part (Some part)) (own_part_zero (Some part)) words i
-
-pub no_own_data : (part : Option WordPart) (words : List ℕ) (i : ℕ) → length words ≤ i → 0 ≡ slice_index_or (own_data part words) i 0
-no_own_data part words i past =
-    sym (own_part_zero part) ∙ ap (own_part part) (sym (get_or_past words i 0 past)) ∙ sym (own_data_at part words i)
 
 pub own_data_below : (part : Option WordPart) (words : List ℕ) → All (λ w. w < 2 ^ 64) words → All (λ w. w < 2 ^ 64) (own_data part words)
 own_data_below None words all = all
