@@ -10,29 +10,18 @@ use Rattle.capnp_frame.specs.declared.error.ErrorKind.TheVariants.{OutOfMemory}
 use Rattle.capnp_frame.specs.declared.io.Read.{Ghosts}
 use Rattle.capnp_frame.specs.declared.message.options.ReaderOptions.{ReaderOptions}
 use Rattle.capnp_frame.specs.declared.serialize.segment_table.Padding.TheVariants.{Zero}
-use Rattle.capnp_frame.specs.Sink.{Adds}
-use Rattle.capnp_frame.specs.Frame.{IsFrame}
-use Rattle.capnp_frame.specs.Limits.{KeepsLimit}
-use Rattle.capnp_frame.specs.Message.{lengths}
-use Rattle.capnp_frame.specs.Source.{Giving, Refusing, IfKnown, Advances}
-use Rattle.capnp_frame.specs.Texts.{Grammar, BeginsWith, AreEncodings}
-use Rattle.capnp_frame.specs.Writing.{IsWritable, IsWithinSegmentLimit}
+use Rattle.capnp_frame.specs.Prelude.{Adds, IsFrame, KeepsLimit, lengths, Giving, Refusing, IfKnown, Advances, Grammar, BeginsWith, AreEncodings, IsWritable, IsWithinSegmentLimit}
 use Rattle.capnp_frame.proofs.sources.SourceLemmas.{IfKnown-join, Advances-join, Fails-join}
 use Rattle.capnp_frame.proofs.encodings.FrameLemmas.{frame_bytes_are}
 use Rattle.capnp_frame.proofs.encodings.SizeLemmas.{HasTable-writable}
 use Rattle.capnp_frame.proofs.encodings.TextLemmas.{PartsStreams, AreEncodings-push}
-use Rattle.capnp_layout.specs.Tree.{Trees}
-use Rattle.capnp_build.specs.Bytes.{Space}
-use Rattle.capnp_build.specs.BuilderState.{used_of}
+use Rattle.capnp_layout.specs.Prelude.{Trees}
+use Rattle.capnp_build.specs.Prelude.{Space, used_of}
 use Rattle.capnp_pack.proofs.words.AllLemmas.{AllByRecursion-append}
 use Rattle.capnp_pack.proofs.encodings.PackedFrameLemmas.{packed_text_is}
 use Rattle.capnp.specs.declared.streams.Format.{Format}
 use Rattle.capnp.specs.declared.streams.Format.TheVariants.{Framed, Packed}
-use Rattle.capnp.specs.Appended.{ReadsMessages}
-use Rattle.capnp.specs.Streams.{grammar_of, rules_of, StandsNext, IsStream}
-use Rattle.capnp.specs.Headline.{IsFault, by_format, ReadsMessage, OrFailsAtEnd}
-use Rattle.capnp.specs.Roots.{HasRootTree}
-use Rattle.capnp.specs.Written.{IsTextOf, AppendsEach}
+use Rattle.capnp.specs.Prelude.{ReadsMessages, grammar_of, rules_of, StandsNext, IsStream, IsFault, by_format, ReadsMessage, OrFailsAtEnd, HasRootTree, IsTextOf, AppendsEach}
 use Rattle.capnp.proofs.FormatLemmas.{or_fails_advances, or_fails_failed}
 use Rattle.capnp.proofs.ReaderLemmas.{or_fails_accepted, or_fails_reads}
 use Rattle.capnp.proofs.RunLemmas.{format_parts}

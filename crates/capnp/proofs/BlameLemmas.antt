@@ -2,10 +2,8 @@
 use Rattle.std.proofs.Common.{◌≡◌, ◌⊎◌, ℕ, List, Option, inl, inr}
 use Rattle.capnp_frame.specs.declared.error.ErrorKind.{ErrorKind}
 use Rattle.capnp_frame.specs.declared.error.ErrorKind.TheVariants.{DeviceFailed, OutOfMemory}
-use Rattle.capnp_layout.specs.Faults.{NoWord, no_segment, past_segment, BadLandingPad, no_landing_pad, far_again, landing_pad_capability, no_tag, not_far, no_content, far_tag, capability_tag, RejectsSize}
-use Rattle.capnp_layout.specs.Faults.{struct_outside, list_outside, structs_outside, odd_tag, many_elements, Fault, no_word, capability, bad_landing_pad, too_deep, no_start, misfits}
-use Rattle.capnp_layout.specs.Faults.{StopsWalk, at_pointer, over_limit, inside, later}
-use Rattle.capnp_wire.specs.Views.{Pointer}
+use Rattle.capnp_layout.specs.Prelude.{NoWord, no_segment, past_segment, BadLandingPad, no_landing_pad, far_again, landing_pad_capability, no_tag, not_far, no_content, far_tag, capability_tag, RejectsSize, struct_outside, list_outside, structs_outside, odd_tag, many_elements, Fault, no_word, capability, bad_landing_pad, too_deep, no_start, misfits, StopsWalk, at_pointer, over_limit, inside, later}
+use Rattle.capnp_wire.specs.Prelude.{Pointer}
 use Rattle.capnp_layout.specs.declared.place.Place.{Place}
 use Rattle.capnp_message.specs.Canonical.{LacksForm}
 

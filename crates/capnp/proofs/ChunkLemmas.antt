@@ -6,20 +6,16 @@ use Rattle.std.specs.List.{AllByRecursion}
 use Rattle.std.specs.Prelude.{nat_lt, Bool, true, false, cond}
 use Rattle.capnp_frame.specs.declared.error.ErrorKind.{ErrorKind}
 use Rattle.capnp_frame.specs.declared.error.ErrorKind.TheVariants.{DeviceFailed, OutOfMemory}
-use Rattle.capnp_frame.specs.Message.{IsWholeWords, lengths}
-use Rattle.capnp_frame.specs.SegmentTable.{zero_padded_table}
-use Rattle.capnp_frame.specs.Writing.{IsWritable, RefusesMany, chunks, table_chunks}
-use Rattle.capnp_frame.specs.Sink.{Declining, ByKind, DeclinesAny, DeclinesSome}
-use Rattle.capnp_frame.specs.Source.{Fails}
+use Rattle.capnp_frame.specs.Prelude.{IsWholeWords, lengths, zero_padded_table, IsWritable, RefusesMany, chunks, table_chunks, Declining, ByKind, DeclinesAny, DeclinesSome, Fails}
 use Rattle.capnp_frame.specs.declared.serialize.segment_table.Padding.TheVariants.{Zero}
 use Rattle.capnp_frame.proofs.sources.AskLemmas.{never_fails}
 use Rattle.capnp_frame.proofs.encodings.FrameLemmas.{zero_padded_is, length-table}
 use Rattle.capnp_frame.proofs.encodings.SizeLemmas.{HasTable-writable}
 use Rattle.capnp_pack.proofs.words.AllLemmas.{AllByRecursion-append}
-use Rattle.capnp_pack.specs.PackedSink.{DeclinesPacked}
+use Rattle.capnp_pack.specs.Prelude.{DeclinesPacked}
 use Rattle.capnp.specs.declared.streams.Format.{Format}
 use Rattle.capnp.specs.declared.streams.Format.TheVariants.{Framed, Packed}
-use Rattle.capnp.specs.Written.{DeclinesAs, RefusesWriter}
+use Rattle.capnp.specs.Prelude.{DeclinesAs, RefusesWriter}
 
 some_declined : (refuses : Declining) (xs : List (List ℕ)) (kind : ErrorKind) → DeclinesSome refuses xs kind → DeclinesAny refuses kind
 some_declined refuses [] kind declined = absurd declined

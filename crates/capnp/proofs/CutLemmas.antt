@@ -3,23 +3,15 @@ use Rattle.std.proofs.Common.{◌≡◌, ◌⊎◌, inl, inr, ℕ, ◌+◌, ◌<
 use Rattle.std.proofs.lemmas.List.{append-nil, nil_from_length}
 use Rattle.capnp_frame.specs.declared.serialize.segment_table.Padding.TheVariants.{Zero}
 use Rattle.capnp_frame.specs.declared.error.ErrorKind.{ErrorKind}
-use Rattle.capnp_frame.specs.Limits.{KeepsLimit}
-use Rattle.capnp_frame.specs.Message.{lengths}
-use Rattle.capnp_frame.specs.Refusals.{Asks, RefusesAtLimit, RefusesAtCount, RefusesStream, Unless, LacksRoom, StopsBy}
+use Rattle.capnp_frame.specs.Prelude.{KeepsLimit, lengths, Asks, RefusesAtLimit, RefusesAtCount, RefusesStream, Unless, LacksRoom, StopsBy, table_size, BeginsWith, IsWritable, IsWithinSegmentLimit}
 use Rattle.capnp_frame.specs.declared.error.ErrorKind.TheVariants.{BufferNotLargeEnough}
-use Rattle.capnp_frame.specs.SegmentTable.{table_size}
-use Rattle.capnp_frame.specs.Texts.{BeginsWith}
-use Rattle.capnp_frame.specs.Writing.{IsWritable, IsWithinSegmentLimit}
 use Rattle.capnp_frame.proofs.encodings.SizeLemmas.{HasTable-writable}
-use Rattle.capnp_pack.specs.PackedFrame.{IsPackedFrame}
-use Rattle.capnp_pack.specs.PackedSource.{head_encoding, Unpacks, Overruns, MeetsFault, RefusesChunk}
+use Rattle.capnp_pack.specs.Prelude.{IsPackedFrame, head_encoding, Unpacks, Overruns, MeetsFault, RefusesChunk}
 use Rattle.capnp_pack.proofs.encodings.PackedFrameLemmas.{packed_text_is}
 use Rattle.capnp.specs.declared.streams.Format.TheVariants.{Packed}
-use Rattle.capnp.specs.Streams.{RefusesNext}
-use Rattle.capnp.specs.Written.{IsPackedEncodingOf}
+use Rattle.capnp.specs.Prelude.{RefusesNext, IsPackedEncodingOf, IsCutKind}
 use Rattle.capnp.proofs.WriterLemmas.{IsWithin-written}
 use Rattle.capnp.proofs.RunLemmas.{format_parts}
-use Rattle.capnp.specs.Reading.{IsCutKind}
 
 -- What requests meet stays where more bytes follow, but for an end that comes too early.
 

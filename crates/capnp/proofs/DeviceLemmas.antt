@@ -2,11 +2,9 @@
 use Rattle.std.proofs.Common.{◌≡◌, ◌↔◌, ℕ, ◌+◌, ◌-◌, ◌<◌, ◌≤◌, Bool, true, false, List, [], ◌++◌, length, take, drop, Option, Some, None, IfSome, sym, ap, ◌∙◌, arith, append_assoc, length-append}
 use Rattle.std.proofs.lemmas.List.{append-nil, take-append-drop, length-drop, length-take, length-take-le}
 use Rattle.std.specs.Io.KnownBytes.{Keeps, Appends, Consumes, IsAtEnd}
-use Rattle.capnp_frame.specs.SplittingLaws.{same_front}
-use Rattle.capnp_frame.specs.Source.{IsTail}
+use Rattle.capnp_frame.specs.Prelude.{same_front, IsTail}
 use Rattle.capnp_frame.proofs.sources.SourceLemmas.{IfKnown-weaker}
-use Rattle.capnp.specs.Passed.{IfKnown, Adds, LeavesFront, Splits, RunsShort, ReturnsPart}
-use Rattle.capnp.specs.Devices.{if_known}
+use Rattle.capnp.specs.Prelude.{IfKnown, Adds, LeavesFront, Splits, RunsShort, ReturnsPart, if_known}
 
 -- a front of the chunk
 pub front_left : (a b : Option (List ℕ)) (chunk : List ℕ) (done : ℕ) → Appends a b (take done chunk) → IfKnown a b (Adds (LeavesFront chunk))

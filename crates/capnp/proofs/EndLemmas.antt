@@ -5,15 +5,11 @@ use Rattle.capnp_frame.specs.declared.error.ErrorKind.{ErrorKind}
 use Rattle.capnp_frame.specs.declared.error.ErrorKind.TheVariants.{DeviceFailed}
 use Rattle.capnp_frame.specs.declared.io.Read.{Ghosts}
 use Rattle.capnp_frame.specs.declared.io.Write.{Ghosts as SinkGhosts}
-use Rattle.capnp_frame.specs.Refusals.{IsReaderKind}
-use Rattle.capnp_frame.specs.Source.{IfKnown, Advances, Fails}
-use Rattle.capnp_frame.specs.Sink.{Grows}
-use Rattle.capnp_frame.specs.Texts.{AreEncodings}
+use Rattle.capnp_frame.specs.Prelude.{IsReaderKind, IfKnown, Advances, Fails, Grows, AreEncodings}
 use Rattle.capnp_frame.proofs.encodings.TextLemmas.{AreEncodings-once, AreEncodings-most, EndsEncodings-once}
 use Rattle.capnp.specs.declared.streams.Format.{Format}
 use Rattle.capnp.specs.declared.streams.StoppedAt.{StoppedAt}
-use Rattle.capnp.specs.Streams.{grammar_of, refuses_of, StandsNext, RefusesNext, EndsBy, IsStream}
-use Rattle.capnp.specs.Runs.{Writing, DecliningWriting, most_messages, RanOut, HasWritten, StoppedReading, StoppedWriting, HasStopped, HasRun, IsResultOf, FaultsAt, StopsByFault, IsFaulted, IsRunFault, WritesEach}
+use Rattle.capnp.specs.Prelude.{grammar_of, refuses_of, StandsNext, RefusesNext, EndsBy, IsStream, Writing, DecliningWriting, most_messages, RanOut, HasWritten, StoppedReading, StoppedWriting, HasStopped, HasRun, IsResultOf, FaultsAt, StopsByFault, IsFaulted, IsRunFault, WritesEach}
 use Rattle.capnp.proofs.RunLemmas.{format_lawful, format_parts}
 
 pub ran_out_ends : (rule : Padding) (format : Format) (limit : Option ℕ) (Writes : Writing) (left before after : Option (List ℕ))

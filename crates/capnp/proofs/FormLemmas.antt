@@ -5,26 +5,17 @@ use Rattle.capnp_frame.specs.declared.error.Error.{Error}
 use Rattle.capnp_frame.specs.declared.error.ErrorKind.{ErrorKind}
 use Rattle.capnp_frame.specs.declared.error.ErrorKind.TheVariants.{DeviceFailed, OutOfMemory}
 use Rattle.capnp_frame.specs.declared.io.Write.{Ghosts}
-use Rattle.capnp_frame.specs.Sink.{Declining, Adds, AppendsAll, LeavesSome, DeclinesSome}
-use Rattle.capnp_frame.specs.Asking.{FailsOr}
-use Rattle.capnp_frame.specs.Source.{IsPreorder, Fails}
-use Rattle.capnp_frame.specs.Writers.{WritesTo, WritesSegments}
-use Rattle.capnp_frame.specs.Writing.{IsWritable, chunks}
+use Rattle.capnp_frame.specs.Prelude.{Declining, Adds, AppendsAll, LeavesSome, DeclinesSome, FailsOr, IsPreorder, Fails, WritesTo, WritesSegments, IsWritable, chunks}
 use Rattle.capnp_frame.proofs.sources.AskLemmas.{passed_on}
 use Rattle.capnp_frame.proofs.sources.SourceLemmas.{Grows-refl, IfKnown-refl, IfKnown-weaker}
 use Rattle.std.proofs.lemmas.List.{append-nil}
-use Rattle.capnp_layout.specs.Pointer.{words_of}
-use Rattle.capnp_layout.specs.Tree.{total_words}
-use Rattle.capnp_layout.specs.Trim.{trim}
-use Rattle.capnp_layout.specs.Layout.{body}
-use Rattle.capnp_wire.specs.Views.{Pointer}
-use Rattle.capnp_wire.specs.Values.{IsCanonicalForm}
+use Rattle.capnp_layout.specs.Prelude.{words_of, total_words, trim, body}
+use Rattle.capnp_wire.specs.Prelude.{Pointer, IsCanonicalForm}
 use Rattle.capnp_layout.proofs.layouts.SizeLemmas.{length-body}
 use Rattle.capnp_wire.proofs.layouts.OpenLemmas.{room_output}
 use Rattle.capnp_layout.proofs.words.WordLemmas.{length-words_of}
 use Rattle.capnp_message.specs.Canonical.{LacksForm}
-use Rattle.capnp.specs.Canonical.{IsForm, AppendsForm, LeavesForm, BreaksForm, DeclinesForm}
-use Rattle.capnp.specs.Written.{RefusesWriter}
+use Rattle.capnp.specs.Prelude.{IsForm, AppendsForm, LeavesForm, BreaksForm, DeclinesForm, RefusesWriter}
 use Rattle.capnp.proofs.BlameLemmas.{result_blames_none}
 
 -- a form has fewer words than a segment may

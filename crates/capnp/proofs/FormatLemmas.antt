@@ -6,19 +6,12 @@ use Rattle.capnp_frame.specs.declared.error.Error.{Error}
 use Rattle.capnp_frame.specs.declared.error.ErrorKind.{ErrorKind}
 use Rattle.capnp_frame.specs.declared.error.ErrorKind.TheVariants.{DeviceFailed, OutOfMemory}
 use Rattle.capnp_frame.specs.declared.io.Read.{Ghosts}
-use Rattle.capnp_frame.specs.Limits.{IsWithin}
-use Rattle.capnp_frame.specs.Source.{Giving, Refusing, Splits, RunsShort, IfKnown, Advances, Fails}
-use Rattle.capnp_frame.specs.Refusals.{CountStands, RefusesStream, Outgrows, TakesMemory, TakesForLengths, IsReaderKind}
-use Rattle.capnp_frame.specs.Requests.{MessageStands}
-use Rattle.capnp_frame.specs.Skipping.{SkipsMessage}
-use Rattle.capnp_frame.specs.Streams.{StreamRules, framed_rules, reusing_rules, skipping_rules, ReadsStream}
+use Rattle.capnp_frame.specs.Prelude.{IsWithin, Giving, Refusing, Splits, RunsShort, IfKnown, Advances, Fails, CountStands, RefusesStream, Outgrows, TakesMemory, TakesForLengths, IsReaderKind, MessageStands, SkipsMessage, StreamRules, framed_rules, reusing_rules, skipping_rules, ReadsStream}
 use Rattle.capnp_frame.proofs.sources.SourceLemmas.{IfKnown-weaker}
 use Rattle.capnp_frame.proofs.errors.RefusalLemmas.{RefusesStream-map}
 use Rattle.capnp.specs.declared.streams.Format.{Format}
 use Rattle.capnp.specs.declared.streams.Format.TheVariants.{Framed}
-use Rattle.capnp.specs.Headline.{OrFailsAtEnd}
-use Rattle.capnp.specs.Streams.{IsPlainSource, rules_of, skipping_rules_of, StandsNext}
-use Rattle.capnp.specs.Runs.{IsReadingFault}
+use Rattle.capnp.specs.Prelude.{OrFailsAtEnd, IsPlainSource, rules_of, skipping_rules_of, StandsNext, IsReadingFault}
 use Rattle.capnp.proofs.ReaderLemmas.{frames_requested}
 
 CountStands-map : {gives others : Giving} (given : (raw : List ℕ) (n : ℕ) (bytes rest : List ℕ) → gives raw n bytes rest → others raw n bytes rest)

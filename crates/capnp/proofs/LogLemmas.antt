@@ -5,25 +5,16 @@ use Rattle.std.proofs.lemmas.List.{append-nil, drop_at}
 use Rattle.capnp_frame.specs.declared.serialize.segment_table.Padding.TheVariants.{Zero}
 use Rattle.capnp_frame.specs.declared.error.Error.{Error}
 use Rattle.capnp_frame.specs.declared.error.ErrorKind.{ErrorKind}
-use Rattle.capnp_frame.specs.Limits.{KeepsLimit}
-use Rattle.capnp_frame.specs.Message.{lengths}
-use Rattle.capnp_frame.specs.Source.{IfKnown, IsFront}
-use Rattle.capnp_frame.specs.Sink.{Adds}
-use Rattle.capnp_frame.specs.Texts.{Grammar, BeginsWith, AreEncodings}
-use Rattle.capnp_frame.specs.Writing.{IsWritable, IsWithinSegmentLimit}
+use Rattle.capnp_frame.specs.Prelude.{KeepsLimit, lengths, IfKnown, IsFront, Adds, Grammar, BeginsWith, AreEncodings, IsWritable, IsWithinSegmentLimit}
 use Rattle.capnp_frame.proofs.encodings.SizeLemmas.{HasTable-writable}
 use Rattle.capnp_frame.proofs.encodings.TextLemmas.{texts_part}
-use Rattle.capnp_pack.specs.PackedFrame.{IsPackedFrame}
-use Rattle.capnp_pack.specs.RefusingLaws.{unpacking}
+use Rattle.capnp_pack.specs.Prelude.{IsPackedFrame, unpacking}
 use Rattle.capnp_pack.proofs.words.AllLemmas.{AllByRecursion-append}
 use Rattle.capnp_pack.proofs.encodings.PackedFrameLemmas.{packed_requests, packed_text_is}
 use Rattle.capnp.specs.declared.streams.Format.TheVariants.{Packed}
-use Rattle.capnp.specs.Streams.{EndsBy, IsStream}
-use Rattle.capnp.specs.Written.{IsTextOf, IsPackedEncodingOf, AppendsEach}
+use Rattle.capnp.specs.Prelude.{EndsBy, IsStream, IsTextOf, IsPackedEncodingOf, AppendsEach, kind_of, LacksMemory, IsCut, IsCutLog, IsLog}
 use Rattle.capnp.proofs.AppendedLemmas.{AppendsEach-push, appended_stream}
 use Rattle.capnp.proofs.RunLemmas.{format_parts}
-use Rattle.capnp.specs.Reading.{kind_of, LacksMemory, IsCut}
-use Rattle.capnp.specs.RecordLog.{IsCutLog, IsLog}
 use Rattle.capnp.proofs.CutLemmas.{front_is_cut}
 
 -- Appending

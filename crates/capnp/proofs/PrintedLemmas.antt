@@ -3,7 +3,7 @@ use Rattle.std.proofs.Common.{◌≡◌, ℕ, List, [], ◌∷◌, ◌++◌, ap,
 use Rattle.std.proofs.lemmas.List.{append_assoc, map-id}
 use Rattle.std.specs.Prelude.{Result, Ok, Err, OnOk, if◌then◌else◌}
 use Rattle.std.specs.Result.{is_ok}
-use Rattle.capnp.specs.Printed.{AreEscaped, IsEscapeOf}
+use Rattle.capnp.specs.Prelude.{AreEscaped, IsEscapeOf}
 
 -- what is shown after a quotation mark, and then more
 pub added_after : (old shown middle added new : List ℕ) → middle ≡ old ++ (34 ∷ shown) → new ≡ middle ++ added → new ≡ old ++ (34 ∷ (shown ++ added))

@@ -5,22 +5,15 @@ use Rattle.capnp_frame.specs.declared.error.Error.{Error}
 use Rattle.capnp_frame.specs.declared.serialize.segment_table.Padding.{Padding}
 use Rattle.capnp_frame.specs.declared.io.Read.{Ghosts}
 use Rattle.capnp_frame.specs.declared.message.options.ReaderOptions.{ReaderOptions}
-use Rattle.capnp_frame.specs.Limits.{IsWithin}
-use Rattle.capnp_frame.specs.Frame.{IsFrame}
-use Rattle.capnp_frame.specs.Source.{Giving, Refusing, IsSource, IfKnown}
-use Rattle.capnp_frame.specs.Requests.{MessageStands}
-use Rattle.capnp_frame.specs.Streams.{StreamRules, next_in, ReadsStream, ReadsStreamInto}
-use Rattle.capnp_frame.specs.Texts.{Grammar, BeginsWith}
-use Rattle.capnp_frame.specs.Views.{SeenBuffer}
+use Rattle.capnp_frame.specs.Prelude.{IsWithin, IsFrame, Giving, Refusing, IsSource, IfKnown, MessageStands, StreamRules, next_in, ReadsStream, ReadsStreamInto, Grammar, BeginsWith, SeenBuffer}
 use Rattle.capnp_frame.proofs.errors.RefusalLemmas.{given_some}
 use Rattle.capnp_frame.proofs.sources.SourceLemmas.{IfKnown-weaker}
 use Rattle.capnp_frame.proofs.encodings.RequestLemmas.{MessageStands-map}
 use Rattle.capnp_frame.proofs.encodings.FrameLemmas.{plain_requests}
 use Rattle.capnp_frame.proofs.encodings.TextLemmas.{AreRequested}
-use Rattle.capnp_pack.specs.RefusingLaws.{unpacking}
+use Rattle.capnp_pack.specs.Prelude.{unpacking}
 use Rattle.capnp_pack.proofs.encodings.PackedFrameLemmas.{packed_requests}
-use Rattle.capnp.specs.Streams.{IsPlainSource}
-use Rattle.capnp.specs.Headline.{IsFault, MessageRules, framed, packed, reader_of, ReadsMessage, ReadsMessageInto, OrFailsAtEnd}
+use Rattle.capnp.specs.Prelude.{IsPlainSource, IsFault, MessageRules, framed, packed, reader_of, ReadsMessage, ReadsMessageInto, OrFailsAtEnd}
 
 -- the requests of a plain source take just the frames
 pub frames_requested : (rule : Padding) (gives : Giving) (refuses : Refusing) → IsPlainSource gives refuses → AreRequested (IsFrame rule) rule gives

@@ -4,22 +4,16 @@ use Rattle.std.proofs.lemmas.List.{append-nil, length_push, nil_from_length}
 use Rattle.std.specs.List.{AllByRecursion}
 use Rattle.capnp_frame.specs.declared.serialize.segment_table.Padding.{Padding}
 use Rattle.capnp_frame.specs.declared.error.ErrorKind.{ErrorKind}
-use Rattle.capnp_frame.specs.Limits.{IsWithin}
-use Rattle.capnp_frame.specs.Message.{IsWholeWords}
-use Rattle.capnp_frame.specs.Source.{IsSource, IfKnown, IsTail}
-use Rattle.capnp_frame.specs.Sink.{Adds}
-use Rattle.capnp_frame.specs.SplittingLaws.{splitting}
+use Rattle.capnp_frame.specs.Prelude.{IsWithin, IsWholeWords, IsSource, IfKnown, IsTail, Adds, splitting}
 use Rattle.capnp_frame.proofs.sources.SourceLemmas.{IfKnown-join, IfKnown-refl, IfKnown-weaker}
 use Rattle.capnp_frame.proofs.encodings.FrameLemmas.{plain_requests}
 use Rattle.capnp_frame.proofs.encodings.TextLemmas.{AreRequested, PartsStreams, parts_streams, AreEncodings-push}
-use Rattle.capnp_pack.specs.RefusingLaws.{unpacking}
+use Rattle.capnp_pack.specs.Prelude.{unpacking}
 use Rattle.capnp_pack.proofs.encodings.PackedFrameLemmas.{packed_requests}
 use Rattle.capnp.specs.declared.streams.Format.{Format}
 use Rattle.capnp.specs.declared.streams.Format.TheVariants.{Framed, Packed}
 use Rattle.capnp.specs.declared.streams.StoppedAt.{StoppedAt}
-use Rattle.capnp.specs.Streams.{grammar_of, gives_of, refuses_of, rules_of}
-use Rattle.capnp.specs.Runs.{Writing, DecliningWriting, WritesFrom, WritesAll, HasWrittenNext, HasWritten, IsReadingFault, IsWritingFault, BreaksOffOr, IsRunFault, most_messages, HasRun}
-use Rattle.capnp.specs.Headline.{by_format}
+use Rattle.capnp.specs.Prelude.{grammar_of, gives_of, refuses_of, rules_of, Writing, DecliningWriting, WritesFrom, WritesAll, HasWrittenNext, HasWritten, IsReadingFault, IsWritingFault, BreaksOffOr, IsRunFault, most_messages, HasRun, by_format}
 use Rattle.capnp.proofs.FormatLemmas.{stands_next}
 use Rattle.capnp.proofs.ReaderLemmas.{AreRead, are_read}
 use Rattle.capnp.proofs.WriterLemmas.{IsWritable-within}

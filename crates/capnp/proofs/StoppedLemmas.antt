@@ -4,12 +4,10 @@ use Rattle.std.proofs.Math.ListN.{get_or}
 use Rattle.std.proofs.lemmas.List.{nil_from_length}
 use Rattle.capnp_frame.specs.declared.error.ErrorKind.{ErrorKind}
 use Rattle.capnp_frame.specs.declared.error.ErrorKind.TheVariants.{DeviceFailed}
-use Rattle.capnp_frame.specs.Sink.{Appending, Leaving, Declining, DeclinesSome, Adds}
-use Rattle.capnp_frame.specs.Source.{IfKnown}
-use Rattle.capnp_frame.specs.Writing.{chunks}
+use Rattle.capnp_frame.specs.Prelude.{Appending, Leaving, Declining, DeclinesSome, Adds, IfKnown, chunks}
 use Rattle.capnp_frame.proofs.sources.SourceLemmas.{IfKnown-join}
 use Rattle.capnp.specs.declared.streams.Format.{Format}
-use Rattle.capnp.specs.Written.{DeclinesAs, LeavesMessage, AppendsEach, StopsMessage, StopsEach, RefusesWriter, RefusesOneOf}
+use Rattle.capnp.specs.Prelude.{DeclinesAs, LeavesMessage, AppendsEach, StopsMessage, StopsEach, RefusesWriter, RefusesOneOf}
 
 -- the one that isn't written is one of them
 pub refused_at : {S : Type 0} (segments : S → List (List ℕ)) (refuses : Declining) (xs : List S) (index : ℕ) (x : S) (kind : ErrorKind) → index < length xs

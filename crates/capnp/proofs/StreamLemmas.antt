@@ -5,17 +5,13 @@ use Rattle.capnp_frame.specs.declared.serialize.segment_table.Padding.{Padding}
 use Rattle.capnp_frame.specs.declared.error.Error.{Error}
 use Rattle.capnp_frame.specs.declared.error.ErrorKind.{ErrorKind}
 use Rattle.capnp_frame.specs.declared.error.ErrorKind.TheVariants.{DeviceFailed, OutOfMemory}
-use Rattle.capnp_frame.specs.Limits.{IsWithin}
-use Rattle.capnp_frame.specs.Source.{Fails}
-use Rattle.capnp_frame.specs.Texts.{Grammar, AreEncodings}
+use Rattle.capnp_frame.specs.Prelude.{IsWithin, Fails, Grammar, AreEncodings, TakesMemory}
 use Rattle.capnp_frame.proofs.sources.AskLemmas.{never_fails}
 use Rattle.capnp_frame.proofs.encodings.TextLemmas.{AreEncodings-push}
 use Rattle.capnp.specs.declared.streams.Format.{Format}
-use Rattle.capnp_frame.specs.Refusals.{TakesMemory}
-use Rattle.capnp.specs.Streams.{grammar_of, gives_of, StandsNext, RefusesNext, TakesForNext, EndsBy, IsStream}
+use Rattle.capnp.specs.Prelude.{grammar_of, gives_of, StandsNext, RefusesNext, TakesForNext, EndsBy, IsStream, kind_of, LacksMemory, TakesForListed, EndsReading}
 use Rattle.capnp.proofs.EndLemmas.{stream_once}
 use Rattle.capnp.proofs.RunLemmas.{format_parts}
-use Rattle.capnp.specs.Reading.{kind_of, LacksMemory, TakesForListed, EndsReading}
 
 -- a slice never fails, so its reader fails only for want of memory or with an error of its bytes
 pub slice_refuses : (rule : Padding) (format : Format) (limit : Option ℕ) (kind : ErrorKind) (old new : List ℕ) → (kind ≡ DeviceFailed → Fails 0 0)

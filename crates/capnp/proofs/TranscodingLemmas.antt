@@ -5,15 +5,13 @@ use Rattle.capnp_frame.specs.declared.serialize.segment_table.Padding.{Padding}
 use Rattle.capnp_frame.specs.declared.error.ErrorKind.{ErrorKind}
 use Rattle.capnp_frame.specs.declared.io.Read.{Ghosts}
 use Rattle.capnp_frame.specs.declared.io.Write.{Ghosts as SinkGhosts}
-use Rattle.capnp_frame.specs.Sink.{Appending}
+use Rattle.capnp_frame.specs.Prelude.{Appending}
 use Rattle.capnp_frame.proofs.sources.SourceLemmas.{IfKnown-weaker}
 use Rattle.capnp.specs.declared.streams.Format.{Format}
 use Rattle.capnp.specs.declared.streams.StoppedAt.{StoppedAt}
 use Rattle.capnp.specs.declared.transcoding.Way.{Way}
 use Rattle.capnp.specs.declared.transcoding.Way.TheVariants.{Pack, Unpack}
-use Rattle.capnp.specs.Written.{IsPlainSink}
-use Rattle.capnp.specs.Runs.{Writing, DecliningWriting, WritesFrom, HasWritten, RanOut, HasStopped, HasRun, WritesEach}
-use Rattle.capnp.specs.Transcoding.{Transcodes, IsOtherText}
+use Rattle.capnp.specs.Prelude.{IsPlainSink, Writing, DecliningWriting, WritesFrom, HasWritten, RanOut, HasStopped, HasRun, WritesEach, Transcodes, IsOtherText}
 use Rattle.capnp.proofs.WriterLemmas.{frame_bytes_added, packed_text_added}
 
 -- what is written of each message is what is weaker

@@ -4,22 +4,16 @@ use Rattle.std.specs.List.{AllByRecursion}
 use Rattle.capnp_frame.specs.declared.error.Error.{Error}
 use Rattle.capnp_frame.specs.declared.error.ErrorKind.{ErrorKind}
 use Rattle.capnp_frame.specs.declared.error.ErrorKind.TheVariants.{DeviceFailed, OutOfMemory}
-use Rattle.capnp_frame.specs.Limits.{KeepsLimit, IsWithin}
-use Rattle.capnp_frame.specs.Message.{IsWholeWords, lengths}
+use Rattle.capnp_frame.specs.Prelude.{KeepsLimit, IsWithin, IsWholeWords, lengths, FailsOr, IfKnown, Fails, Appending, Declining, DeclinesSome, Adds, AppendsAll, AppendsSame, Grows, KeepsCount, WritesSegments, IsWritable, IsWithinSegmentLimit, ExceedsSegmentLimit, chunks, serialized_words}
 use Rattle.capnp_frame.specs.declared.io.Write.{Ghosts}
-use Rattle.capnp_frame.specs.Asking.{FailsOr}
-use Rattle.capnp_frame.specs.Source.{IfKnown, Fails}
-use Rattle.capnp_frame.specs.Sink.{Appending, Declining, DeclinesSome, Adds, AppendsAll, AppendsSame, Grows}
-use Rattle.capnp_frame.specs.Writers.{KeepsCount, WritesSegments}
-use Rattle.capnp_frame.specs.Writing.{IsWritable, IsWithinSegmentLimit, ExceedsSegmentLimit, chunks, serialized_words}
 use Rattle.capnp_frame.proofs.sources.SourceLemmas.{IfKnown-weaker}
 use Rattle.capnp_frame.proofs.encodings.SizeLemmas.{concat-chunks, length-frame_bytes}
 use Rattle.capnp_frame.proofs.encodings.TextLemmas.{chunks_joined}
 use Rattle.capnp_frame.proofs.sinks.WritingLemmas.{length-lengths}
-use Rattle.capnp_pack.specs.PackedSink.{AppendsPacked, DeclinesPacked}
+use Rattle.capnp_pack.specs.Prelude.{AppendsPacked, DeclinesPacked}
 use Rattle.capnp_pack.proofs.encodings.PackedEncodingLemmas.{packed_chunks}
 use Rattle.capnp.specs.declared.streams.Format.TheVariants.{Framed, Packed}
-use Rattle.capnp.specs.Written.{IsPlainSink, IsFrameEncoding, IsPackedEncodingOf, RefusesWriter, AppendsMessage, LeavesMessage, WritesMessage}
+use Rattle.capnp.specs.Prelude.{IsPlainSink, IsFrameEncoding, IsPackedEncodingOf, RefusesWriter, AppendsMessage, LeavesMessage, WritesMessage}
 
 -- a plain sink gets the chunks themselves
 AppendsAll-plain : (appends : Appending) (xs : List (List ℕ)) (text : List ℕ) → IsPlainSink appends → AppendsAll appends xs text → AppendsAll AppendsSame xs text

@@ -8,9 +8,7 @@ use Rattle.capnp_frame.specs.declared.message.options.ReaderOptions.{ReaderOptio
 use Rattle.capnp_frame.specs.declared.io.Read.{Ghosts}
 use Rattle.capnp_frame.specs.declared.serialize.segment_table.Padding.{Padding}
 use Rattle.capnp_frame.specs.declared.serialize.segment_table.Padding.TheVariants.{Zero}
-use Rattle.capnp_frame.specs.Source.{IfKnown, Advances, Fails}
-use Rattle.capnp_frame.specs.Streams.{ReadsStream}
-use Rattle.capnp_frame.specs.Texts.{AreEncodings}
+use Rattle.capnp_frame.specs.Prelude.{IfKnown, Advances, Fails, ReadsStream, AreEncodings}
 use Rattle.capnp.specs.declared.streams.Format.{Format}
 use Rattle.capnp.specs.Headline.{IsFault, OrFailsAtEnd}
 use Rattle.capnp.specs.Streams.{grammar_of, rules_of}

@@ -5,15 +5,9 @@ use Rattle.capnp_frame.specs.declared.error.Error.{Error}
 use Rattle.capnp_frame.specs.declared.error.ErrorKind.{ErrorKind}
 use Rattle.capnp_frame.specs.declared.error.ErrorKind.TheVariants.{OutOfMemory}
 use Rattle.capnp_frame.specs.declared.io.Write.{Ghosts}
-use Rattle.capnp_frame.specs.Asking.{FailsOr}
-use Rattle.capnp_frame.specs.Message.{IsWholeWords}
-use Rattle.capnp_frame.specs.Sink.{Appending, Leaving, AppendsAll, LeavesSome, Declining, DeclinesSome, Adds}
-use Rattle.capnp_frame.specs.Source.{IfKnown}
-use Rattle.capnp_frame.specs.Writers.{WritesTo}
-use Rattle.capnp_frame.specs.Writing.{chunks}
-use Rattle.capnp_layout.specs.Pointer.{words_of}
-use Rattle.capnp_wire.specs.Views.{Pointer}
-use Rattle.capnp_wire.specs.Values.{IsCanonicalForm}
+use Rattle.capnp_frame.specs.Prelude.{FailsOr, IsWholeWords, Appending, Leaving, AppendsAll, LeavesSome, Declining, DeclinesSome, Adds, IfKnown, WritesTo, chunks}
+use Rattle.capnp_layout.specs.Prelude.{words_of}
+use Rattle.capnp_wire.specs.Prelude.{Pointer, IsCanonicalForm}
 use Rattle.capnp_message.specs.Canonical.{LacksForm}
 use Rattle.capnp.specs.Written.{IsPlainSink, IsFrameEncoding}
 

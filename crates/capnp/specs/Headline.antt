@@ -8,17 +8,9 @@ use Rattle.capnp_frame.specs.declared.error.ErrorKind.TheVariants.{DeviceFailed,
 use Rattle.capnp_frame.specs.declared.io.Read.{Ghosts}
 use Rattle.capnp_frame.specs.declared.message.options.ReaderOptions.{ReaderOptions}
 use Rattle.capnp_frame.specs.declared.serialize.segment_table.Padding.{Padding}
-use Rattle.capnp_frame.specs.FlatReaders.{FlatRules, ReadsFlat}
-use Rattle.capnp_frame.specs.Frame.{IsFrame}
-use Rattle.capnp_frame.specs.Message.{size_in_words}
-use Rattle.capnp_frame.specs.SegmentTable.{table_size}
-use Rattle.capnp_frame.specs.Source.{IfKnown}
-use Rattle.capnp_frame.specs.Streams.{StreamRules, framed_rules, reusing_rules, next_in, ReadsStream, ReadsStreamInto}
-use Rattle.capnp_frame.specs.Texts.{Grammar, BeginsWith}
-use Rattle.capnp_frame.specs.Views.{SeenBuffer}
+use Rattle.capnp_frame.specs.Prelude.{FlatRules, ReadsFlat, IsFrame, size_in_words, table_size, IfKnown, StreamRules, framed_rules, reusing_rules, next_in, ReadsStream, ReadsStreamInto, Grammar, BeginsWith, SeenBuffer}
 use Rattle.capnp_message.specs.Seen.{ReadMessage}
-use Rattle.capnp_pack.specs.PackedFrame.{IsPackedFrame}
-use Rattle.capnp_pack.specs.PackedStreams.{packed_rules, packed_reusing_rules}
+use Rattle.capnp_pack.specs.Prelude.{IsPackedFrame, packed_rules, packed_reusing_rules}
 use Rattle.capnp.specs.declared.streams.Format.{Format}
 use Rattle.capnp.specs.Streams.{IsPlainSource, grammar_of, rules_of}
 

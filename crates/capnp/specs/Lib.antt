@@ -15,3 +15,4 @@ pub mod MessageStreams
 pub mod Printed
 pub mod PrintedFields
 pub mod PrintedNumbers
+pub mod Prelude

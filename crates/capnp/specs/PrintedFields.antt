@@ -1,8 +1,7 @@
 -- Which fields of a struct are shown (src/stringify/fields.rt).
 use Rattle.std.specs.Prelude.{◌≡◌, ◌≢◌, ◌⊎◌, ℕ, ◌<◌, Option, Some}
-use Rattle.capnp_layout.specs.Object.{nothing}
-use Rattle.capnp_wire.specs.Fields.{field}
-use Rattle.capnp_wire.specs.Views.{Struct, Denotes, pointer_in}
+use Rattle.capnp_layout.specs.Prelude.{nothing}
+use Rattle.capnp_wire.specs.Prelude.{field, Struct, Denotes, pointer_in}
 use Rattle.capnp.specs.declared.stringify.schema.Base.{Base}
 use Rattle.capnp.specs.declared.stringify.schema.Base.TheVariants.{Text, Data, Struct as OfStruct, Interface, AnyPointer}
 

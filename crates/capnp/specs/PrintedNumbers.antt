@@ -2,7 +2,7 @@
 use Rattle.std.specs.Prelude.{◌==◌, ℕ, ℤ, ◌%◌, ◌^◌, List, Option, Some, None, if◌then◌else◌, bit_xor, codes, decimal}
 use Rattle.std.specs.Fmt.{signed_decimal}
 use Rattle.std.specs.Int.{w8, w16, w32, w64, cast_signed}
-use Rattle.capnp_wire.specs.Fields.{field}
+use Rattle.capnp_wire.specs.Prelude.{field}
 use Rattle.capnp.specs.declared.stringify.schema.Base.{Base}
 use Rattle.capnp.specs.declared.stringify.schema.Base.TheVariants.{Bool as OfBool, Int8, Int16, Int32, Int64, Uint8, Uint16, Uint32, Uint64}
 use Rattle.capnp.specs.declared.stringify.schema.Base.TheVariants.{Float32, Float64, Enum}

@@ -4,7 +4,7 @@ use Rattle.capnp_frame.specs.declared.error.Error.{Error}
 use Rattle.capnp_frame.specs.declared.error.ErrorKind.{ErrorKind}
 use Rattle.capnp_frame.specs.declared.error.ErrorKind.TheVariants.{FailedToFillTheWholeBuffer, OutOfMemory, PrematureEndOfPackedInput}
 use Rattle.capnp_frame.specs.declared.serialize.segment_table.Padding.{Padding}
-use Rattle.capnp_frame.specs.Texts.{AreEncodings}
+use Rattle.capnp_frame.specs.Prelude.{AreEncodings}
 use Rattle.capnp.specs.declared.streams.Format.{Format}
 use Rattle.capnp.specs.Streams.{grammar_of, StandsNext, TakesForNext, EndsBy, IsStream}
 

@@ -4,11 +4,7 @@ use Rattle.std.specs.List.{AllByRecursion}
 use Rattle.capnp_frame.specs.declared.error.Error.{Error}
 use Rattle.capnp_frame.specs.declared.error.ErrorKind.TheVariants.{OutOfMemory}
 use Rattle.capnp_frame.specs.declared.serialize.segment_table.Padding.TheVariants.{Zero}
-use Rattle.capnp_frame.specs.Limits.{KeepsLimit}
-use Rattle.capnp_frame.specs.Message.{lengths}
-use Rattle.capnp_frame.specs.Sink.{Adds}
-use Rattle.capnp_frame.specs.Writers.{KeepsCount}
-use Rattle.capnp_frame.specs.Writing.{IsWritable, IsWithinSegmentLimit, RefusesMany}
+use Rattle.capnp_frame.specs.Prelude.{KeepsLimit, lengths, Adds, KeepsCount, IsWritable, IsWithinSegmentLimit, RefusesMany}
 use Rattle.capnp.specs.declared.streams.Format.TheVariants.{Packed}
 use Rattle.capnp.specs.Reading.{kind_of, LacksMemory, IsCut}
 use Rattle.capnp.specs.Streams.{EndsBy}

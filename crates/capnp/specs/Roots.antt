@@ -1,8 +1,6 @@
 -- The root of a message that is read.
 use Rattle.std.specs.Prelude.{ℕ, List, [], ◌∷◌}
-use Rattle.capnp_layout.specs.Tree.{Trees}
-use Rattle.capnp_layout.specs.Object.{message_of}
-use Rattle.capnp_layout.specs.Reached.{At, root}
+use Rattle.capnp_layout.specs.Prelude.{Trees, message_of, At, root}
 
 -- these trees are at the root
 abbrev pub HasRootTree : List (List ℕ) → Trees → Type 0

@@ -6,11 +6,7 @@ use Rattle.capnp_frame.specs.declared.error.ErrorKind.TheVariants.{DeviceFailed,
 use Rattle.capnp_frame.specs.declared.serialize.segment_table.Padding.{Padding}
 use Rattle.capnp_frame.specs.declared.io.Read.{Ghosts}
 use Rattle.capnp_frame.specs.declared.io.Write.{Ghosts as SinkGhosts}
-use Rattle.capnp_frame.specs.Refusals.{CountStands, TakesMemory, IsReaderKind}
-use Rattle.capnp_frame.specs.Source.{IfKnown, Advances, Fails}
-use Rattle.capnp_frame.specs.Sink.{Adds, Grows}
-use Rattle.capnp_frame.specs.Texts.{AreEncodings}
-use Rattle.capnp_frame.specs.Writing.{IsWritable}
+use Rattle.capnp_frame.specs.Prelude.{CountStands, TakesMemory, IsReaderKind, IfKnown, Advances, Fails, Adds, Grows, AreEncodings, IsWritable}
 use Rattle.capnp.specs.declared.streams.Format.{Format}
 use Rattle.capnp.specs.declared.streams.StoppedAt.{StoppedAt}
 use Rattle.capnp.specs.Headline.{IsFault}

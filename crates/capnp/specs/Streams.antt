@@ -2,13 +2,8 @@
 use Rattle.std.specs.Prelude.{◌≡◌, ℕ, List, ◌++◌, Option, None, ◌↔◌}
 use Rattle.capnp_frame.specs.declared.error.ErrorKind.{ErrorKind}
 use Rattle.capnp_frame.specs.declared.serialize.segment_table.Padding.{Padding}
-use Rattle.capnp_frame.specs.Frame.{IsFrame}
-use Rattle.capnp_frame.specs.Source.{Giving, Refusing, Splits, RunsShort}
-use Rattle.capnp_frame.specs.Texts.{Grammar, BeginsWith, AreEncodings, EndsEncodings}
-use Rattle.capnp_frame.specs.Refusals.{RefusesStream, TakesMemory, TakesForLengths, IsReaderKind, IsProvidedReaderKind}
-use Rattle.capnp_frame.specs.Streams.{StreamRules}
-use Rattle.capnp_pack.specs.PackedFrame.{IsPackedFrame}
-use Rattle.capnp_pack.specs.PackedSource.{Unpacks, RefusesChunk}
+use Rattle.capnp_frame.specs.Prelude.{IsFrame, Giving, Refusing, Splits, RunsShort, Grammar, BeginsWith, AreEncodings, EndsEncodings, RefusesStream, TakesMemory, TakesForLengths, IsReaderKind, IsProvidedReaderKind, StreamRules}
+use Rattle.capnp_pack.specs.Prelude.{IsPackedFrame, Unpacks, RefusesChunk}
 use Rattle.capnp.specs.declared.streams.Format.{Format}
 use Rattle.capnp.specs.declared.streams.Format.TheVariants.{Framed, Packed}
 

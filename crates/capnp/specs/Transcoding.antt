@@ -4,8 +4,7 @@ use Rattle.capnp_frame.specs.declared.error.Error.{Error}
 use Rattle.capnp_frame.specs.declared.io.Read.{Ghosts}
 use Rattle.capnp_frame.specs.declared.io.Write.{Ghosts as SinkGhosts}
 use Rattle.capnp_frame.specs.declared.serialize.segment_table.Padding.{Padding}
-use Rattle.capnp_frame.specs.Sink.{Appending, Leaving, Declining, DeclinesSome}
-use Rattle.capnp_frame.specs.Writing.{chunks}
+use Rattle.capnp_frame.specs.Prelude.{Appending, Leaving, Declining, DeclinesSome, chunks}
 use Rattle.capnp.specs.declared.streams.Format.{Format}
 use Rattle.capnp.specs.declared.streams.Format.TheVariants.{Framed, Packed}
 use Rattle.capnp.specs.declared.transcoding.Way.{Way}

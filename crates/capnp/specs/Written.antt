@@ -5,16 +5,9 @@ use Rattle.capnp_frame.specs.declared.error.Error.{Error}
 use Rattle.capnp_frame.specs.declared.error.ErrorKind.{ErrorKind}
 use Rattle.capnp_frame.specs.declared.error.ErrorKind.TheVariants.{DeviceFailed}
 use Rattle.capnp_frame.specs.declared.io.Write.{Ghosts}
-use Rattle.capnp_frame.specs.Asking.{FailsOr}
-use Rattle.capnp_frame.specs.Frame.{frame_bytes}
-use Rattle.capnp_frame.specs.Sink.{Appending, Leaving, Declining, DeclinesSome, Adds, AppendsAll, LeavesSome, Grows}
-use Rattle.capnp_frame.specs.Source.{IfKnown, Fails}
-use Rattle.capnp_frame.specs.Writers.{TakesGranted, KeepsCount, RefusesUnwritten}
-use Rattle.capnp_frame.specs.Writing.{IsWithinSegmentLimit, ExceedsSegmentLimit, RefusesMany, chunks, serialized_words}
-use Rattle.capnp_build.specs.Built.{Built}
-use Rattle.capnp_build.specs.BuilderState.{used_of}
-use Rattle.capnp_pack.specs.PackedFrame.{IsPackedEncoding}
-use Rattle.capnp_pack.specs.PackedSink.{AppendsPacked, LeavesPacked, DeclinesPacked}
+use Rattle.capnp_frame.specs.Prelude.{FailsOr, frame_bytes, Appending, Leaving, Declining, DeclinesSome, Adds, AppendsAll, LeavesSome, Grows, IfKnown, Fails, TakesGranted, KeepsCount, RefusesUnwritten, IsWithinSegmentLimit, ExceedsSegmentLimit, RefusesMany, chunks, serialized_words}
+use Rattle.capnp_build.specs.Prelude.{Built, used_of}
+use Rattle.capnp_pack.specs.Prelude.{IsPackedEncoding, AppendsPacked, LeavesPacked, DeclinesPacked}
 use Rattle.capnp.specs.declared.streams.Format.{Format}
 use Rattle.capnp.specs.declared.streams.Format.TheVariants.{Framed, Packed}
 

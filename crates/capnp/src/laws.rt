@@ -4,13 +4,9 @@ ghost use Rattle.std.specs.Prelude.{◌≡◌, ◌++◌, ℕ, List, [], Option, 
 ghost use Rattle.std.specs.List.{AllByRecursion};
 ghost use Rattle.capnp_frame.specs.declared.error.ErrorKind.{ErrorKind};
 ghost use Rattle.capnp_frame.specs.declared.serialize.segment_table.Padding.{Padding};
-ghost use Rattle.capnp_frame.specs.Limits.{KeepsLimit};
-ghost use Rattle.capnp_frame.specs.Message.{lengths};
-ghost use Rattle.capnp_frame.specs.Texts.{AreEncodings};
-ghost use Rattle.capnp_frame.specs.Writing.{IsWritable, IsWithinSegmentLimit};
-ghost use Rattle.capnp_layout.specs.Tree.{Trees};
-ghost use Rattle.capnp_build.specs.Bytes.{Space};
-ghost use Rattle.capnp_build.specs.BuilderState.{used_of};
+ghost use Rattle.capnp_frame.specs.Prelude.{KeepsLimit, lengths, AreEncodings, IsWritable, IsWithinSegmentLimit};
+ghost use Rattle.capnp_layout.specs.Prelude.{Trees};
+ghost use Rattle.capnp_build.specs.Prelude.{Space, used_of};
 ghost use Rattle.capnp.specs.declared.streams.Format.{Format};
 ghost use Rattle.capnp.specs.Roots.{HasRootTree};
 ghost use Rattle.capnp.specs.Streams.{grammar_of, StandsNext, EndsBy, IsStream};

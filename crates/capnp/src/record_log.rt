@@ -4,7 +4,7 @@
 //! `serialize_packed::write_message` appends is a log, too.
 ghost use Rattle.std.specs.Prelude.{◌≡◌, map};
 ghost use Rattle.std.specs.List.{AllByRecursion};
-ghost use Rattle.capnp_frame.specs.Writing.{IsWritable};
+ghost use Rattle.capnp_frame.specs.Prelude.{IsWritable};
 ghost use Rattle.capnp.specs.Reading.{ReadsEach};
 ghost use Rattle.capnp.specs.RecordLog.{AppendsRecord, ReadsLog};
 

@@ -3,11 +3,7 @@
 ghost use Rattle.std.specs.Prelude.{◌≡◌, None, OnOk, OnErr, IfErr};
 ghost use Rattle.std.specs.List.{AllByRecursion};
 ghost use Rattle.capnp_frame.specs.declared.error.ErrorKind.{ErrorKind};
-ghost use Rattle.capnp_frame.specs.Limits.{IsWithin};
-ghost use Rattle.capnp_frame.specs.Message.{IsWholeWords};
-ghost use Rattle.capnp_frame.specs.Source.{IfKnown, Fails};
-ghost use Rattle.capnp_frame.specs.Sink.{Appending, Leaving, Declining, Adds, Grows};
-ghost use Rattle.capnp_frame.specs.Streams.{ReadsStream};
+ghost use Rattle.capnp_frame.specs.Prelude.{IsWithin, IsWholeWords, IfKnown, Fails, Appending, Leaving, Declining, Adds, Grows, ReadsStream};
 ghost use Rattle.capnp.specs.Streams.{rules_of};
 ghost use Rattle.capnp.specs.Runs.{Writing, DecliningWriting, IsWritingFault, BreaksOffOr, WritesEach};
 

@@ -1,6 +1,6 @@
 //! A source that shows few bytes at a time, as a pipe or a socket may.
 ghost use Rattle.std.specs.Prelude.{◌≡◌, ◌<◌, Some, take, ⊤};
-ghost use Rattle.capnp.specs.Passed.{Splits, RunsShort, splitting, always};
+ghost use Rattle.capnp.specs.Prelude.{Splits, RunsShort, splitting, always};
 
 use capnp::Result;
 use capnp::io::{BufRead, Read};

@@ -3,8 +3,7 @@
 use Rattle.std.specs.Prelude.{⊤, ◌≡◌, ℕ, ◌+◌, ◌*◌, Bool, ◌<◌, ◌≤◌, max, take, drop, List, length, Option, None, MatchOption, Result, IfErr, OnOk, OnErr}
 use Rattle.capnp_frame.specs.declared.error.Error.{Error}
 use Rattle.capnp_frame.specs.declared.error.ErrorKind.TheVariants.{SegmentTaken}
-use Rattle.capnp_layout.specs.Tree.{Form, Trees, none}
-use Rattle.capnp_layout.specs.Reached.{Root}
+use Rattle.capnp_layout.specs.Prelude.{Form, Trees, none, Root}
 use Rattle.capnp_build.specs.declared.allocator.Allocator.{Ghosts}
 use Rattle.capnp_build.specs.declared.arena.location.RootLocation.{RootLocation}
 use Rattle.capnp_build.specs.Bytes.{Space}

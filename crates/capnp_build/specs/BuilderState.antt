@@ -6,7 +6,7 @@ use Rattle.capnp_build.specs.declared.segments.SegmentPlace.TheVariants.{First, 
 use Rattle.capnp_build.specs.Out.{Out}
 use Rattle.capnp_build.specs.Filled.{IsBlockOf, with_more}
 use Rattle.capnp_frame.specs.declared.words.Word.{Word}
-use Rattle.capnp_layout.specs.Tree.{Trees}
+use Rattle.capnp_layout.specs.Prelude.{Trees}
 
 -- the segments in order, and the allocator in its present state
 pub record BuilderState (A : Type 0) : Type 0 where

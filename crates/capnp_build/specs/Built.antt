@@ -1,11 +1,7 @@
 -- A message that is built, whose root is a tree.
 use Rattle.std.specs.Prelude.{⊤, ◌≡◌, ◌⊎◌, ℕ, ◌+◌, ◌-◌, ◌*◌, ◌/◌, ◌^◌, ◌<◌, ◌≤◌, Bool, List, zero, suc, [], ◌∷◌, length, map, Option, Some, None}
 use Rattle.std.specs.Prelude.{take, drop, MatchOption}
-use Rattle.capnp_layout.specs.Pointer.{words_of}
-use Rattle.capnp_layout.specs.Tree.{Form, struct, numbers, Trees, none, tree, count, total_words}
-use Rattle.capnp_layout.specs.Object.{message_of, word_at}
-use Rattle.capnp_layout.specs.Reached.{At, root, Root}
-use Rattle.capnp_layout.specs.Layout.{pointer, far_pointer, layout, Laid, output, AllHaveRoom}
+use Rattle.capnp_layout.specs.Prelude.{words_of, Form, struct, numbers, Trees, none, tree, count, total_words, message_of, word_at, At, root, Root, pointer, far_pointer, layout, Laid, output, AllHaveRoom}
 use Rattle.capnp_layout.specs.declared.place.Place.{Place}
 use Rattle.capnp_build.specs.Bytes.{Space}
 use Rattle.capnp_build.specs.Out.{Out}

@@ -1,9 +1,8 @@
 -- Values that are written into parts of segments.
 use Rattle.std.specs.Prelude.{◌≡◌, ℕ, ◌*◌, Bool, List, ◌++◌, length}
 use Rattle.capnp_frame.specs.declared.words.Word.{Word}
-use Rattle.capnp_layout.specs.Tree.{Trees}
-use Rattle.capnp_layout.specs.Layout.{layout, output}
-use Rattle.capnp_wire.specs.Values.{pointed}
+use Rattle.capnp_layout.specs.Prelude.{Trees, layout, output}
+use Rattle.capnp_wire.specs.Prelude.{pointed}
 use Rattle.capnp_build.specs.Bytes.{Space, written}
 
 -- a pointer and the block after it are the value's tree

@@ -12,3 +12,4 @@ pub mod Output
 pub mod Blocks
 pub mod Outcomes
 pub mod RootViews
+pub mod Prelude

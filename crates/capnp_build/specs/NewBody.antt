@@ -1,7 +1,6 @@
 -- New objects (src/object.rt).
 use Rattle.std.specs.Prelude.{ℕ, zero, suc, ◌+◌, ◌-◌, ◌*◌, ◌^◌, ◌<◌, ⊤, Bool, true, Option, Some, None, replicate}
-use Rattle.capnp_layout.specs.Element.{words_for}
-use Rattle.capnp_layout.specs.Tree.{Form, null, struct, numbers}
+use Rattle.capnp_layout.specs.Prelude.{words_for, Form, null, struct, numbers}
 use Rattle.capnp_build.specs.declared.object.NewBody.{NewBody}
 use Rattle.capnp_build.specs.declared.object.NewBody.TheVariants.{Bytes, Words, Struct}
 

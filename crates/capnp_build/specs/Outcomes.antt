@@ -6,9 +6,8 @@ use Rattle.std.specs.Result.{IsErrAnd}
 use Rattle.capnp_frame.specs.declared.error.Error.{Error}
 use Rattle.capnp_frame.specs.declared.error.ErrorKind.{ErrorKind}
 use Rattle.capnp_frame.specs.declared.error.ErrorKind.TheVariants.{NotOneSegment, SegmentTaken}
-use Rattle.capnp_layout.specs.Tree.{Form, Trees, none}
-use Rattle.capnp_layout.specs.Reached.{Root}
-use Rattle.capnp_wire.specs.Values.{HasWords, LacksWords}
+use Rattle.capnp_layout.specs.Prelude.{Form, Trees, none, Root}
+use Rattle.capnp_wire.specs.Prelude.{HasWords, LacksWords}
 use Rattle.capnp_build.specs.declared.allocator.Allocator as allocator
 use Rattle.capnp_build.specs.declared.owned_builder.OwnedBuilder as owned_builder
 use Rattle.capnp_build.specs.Bytes.{Space}

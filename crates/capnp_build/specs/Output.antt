@@ -1,6 +1,6 @@
 -- What of a message that is built is written (src/segments.rt).
 use Rattle.std.specs.Prelude.{◌≡◌, ℕ, ◌*◌, ◌%◌, ◌^◌, ◌<◌, ◌≤◌, List, length, map}
-use Rattle.capnp_frame.specs.Writing.{IsWritable}
+use Rattle.capnp_frame.specs.Prelude.{IsWritable}
 use Rattle.capnp_build.specs.Bytes.{Space}
 use Rattle.capnp_build.specs.BuilderState.{used_of}
 

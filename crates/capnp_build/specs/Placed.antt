@@ -3,8 +3,8 @@ use Rattle.std.specs.Prelude.{⊤, ◌≡◌, ◌⊎◌, ℕ, ◌+◌, ◌*◌, 
 use Rattle.std.specs.Prelude.{take, drop, replicate}
 use Rattle.capnp_frame.specs.declared.error.ErrorKind.{ErrorKind}
 use Rattle.capnp_frame.specs.declared.error.ErrorKind.TheVariants.{OutOfMemory, AllocationTooLarge}
-use Rattle.capnp_layout.specs.Tree.{Form, null, none, tree}
-use Rattle.capnp_wire.specs.Values.{HasWords}
+use Rattle.capnp_layout.specs.Prelude.{Form, null, none, tree}
+use Rattle.capnp_wire.specs.Prelude.{HasWords}
 use Rattle.capnp_build.specs.Bytes.{Space}
 use Rattle.capnp_build.specs.Out.{MayRefuse}
 use Rattle.capnp_build.specs.BuilderState.{BuilderState, space_at, free_words_of, KeepsOthers}

@@ -1,7 +1,6 @@
 -- What the pointer word of the root's object says of it.
 use Rattle.std.specs.Prelude.{◌≡◌, ◌≢◌, ⊤, ℕ, ◌*◌, List, length, take}
-use Rattle.capnp_layout.specs.Pointer.{words_of}
-use Rattle.capnp_layout.specs.Tree.{Form, null, struct, numbers, pointers, structs}
+use Rattle.capnp_layout.specs.Prelude.{words_of, Form, null, struct, numbers, pointers, structs}
 use Rattle.capnp_build.specs.declared.root_kind.RootKind.{RootKind}
 use Rattle.capnp_build.specs.declared.root_kind.RootKind.TheVariants.{Null, Bytes, Words, Struct, Other}
 

@@ -6,12 +6,8 @@ use Rattle.std.specs.Borrow.{MutBor}
 use Rattle.std.specs.Result.{IsErrAnd}
 use Rattle.capnp_frame.specs.declared.error.Error.{Error}
 use Rattle.capnp_frame.specs.declared.error.ErrorKind.{ErrorKind}
-use Rattle.capnp_layout.specs.Pointer.{words_of}
-use Rattle.capnp_layout.specs.Tree.{Form, Trees, none, tree, total_words}
-use Rattle.capnp_layout.specs.Reached.{Root}
-use Rattle.capnp_layout.specs.Layout.{body}
-use Rattle.capnp_wire.specs.Readers.{unlimited_root}
-use Rattle.capnp_wire.specs.Views.{Pointer, Measures, RejectsMeasuring}
+use Rattle.capnp_layout.specs.Prelude.{words_of, Form, Trees, none, tree, total_words, Root, body}
+use Rattle.capnp_wire.specs.Prelude.{unlimited_root, Pointer, Measures, RejectsMeasuring}
 use Rattle.capnp_wire.specs.declared.message_size.MessageSize.{MessageSize}
 use Rattle.capnp_build.specs.declared.allocator.Allocator as allocator
 use Rattle.capnp_build.specs.declared.owned_builder.OwnedBuilder as owned_builder

@@ -1,7 +1,6 @@
 -- What views write into the root's object, by its tree.
 use Rattle.std.specs.Prelude.{⊤, ◌≡◌, ℕ, ◌+◌, ◌<◌, ◌≤◌, List, [], ◌∷◌, length, take, drop, MatchOption, slice_set}
-use Rattle.capnp_layout.specs.Tree.{struct, numbers, Trees, none, tree}
-use Rattle.capnp_layout.specs.Reached.{At, root}
+use Rattle.capnp_layout.specs.Prelude.{struct, numbers, Trees, none, tree, At, root}
 use Rattle.capnp_build.specs.Bytes.{Space, written}
 use Rattle.capnp_build.specs.Out.{Out}
 use Rattle.capnp_build.specs.BuilderState.{space_at, pairs as pairs_of}

@@ -1,7 +1,7 @@
 //! Allocators of segments.
 ghost use Rattle.std.specs.Prelude.{◌≡◌, ℕ, ◌+◌, ◌*◌, ◌/◌, ◌^◌, ◌<◌, ◌≤◌, ◌⊎◌, List, length};
 ghost use Rattle.capnp_frame.specs.declared.error.ErrorKind.{ErrorKind};
-ghost use Rattle.capnp_frame.specs.Source.{IsPreorder};
+ghost use Rattle.capnp_frame.specs.Prelude.{IsPreorder};
 ghost use Rattle.capnp_build.specs.Bytes.{ZeroFrom};
 ghost use Rattle.capnp_build.specs.Out.{Out, IsOut};
 ghost use Rattle.capnp_build.specs.Allocating.{HandsOut, TakesBack};

@@ -1,6 +1,6 @@
 //! The root of a message that is built.
 ghost use Rattle.std.specs.Prelude.{◌≡◌, ◌↔◌, ⊤, ◌<◌, [], false, length, IsTrue, IfOk, IfErr};
-ghost use Rattle.capnp_layout.specs.Tree.{null};
+ghost use Rattle.capnp_layout.specs.Prelude.{null};
 ghost use Rattle.capnp_build.specs.Built.{message, ForRoot};
 ghost use Rattle.capnp_build.specs.Placed.{DeclinesRoot};
 ghost use Rattle.capnp_build.specs.Outcomes.{SetsRoot, InitsRoot};

@@ -1,8 +1,8 @@
 //! Builders of structs.
 ghost use Rattle.std.specs.Prelude.{◌≡◌, ℕ, ◌+◌, ◌-◌, ◌*◌, ◌^◌, ◌/◌, ◌<◌, ◌≤◌, List, [], length, replicate, slice_index_or};
 ghost use Rattle.capnp_frame.specs.declared.error.ErrorKind.TheVariants.{AllocationTooLarge};
-ghost use Rattle.capnp_layout.specs.Tree.{struct};
-ghost use Rattle.capnp_wire.specs.Views.{HasData, TakesStruct, DeclinesStruct};
+ghost use Rattle.capnp_layout.specs.Prelude.{struct};
+ghost use Rattle.capnp_wire.specs.Prelude.{HasData, TakesStruct, DeclinesStruct};
 ghost use Rattle.capnp_build.specs.Built.{ForRoot};
 ghost use Rattle.capnp_build.specs.Written.{HasField, IsFieldSet};
 ghost use Rattle.capnp_build.specs.RootViews.{WritesView};

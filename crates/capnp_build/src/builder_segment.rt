@@ -2,7 +2,7 @@
 ghost use Rattle.std.specs.Prelude.{◌≡◌, ℕ, ◌+◌, ◌-◌, ◌*◌, ◌/◌, ◌%◌, ◌^◌, ◌<◌, ◌≤◌, Bool, List, [], length, take, drop, replicate, min, max};
 ghost use Rattle.capnp_build.specs.Bytes.{written, ZeroFrom, Space, with_block, with_bytes};
 ghost use Rattle.capnp_build.specs.Filled.{IsAppended};
-ghost use Rattle.capnp_wire.specs.Values.{HasWords};
+ghost use Rattle.capnp_wire.specs.Prelude.{HasWords};
 ghost use Rattle.capnp_build.specs.Output.{CountsUsedWords};
 
 use crate::segment_space::SegmentSpace;

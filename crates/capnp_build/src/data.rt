@@ -1,9 +1,8 @@
 //! Builders of `Data`.
 ghost use Rattle.std.specs.Prelude.{◌≡◌, ℕ, ◌+◌, ◌-◌, ◌*◌, ◌^◌, ◌/◌, ◌<◌, ◌≤◌, List, [], ◌∷◌, length, take, min, replicate};
 ghost use Rattle.capnp_frame.specs.declared.error.ErrorKind.TheVariants.{AllocationTooLarge};
-ghost use Rattle.capnp_layout.specs.Tree.{numbers};
-ghost use Rattle.capnp_layout.specs.Element.{words_for};
-ghost use Rattle.capnp_wire.specs.Views.{IsData, TakesNumbers, DeclinesNumbers};
+ghost use Rattle.capnp_layout.specs.Prelude.{numbers, words_for};
+ghost use Rattle.capnp_wire.specs.Prelude.{IsData, TakesNumbers, DeclinesNumbers};
 ghost use Rattle.capnp_build.specs.Built.{ForRoot};
 ghost use Rattle.capnp_build.specs.Written.{HasBytes, IsBytesSet};
 ghost use Rattle.capnp_build.specs.RootViews.{WritesView};

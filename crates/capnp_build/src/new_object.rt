@@ -1,8 +1,8 @@
 //! New objects, as values that the root is set to.
 ghost use Rattle.std.specs.Prelude.{◌≡◌};
-ghost use Rattle.capnp_layout.specs.Tree.{none, tree, count};
+ghost use Rattle.capnp_layout.specs.Prelude.{none, tree, count};
 ghost use Rattle.capnp_build.specs.NewBody.{Fits, zero_form, output_new_object};
-ghost use Rattle.capnp_wire.specs.Values.{HasWords};
+ghost use Rattle.capnp_wire.specs.Prelude.{HasWords};
 ghost use Rattle.std.specs.Prelude.{false};
 
 use crate::object::NewBody;

@@ -1,7 +1,7 @@
 //! Types of schemas that can be built.
 ghost use Rattle.std.specs.Prelude.{◌≡◌, ℕ, List, IfOk, IfErr, OnOk};
 ghost use Rattle.capnp_frame.specs.declared.error.ErrorKind.{ErrorKind};
-ghost use Rattle.capnp_layout.specs.Tree.{Form};
+ghost use Rattle.capnp_layout.specs.Prelude.{Form};
 ghost use Rattle.capnp_build.specs.NewBody.{new_form, OptionFits};
 ghost use Rattle.capnp_build.specs.RootKind.{ShowsRoot, HoldsForm};
 

@@ -3,7 +3,7 @@ ghost use Rattle.std.specs.Prelude.{◌≡◌, ℕ, ◌+◌, ◌-◌, ◌*◌, �
 ghost use Rattle.capnp_build.specs.BuilderState.{space_at, free_words_of};
 ghost use Rattle.capnp_build.specs.Built.{HasSomeBody, HasValue, IsBuilt, IsLonger};
 ghost use Rattle.capnp_build.specs.Placed.{IsAtEnd};
-ghost use Rattle.capnp_wire.specs.Values.{HasWords};
+ghost use Rattle.capnp_wire.specs.Prelude.{HasWords};
 ghost use Rattle.capnp_build.specs.Blocks.{PointsRoot, ZeroesRoot};
 
 use crate::allocator::Allocator;

@@ -1,8 +1,8 @@
 //! Builders of lists of numbers.
 ghost use Rattle.std.specs.Prelude.{◌≡◌, ℕ, ◌+◌, ◌-◌, ◌*◌, ◌^◌, ◌/◌, ◌<◌, ◌≤◌, List, [], length, replicate, slice_index_or};
 ghost use Rattle.capnp_frame.specs.declared.error.ErrorKind.TheVariants.{AllocationTooLarge};
-ghost use Rattle.capnp_layout.specs.Tree.{numbers};
-ghost use Rattle.capnp_wire.specs.Views.{IsWords, TakesNumbers, DeclinesNumbers};
+ghost use Rattle.capnp_layout.specs.Prelude.{numbers};
+ghost use Rattle.capnp_wire.specs.Prelude.{IsWords, TakesNumbers, DeclinesNumbers};
 ghost use Rattle.capnp_build.specs.Built.{ForRoot};
 ghost use Rattle.capnp_build.specs.Written.{HasNumber, IsNumberSet};
 ghost use Rattle.capnp_build.specs.RootViews.{WritesView};

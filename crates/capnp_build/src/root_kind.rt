@@ -1,8 +1,6 @@
 //! The kind of the object at the root, by its pointer word.
 ghost use Rattle.std.specs.Prelude.{◌≡◌, ℕ, slice_index_or};
-ghost use Rattle.capnp_layout.specs.Pointer.{words_of};
-ghost use Rattle.capnp_layout.specs.Tree.{Form};
-ghost use Rattle.capnp_layout.specs.Layout.{pointer, HasRoom};
+ghost use Rattle.capnp_layout.specs.Prelude.{words_of, Form, pointer, HasRoom};
 ghost use Rattle.capnp_build.specs.RootKind.{ShowsRoot};
 
 use capnp_layout::place::word;

@@ -1,6 +1,6 @@
 //! The bytes of segments.
 ghost use Rattle.std.specs.Prelude.{◌≡◌, ℕ, ◌+◌, ◌-◌, ◌/◌, ◌%◌, ◌≤◌, Bool, true, false, List, length, replicate, take, drop};
-ghost use Rattle.capnp_wire.specs.Values.{HasWords};
+ghost use Rattle.capnp_wire.specs.Prelude.{HasWords};
 ghost use Rattle.capnp_build.specs.Bytes.{IsOverwritten};
 ghost use Rattle.capnp_build.specs.Filled.{IsFilled};
 

@@ -9,7 +9,7 @@ ghost use Rattle.capnp_build.specs.Built.{size_in_words};
 ghost use Rattle.capnp_build.specs.BuilderState.{IsAppendedAt, index_of, BuilderState, pair, pairs, spaces_of, used_of, space_at, free_words_of, with_space, KeepsOthers};
 ghost use Rattle.capnp_build.specs.Placed.{LacksSegment};
 ghost use Rattle.capnp_build.specs.Output.{CanBeWritten, CountsUsedWords};
-ghost use Rattle.capnp_wire.specs.Values.{HasWords};
+ghost use Rattle.capnp_wire.specs.Prelude.{HasWords};
 ghost use Rattle.capnp_build.specs.Allocating.{TakesBack};
 ghost use Rattle.capnp_build.specs.Outcomes.{GivesBack};
 

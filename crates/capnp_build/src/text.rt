@@ -1,8 +1,8 @@
 //! Builders of `Text`.
 ghost use Rattle.std.specs.Prelude.{◌≡◌, ℕ, ◌+◌, ◌-◌, ◌^◌, ◌/◌, ◌<◌, ◌≤◌, List, [], ◌∷◌, ◌++◌, length, take, min, replicate, true, false};
 ghost use Rattle.capnp_frame.specs.declared.error.ErrorKind.TheVariants.{AllocationTooLarge};
-ghost use Rattle.capnp_layout.specs.Tree.{numbers};
-ghost use Rattle.capnp_wire.specs.Views.{IsText, TakesText, DeclinesText};
+ghost use Rattle.capnp_layout.specs.Prelude.{numbers};
+ghost use Rattle.capnp_wire.specs.Prelude.{IsText, TakesText, DeclinesText};
 ghost use Rattle.capnp_build.specs.Built.{ForRoot};
 ghost use Rattle.capnp_build.specs.Written.{HasBytes, IsBytesSet};
 ghost use Rattle.capnp_build.specs.RootViews.{WritesView};

@@ -1,6 +1,6 @@
 //! Views of the object at the root of a message that is built.
 ghost use Rattle.std.specs.Prelude.{◌≡◌, ◌⊎◌, ◌<◌, List, length, IfErr, OnOk};
-ghost use Rattle.capnp_layout.specs.Tree.{Trees, none};
+ghost use Rattle.capnp_layout.specs.Prelude.{Trees, none};
 ghost use Rattle.capnp_build.specs.Built.{Built, ForRoot, IsRootKind};
 ghost use Rattle.capnp_build.specs.Written.{HasField, IsFieldSet, HasBytes, IsBytesSet, HasNumber, IsNumberSet};
 ghost use Rattle.capnp_build.specs.Placed.{DeclinesRoot, InitWords, FoundNoRoom};

@@ -6,12 +6,10 @@ use Rattle.std.specs.Prelude.{slice_get}
 use Rattle.capnp_frame.specs.declared.error.Error.{Error}
 use Rattle.capnp_frame.specs.declared.error.ErrorKind.TheVariants.{DeviceFailed}
 use Rattle.capnp_frame.specs.declared.io.Write.{Ghosts}
-use Rattle.capnp_frame.specs.Sink.{Adds, AppendsAll, DeclinesSome, Grows}
-use Rattle.capnp_frame.specs.Source.{IfKnown, IsPreorder, Fails}
+use Rattle.capnp_frame.specs.Prelude.{Adds, AppendsAll, DeclinesSome, Grows, IfKnown, IsPreorder, Fails}
 use Rattle.capnp_frame.proofs.sources.SourceLemmas.{Grows-join, Fails-join}
 use Rattle.capnp_frame.proofs.sinks.WritingLemmas.{take-next, written_more, written_one, DeclinesSome-front, DeclinesSome-back}
-use Rattle.capnp_pack.specs.Packed.{Packs}
-use Rattle.capnp_pack.specs.PackedSink.{AppendsPacked, DeclinesPacked}
+use Rattle.capnp_pack.specs.Prelude.{Packs, AppendsPacked, DeclinesPacked}
 use Rattle.capnp_c.specs.Packing.{PacksChunks}
 
 -- one chunk

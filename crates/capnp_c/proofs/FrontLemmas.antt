@@ -4,18 +4,14 @@ use Rattle.std.specs.Prelude.{slice_get}
 use Rattle.std.specs.Option.{option_map}
 use Rattle.std.proofs.Math.Seq.{take-append_seam}
 use Rattle.std.proofs.lemmas.Option.{slice_get-map, slice_get_within}
-use Rattle.capnp_frame.specs.Message.{word_count, lengths}
+use Rattle.capnp_frame.specs.Prelude.{word_count, lengths}
 use Rattle.capnp_frame.specs.declared.error.ErrorKind.{ErrorKind}
 use Rattle.capnp_frame.specs.declared.error.ErrorKind.TheVariants.{BufferNotLargeEnough}
 use Rattle.capnp_frame.specs.declared.message.options.ReaderOptions.{ReaderOptions}
 use Rattle.capnp_frame.proofs.slices.AgreementLemmas.{index_below}
 use Rattle.capnp_frame.proofs.encodings.TextLemmas.{frames_part}
-use Rattle.capnp_layout.specs.Pointer.{words_of}
-use Rattle.capnp_layout.specs.Object.{message_of}
-use Rattle.capnp_layout.specs.Reached.{root}
-use Rattle.capnp_wire.specs.Views.{Pointer}
-use Rattle.capnp_layout.specs.Faults.{NoWord, no_word, at_pointer}
-use Rattle.capnp_wire.specs.Values.{IsCanonicalForm, LeadsToTree, StopsWalkFrom}
+use Rattle.capnp_layout.specs.Prelude.{words_of, message_of, root, NoWord, no_word, at_pointer}
+use Rattle.capnp_wire.specs.Prelude.{Pointer, IsCanonicalForm, LeadsToTree, StopsWalkFrom}
 use Rattle.capnp_wire.proofs.views.OneValueLemmas.{one_of_pointer, measured_exactly, measured_found}
 use Rattle.capnp_c.specs.Fronts.{IsAtFront, root_within, root_by, RootHasForm, RootLacksForm, IsShort}
 

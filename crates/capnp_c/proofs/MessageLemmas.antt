@@ -5,18 +5,13 @@ use Rattle.std.specs.List.{concat}
 use Rattle.capnp_frame.specs.declared.error.ErrorKind.{ErrorKind}
 use Rattle.capnp_frame.specs.declared.error.ErrorKind.TheVariants.{DeviceFailed, BufferNotLargeEnough}
 use Rattle.capnp_frame.specs.declared.message.options.ReaderOptions.{ReaderOptions}
-use Rattle.capnp_frame.specs.Message.{lengths}
-use Rattle.capnp_frame.specs.SegmentTable.{zero_padded_table, table_size}
-use Rattle.capnp_frame.specs.Sink.{ByKind, Adds, AppendsAll, AppendsSame, DeclinesSome}
-use Rattle.capnp_frame.specs.Source.{Fails}
+use Rattle.capnp_frame.specs.Prelude.{lengths, zero_padded_table, table_size, ByKind, Adds, AppendsAll, AppendsSame, DeclinesSome, Fails}
 use Rattle.capnp_frame.proofs.sources.AskLemmas.{never_fails}
 use Rattle.capnp_frame.proofs.encodings.FrameLemmas.{length-table}
 use Rattle.capnp_frame.proofs.tables.TableLemmas.{zero_table}
 use Rattle.capnp_frame.proofs.encodings.TextLemmas.{frames_part}
 use Rattle.capnp_frame.proofs.sinks.WritingLemmas.{length-lengths}
-use Rattle.capnp_pack.specs.Packed.{Packs}
-use Rattle.capnp_pack.specs.PackedFrame.{IsPackedEncoding}
-use Rattle.capnp_pack.specs.PackedSink.{AppendsPacked, DeclinesPacked}
+use Rattle.capnp_pack.specs.Prelude.{Packs, IsPackedEncoding, AppendsPacked, DeclinesPacked}
 use Rattle.capnp_pack.proofs.encodings.PackedEncodingLemmas.{packed_message, each_packed}
 use Rattle.capnp_pack.proofs.packing.PackerLemmas.{Packs-once, Packs-whole}
 use Rattle.capnp_c.specs.Fronts.{IsAtFront}

@@ -2,12 +2,9 @@
 use Rattle.std.proofs.Common.{◌≡◌, ◌⊎◌, ◌<◌, ℕ, List, ◌++◌, length, take, inl, inr, sym, ap, ◌∙◌, subst, arith, length-take}
 use Rattle.capnp_frame.specs.declared.error.ErrorKind.{ErrorKind}
 use Rattle.capnp_frame.specs.declared.error.ErrorKind.TheVariants.{DeviceFailed, BufferNotLargeEnough}
-use Rattle.capnp_frame.specs.Sink.{ByKind, Adds, AppendsSame}
-use Rattle.capnp_frame.specs.Source.{Fails}
+use Rattle.capnp_frame.specs.Prelude.{ByKind, Adds, AppendsSame, Fails}
 use Rattle.capnp_frame.proofs.sources.AskLemmas.{never_fails}
-use Rattle.capnp_pack.specs.Packed.{Packs}
-use Rattle.capnp_pack.specs.PackedSink.{AppendsPacked, DeclinesPacked}
-use Rattle.capnp_pack.specs.PackedSource.{RefusesChunk}
+use Rattle.capnp_pack.specs.Prelude.{Packs, AppendsPacked, DeclinesPacked, RefusesChunk}
 use Rattle.capnp_pack.proofs.encodings.PackedEncodingLemmas.{packed_over_plain}
 use Rattle.capnp_pack.proofs.packing.PackerLemmas.{Packs-once, Packs-whole}
 

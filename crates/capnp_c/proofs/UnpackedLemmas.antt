@@ -5,14 +5,9 @@ use Rattle.capnp_frame.specs.declared.error.ErrorKind.{ErrorKind}
 use Rattle.capnp_frame.specs.declared.error.ErrorKind.TheVariants.{DeviceFailed}
 use Rattle.capnp_frame.specs.declared.message.options.ReaderOptions.{ReaderOptions}
 use Rattle.capnp_frame.specs.declared.serialize.segment_table.Padding.TheVariants.{Zero}
-use Rattle.capnp_frame.specs.Front.{HasFrame}
-use Rattle.capnp_frame.specs.Limits.{IsWithin}
-use Rattle.capnp_frame.specs.Refusals.{RefusesStream}
-use Rattle.capnp_frame.specs.Source.{Fails}
+use Rattle.capnp_frame.specs.Prelude.{HasFrame, IsWithin, RefusesStream, Fails}
 use Rattle.capnp_frame.proofs.sources.AskLemmas.{never_fails}
-use Rattle.capnp_pack.specs.PackedFrame.{PackedStands}
-use Rattle.capnp_pack.specs.PackedSource.{Unpacks, RefusesChunk}
-use Rattle.capnp_pack.specs.UnpackingLaws.{none_unpacked}
+use Rattle.capnp_pack.specs.Prelude.{PackedStands, Unpacks, RefusesChunk, none_unpacked}
 use Rattle.capnp_pack.proofs.encodings.PackedFrameLemmas.{packed_requests}
 use Rattle.capnp_c.specs.Packing.{IsMessage}
 

@@ -5,15 +5,10 @@ use Rattle.std.specs.Prelude.{⊤, ◌≡◌, ◌⊎◌, ◌+◌, ◌*◌, ◌<�
 use Rattle.capnp_frame.specs.declared.error.ErrorKind.{ErrorKind}
 use Rattle.capnp_frame.specs.declared.message.options.ReaderOptions.{ReaderOptions}
 use Rattle.capnp_frame.specs.declared.serialize.segment_table.Padding.TheVariants.{Zero}
-use Rattle.capnp_frame.specs.Limits.{IsWithin}
-use Rattle.capnp_frame.specs.Message.{lengths, size_in_words}
-use Rattle.capnp_frame.specs.Numbers.{kind_number}
-use Rattle.capnp_frame.specs.Refusals.{RefusesStream}
-use Rattle.capnp_frame.specs.SegmentTable.{table_size}
-use Rattle.capnp_pack.specs.PackedFrame.{IsPackedEncoding, PackedStands}
-use Rattle.capnp_pack.specs.PackedSource.{Unpacks, RefusesChunk}
-use Rattle.capnp_layout.specs.Pointer.{words_of}
-use Rattle.capnp_wire.specs.Values.{IsCanonicalForm}
+use Rattle.capnp_frame.specs.Prelude.{IsWithin, lengths, size_in_words, kind_number, RefusesStream, table_size}
+use Rattle.capnp_pack.specs.Prelude.{IsPackedEncoding, PackedStands, Unpacks, RefusesChunk}
+use Rattle.capnp_layout.specs.Prelude.{words_of}
+use Rattle.capnp_wire.specs.Prelude.{IsCanonicalForm}
 use Rattle.capnp_c.specs.declared.framed.LinsjoarMessage.{LinsjoarMessage}
 use Rattle.capnp_c.specs.Fronts.{IsAtFront, LacksMessage, root_by, RootHasForm, ReturnsFrontForm}
 use Rattle.capnp_c.specs.Packing.{IsMessage}

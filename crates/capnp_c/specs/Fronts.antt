@@ -4,15 +4,9 @@ use Rattle.capnp_frame.specs.declared.error.ErrorKind.{ErrorKind}
 use Rattle.capnp_frame.specs.declared.error.ErrorKind.TheVariants.{BufferNotLargeEnough}
 use Rattle.capnp_frame.specs.declared.message.options.ReaderOptions.{ReaderOptions}
 use Rattle.capnp_frame.specs.declared.serialize.segment_table.Padding.TheVariants.{Zero}
-use Rattle.capnp_frame.specs.FlatRefusals.{by_fields, RefusesFlat}
-use Rattle.capnp_frame.specs.Frame.{IsFrame}
-use Rattle.capnp_frame.specs.Numbers.{kind_number}
-use Rattle.capnp_frame.specs.Texts.{BeginsWith}
-use Rattle.capnp_layout.specs.Object.{message_of}
-use Rattle.capnp_wire.specs.Reached.{root}
-use Rattle.capnp_wire.specs.Readers.{nesting_of}
-use Rattle.capnp_wire.specs.Values.{HasWords, LacksWords, LeadsToTree, StopsWalkFrom}
-use Rattle.capnp_wire.specs.Views.{Pointer}
+use Rattle.capnp_frame.specs.Prelude.{by_fields, RefusesFlat, IsFrame, kind_number, BeginsWith}
+use Rattle.capnp_layout.specs.Prelude.{message_of}
+use Rattle.capnp_wire.specs.Prelude.{root, nesting_of, HasWords, LacksWords, LeadsToTree, StopsWalkFrom, Pointer}
 
 -- a framed encoding of the message is at the front, and the message is within the limit of words
 abbrev pub IsAtFront : ReaderOptions → List ℕ → List (List ℕ) → List ℕ → Type 0

@@ -4,11 +4,8 @@ use Rattle.capnp_frame.specs.declared.error.Error.{Error}
 use Rattle.capnp_frame.specs.declared.error.ErrorKind.TheVariants.{DeviceFailed}
 use Rattle.capnp_frame.specs.declared.io.Write.{Ghosts}
 use Rattle.capnp_frame.specs.declared.message.options.ReaderOptions.{ReaderOptions}
-use Rattle.capnp_frame.specs.Sink.{Adds, AppendsAll, DeclinesSome, Grows}
-use Rattle.capnp_frame.specs.Source.{IfKnown, Fails}
-use Rattle.capnp_pack.specs.Packed.{Packs}
-use Rattle.capnp_pack.specs.PackedFrame.{table_first, table_others}
-use Rattle.capnp_pack.specs.PackedSink.{AppendsPacked, DeclinesPacked}
+use Rattle.capnp_frame.specs.Prelude.{Adds, AppendsAll, DeclinesSome, Grows, IfKnown, Fails}
+use Rattle.capnp_pack.specs.Prelude.{Packs, table_first, table_others, AppendsPacked, DeclinesPacked}
 use Rattle.capnp_c.specs.Fronts.{IsAtFront}
 
 -- the bytes are a framed encoding of the message, and no more

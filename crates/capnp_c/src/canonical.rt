@@ -3,9 +3,8 @@ ghost use Rattle.std.specs.Prelude.{◌≡◌, ◌⊎◌, ◌*◌, ◌≤◌, �
 ghost use Rattle.std.specs.Result.{IsErrAnd};
 ghost use Rattle.capnp_frame.specs.declared.error.ErrorKind.{ErrorKind};
 ghost use Rattle.capnp_frame.specs.declared.message.options.TheConstants.{DEFAULT_READER_OPTIONS};
-ghost use Rattle.capnp_layout.specs.Pointer.{words_of};
-ghost use Rattle.capnp_wire.specs.Readers.{pointer_of};
-ghost use Rattle.capnp_wire.specs.Values.{IsCanonicalForm};
+ghost use Rattle.capnp_layout.specs.Prelude.{words_of};
+ghost use Rattle.capnp_wire.specs.Prelude.{pointer_of, IsCanonicalForm};
 ghost use Rattle.capnp_c.specs.Exports.{MeasuresForm, WritesForm};
 ghost use Rattle.capnp_c.specs.Fronts.{IsAtFront, LacksMessage, root_within, root_by, RootHasForm, RootLacksForm, IsShort};
 ghost use Rattle.capnp_c.specs.Options.{options_of};

@@ -1,14 +1,9 @@
 //! Words: packed and unpacked.
 ghost use Rattle.std.specs.Prelude.{◌≡◌, ◌⊎◌, ◌<◌, ◌≤◌, ◌+◌, ℕ, List, length, take, IfErr, OnOk, IsOk};
 ghost use Rattle.std.specs.Result.{IsErrAnd};
-ghost use Rattle.capnp_frame.specs.Message.{IsWholeWords};
-ghost use Rattle.capnp_frame.specs.Numbers.{kind_number};
-ghost use Rattle.capnp_frame.specs.Sink.{Adds, Grows};
-ghost use Rattle.capnp_frame.specs.Source.{IfKnown, IsRefused, Fails};
+ghost use Rattle.capnp_frame.specs.Prelude.{IsWholeWords, kind_number, Adds, Grows, IfKnown, IsRefused, Fails};
 ghost use Rattle.capnp_frame.specs.declared.error.ErrorKind.{ErrorKind};
-ghost use Rattle.capnp_pack.specs.Packed.{Packs};
-ghost use Rattle.capnp_pack.specs.PackedSink.{AppendsPacked, DeclinesPacked};
-ghost use Rattle.capnp_pack.specs.PackedSource.{Unpacks, RefusesChunk};
+ghost use Rattle.capnp_pack.specs.Prelude.{Packs, AppendsPacked, DeclinesPacked, Unpacks, RefusesChunk};
 
 use crate::provided_text::ProvidedText;
 use capnp_frame::Result;

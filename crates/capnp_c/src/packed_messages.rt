@@ -1,9 +1,7 @@
 //! Messages: packed and unpacked.
 ghost use Rattle.std.specs.Prelude.{◌≡◌, ◌<◌, ◌≤◌, ◌^◌, ℕ, List, ◌∷◌, length, take, drop, slice_get, Some, IfSome, IfNone, IfOk, IsOk};
 ghost use Rattle.std.specs.Result.{IsErrAnd};
-ghost use Rattle.capnp_frame.specs.Message.{lengths};
-ghost use Rattle.capnp_frame.specs.Numbers.{kind_number};
-ghost use Rattle.capnp_frame.specs.SegmentTable.{zero_padded_table};
+ghost use Rattle.capnp_frame.specs.Prelude.{lengths, kind_number, zero_padded_table};
 ghost use Rattle.capnp_frame.specs.declared.error.ErrorKind.{ErrorKind};
 ghost use Rattle.capnp_frame.specs.declared.message.options.ReaderOptions.{ReaderOptions};
 ghost use Rattle.capnp_frame.specs.declared.message.options.TheConstants.{DEFAULT_READER_OPTIONS};

@@ -2,7 +2,7 @@
 ghost use Rattle.std.specs.Prelude.{◌≡◌, ◌+◌, ◌≤◌, length, take, Some, refl};
 ghost use Rattle.std.proofs.Common.{◌∙◌};
 ghost use Rattle.capnp_frame.specs.declared.error.ErrorKind.{ErrorKind};
-ghost use Rattle.capnp_frame.specs.Sink.{AppendsSame, LeavesNothing, ByKind};
+ghost use Rattle.capnp_frame.specs.Prelude.{AppendsSame, LeavesNothing, ByKind};
 
 use capnp_frame::io::Write;
 use capnp_frame::{Error, ErrorKind, Result};

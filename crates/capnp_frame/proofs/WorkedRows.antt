@@ -1,12 +1,8 @@
 -- The definitions at worked examples.
 use Rattle.std.proofs.Common.{Some, None, inl, inr, ◌≡◌, ℕ, List, [], ◌∷◌, ◌++◌, length, refl, replicate, lit<, lit≤}
 use Rattle.std.specs.List.{concat}
-use Rattle.capnp_frame.specs.Message.{lengths}
+use Rattle.capnp_frame.specs.Prelude.{lengths, zero_padded_table, IsFrame, frame_bytes, Splits, RunsShort, RefusesStream}
 use Rattle.capnp_frame.specs.declared.serialize.segment_table.Padding.TheVariants.{Any, Zero}
-use Rattle.capnp_frame.specs.SegmentTable.{zero_padded_table}
-use Rattle.capnp_frame.specs.Frame.{IsFrame, frame_bytes}
-use Rattle.capnp_frame.specs.Source.{Splits, RunsShort}
-use Rattle.capnp_frame.specs.Refusals.{RefusesStream}
 use Rattle.capnp_frame.proofs.errors.RefusalLemmas.{in_range}
 use Rattle.capnp_frame.specs.declared.error.ErrorKind.TheVariants.{FailedToFillTheWholeBuffer, InvalidNumberOfSegments, MessageTooLarge}
 

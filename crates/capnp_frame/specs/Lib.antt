@@ -25,3 +25,4 @@ pub mod FramedInto
 pub mod Skipping
 pub mod Steps
 pub mod Writers
+pub mod Prelude

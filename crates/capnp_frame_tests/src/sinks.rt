@@ -1,7 +1,6 @@
 //! A sink that fails.
 ghost use Rattle.std.specs.Prelude.{Some, ⊤};
-ghost use Rattle.capnp_frame.specs.Sink.{AppendsSame, LeavesNothing, ByKind};
-ghost use Rattle.capnp_frame.specs.SplittingLaws.{always};
+ghost use Rattle.capnp_frame.specs.Prelude.{AppendsSame, LeavesNothing, ByKind, always};
 ghost use Rattle.capnp_frame.specs.declared.error.ErrorKind.{ErrorKind};
 
 use capnp_frame::io::Write;

@@ -1,7 +1,6 @@
 //! Sources that return little at a time, or fail.
 ghost use Rattle.std.specs.Prelude.{◌≡◌, ◌<◌, Some, take, ⊤};
-ghost use Rattle.capnp_frame.specs.Source.{Splits, RunsShort};
-ghost use Rattle.capnp_frame.specs.SplittingLaws.{splitting, always};
+ghost use Rattle.capnp_frame.specs.Prelude.{Splits, RunsShort, splitting, always};
 
 use capnp_frame::io::{BufRead, Read};
 use capnp_frame::{Error, ErrorKind, Result};

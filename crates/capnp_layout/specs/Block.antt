@@ -3,7 +3,7 @@ use Rattle.std.specs.Prelude.{ℕ, zero, suc, ◌+◌, ◌-◌, max, List, [], �
 use Rattle.capnp_layout.specs.Tree.{Trees, none, tree, count, object_size, total_words}
 use Rattle.capnp_layout.specs.Layout.{pointer, body}
 use Rattle.capnp_layout.specs.Trim.{cut_zeros}
-use Rattle.capnp_frame.specs.Words.{bytes_of}
+use Rattle.capnp_frame.specs.Prelude.{bytes_of}
 use Rattle.capnp_frame.specs.declared.words.Word.{Word}
 use Rattle.capnp_layout.specs.Pointer.{number_of, words_from}
 

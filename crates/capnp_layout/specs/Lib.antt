@@ -15,3 +15,4 @@ pub mod Block
 pub mod Rows
 pub mod Output
 pub mod Limits
+pub mod Prelude

@@ -1,6 +1,6 @@
 //! Blocks of words, and what is written into them.
 ghost use Rattle.std.specs.Prelude.{◌≡◌, ℕ, List, ◌+◌, ◌-◌, ◌*◌, ◌^◌, ◌/◌, ◌%◌, ◌<◌, ◌≤◌, ◌∷◌, [], length, max, slice_get, Some};
-ghost use Rattle.capnp_frame.specs.Words.{bytes_of};
+ghost use Rattle.capnp_frame.specs.Prelude.{bytes_of};
 ghost use Rattle.capnp_layout.specs.Pointer.{words_of, words_from};
 ghost use Rattle.capnp_layout.specs.Element.{code_of, width, words_for};
 ghost use Rattle.capnp_layout.specs.Tree.{numbers};

@@ -1,7 +1,7 @@
 //! Pointer words: made, read and moved (encoding document, "Structs", "Lists" and "Inter-Segment
 //! Pointers").
 ghost use Rattle.std.specs.Prelude.{◌≡◌, ◌<◌, ◌^◌, ℕ, [], ◌∷◌, length, MatchOption};
-ghost use Rattle.capnp_frame.specs.Words.{bytes_of};
+ghost use Rattle.capnp_frame.specs.Prelude.{bytes_of};
 ghost use Rattle.capnp_layout.specs.Pointer.{number_of, pointer_kind, words_of};
 ghost use Rattle.capnp_layout.specs.Block.{put};
 ghost use Rattle.capnp_layout.specs.PointerWord.{IsLocalShape};

@@ -1,7 +1,7 @@
 -- Words are a command's only where what follows the first are options.
 use Rattle.std.proofs.Common.{◌≡◌, ℕ, Option, Some, None, List, ◌∷◌, map}
 use Rattle.std.specs.Prelude.{IfNone}
-use Rattle.capnp.specs.Passed.{Padding, Zero}
+use Rattle.capnp.specs.Prelude.{Padding, Zero}
 use Rattle.capnp.specs.declared.streams.Format.{Format}
 use Rattle.capnp.specs.declared.streams.Format.TheVariants.{Framed}
 use Rattle.capnp.specs.declared.transcoding.Way.TheVariants.{Pack, Unpack}

@@ -5,7 +5,7 @@ use Rattle.std.proofs.lemmas.List.Concat.{flat_map-append}
 use Rattle.std.proofs.lemmas.Option.{slice_get_within, slice_get_cases, get_or_from_slice_get, none-some}
 use Rattle.std.specs.Prelude.{slice_get, sum, decimal}
 use Rattle.std.specs.List.{flat_map}
-use Rattle.capnp.specs.Passed.{word_count, lengths, size_in_words, Leaving, IfKnown, Adds, Error}
+use Rattle.capnp.specs.Prelude.{word_count, lengths, size_in_words, Leaving, IfKnown, Adds, Error}
 use Rattle.capnp_ls.specs.Output.{spaced, line, line_of}
 
 -- there is no item past the last

@@ -1,8 +1,7 @@
 -- A message that a reader accepts has a line.
 use Rattle.std.proofs.Common.{◌≡◌, ◌⊎◌, inl, inr, ℕ, ◌^◌, ◌<◌, Option, List, [], length, ap, subst, arith}
-use Rattle.capnp.specs.Passed.{Appending, Leaving, Declining, Adds, ErrorKind, DeviceFailed, OutOfMemory, Padding, IfKnown, IsWithin, lengths}
+use Rattle.capnp.specs.Prelude.{Appending, Leaving, Declining, Adds, ErrorKind, DeviceFailed, OutOfMemory, Padding, IfKnown, IsWithin, lengths, IsWritingFault, BreaksOffOr}
 use Rattle.capnp.specs.declared.streams.Format.{Format}
-use Rattle.capnp.specs.Runs.{IsWritingFault, BreaksOffOr}
 use Rattle.capnp_ls.specs.declared.command.Command.TheVariants.{Listing}
 use Rattle.capnp_ls.specs.Output.{line, line_of, DeclinesPrinted}
 use Rattle.capnp_ls.proofs.LineLemmas.{line_declared}

@@ -1,10 +1,9 @@
 -- The lists of words that the program takes.
 use Rattle.std.specs.Prelude.{ℕ, List, [], ◌∷◌, codes}
-use Rattle.capnp.specs.Passed.{Padding, Any, Zero}
+use Rattle.capnp.specs.Prelude.{Padding, Any, Zero, input_of as way_input}
 use Rattle.capnp.specs.declared.streams.Format.{Format}
 use Rattle.capnp.specs.declared.streams.Format.TheVariants.{Framed, Packed}
 use Rattle.capnp.specs.declared.transcoding.Way.TheVariants.{Pack, Unpack}
-use Rattle.capnp.specs.Transcoding.{input_of as way_input}
 use Rattle.capnp_ls.specs.declared.command.Command.{Command}
 use Rattle.capnp_ls.specs.declared.command.Command.TheVariants.{Listing, Transcoding, Canonical}
 

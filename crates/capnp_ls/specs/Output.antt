@@ -1,10 +1,7 @@
 -- What the program prints for messages.
 use Rattle.std.specs.Prelude.{◌≡◌, ◌⊎◌, ⊤, ℕ, List, [], ◌∷◌, ◌++◌, length, sum, decimal}
 use Rattle.std.specs.List.{flat_map}
-use Rattle.capnp.specs.Passed.{Appending, Leaving, Declining, lengths, size_in_words, default_root, LacksForm}
-use Rattle.capnp.specs.Canonical.{AppendsForm, LeavesForm, BreaksForm}
-use Rattle.capnp.specs.Runs.{Writing, DecliningWriting}
-use Rattle.capnp.specs.Transcoding.{Transcodes, DeclinesTranscoded}
+use Rattle.capnp.specs.Prelude.{Appending, Leaving, Declining, lengths, size_in_words, default_root, LacksForm, AppendsForm, LeavesForm, BreaksForm, Writing, DecliningWriting, Transcodes, DeclinesTranscoded}
 use Rattle.capnp_ls.specs.declared.command.Command.{Command}
 use Rattle.capnp_ls.specs.declared.command.Command.TheVariants.{Listing, Transcoding, Canonical}
 

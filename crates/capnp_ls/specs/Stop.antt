@@ -1,8 +1,6 @@
 -- The line that reports a stop.
 use Rattle.std.specs.Prelude.{◌≡◌, ℕ, List, [], ◌∷◌, ◌++◌, codes, decimal}
-use Rattle.capnp.specs.Passed.{kind_number}
-use Rattle.capnp.specs.Passed.{ErrorKind}
-use Rattle.capnp.specs.Passed.{Error}
+use Rattle.capnp.specs.Prelude.{kind_number, ErrorKind, Error}
 use Rattle.capnp_ls.specs.declared.stop.Stop.{Stop}
 use Rattle.capnp_ls.specs.declared.stop.Stop.TheVariants.{Usage, Refused}
 

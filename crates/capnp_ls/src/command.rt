@@ -1,6 +1,6 @@
 //! The words that the program takes.
 ghost use Rattle.std.specs.Prelude.{◌≡◌, map, string_bytes, IfSome, IfNone};
-ghost use Rattle.capnp.specs.Passed.{Padding};
+ghost use Rattle.capnp.specs.Prelude.{Padding};
 ghost use Rattle.capnp.specs.declared.streams.Format.{Format};
 ghost use Rattle.capnp_ls.specs.declared.command.Command.{Command};
 ghost use Rattle.capnp_ls.specs.Commands.{command_words, option_words};

@@ -1,6 +1,6 @@
 //! Flags that are given instead of a command, and print what the program is.
 ghost use Rattle.std.specs.Prelude.{◌≡◌, ◌⊎◌, map, string_bytes, IfSome, IfNone, IfErr, OnOk};
-ghost use Rattle.capnp.specs.Passed.{ErrorKind, Fails, IfKnown, Adds, Grows};
+ghost use Rattle.capnp.specs.Prelude.{ErrorKind, Fails, IfKnown, Adds, Grows};
 ghost use Rattle.capnp_ls.specs.declared.flags.Flag.{Flag};
 ghost use Rattle.capnp_ls.specs.Flags.{IsFlag, text_of};
 

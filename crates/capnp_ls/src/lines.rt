@@ -1,8 +1,6 @@
 //! The lines for messages, whose segments are skipped.
 ghost use Rattle.std.specs.Prelude.{◌≡◌, ◌<◌, ◌⊎◌, ◌^◌, [], length, OnOk, OnErr, IfErr};
-ghost use Rattle.capnp.specs.Passed.{ErrorKind, IfKnown, Fails, Adds, Grows, SkipsMessage, ReadsStream, default_limit};
-ghost use Rattle.capnp.specs.Streams.{skipping_rules_of};
-ghost use Rattle.capnp.specs.Runs.{WritesEach};
+ghost use Rattle.capnp.specs.Prelude.{ErrorKind, IfKnown, Fails, Adds, Grows, SkipsMessage, ReadsStream, default_limit, skipping_rules_of, WritesEach};
 ghost use Rattle.capnp_ls.specs.declared.command.Command.{Command};
 ghost use Rattle.capnp_ls.specs.Output.{line_of, Prints, DeclinesPrinted};
 

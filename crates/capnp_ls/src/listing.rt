@@ -1,6 +1,6 @@
 //! The line that is printed for a message.
 ghost use Rattle.std.specs.Prelude.{◌≡◌, ◌++◌, ◌<◌, ◌^◌, decimal, length, IfErr, OnOk};
-ghost use Rattle.capnp.specs.Passed.{ErrorKind};
+ghost use Rattle.capnp.specs.Prelude.{ErrorKind};
 ghost use Rattle.capnp_ls.specs.Output.{line_of, spaced};
 
 use capnp::Result;

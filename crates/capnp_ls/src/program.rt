@@ -1,9 +1,8 @@
 //! What the program does, over any source and sink.
 ghost use Rattle.std.specs.Prelude.{◌≡◌, ◌⊎◌, ◌↔◌, map, string_bytes, IsErrOf};
-ghost use Rattle.capnp.specs.Runs.{WritesEach};
+ghost use Rattle.capnp.specs.Prelude.{WritesEach, default_limit};
 ghost use Rattle.capnp_ls.specs.declared.command.Command.{Command};
 ghost use Rattle.capnp_ls.specs.Commands.{command_words, command_input, padding_of};
-ghost use Rattle.capnp.specs.Passed.{default_limit};
 ghost use Rattle.capnp_ls.specs.Output.{Prints, DeclinesPrinted};
 ghost use Rattle.capnp_ls.specs.Runs.{ForCommand};
 

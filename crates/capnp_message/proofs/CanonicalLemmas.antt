@@ -4,12 +4,8 @@ use Rattle.std.specs.Result.{IsErrAnd}
 use Rattle.capnp_frame.specs.declared.error.Error.{Error}
 use Rattle.capnp_frame.specs.declared.error.ErrorKind.{ErrorKind}
 use Rattle.capnp_frame.specs.declared.error.ErrorKind.TheVariants.{OutOfMemory}
-use Rattle.capnp_layout.specs.Tree.{Trees, total_words}
-use Rattle.capnp_layout.specs.Trim.{trim}
-use Rattle.capnp_layout.specs.Reached.{root}
-use Rattle.capnp_layout.specs.Faults.{NoWord, StopsWalk, no_word, at_pointer}
-use Rattle.capnp_wire.specs.Views.{Pointer}
-use Rattle.capnp_wire.specs.Values.{TreeAt, IsCanonicalForm}
+use Rattle.capnp_layout.specs.Prelude.{Trees, total_words, trim, root, NoWord, StopsWalk, no_word, at_pointer}
+use Rattle.capnp_wire.specs.Prelude.{Pointer, TreeAt, IsCanonicalForm}
 use Rattle.capnp_wire.proofs.walks.StopLemmas.{stops_has_no_trees}
 use Rattle.capnp_wire.proofs.views.OneValueLemmas.{one_of_pointer}
 use Rattle.capnp_message.specs.Canonical.{HasForm, LacksForm, ReturnsForm}

@@ -2,8 +2,7 @@
 use Rattle.std.proofs.Common.{◌≡◌, ℕ, ◌≤◌, Bool, true, false, List, [], ◌∷◌, ◌++◌, length, drop, take, replicate, Option, Some, None, MatchOption, All, refl, sym, ap, subst, arith, MutBor}
 use Rattle.std.proofs.Common.{length-append, length-take, length-drop}
 use Rattle.std.proofs.lemmas.List.Elements.{All-append, All-replicate}
-use Rattle.capnp_build.specs.Out.{Out, Removed, here, there, provided_of, provided_before}
-use Rattle.capnp_build.specs.Bytes.{ZeroFrom}
+use Rattle.capnp_build.specs.Prelude.{Out, Removed, here, there, provided_of, provided_before, ZeroFrom}
 use Rattle.capnp_message.specs.declared.scratch_space.ScratchSegment.{ScratchSegment}
 use Rattle.capnp_message.specs.declared.scratch_space.ScratchSegment.TheVariants.{Lent}
 use Rattle.capnp_message.specs.Scratch.{scratch_bytes, scratch_provided}

@@ -4,10 +4,8 @@ use Rattle.std.specs.Result.{IsErrAnd}
 use Rattle.capnp_frame.specs.declared.error.Error.{Error}
 use Rattle.capnp_frame.specs.declared.error.ErrorKind.{ErrorKind}
 use Rattle.capnp_frame.specs.declared.error.ErrorKind.TheVariants.{ReadLimitExceeded}
-use Rattle.capnp_layout.specs.Object.{word_at}
-use Rattle.capnp_layout.specs.Reached.{root}
-use Rattle.capnp_layout.specs.Faults.{NoWord, no_segment, past_segment, Fault, no_word}
-use Rattle.capnp_wire.specs.Views.{Pointer, IsViewOf}
+use Rattle.capnp_layout.specs.Prelude.{word_at, root, NoWord, no_segment, past_segment, Fault, no_word}
+use Rattle.capnp_wire.specs.Prelude.{Pointer, IsViewOf}
 use Rattle.capnp_layout.specs.declared.place.Place.{Place}
 use Rattle.capnp_layout.proofs.pointers.RefusalLemmas.{one_refusal}
 use Rattle.capnp_layout.proofs.pointers.FaultLemmas.{no_word_there}

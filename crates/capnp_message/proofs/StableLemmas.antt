@@ -1,13 +1,8 @@
 -- A canonical form is the canonical form of itself.
 use Rattle.std.proofs.Common.{◌≡◌, ℕ, ◌+◌, ◌<◌, ◌≤◌, ◌^◌, if◌then◌else◌, List, [], ◌∷◌, Option, Some, None, MatchOption, refl, sym, ◌∙◌, ap, subst, arith}
-use Rattle.capnp_layout.specs.Tree.{Form, null, struct, numbers, pointers, structs, Trees, none, tree, count, depth, is_null, total_words}
-use Rattle.capnp_layout.specs.Trim.{trim, trim_form, trim_children, cut_nulls, keep_tree, least_pointers}
-use Rattle.capnp_layout.specs.Reached.{At, root}
-use Rattle.capnp_layout.specs.Layout.{canon, layout, AllHaveRoom}
-use Rattle.capnp_layout.specs.Traversed.{Within}
-use Rattle.capnp_wire.specs.Canonical.{IsCanonical}
-use Rattle.capnp_wire.specs.Views.{Pointer}
-use Rattle.capnp_wire.specs.Values.{TreeAt, LeadsToTree, IsCanonicalForm, one_value}
+use Rattle.capnp_layout.specs.Tree.{is_null}
+use Rattle.capnp_layout.specs.Prelude.{Form, null, struct, numbers, pointers, structs, Trees, none, tree, count, depth, total_words, trim, trim_form, trim_children, cut_nulls, keep_tree, least_pointers, At, root, canon, layout, AllHaveRoom, Within, words_of, message_of}
+use Rattle.capnp_wire.specs.Prelude.{IsCanonical, Pointer, TreeAt, LeadsToTree, IsCanonicalForm, one_value, nesting_of}
 use Rattle.capnp_layout.specs.declared.place.Place.{Place}
 use Rattle.capnp_wire.proofs.forms.CanonLemmas.{root_of_canon}
 use Rattle.capnp_layout.proofs.trees.TrimLemmas.{trim_twice, room_trim}
@@ -17,9 +12,6 @@ use Rattle.capnp_wire.proofs.views.SetterLemmas.{form_is_canonical}
 use Rattle.capnp_message.specs.Canonical.{HasForm}
 use Rattle.capnp_message.specs.Seen.{ReadMessage, root_of}
 use Rattle.capnp_frame.specs.declared.message.options.ReaderOptions.{ReaderOptions}
-use Rattle.capnp_layout.specs.Pointer.{words_of}
-use Rattle.capnp_layout.specs.Object.{message_of}
-use Rattle.capnp_wire.specs.Readers.{nesting_of}
 use Rattle.capnp_layout.proofs.trees.FrontLemmas.{null_trimmed}
 
 -- what trimming keeps of trees is as deep at most

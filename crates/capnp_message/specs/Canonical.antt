@@ -4,10 +4,8 @@ use Rattle.std.specs.Result.{IsErrAnd}
 use Rattle.capnp_frame.specs.declared.error.Error.{Error}
 use Rattle.capnp_frame.specs.declared.error.ErrorKind.{ErrorKind}
 use Rattle.capnp_frame.specs.declared.error.ErrorKind.TheVariants.{OutOfMemory}
-use Rattle.capnp_layout.specs.Tree.{Trees, total_words}
-use Rattle.capnp_layout.specs.Trim.{trim}
-use Rattle.capnp_wire.specs.Views.{Pointer}
-use Rattle.capnp_wire.specs.Values.{LacksWords, LeadsToTree, StopsWalkFrom, IsCanonicalForm}
+use Rattle.capnp_layout.specs.Prelude.{Trees, total_words, trim}
+use Rattle.capnp_wire.specs.Prelude.{Pointer, LacksWords, LeadsToTree, StopsWalkFrom, IsCanonicalForm}
 
 -- A message has a canonical form: there is a tree at its root, within the nesting depth left and
 -- the limit, and the form has at most 2 ^ 29 words with its root pointer.

@@ -3,8 +3,7 @@ use Rattle.std.specs.Prelude.{◌≡◌, ◌⊎◌, ℕ, ◌/◌, ◌<◌, ◌�
 use Rattle.std.specs.Borrow.{MutBor}
 use Rattle.capnp_frame.specs.declared.error.ErrorKind.{ErrorKind}
 use Rattle.capnp_frame.specs.declared.error.ErrorKind.TheVariants.{AllocationTooLarge, SegmentTaken}
-use Rattle.capnp_build.specs.Bytes.{ZeroFrom}
-use Rattle.capnp_build.specs.Out.{Out, provided_of}
+use Rattle.capnp_build.specs.Prelude.{ZeroFrom, Out, provided_of}
 
 -- a region of this many bytes, as a segment that is out
 abbrev pub region_out : ℕ → Out

@@ -5,9 +5,8 @@ use Rattle.std.specs.Result.{IsErrAnd}
 use Rattle.capnp_frame.specs.declared.error.Error.{Error}
 use Rattle.capnp_frame.specs.declared.error.ErrorKind.{ErrorKind}
 use Rattle.capnp_frame.specs.declared.error.ErrorKind.TheVariants.{ReadLimitExceeded}
-use Rattle.capnp_layout.specs.Reached.{root}
-use Rattle.capnp_layout.specs.Faults.{NoWord}
-use Rattle.capnp_wire.specs.Views.{Pointer, IsInvalidPointer, MeetsLimit}
+use Rattle.capnp_layout.specs.Prelude.{root, NoWord}
+use Rattle.capnp_wire.specs.Prelude.{Pointer, IsInvalidPointer, MeetsLimit}
 use Rattle.capnp_message.specs.Seen.{ReadMessage, HasRoot}
 
 -- What each view of the root keeps: the view shows what is there, or the call fails because there

@@ -1,10 +1,8 @@
 -- What contracts see of readers of messages (src/reader.rt, src/typed_reader.rt).
 use Rattle.std.specs.Prelude.{ℕ, ◌≡◌, List, Some}
 use Rattle.capnp_frame.specs.declared.message.options.ReaderOptions.{ReaderOptions}
-use Rattle.capnp_layout.specs.Object.{message_of, word_at}
-use Rattle.capnp_layout.specs.Reached.{root}
-use Rattle.capnp_wire.specs.Readers.{nesting_of}
-use Rattle.capnp_wire.specs.Views.{Pointer}
+use Rattle.capnp_layout.specs.Prelude.{message_of, word_at, root}
+use Rattle.capnp_wire.specs.Prelude.{nesting_of, Pointer}
 
 -- a message that is read: its segments, and the options of its reader
 pub record ReadMessage (S : Type 0) : Type 0 where

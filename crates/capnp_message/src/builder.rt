@@ -1,11 +1,8 @@
 //! Builders of messages.
 ghost use Rattle.std.specs.Prelude.{◌≡◌, ◌<◌, ◌^◌, ◌-◌, ◌↔◌, [], false, IsTrue, length, map, None};
-ghost use Rattle.capnp_frame.specs.Writing.{IsWritable};
-ghost use Rattle.capnp_wire.specs.Readers.{unlimited_root};
-ghost use Rattle.capnp_build.specs.BuilderState.{used_of};
-ghost use Rattle.capnp_build.specs.Built.{Built, state_of, size_in_words};
-ghost use Rattle.capnp_build.specs.Outcomes.{SetsRoot, SetsRootCanonical, IsNewMessage, GivesBack};
-ghost use Rattle.capnp_wire.specs.Views.{IsViewOf};
+ghost use Rattle.capnp_frame.specs.Prelude.{IsWritable};
+ghost use Rattle.capnp_wire.specs.Prelude.{unlimited_root, IsViewOf};
+ghost use Rattle.capnp_build.specs.Prelude.{used_of, Built, state_of, size_in_words, SetsRoot, SetsRootCanonical, IsNewMessage, GivesBack};
 ghost use Rattle.capnp_message.specs.Roots.{IsReadUnlimited};
 ghost use Rattle.capnp_message.specs.Heaps.{IsHeapOf};
 ghost use Rattle.capnp_message.specs.declared.heap_allocator.AllocationStrategy.TheVariants.{GrowHeuristically};

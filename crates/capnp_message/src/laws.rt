@@ -1,13 +1,9 @@
 //! Facts about the canonical forms of messages, and about regions that come back.
 ghost use Rattle.std.specs.Prelude.{◌≡◌, ◌≤◌, ◌⊎◌, ℕ, List, [], ◌∷◌, Some, None, true, IfOk, IfErr};
 ghost use Rattle.capnp_frame.specs.declared.error.ErrorKind.TheVariants.{OutOfMemory};
-ghost use Rattle.capnp_layout.specs.Pointer.{words_of};
-ghost use Rattle.capnp_layout.specs.Reached.{root};
-ghost use Rattle.capnp_wire.specs.Readers.{nesting_of};
-ghost use Rattle.capnp_wire.specs.Views.{Pointer};
-ghost use Rattle.capnp_wire.specs.Values.{IsCanonicalForm};
+ghost use Rattle.capnp_layout.specs.Prelude.{words_of, root, numbers_of};
+ghost use Rattle.capnp_wire.specs.Prelude.{nesting_of, Pointer, IsCanonicalForm};
 ghost use Rattle.capnp_message.specs.Seen.{root_of};
-ghost use Rattle.capnp_layout.specs.Block.{numbers_of};
 ghost use Rattle.capnp_message.specs.Canonical.{LacksForm};
 ghost use Rattle.capnp_message.specs.Region.{IsOutAlone, IsProvidedAlone, IsAvailable};
 

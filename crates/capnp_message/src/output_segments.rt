@@ -1,7 +1,7 @@
 //! The segments of a message that is built, for writing it.
 ghost use Rattle.std.specs.Prelude.{◌≡◌, ℕ, ◌<◌, List, length, map};
-ghost use Rattle.capnp_frame.specs.Writing.{IsWritable};
-ghost use Rattle.capnp_build.specs.BuilderState.{used_of};
+ghost use Rattle.capnp_frame.specs.Prelude.{IsWritable};
+ghost use Rattle.capnp_build.specs.Prelude.{used_of};
 
 use capnp_build::allocator::Allocator;
 use capnp_build::arena::builder_arena::BuilderArena;

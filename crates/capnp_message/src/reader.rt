@@ -1,17 +1,12 @@
 //! Readers of messages.
 ghost use Rattle.std.specs.Prelude.{◌≡◌, ◌⊎◌, ◌<◌, ◌^◌, ◌-◌, ◌↔◌, ℕ, length, min, IfOk, IfErr, IsOk, IsTrue, MatchResult};
 ghost use Rattle.std.specs.Result.{IsErrAnd};
-ghost use Rattle.capnp_frame.specs.Message.{IsWholeWords, size_in_words};
+ghost use Rattle.capnp_frame.specs.Prelude.{IsWholeWords, size_in_words};
 ghost use Rattle.capnp_frame.specs.declared.error.ErrorKind.{ErrorKind};
 ghost use Rattle.capnp_frame.specs.declared.error.ErrorKind.TheVariants.{ReadLimitExceeded, OutOfMemory};
-ghost use Rattle.capnp_layout.specs.Reached.{root};
-ghost use Rattle.capnp_layout.specs.Pointer.{words_of};
-ghost use Rattle.capnp_layout.specs.Tree.{Trees};
-ghost use Rattle.capnp_wire.specs.Canonical.{IsCanonical};
-ghost use Rattle.capnp_wire.specs.Tested.{RejectsCanonicity};
-ghost use Rattle.capnp_wire.specs.Values.{LeadsToTree, StopsWalkFrom, IsCanonicalForm};
+ghost use Rattle.capnp_layout.specs.Prelude.{root, words_of, Trees, numbers_of};
+ghost use Rattle.capnp_wire.specs.Prelude.{IsCanonical, RejectsCanonicity, LeadsToTree, StopsWalkFrom, IsCanonicalForm};
 ghost use Rattle.capnp_message.specs.Seen.{root_of};
-ghost use Rattle.capnp_layout.specs.Block.{numbers_of};
 ghost use Rattle.capnp_message.specs.Canonical.{HasForm, LacksForm, ReturnsForm};
 ghost use Rattle.capnp_message.specs.Roots.{ReadsRoot};
 

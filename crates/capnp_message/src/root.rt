@@ -1,8 +1,7 @@
 //! The object at the root of a message that is built, as a view that writes it.
 ghost use Rattle.std.specs.Prelude.{length};
 ghost use Rattle.std.specs.Borrow.{RestsIfErr, sem};
-ghost use Rattle.capnp_build.specs.Built.{message};
-ghost use Rattle.capnp_build.specs.RootViews.{InitsView, GetsView, LeavesNull, LeavesRoot};
+ghost use Rattle.capnp_build.specs.Prelude.{message, InitsView, GetsView, LeavesNull, LeavesRoot};
 
 use crate::builder::Builder;
 use capnp_build::allocator::Allocator;

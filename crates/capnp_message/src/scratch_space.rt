@@ -2,11 +2,10 @@
 ghost use Rattle.std.specs.Prelude.{◌≡◌, ◌⊎◌, ℕ, ◌*◌, ◌/◌, ◌^◌, ◌<◌, ◌≤◌, true, false, length, IfOk, IfErr, IsSome, IsOk, OnOk, OnErr, None};
 ghost use Rattle.std.specs.Option.{ForSome};
 ghost use Rattle.capnp_frame.specs.declared.error.ErrorKind.TheVariants.{OutOfMemory};
-ghost use Rattle.capnp_build.specs.Bytes.{ZeroFrom};
+ghost use Rattle.capnp_build.specs.Prelude.{ZeroFrom, HandsOut};
 ghost use Rattle.capnp_message.specs.Next.{size_of};
 ghost use Rattle.capnp_message.specs.Region.{IsProvidedAlone, GrantsRegion, HoldsRegion};
 ghost use Rattle.capnp_message.specs.Scratch.{scratch_bytes, scratch_provided};
-ghost use Rattle.capnp_build.specs.Allocating.{HandsOut};
 
 use crate::heap_allocator::{AllocationStrategy, HeapAllocator};
 use capnp_build::allocator::Allocator;

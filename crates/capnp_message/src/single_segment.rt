@@ -3,10 +3,8 @@ ghost use Rattle.std.specs.Prelude.{◌≡◌, ◌≢◌, ◌⊎◌, ℕ, ◌*�
 ghost use Rattle.std.specs.Option.{ForSome};
 ghost use Rattle.std.specs.Result.{IsErrAnd};
 ghost use Rattle.capnp_frame.specs.declared.error.ErrorKind.TheVariants.{AllocationTooLarge, SegmentTaken};
-ghost use Rattle.capnp_build.specs.Bytes.{ZeroFrom};
-ghost use Rattle.capnp_build.specs.Out.{TakesOff, IsOut};
+ghost use Rattle.capnp_build.specs.Prelude.{ZeroFrom, TakesOff, IsOut, HandsOut};
 ghost use Rattle.capnp_message.specs.Region.{IsOutAlone, GrantsRegion, RefusesRegion, region_out, HoldsRegion};
-ghost use Rattle.capnp_build.specs.Allocating.{HandsOut};
 
 use capnp_build::allocator::Allocator;
 use capnp_frame::{Error, ErrorKind, Result};

@@ -1,12 +1,8 @@
 //! Builders of messages whose root has a type.
 ghost use Rattle.std.specs.Prelude.{◌≡◌, ◌+◌, ◌^◌, ◌-◌, length, map};
 ghost use Rattle.std.specs.Borrow.{RestsIfErr, sem};
-ghost use Rattle.capnp_wire.specs.Readers.{unlimited_root};
-ghost use Rattle.capnp_build.specs.BuilderState.{used_of};
-ghost use Rattle.capnp_build.specs.Built.{Built, message};
-ghost use Rattle.capnp_build.specs.Outcomes.{SetsRoot, IsNewMessage};
-ghost use Rattle.capnp_build.specs.RootViews.{InitsView, GetsView, LeavesNull, LeavesRoot};
-ghost use Rattle.capnp_wire.specs.Views.{IsViewOf};
+ghost use Rattle.capnp_wire.specs.Prelude.{unlimited_root, IsViewOf};
+ghost use Rattle.capnp_build.specs.Prelude.{used_of, Built, message, SetsRoot, IsNewMessage, InitsView, GetsView, LeavesNull, LeavesRoot};
 ghost use Rattle.capnp_message.specs.Roots.{IsReadUnlimited};
 ghost use Rattle.capnp_message.specs.Heaps.{IsHeapOf};
 ghost use Rattle.capnp_message.specs.declared.heap_allocator.AllocationStrategy.TheVariants.{GrowHeuristically};

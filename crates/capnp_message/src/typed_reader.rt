@@ -1,6 +1,6 @@
 //! Readers of messages whose root has a type.
 ghost use Rattle.std.specs.Prelude.{◌≡◌, ◌^◌, ◌-◌, pos, None};
-ghost use Rattle.capnp_layout.specs.Reached.{root};
+ghost use Rattle.capnp_layout.specs.Prelude.{root};
 ghost use Rattle.capnp_message.specs.Seen.{root_of};
 ghost use Rattle.capnp_message.specs.Roots.{ReadsRoot};
 

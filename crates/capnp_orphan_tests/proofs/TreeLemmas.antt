@@ -2,12 +2,10 @@
 use Rattle.std.proofs.Common.{◌≡◌, ℕ, zero, suc, List, [], ◌∷◌, Option, Some, Result, Ok, Err, refl, ap, ◌∙◌}
 use Rattle.std.specs.Prelude.{IfOk}
 use Rattle.capnp_frame.specs.declared.error.Error.{Error}
-use Rattle.capnp_layout.specs.Reached.{At, root}
-use Rattle.capnp_layout.specs.Layout.{canon}
-use Rattle.capnp_wire.specs.Views.{Pointer}
+use Rattle.capnp_layout.specs.Prelude.{At, root, canon, Form, struct, Trees, none, tree}
+use Rattle.capnp_wire.specs.Prelude.{Pointer}
 use Rattle.capnp_layout.proofs.objects.ObjectLemmas.{one_tree}
 use Rattle.capnp_message.specs.Canonical.{ReturnsForm}
-use Rattle.capnp_layout.specs.Tree.{Form, struct, Trees, none, tree}
 use Rattle.capnp_orphan_tests.specs.Uses.{binary}
 
 pub in_front : (depth number : ℕ) (form : Form) (children rest : Trees) → tree form children none ≡ binary depth number none → tree form children rest ≡ binary depth number rest

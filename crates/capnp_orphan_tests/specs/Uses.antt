@@ -1,8 +1,8 @@
 -- What callers build (src/uses.rt).
 use Rattle.std.specs.Prelude.{◌≡◌, ℕ, zero, suc, List, [], ◌∷◌}
 use Rattle.std.specs.Borrow.{Bor}
-use Rattle.capnp_layout.specs.Tree.{struct, null, pointers, Trees, none, tree}
-use Rattle.capnp_wire.specs.Values.{IsTextTree}
+use Rattle.capnp_layout.specs.Prelude.{struct, null, pointers, Trees, none, tree}
+use Rattle.capnp_wire.specs.Prelude.{IsTextTree}
 use Rattle.capnp_values.specs.DataSections.{with_field}
 use Rattle.capnp_orphans.specs.Held.{AreTrees}
 

@@ -1,10 +1,6 @@
 //! A caller that builds a tree whose depth is known at run time.
 ghost use Rattle.std.specs.Prelude.{◌≡◌, ◌∷◌, [], ℕ, IfOk};
-ghost use Rattle.capnp_layout.specs.Tree.{none};
-ghost use Rattle.capnp_layout.specs.Object.{message_of};
-ghost use Rattle.capnp_layout.specs.Reached.{At, root};
-ghost use Rattle.capnp_layout.specs.Block.{numbers_of};
-ghost use Rattle.capnp_layout.specs.Layout.{canon};
+ghost use Rattle.capnp_layout.specs.Prelude.{none, message_of, At, root, numbers_of, canon};
 ghost use Rattle.capnp_orphans.specs.Adding.{Adds};
 ghost use Rattle.capnp_orphans.specs.Held.{HoldsStruct, HoldsValue, word_of};
 ghost use Rattle.capnp_orphans.specs.Segments.{body_of};

@@ -8,14 +8,10 @@ use Rattle.std.proofs.lemmas.List.{append-nil, take_more, take_more_set, length-
 use Rattle.capnp_frame.specs.declared.error.Error.{Error}
 use Rattle.capnp_frame.specs.declared.error.ErrorKind.{ErrorKind}
 use Rattle.capnp_frame.specs.declared.error.ErrorKind.TheVariants.{AllocationTooLarge}
-use Rattle.capnp_layout.specs.Pointer.{words_of}
-use Rattle.capnp_layout.specs.Tree.{Form, Trees, none, tree, total_words, is_null}
-use Rattle.capnp_layout.specs.Object.{Shape, PointsTo, word_at, is_object, is_null as null_there, nothing}
+use Rattle.capnp_layout.specs.Prelude.{words_of, Form, Trees, none, tree, total_words, Shape, PointsTo, word_at, is_object, is_null as null_there, nothing, At, at, output}
+use Rattle.capnp_layout.specs.Tree.{is_null}
 use Rattle.capnp_layout.specs.declared.place.Place.{Place}
-use Rattle.capnp_layout.specs.Reached.{At, at}
-use Rattle.capnp_layout.specs.Layout.{output}
-use Rattle.capnp_wire.specs.Values.{LeadsToTree, starts_with_null}
-use Rattle.capnp_wire.specs.Views.{Struct, Pointer, Denotes, pointer_in}
+use Rattle.capnp_wire.specs.Prelude.{LeadsToTree, starts_with_null, Struct, Pointer, Denotes, pointer_in}
 use Rattle.capnp_layout.proofs.pointers.FaultLemmas.{not_null}
 use Rattle.capnp_layout.proofs.layouts.LayoutLemmas.{if_positive}
 use Rattle.capnp_wire.proofs.views.OneValueLemmas.{one_of_pointer}

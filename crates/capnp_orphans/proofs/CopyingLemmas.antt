@@ -7,12 +7,8 @@ use Rattle.std.proofs.lemmas.List.{take_all, take_more_set, get_or-set_same, get
 use Rattle.capnp_frame.specs.declared.error.Error.{Error}
 use Rattle.capnp_frame.specs.declared.error.ErrorKind.{ErrorKind}
 use Rattle.capnp_frame.specs.declared.error.ErrorKind.TheVariants.{AllocationTooLarge}
-use Rattle.capnp_layout.specs.Tree.{Trees, total_words}
-use Rattle.capnp_layout.specs.Object.{nothing}
-use Rattle.capnp_layout.specs.Layout.{output}
-use Rattle.capnp_wire.specs.Values.{LeadsToTree}
-use Rattle.capnp_layout.specs.Limits.{too_large}
-use Rattle.capnp_wire.specs.Views.{Struct, Pointer, Denotes, pointer_in}
+use Rattle.capnp_layout.specs.Prelude.{Trees, total_words, nothing, output, too_large}
+use Rattle.capnp_wire.specs.Prelude.{LeadsToTree, Struct, Pointer, Denotes, pointer_in}
 use Rattle.capnp_orphans.specs.Segments.{Segment, body_of, Appends}
 use Rattle.capnp_orphans.specs.Held.{AreValues, HoldsValue}
 use Rattle.capnp_orphans.specs.Adding.{Keeps, Adds, Fails, Writes, HasRoom, LacksRoom}

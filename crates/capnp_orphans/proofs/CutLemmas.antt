@@ -4,9 +4,8 @@ use Rattle.std.specs.Prelude.{replicate}
 use Rattle.std.proofs.Math.Nat.{add-mul-div_left, add-mul-mod_self_left, mul_assoc, mul-suc}
 use Rattle.std.proofs.lemmas.Nat.{pow-add, pow_pos}
 use Rattle.std.proofs.lemmas.List.{take-append-drop, length-replicate}
-use Rattle.capnp_layout.specs.Pointer.{number_of}
-use Rattle.capnp_wire.specs.Fields.{field}
-use Rattle.capnp_wire.specs.Views.{Struct}
+use Rattle.capnp_layout.specs.Prelude.{number_of}
+use Rattle.capnp_wire.specs.Prelude.{field, Struct}
 use Rattle.capnp_layout.proofs.words.DigitLemmas.{pow-mul}
 use Rattle.capnp_layout.proofs.words.WordLemmas.{number-append}
 use Rattle.capnp_orphans.specs.Copied.{words_in}

@@ -1,8 +1,6 @@
 -- Pointers to orphans: what is read at their places.
 use Rattle.std.proofs.Common.{◌≡◌, ℕ, zero, suc, ◌+◌, ◌-◌, ◌*◌, ◌/◌, ◌%◌, ◌^◌, ◌<◌, ◌≤◌, List, [], ◌∷◌, ◌++◌, length, Some, None, Option, slice_get, refl, ◌∙◌, ap, arith}
-use Rattle.capnp_layout.specs.Tree.{Form, null, struct, numbers, pointers, structs}
-use Rattle.capnp_layout.specs.Object.{is_null}
-use Rattle.capnp_layout.specs.Layout.{pointer, struct_pointer, list_pointer, minus_one, own, HasRoom}
+use Rattle.capnp_layout.specs.Prelude.{Form, null, struct, numbers, pointers, structs, is_null, pointer, struct_pointer, list_pointer, minus_one, own, HasRoom}
 use Rattle.capnp_layout.proofs.words.SubsliceLemmas.{Holds, holds_none}
 use Rattle.capnp_layout.proofs.pointers.TagLemmas.{struct_fields, list_fields}
 use Rattle.capnp_layout.proofs.layouts.LayoutLemmas.{if_positive}

@@ -2,10 +2,7 @@
 use Rattle.std.proofs.Common.{◌≡◌, ℕ, ◌+◌, ◌^◌, ◌<◌, ◌≤◌, List, [], ◌∷◌, ◌++◌, length, Some, slice_get, refl, sym, ◌∙◌, ap, subst, arith, append_assoc}
 use Rattle.std.specs.Prelude.{All}
 use Rattle.std.proofs.lemmas.Option.{slice_get_within}
-use Rattle.capnp_layout.specs.Tree.{Form, null, struct, pointers, Trees, none, tree, count, total_words, object_size}
-use Rattle.capnp_layout.specs.Object.{PointsTo, is_null, places}
-use Rattle.capnp_layout.specs.Reached.{At, nowhere, at}
-use Rattle.capnp_layout.specs.Layout.{pointer, own, body as body_of, placed, run, slots, HasRoom, AllHaveRoom}
+use Rattle.capnp_layout.specs.Prelude.{Form, null, struct, pointers, Trees, none, tree, count, total_words, object_size, PointsTo, is_null, places, At, nowhere, at, pointer, own, body as body_of, placed, run, slots, HasRoom, AllHaveRoom}
 use Rattle.capnp_layout.specs.declared.place.Place.{Place}
 use Rattle.capnp_layout.proofs.words.SubsliceLemmas.{Holds, holds_left, holds_right, holds_first}
 use Rattle.capnp_layout.proofs.pointers.SlotLemmas.{Linked, placed-run}

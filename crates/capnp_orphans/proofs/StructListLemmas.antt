@@ -5,13 +5,7 @@ use Rattle.std.proofs.lemmas.List.{append-nil, length-take, take_all, take_more}
 use Rattle.std.proofs.lemmas.Option.{slice_get_within}
 use Rattle.std.proofs.lemmas.List.Elements.{All-nil, All-cons}
 use Rattle.std.proofs.Math.Seq.{take-append_seam, drop-append_seam}
-use Rattle.capnp_layout.specs.Pointer.{words_of}
-use Rattle.capnp_layout.specs.Tree.{structs, Trees, none, tree}
-use Rattle.capnp_layout.specs.Trim.{before}
-use Rattle.capnp_layout.specs.Object.{places, row_places}
-use Rattle.capnp_layout.specs.Reached.{At, nowhere, at}
-use Rattle.capnp_layout.specs.Layout.{pointer, struct_pointer, list_pointer, woven, placed, row_run}
-use Rattle.capnp_layout.specs.Block.{put}
+use Rattle.capnp_layout.specs.Prelude.{words_of, structs, Trees, none, tree, before, places, row_places, At, nowhere, at, pointer, struct_pointer, list_pointer, woven, placed, row_run, put}
 use Rattle.capnp_layout.specs.declared.place.Place.{Place}
 use Rattle.capnp_layout.proofs.words.SubsliceLemmas.{Holds, holds_left, holds_right, holds_same}
 use Rattle.capnp_layout.proofs.pointers.SlotLemmas.{placed-row_run}

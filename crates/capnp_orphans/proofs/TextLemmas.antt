@@ -3,12 +3,9 @@ use Rattle.std.proofs.Common.{◌≡◌, ℕ, ◌+◌, ◌-◌, ◌*◌, ◌^◌
 use Rattle.std.specs.Prelude.{replicate}
 use Rattle.std.proofs.Math.Seq.{drop-append-add}
 use Rattle.std.proofs.lemmas.List.{append-nil, drop-replicate}
-use Rattle.capnp_layout.specs.Pointer.{words_of}
-use Rattle.capnp_layout.specs.Element.{words_for}
-use Rattle.capnp_layout.specs.Tree.{numbers, none, tree, total_words}
-use Rattle.capnp_layout.specs.Layout.{own, pointer, list_pointer, AllHaveRoom}
+use Rattle.capnp_layout.specs.Prelude.{words_of, words_for, numbers, none, tree, total_words, own, pointer, list_pointer, AllHaveRoom}
 use Rattle.capnp_layout.proofs.words.BytesLemmas.{padded, text_own, long_end}
-use Rattle.capnp_wire.specs.Values.{HasWords, IsTextTree}
+use Rattle.capnp_wire.specs.Prelude.{HasWords, IsTextTree}
 use Rattle.capnp_orphans.specs.Orphans.{IsOrphan}
 use Rattle.capnp_orphans.specs.Held.{HoldsValue}
 use Rattle.capnp_orphans.proofs.OrphanLemmas.{value_is_orphan}

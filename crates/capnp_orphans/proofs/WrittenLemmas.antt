@@ -3,11 +3,8 @@ use Rattle.std.proofs.Common.{◌≡◌, ℕ, ◌+◌, ◌-◌, ◌*◌, ◌^◌
 use Rattle.std.specs.Prelude.{All, replicate}
 use Rattle.std.proofs.Math.Seq.{take-append_seam, drop-append_seam}
 use Rattle.std.proofs.lemmas.List.{append-nil, append_assoc, length-replicate, take-append-le, take-replicate}
-use Rattle.capnp_layout.specs.Pointer.{words_of}
-use Rattle.capnp_layout.specs.Tree.{Form, struct, structs, pointers, Trees, none, tree, count, total_words}
-use Rattle.capnp_layout.specs.Layout.{pointer, struct_pointer, list_pointer, minus_one, layout, body, HasRoom, AllHaveRoom}
-use Rattle.capnp_wire.specs.Copy.{IsCopied}
-use Rattle.capnp_wire.specs.Values.{HasWords}
+use Rattle.capnp_layout.specs.Prelude.{words_of, Form, struct, structs, pointers, Trees, none, tree, count, total_words, pointer, struct_pointer, list_pointer, minus_one, layout, body, HasRoom, AllHaveRoom}
+use Rattle.capnp_wire.specs.Prelude.{IsCopied, HasWords}
 use Rattle.capnp_wire.specs.declared.layout.copy.Copied.{Copied}
 use Rattle.capnp_layout.proofs.words.PutLemmas.{words_split}
 use Rattle.capnp_layout.proofs.trees.PlacedLemmas.{alone}

@@ -5,10 +5,7 @@ use Rattle.std.specs.Result.{IsErrAnd}
 use Rattle.capnp_frame.specs.declared.error.Error.{Error}
 use Rattle.capnp_frame.specs.declared.error.ErrorKind.{ErrorKind}
 use Rattle.capnp_frame.specs.declared.error.ErrorKind.TheVariants.{AllocationTooLarge}
-use Rattle.capnp_layout.specs.Pointer.{words_of}
-use Rattle.capnp_layout.specs.Object.{message_of}
-use Rattle.capnp_layout.specs.Tree.{Form, Trees}
-use Rattle.capnp_layout.specs.Reached.{Root}
+use Rattle.capnp_layout.specs.Prelude.{words_of, message_of, Form, Trees, Root}
 use Rattle.capnp_orphans.specs.Orphans.{link, IsOrphan}
 use Rattle.capnp_orphans.specs.Segments.{Segment, body_of, Appends, GrantsWords, ExceedsMost, RefusesWords}
 

@@ -4,10 +4,8 @@ use Rattle.std.specs.Result.{IsErrAnd}
 use Rattle.capnp_frame.specs.declared.error.Error.{Error}
 use Rattle.capnp_frame.specs.declared.error.ErrorKind.{ErrorKind}
 use Rattle.capnp_frame.specs.declared.error.ErrorKind.TheVariants.{AllocationTooLarge}
-use Rattle.capnp_layout.specs.Object.{nothing}
-use Rattle.capnp_layout.specs.Tree.{Trees, total_words}
-use Rattle.capnp_wire.specs.Values.{HasWords, LacksWords, LeadsToTree, StopsWalkFrom}
-use Rattle.capnp_wire.specs.Views.{Struct, Pointer, Denotes, pointer_in}
+use Rattle.capnp_layout.specs.Prelude.{nothing, Trees, total_words}
+use Rattle.capnp_wire.specs.Prelude.{HasWords, LacksWords, LeadsToTree, StopsWalkFrom, Struct, Pointer, Denotes, pointer_in}
 use Rattle.capnp_orphans.specs.Segments.{Segment, body_of, Appends, ExceedsMost}
 use Rattle.capnp_orphans.specs.Held.{AreValues}
 use Rattle.capnp_orphans.specs.Adding.{Keeps, LacksRoom, HasRoom}

@@ -3,8 +3,7 @@
 use Rattle.std.specs.Prelude.{◌≡◌, ◌⊎◌, ⊤, ℕ, ◌+◌, ◌-◌, ◌*◌, ◌^◌, ◌<◌, ◌≤◌, min, List, [], ◌∷◌, ◌++◌, length, All}
 use Rattle.capnp_frame.specs.declared.error.ErrorKind.{ErrorKind}
 use Rattle.capnp_frame.specs.declared.error.ErrorKind.TheVariants.{AllocationTooLarge}
-use Rattle.capnp_layout.specs.Tree.{Form, struct, structs, pointers, Trees, none, tree}
-use Rattle.capnp_layout.specs.Layout.{pointer, struct_pointer, list_pointer}
+use Rattle.capnp_layout.specs.Prelude.{Form, struct, structs, pointers, Trees, none, tree, pointer, struct_pointer, list_pointer}
 use Rattle.capnp_orphans.specs.declared.orphan.Orphan.{Orphan}
 use Rattle.capnp_orphans.specs.declared.draft.StructDraft.{StructDraft}
 use Rattle.capnp_orphans.specs.Orphans.{links, IsOrphan, AreOrphans}

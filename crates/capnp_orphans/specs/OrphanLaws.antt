@@ -3,9 +3,7 @@ use Rattle.std.specs.Prelude.{◌≡◌, ℕ, ◌+◌, ◌<◌, List, [], ◌∷
 use Rattle.std.proofs.Common.{sym, ◌∙◌, ap, subst, append_assoc, slice_get, Some}
 use Rattle.std.proofs.lemmas.List.{map-append, take_more}
 use Rattle.capnp_frame.specs.declared.error.Error.{Error}
-use Rattle.capnp_layout.specs.Tree.{Form, struct, structs, pointers, Trees, none, tree}
-use Rattle.capnp_layout.specs.Object.{message_of}
-use Rattle.capnp_layout.specs.Reached.{At, root}
+use Rattle.capnp_layout.specs.Prelude.{Form, struct, structs, pointers, Trees, none, tree, message_of, At, root}
 use Rattle.capnp_orphans.specs.declared.draft.StructDraft.{StructDraft}
 use Rattle.capnp_orphans.specs.Orphans.{link, StandsAt, IsOrphan, AreOrphans}
 use Rattle.capnp_orphans.specs.Segments.{Segment, body_of}

@@ -2,9 +2,8 @@
 -- everything below it is written, and no word of it changes after that; of the segment only the
 -- first word, the root's, does. What comes after that word is called the body of the segment here.
 use Rattle.std.specs.Prelude.{◌≡◌, ℕ, ◌+◌, ◌-◌, ◌*◌, ◌/◌, ◌%◌, ◌^◌, ◌<◌, ◌==◌, if◌then◌else◌, List, [], ◌∷◌, ◌++◌, Some, slice_get}
-pub use Rattle.capnp_layout.specs.Layout.{link}
-use Rattle.capnp_layout.specs.Tree.{Form, Trees, none, tree}
-use Rattle.capnp_layout.specs.Reached.{At}
+pub use Rattle.capnp_layout.specs.Prelude.{link}
+use Rattle.capnp_layout.specs.Prelude.{Form, Trees, none, tree, At}
 
 -- The word of an orphan is the pointer to it, with the index of the word at which it begins in
 -- place of the offset; `link` is the pointer that leads to it from a given place. The pointers

@@ -1,7 +1,6 @@
 //! Structs that are read, as drafts: to be changed, and written again.
 ghost use Rattle.std.specs.Prelude.{◌≡◌, length, replicate, slice_index, IfOk};
-ghost use Rattle.capnp_wire.specs.Readers.{struct_of, pointer_of};
-ghost use Rattle.capnp_wire.specs.Views.{pointer_in};
+ghost use Rattle.capnp_wire.specs.Prelude.{struct_of, pointer_of, pointer_in};
 ghost use Rattle.capnp_orphans.specs.Copied.{words_in, Copies};
 
 use crate::draft::StructDraft;

@@ -1,7 +1,7 @@
 //! Structs before they are written.
 ghost use Rattle.std.specs.Prelude.{◌≡◌, ◌+◌, ◌*◌, ◌/◌, ◌%◌, ◌^◌, ◌<◌, ◌≤◌, ◌↔◌, ◌≢◌, IsTrue, bit_xor, replicate, slice_set, slice_index_or};
-ghost use Rattle.capnp_layout.specs.Element.{width};
-ghost use Rattle.capnp_wire.specs.Fields.{field};
+ghost use Rattle.capnp_layout.specs.Prelude.{width};
+ghost use Rattle.capnp_wire.specs.Prelude.{field};
 ghost use Rattle.capnp_values.specs.DataSections.{with_field};
 
 pub(crate) mod writing;

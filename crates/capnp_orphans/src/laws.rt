@@ -1,14 +1,13 @@
 //! Facts about orphans. `specs/OrphanLaws.antt` has facts about the trees of values of any kind,
 //! for proofs.
 ghost use Rattle.std.specs.Prelude.{◌≡◌, ◌+◌, ◌*◌, ◌≤◌, ℕ, List, [], ◌∷◌, ◌++◌};
-ghost use Rattle.capnp_layout.specs.Tree.{Form, Trees, null, none};
+ghost use Rattle.capnp_layout.specs.Prelude.{Form, Trees, null, none};
 ghost use Rattle.capnp_orphans.specs.Orphans.{AreOrphans, IsOrphan};
 ghost use Rattle.capnp_orphans.specs.Segments.{Segment, body_of};
 ghost use Rattle.capnp_orphans.specs.Held.{AreTrees, AreValues, HoldsValue};
 ghost use Rattle.capnp_orphans.specs.Adding.{Keeps};
 ghost use Rattle.capnp_orphans.specs.Copied.{words_in};
-ghost use Rattle.capnp_wire.specs.Fields.{field};
-ghost use Rattle.capnp_wire.specs.Views.{Struct};
+ghost use Rattle.capnp_wire.specs.Prelude.{field, Struct};
 
 use capnp_wire::traits::SetterInput;
 

@@ -1,7 +1,7 @@
 //! The segment in which objects are written.
 ghost use Rattle.std.specs.Prelude.{◌≡◌, ◌<◌, None, Some, length, map, replicate, MatchResult, false};
 ghost use Rattle.capnp_frame.specs.declared.error.ErrorKind.TheVariants.{OutOfMemory, AllocationTooLarge};
-ghost use Rattle.capnp_wire.specs.Values.{HasWords, LacksWords, IsTextTree, LongText, IsBytes, ManyBytes};
+ghost use Rattle.capnp_wire.specs.Prelude.{HasWords, LacksWords, IsTextTree, LongText, IsBytes, ManyBytes};
 ghost use Rattle.capnp_values.specs.NumberLists.{IsNumberList, ManyNumbers};
 ghost use Rattle.capnp_orphans.specs.Segments.{body_of, with_root_alone};
 ghost use Rattle.capnp_orphans.specs.Held.{word_of, HoldsValue, HoldsStruct, HoldsPointers, HoldsStructs, TakesStruct, ExceedsPointer, TakesPointers, ManyPointers, TakesStructs, ManyStructs};

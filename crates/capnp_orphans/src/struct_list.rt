@@ -1,6 +1,6 @@
 //! Lists of structs as objects.
 ghost use Rattle.std.specs.Prelude.{◌≡◌, ◌+◌, ◌*◌, ◌<◌, ◌^◌, length};
-ghost use Rattle.capnp_layout.specs.Pointer.{words_of};
+ghost use Rattle.capnp_layout.specs.Prelude.{words_of};
 ghost use Rattle.capnp_orphans.specs.Held.{AreSized, elements};
 
 use crate::draft::writing::draft_fits;

@@ -1,6 +1,6 @@
 //! Words that are put into blocks.
 ghost use Rattle.std.specs.Prelude.{◌≡◌, ◌+◌, ◌*◌, ◌^◌, ◌<◌, ◌++◌, length, map};
-ghost use Rattle.capnp_layout.specs.Pointer.{words_of};
+ghost use Rattle.capnp_layout.specs.Prelude.{words_of};
 ghost use Rattle.capnp_orphans.specs.Orphans.{links};
 
 use crate::orphan::OrphanWord;

@@ -2,13 +2,8 @@
 use Rattle.std.proofs.Common.{inl, inr, subst, ◌-◌, ◌%◌, ◌≡◌, ℕ, ◌<◌, List, [], ◌∷◌, ◌++◌, refl, replicate, lit<, lit≤, arith}
 use Rattle.capnp_frame.specs.declared.error.ErrorKind.{ErrorKind}
 use Rattle.capnp_frame.specs.declared.error.ErrorKind.TheVariants.{FailedToFillTheWholeBuffer, PrematureEndOfPackedInput, PackedInputDidNotEndCleanlyOnASegmentBoundary, NotWholeWords}
-use Rattle.capnp_pack.specs.Group.{Group, tagged, zeros, literal, zero_word}
-use Rattle.capnp_pack.specs.Chunk.{IsChunk}
-use Rattle.capnp_pack.specs.Packed.{Packs}
+use Rattle.capnp_pack.specs.Prelude.{Group, tagged, zeros, literal, zero_word, IsChunk, Packs, IsPackedFrame, IsGroupFault, RefusesChunk, zero_words}
 use Rattle.capnp_frame.specs.declared.serialize.segment_table.Padding.TheVariants.{Zero}
-use Rattle.capnp_pack.specs.PackedFrame.{IsPackedFrame}
-use Rattle.capnp_pack.specs.PackedSource.{IsGroupFault, RefusesChunk}
-use Rattle.capnp_pack.specs.UnpackingLaws.{zero_words}
 
 abbrev eight : List ℕ
 eight = 1 ∷ 2 ∷ 3 ∷ 4 ∷ 5 ∷ 6 ∷ 7 ∷ 8 ∷ []

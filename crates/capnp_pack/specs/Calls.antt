@@ -6,9 +6,7 @@ use Rattle.capnp_frame.specs.declared.error.ErrorKind.{ErrorKind}
 use Rattle.capnp_frame.specs.declared.error.ErrorKind.TheVariants.{DeviceFailed}
 use Rattle.capnp_frame.specs.declared.io.Read.{Ghosts as Source}
 use Rattle.capnp_frame.specs.declared.io.Write.{Ghosts as Sink}
-use Rattle.capnp_frame.specs.Asking.{Asked, FailsOr}
-use Rattle.capnp_frame.specs.Sink.{Adds, DeclinesAny, Grows}
-use Rattle.capnp_frame.specs.Source.{IfKnown, Fails}
+use Rattle.capnp_frame.specs.Prelude.{Asked, FailsOr, Adds, DeclinesAny, Grows, IfKnown, Fails}
 use Rattle.capnp_pack.specs.Steps.{LeavesParts}
 
 -- of some bytes of which `stops` holds, the first parts are handed on, and of the next part what

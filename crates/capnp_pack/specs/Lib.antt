@@ -10,3 +10,4 @@ pub mod UnpackingLaws
 pub mod RefusingLaws
 pub mod PackedStreams
 pub mod Calls
+pub mod Prelude

@@ -2,10 +2,8 @@
 -- Encoding document, "Packing" and "Serialization Over a Stream".
 use Rattle.std.specs.Prelude.{◌≡◌, ℕ, List, ◌++◌, length, take, drop}
 use Rattle.std.specs.List.{concat, AllByRecursion}
-use Rattle.capnp_frame.specs.Message.{IsWholeWords, lengths}
+use Rattle.capnp_frame.specs.Prelude.{IsWholeWords, lengths, IsTable, zero_padded_table, AppendsAll}
 use Rattle.capnp_frame.specs.declared.serialize.segment_table.Padding.{Padding}
-use Rattle.capnp_frame.specs.SegmentTable.{IsTable, zero_padded_table}
-use Rattle.capnp_frame.specs.Sink.{AppendsAll}
 use Rattle.capnp_pack.specs.Chunk.{IsChunk}
 use Rattle.capnp_pack.specs.Packed.{Packs}
 

@@ -2,9 +2,7 @@
 use Rattle.std.specs.Prelude.{◌≡◌, ℕ, ◌⊎◌, List, []}
 use Rattle.std.specs.List.{concat}
 use Rattle.capnp_frame.specs.declared.error.ErrorKind.TheVariants.{NotWholeWords}
-use Rattle.capnp_frame.specs.Message.{IsWholeWords}
-use Rattle.capnp_frame.specs.Refusals.{Unless}
-use Rattle.capnp_frame.specs.Sink.{Appending, Leaving, Declining, DeclinesAny, AppendsAll, LeavesSome}
+use Rattle.capnp_frame.specs.Prelude.{IsWholeWords, Unless, Appending, Leaving, Declining, DeclinesAny, AppendsAll, LeavesSome}
 use Rattle.capnp_pack.specs.Packed.{Packs}
 
 -- what the sink adds for the parts of the packed encoding, however that is cut into parts

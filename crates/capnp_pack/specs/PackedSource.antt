@@ -4,8 +4,7 @@ use Rattle.std.specs.List.{concat, AllByRecursion}
 use Rattle.capnp_frame.specs.declared.error.Error.{Error}
 use Rattle.capnp_frame.specs.declared.error.ErrorKind.{ErrorKind}
 use Rattle.capnp_frame.specs.declared.error.ErrorKind.TheVariants.{FailedToFillTheWholeBuffer, PrematureEndOfPackedInput, PackedInputDidNotEndCleanlyOnASegmentBoundary, NotWholeWords}
-use Rattle.capnp_frame.specs.Refusals.{Unless}
-use Rattle.capnp_frame.specs.Source.{Giving, Refusing, IfKnown}
+use Rattle.capnp_frame.specs.Prelude.{Unless, Giving, Refusing, IfKnown}
 use Rattle.capnp_pack.specs.Group.{Group, tagged, zeros, literal, IsGroup, group_words, marked}
 use Rattle.capnp_pack.specs.Chunk.{IsChunk, text_of, words_of_groups}
 

@@ -3,8 +3,7 @@ use Rattle.std.specs.Prelude.{ℕ, List, length}
 use Rattle.std.specs.List.{concat}
 use Rattle.capnp_frame.specs.declared.io.Read.{Ghosts}
 use Rattle.capnp_frame.specs.declared.serialize.segment_table.Padding.{Padding}
-use Rattle.capnp_frame.specs.Refusals.{Outgrows, TakesForLengths}
-use Rattle.capnp_frame.specs.Streams.{StreamRules, framed_rules}
+use Rattle.capnp_frame.specs.Prelude.{Outgrows, TakesForLengths, StreamRules, framed_rules}
 use Rattle.capnp_pack.specs.PackedFrame.{PackedStands}
 use Rattle.capnp_pack.specs.PackedSource.{Unpacks, RefusesChunk}
 

@@ -4,8 +4,7 @@ use Rattle.std.specs.List.{AllByRecursion}
 use Rattle.capnp_pack.specs.declared.buffer.TheConstants.{BUFFER_BYTES}
 use Rattle.capnp_pack.specs.Group.{Group, IsGroup}
 use Rattle.capnp_pack.specs.Chunk.{text_of, words_of_groups}
-use Rattle.capnp_frame.specs.Sink.{Appending}
-use Rattle.capnp_frame.specs.Source.{IfKnown}
+use Rattle.capnp_frame.specs.Prelude.{Appending, IfKnown}
 use Rattle.capnp_pack.specs.Packed.{AreLongest}
 use Rattle.capnp_pack.specs.Steps.{Hands}
 

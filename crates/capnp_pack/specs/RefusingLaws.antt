@@ -4,8 +4,7 @@ use Rattle.std.proofs.lemmas.List.{append-nil}
 use Rattle.std.proofs.lemmas.List.Folds.{concat-append}
 use Rattle.std.specs.List.{concat, AllByRecursion}
 use Rattle.capnp_frame.specs.declared.error.ErrorKind.{ErrorKind}
-use Rattle.capnp_frame.specs.Source.{IsSource}
-use Rattle.capnp_frame.specs.SplittingLaws.{same_front}
+use Rattle.capnp_frame.specs.Prelude.{IsSource, same_front}
 use Rattle.capnp_pack.specs.Group.{Group, tagged, zeros, literal, IsGroup, AreZero, group_encoding, group_words, marked, unmarked}
 use Rattle.capnp_pack.specs.Chunk.{text_of, words_of_groups}
 use Rattle.capnp_pack.specs.PackedSource.{Unpacks, head_encoding, run_encoding, group_size, IsHeadCut, IsHeadAt, IsGroupFault, MeetsFault, RefusesChunk}

@@ -3,8 +3,7 @@ use Rattle.std.specs.Prelude.{◌≡◌, ℕ, ◌+◌, ◌*◌, ◌%◌, ◌<◌
 use Rattle.std.specs.List.{concat, filter, AllByRecursion}
 use Rattle.capnp_frame.specs.declared.error.ErrorKind.{ErrorKind}
 use Rattle.capnp_frame.specs.declared.error.ErrorKind.TheVariants.{PrematureEndOfPackedInput, PackedInputDidNotEndCleanlyOnASegmentBoundary}
-use Rattle.capnp_frame.specs.Sink.{Appending, Leaving, AppendsAll, LeavesSome}
-use Rattle.capnp_frame.specs.Source.{Refusing, RunsShort, IfKnown, ReturnsPart}
+use Rattle.capnp_frame.specs.Prelude.{Appending, Leaving, AppendsAll, LeavesSome, Refusing, RunsShort, IfKnown, ReturnsPart}
 use Rattle.capnp_pack.specs.Group.{Group, IsGroup, AreZero, group_encoding, group_words, marked, unmarked, zero_bytes, zero_word}
 use Rattle.capnp_pack.specs.Chunk.{IsChunk, text_of, words_of_groups}
 use Rattle.capnp_pack.specs.Packed.{IfFirst, IsLongest}

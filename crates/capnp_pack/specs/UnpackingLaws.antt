@@ -5,8 +5,7 @@ use Rattle.std.proofs.lemmas.List.{nil_from_length}
 use Rattle.std.proofs.lemmas.List.Folds.{concat-append}
 use Rattle.std.specs.Prelude.{◌==◌, if◌then◌else◌}
 use Rattle.std.specs.List.{concat, AllByRecursion}
-use Rattle.capnp_frame.specs.Source.{IsPlain}
-use Rattle.capnp_frame.specs.SplittingLaws.{same_front}
+use Rattle.capnp_frame.specs.Prelude.{IsPlain, same_front}
 use Rattle.capnp_pack.specs.Group.{Group, tagged, zeros, literal, IsGroup, IsWord, AreZero, zero_word, group_encoding, group_words, marked, unmarked}
 use Rattle.capnp_pack.specs.Chunk.{text_of, words_of_groups}
 use Rattle.capnp_pack.specs.PackedSource.{Unpacks}

@@ -3,7 +3,7 @@
 //! They are collected in a buffer, of which the first bytes are used. A group adds at most 10 bytes:
 //! a tag, a word and a count.
 ghost use Rattle.std.specs.Prelude.{◌≡◌, ℕ, ◌+◌, ◌<◌, ◌≤◌, [], ◌∷◌, ◌++◌, IsOk, length, take, count_ones};
-ghost use Rattle.capnp_frame.specs.Source.{IfKnown};
+ghost use Rattle.capnp_frame.specs.Prelude.{IfKnown};
 ghost use Rattle.capnp_pack.specs.Calls.{HandsOn};
 ghost use Rattle.capnp_pack.specs.Steps.{Hands, nonzero, tag_of};
 

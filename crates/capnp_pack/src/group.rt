@@ -4,9 +4,7 @@
 //! is read byte by byte, so no more than its own bytes are consumed, wherever the cut is.
 ghost use Rattle.std.specs.Prelude.{◌≡◌, ◌<◌, ◌≤◌, ◌%◌, [], ◌∷◌, ◌++◌, length, take, Option, Some, IfOk, IfErr, IfSome, ◌⊎◌, ◌↔◌};
 ghost use Rattle.capnp_frame.specs.declared.error.ErrorKind.{ErrorKind};
-ghost use Rattle.capnp_frame.specs.Message.{IsWholeWords};
-ghost use Rattle.capnp_frame.specs.Source.{IfKnown, IsRefused, ReturnsPart, RunsShort};
-ghost use Rattle.capnp_frame.specs.Asking.{Asked, FailsOr};
+ghost use Rattle.capnp_frame.specs.Prelude.{IsWholeWords, IfKnown, IsRefused, ReturnsPart, RunsShort, Asked, FailsOr};
 ghost use Rattle.capnp_pack.specs.Calls.{TakesFrom, TakesNext};
 ghost use Rattle.capnp_pack.specs.PackedSource.{Unpacks, RefusesChunk, LeavesOverrun, Overran};
 ghost use Rattle.capnp_pack.specs.Steps.{TakesGroups, HeadOver, CountOver, GroupAt, FirstGroupFails, FaultAfter, MarkedAt, marked_count, Lacks, RunAt, RefusesRun};

@@ -1,13 +1,8 @@
 //! Facts about packed encodings, each the contract of a function that does nothing.
 ghost use Rattle.std.specs.Prelude.{◌≡◌, ℕ, ◌+◌, ◌*◌, ◌/◌, ◌<◌, ◌≤◌, List, [], ◌∷◌, ◌++◌, length, ◌↔◌};
 ghost use Rattle.std.specs.List.{AllByRecursion};
-ghost use Rattle.capnp_frame.specs.Message.{IsWholeWords, lengths};
+ghost use Rattle.capnp_frame.specs.Prelude.{IsWholeWords, lengths, zero_padded_table, HasTable, MessageStands, IsFront, AppendsAll, AppendsSame, LeavesFront, chunks};
 ghost use Rattle.capnp_frame.specs.declared.serialize.segment_table.Padding.{Padding};
-ghost use Rattle.capnp_frame.specs.SegmentTable.{zero_padded_table, HasTable};
-ghost use Rattle.capnp_frame.specs.Requests.{MessageStands};
-ghost use Rattle.capnp_frame.specs.Source.{IsFront};
-ghost use Rattle.capnp_frame.specs.Sink.{AppendsAll, AppendsSame, LeavesFront};
-ghost use Rattle.capnp_frame.specs.Writing.{chunks};
 ghost use Rattle.capnp_pack.specs.Packed.{Packs};
 ghost use Rattle.capnp_pack.specs.PackedFrame.{IsPackedFrame, IsPackedEncoding, PackedStands};
 ghost use Rattle.capnp_pack.specs.PackedSource.{Unpacks};

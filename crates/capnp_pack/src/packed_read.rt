@@ -2,8 +2,7 @@
 ghost use Rattle.std.specs.Prelude.{◌≡◌, ◌<◌, ◌≤◌, ◌↔◌, ◌⊎◌, Some, [], IfOk, IfErr, IfSome, OnOk, length, take, refl};
 ghost use Rattle.std.specs.Result.{IsErrAnd};
 ghost use Rattle.std.proofs.Common.{◌∙◌};
-ghost use Rattle.capnp_frame.specs.Message.{IsWholeWords};
-ghost use Rattle.capnp_frame.specs.Source.{IfKnown, ReturnsPart, IsRefused, IsPlain, Advances, Fails};
+ghost use Rattle.capnp_frame.specs.Prelude.{IsWholeWords, IfKnown, ReturnsPart, IsRefused, IsPlain, Advances, Fails};
 ghost use Rattle.capnp_frame.specs.declared.error.ErrorKind.{ErrorKind};
 ghost use Rattle.capnp_pack.specs.PackedSource.{Unpacks, RefusesChunk, LeavesOverrun, Overran};
 ghost use Rattle.capnp_pack.specs.RefusingLaws.{unpacking};

@@ -3,8 +3,7 @@
 //! Groups that the source shows whole are passed over: of each the tag is looked at, and the count
 //! after tags 0 and 255. A group that the source cuts is read as `group.rt` reads it.
 ghost use Rattle.std.specs.Prelude.{◌≡◌, ℕ, List, ◌-◌, ◌%◌, ◌<◌, ◌≤◌, IfSome, OnOk};
-ghost use Rattle.capnp_frame.specs.Source.{IfKnown, IsRefused};
-ghost use Rattle.capnp_frame.specs.Asking.{Asked, FailsOr};
+ghost use Rattle.capnp_frame.specs.Prelude.{IfKnown, IsRefused, Asked, FailsOr};
 ghost use Rattle.capnp_pack.specs.Calls.{TakesNext};
 ghost use Rattle.capnp_pack.specs.PackedSource.{Unpacks, RefusesChunk, LeavesOverrun, Overran};
 ghost use Rattle.capnp_pack.specs.Steps.{FirstGroupFails, Passes, PassesGroups};

@@ -1,7 +1,6 @@
 //! Packed messages, read by the readers of `capnp_frame` over `PackedRead`.
 ghost use Rattle.std.specs.Prelude.{length};
-ghost use Rattle.capnp_frame.specs.Streams.{next_in, ReadsStream, ReadsStreamInto};
-ghost use Rattle.capnp_frame.specs.FramedInto.{ReadsFramedInto};
+ghost use Rattle.capnp_frame.specs.Prelude.{next_in, ReadsStream, ReadsStreamInto, ReadsFramedInto};
 ghost use Rattle.capnp_pack.specs.PackedStreams.{packed_rules, packed_reusing_rules};
 
 mod skipping;

@@ -1,7 +1,7 @@
 -- Which of some structs a word belongs to, by how many words it comes after the first one's start.
 use Rattle.std.proofs.Common.{◌≡◌, ℕ, zero, suc, ◌+◌, ◌-◌, ◌*◌, ◌/◌, ◌%◌, ◌<◌, ◌≤◌, [], refl, sym, ap, ◌∙◌, arith}
 use Rattle.std.proofs.lemmas.Nat.{div-add-mod', mod_below, mod-mul-add, div-mul-add}
-use Rattle.capnp_layout.specs.Object.{row_places}
+use Rattle.capnp_layout.specs.Prelude.{row_places}
 use Rattle.capnp_layout.specs.declared.pointer.StructSize.{StructSize}
 use Rattle.capnp_show.specs.Objects.{size_of}
 use Rattle.capnp_show.specs.Words.{IsPointerOfElement}

@@ -1,8 +1,6 @@
 -- The landing pad on the way to an object.
 use Rattle.std.proofs.Common.{◌≡◌, ℕ, ◌+◌, if◌then◌else◌, Bool, true, false, List, Some, None, Option, slice_get, IfSome, MatchOption, refl, arith}
-use Rattle.capnp_layout.specs.Pointer.{has_wide_landing_pad}
-use Rattle.capnp_layout.specs.Object.{word_at, landing_pad, Lands, Target, local, far as by_landing_pad, double_far}
-use Rattle.capnp_layout.specs.PointerWord.{IsFarPointer}
+use Rattle.capnp_layout.specs.Prelude.{has_wide_landing_pad, word_at, landing_pad, Lands, Target, local, far as by_landing_pad, double_far, IsFarPointer}
 use Rattle.capnp_layout.specs.declared.place.Place.{Place}
 use Rattle.capnp_layout.specs.declared.pointer.FarPointer.{FarPointer}
 use Rattle.capnp_layout.proofs.objects.ObjectLemmas.{same_word}

@@ -1,11 +1,11 @@
 -- What the bytes at the front of an input say of its format (src/detected.rt).
 use Rattle.std.specs.Prelude.{◌≡◌, ◌⊎◌, ℕ, ◌<◌, ◌≤◌, List, ◌++◌, length, Option}
 use Rattle.std.specs.Io.KnownBytes.{Consumes, IsAtEnd}
-use Rattle.capnp.specs.Passed.{ErrorKind, Zero}
+use Rattle.capnp.specs.Prelude.{ErrorKind, Zero}
 use Rattle.capnp.specs.declared.streams.Format.{Format}
 use Rattle.capnp.specs.declared.streams.Format.TheVariants.{Framed, Packed}
 use Rattle.capnp_frame.specs.declared.error.ErrorKind.TheVariants.{EmptyBuffer, MessageEndsPrematurely}
-use Rattle.capnp_frame.specs.FlatReaders.{FlatRules, no_alloc_rules, StandsBy, RefusesBy}
+use Rattle.capnp_frame.specs.Prelude.{FlatRules, no_alloc_rules, StandsBy, RefusesBy}
 use Rattle.capnp_show.specs.declared.detected.Look.{Look}
 use Rattle.capnp_show.specs.declared.detected.Look.TheVariants.{Is, More}
 

@@ -2,10 +2,10 @@
 use Rattle.std.specs.Prelude.{◌≡◌, ⊤, ℕ, List, string_bytes}
 use Rattle.sha2.specs.Sha256.{sha256}
 use Rattle.hex.specs.Hex.{encode_lower}
-use Rattle.capnp.specs.Passed.{Pointer, LacksForm}
-use Rattle.capnp_frame.specs.Message.{IsWholeWords}
-use Rattle.capnp_layout.specs.Pointer.{words_of}
-use Rattle.capnp_wire.specs.Values.{IsCanonicalForm}
+use Rattle.capnp.specs.Prelude.{Pointer, LacksForm}
+use Rattle.capnp_frame.specs.Prelude.{IsWholeWords}
+use Rattle.capnp_layout.specs.Prelude.{words_of}
+use Rattle.capnp_wire.specs.Prelude.{IsCanonicalForm}
 use Rattle.capnp_show.specs.declared.hash.Hash.{Hash}
 use Rattle.capnp_show.specs.declared.hash.Hash.TheVariants.{Of, Lacking}
 

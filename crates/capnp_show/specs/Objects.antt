@@ -1,10 +1,7 @@
 -- What the program finds at pointers (src/objects.rt), in the terms of the crate that reads objects.
 use Rattle.std.specs.Prelude.{◌≡◌, ℕ, ◌+◌, ◌-◌, ◌^◌, ◌<◌, min, if◌then◌else◌, List, Option, Some, None, slice_get, IfSome}
-use Rattle.capnp.specs.Passed.{ErrorKind}
-use Rattle.capnp_layout.specs.Object.{message_of, word_at, Lands, Target, IsStart, ShapeStands}
-use Rattle.capnp_layout.specs.PointerWord.{IsFarPointer}
-use Rattle.capnp_layout.specs.Body.{shape_of, traversed_of}
-use Rattle.capnp_layout.specs.Faults.{Fault}
+use Rattle.capnp.specs.Prelude.{ErrorKind}
+use Rattle.capnp_layout.specs.Prelude.{message_of, word_at, Lands, Target, IsStart, ShapeStands, IsFarPointer, shape_of, traversed_of, Fault}
 use Rattle.capnp_layout.specs.declared.place.Place.{Place}
 use Rattle.capnp_layout.specs.declared.pointer.FarPointer.{FarPointer}
 use Rattle.capnp_layout.specs.declared.pointer.StructSize.{StructSize}

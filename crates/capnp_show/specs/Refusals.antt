@@ -1,6 +1,6 @@
 -- What is said of errors (`src/refusals.rt`).
 use Rattle.std.specs.Prelude.{ℕ, List, [], ◌++◌, codes}
-use Rattle.capnp.specs.Passed.{ErrorKind}
+use Rattle.capnp.specs.Prelude.{ErrorKind}
 use Rattle.capnp_frame.specs.declared.error.ErrorKind.TheVariants.{FailedToFillTheWholeBuffer, BufferNotLargeEnough, EmptyBuffer, EmptySlice, InvalidNumberOfSegments, MessageEndsPrematurely, MessageSizeOverflow, MessageTooLarge, PrematureEndOfFile, PrematureEndOfPackedInput, PackedInputDidNotEndCleanlyOnASegmentBoundary, OutOfMemory, DeviceFailed, NotWholeWords, AllocationTooLarge, SegmentTaken, PointerOutOfBounds, InvalidSegmentId, NestingLimitExceeded, ReadLimitExceeded, CapabilityRefused, WrongPointerKind, TextNotTerminated, CanonicalTooLarge, NotOneSegment, NonZeroPadding}
 use Rattle.capnp_show.specs.Texts.{AddsEscaped}
 

@@ -1,10 +1,9 @@
 -- The rows of nodes that a walk is in (src/tree.rt).
 use Rattle.std.specs.Prelude.{◌≡◌, ◌≢◌, ◌⊎◌, ℕ, ◌+◌, ◌-◌, ◌^◌, ◌<◌, ◌≤◌, min, List, [], ◌∷◌, ◌++◌, Option, Some, None, IfSome, option_map, option_to_list}
 use Rattle.std.specs.List.{All}
-use Rattle.capnp.specs.Passed.{message_of}
+use Rattle.capnp.specs.Prelude.{message_of}
 use Rattle.capnp_frame.specs.declared.error.ErrorKind.TheVariants.{NestingLimitExceeded, ReadLimitExceeded}
-use Rattle.capnp_layout.specs.Object.{word_at, places, row_places}
-use Rattle.capnp_layout.specs.Body.{room_of, shape_of}
+use Rattle.capnp_layout.specs.Prelude.{word_at, places, row_places, room_of, shape_of}
 use Rattle.capnp_layout.specs.declared.place.Place.{Place}
 use Rattle.capnp_layout.specs.declared.pointer.StructSize.{StructSize}
 use Rattle.capnp_show.specs.declared.objects.Object.{Object}

@@ -1,8 +1,6 @@
 -- What is listed of a message, and when a text is written on (src/messages.rt, src/shown.rt).
 use Rattle.std.specs.Prelude.{◌≡◌, ◌<◌, ◌≤◌, ◌-◌, ◌^◌, ℕ, List, [], Option, length, min, take}
-use Rattle.capnp_frame.specs.Message.{size_in_words}
-use Rattle.capnp_frame.specs.Sink.{Appending, Adds}
-use Rattle.capnp_frame.specs.Source.{IfKnown}
+use Rattle.capnp_frame.specs.Prelude.{size_in_words, Appending, Adds, IfKnown}
 use Rattle.capnp_frame.specs.declared.serialize.segment_table.TheConstants.{SEGMENTS_COUNT_LIMIT}
 use Rattle.capnp_show.specs.declared.listing.Listed.{Listed}
 

@@ -3,7 +3,7 @@ use Rattle.std.specs.Prelude.{◌≡◌, ◌≢◌, ◌⊎◌, ℕ, ◌-◌, ◌
 use Rattle.std.specs.Char.{encode_utf8}
 use Rattle.std.specs.Str.{chars}
 use Rattle.std.specs.Fmt.{digits, padded_integral, format_spec}
-use Rattle.capnp.specs.Passed.{ErrorKind}
+use Rattle.capnp.specs.Prelude.{ErrorKind}
 use Rattle.capnp_show.specs.declared.drawn.Anchor.{Anchor}
 use Rattle.capnp_show.specs.declared.owners.Role.{Role}
 use Rattle.capnp_show.specs.declared.owners.Role.TheVariants.{Data, Pointer as PointerRole, Tag, Landing}

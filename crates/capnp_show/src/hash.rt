@@ -1,6 +1,6 @@
 //! The hash of a message's canonical form.
 ghost use Rattle.std.specs.Prelude.{◌≡◌, ◌⊎◌, MatchResult};
-ghost use Rattle.capnp.specs.Passed.{ErrorKind, LacksForm};
+ghost use Rattle.capnp.specs.Prelude.{ErrorKind, LacksForm};
 ghost use Rattle.capnp_message.specs.Seen.{root_of};
 ghost use Rattle.capnp_show.specs.Hashes.{IsHashOf, ShowsHash};
 

@@ -1,14 +1,8 @@
 //! The messages of an input, shown one by one.
 ghost use Rattle.std.specs.Prelude.{◌≡◌, ◌-◌, ◌^◌, None, IfErr, OnOk, OnErr, length, min, take};
 ghost use Rattle.std.specs.List.{AllByRecursion};
-ghost use Rattle.capnp_frame.specs.Limits.{IsWithin};
-ghost use Rattle.capnp_frame.specs.Message.{IsWholeWords, size_in_words};
-ghost use Rattle.capnp_frame.specs.Sink.{Adds};
-ghost use Rattle.capnp_frame.specs.Source.{IfKnown, Fails};
-ghost use Rattle.capnp.specs.Headline.{by_format, ReadsMessage};
-ghost use Rattle.capnp.specs.Passed.{ErrorKind, Zero};
-ghost use Rattle.capnp.specs.Runs.{DecliningWriting, IsWritingFault};
-ghost use Rattle.capnp.specs.Transcoding.{Transcodes, DeclinesTranscoded};
+ghost use Rattle.capnp_frame.specs.Prelude.{IsWithin, IsWholeWords, size_in_words, Adds, IfKnown, Fails};
+ghost use Rattle.capnp.specs.Prelude.{by_format, ReadsMessage, ErrorKind, Zero, DecliningWriting, IsWritingFault, Transcodes, DeclinesTranscoded};
 ghost use Rattle.capnp_show.specs.Shown.{Lists};
 
 use crate::counted::Counted;

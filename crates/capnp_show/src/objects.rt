@@ -3,9 +3,7 @@
 //! Nothing is followed except the landing pads of far pointers, so each result takes a few steps,
 //! whatever the words are.
 ghost use Rattle.std.specs.Prelude.{◌≡◌, ◌<◌, ◌+◌, ◌*◌, ℕ, List, Some, length, slice_get, slice_range, IfOk, IfErr, MatchOption};
-ghost use Rattle.capnp_layout.specs.Body.{room_of};
-ghost use Rattle.capnp_layout.specs.Object.{message_of, word_at};
-ghost use Rattle.capnp_layout.specs.Pointer.{words_of};
+ghost use Rattle.capnp_layout.specs.Prelude.{room_of, message_of, word_at, words_of};
 ghost use Rattle.capnp_layout.specs.declared.pointer.FarPointer.{FarPointer};
 ghost use Rattle.capnp_show.specs.Objects.{counted, further, landing_pad_words, IsFarIn, IsObject, IsRefused};
 

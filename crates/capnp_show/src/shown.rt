@@ -2,7 +2,7 @@
 ghost use Rattle.std.specs.Prelude.{◌≡◌, ◌⊎◌, ◌<◌, OnOk, IfErr, IsOk, Some, None, string_bytes, if◌then◌else◌};
 ghost use Rattle.std.specs.String.{string_len};
 ghost use Rattle.capnp_frame.specs.declared.error.ErrorKind.{ErrorKind};
-ghost use Rattle.capnp_frame.specs.Source.{Fails};
+ghost use Rattle.capnp_frame.specs.Prelude.{Fails};
 ghost use Rattle.capnp_show.specs.Shown.{WritesFull};
 
 use crate::drawing::{is_drawn, show_drawing};

@@ -4,7 +4,7 @@
 //! the objects have more words than the limit of words.
 ghost use Rattle.std.specs.Prelude.{◌≡◌, ◌↔◌, ◌≤◌, ◌+◌, ◌-◌, [], ◌∷◌, min, MatchOption, IfOk, IfSome, IsTrue, IsFalse, None, option_map};
 ghost use Rattle.std.specs.List.{All};
-ghost use Rattle.capnp_wire.specs.Readers.{nesting_of};
+ghost use Rattle.capnp_wire.specs.Prelude.{nesting_of};
 ghost use Rattle.capnp_show.specs.Rows.{row_after, pointers_row, IsSpent, IsNodeOf, LeavesRows, LeavesWords, Comes, Finds, IsBelow};
 
 use crate::objects::{Object, moved, object_at};

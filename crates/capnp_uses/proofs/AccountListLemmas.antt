@@ -7,8 +7,7 @@ use Rattle.std.proofs.lemmas.List.Sums.{sum_by_more, sum_by_more_le}
 use Rattle.capnp_frame.specs.declared.error.Error.{Error}
 use Rattle.capnp_frame.specs.declared.error.ErrorKind.{ErrorKind}
 use Rattle.capnp_frame.specs.declared.error.ErrorKind.TheVariants.{OutOfMemory, AllocationTooLarge}
-use Rattle.capnp_wire.specs.Tree.{structs, Trees, none, tree, total_words}
-use Rattle.capnp_wire.specs.Values.{IsTextTree, LongText, HasWords, LacksWords}
+use Rattle.capnp_wire.specs.Prelude.{structs, Trees, none, tree, total_words, IsTextTree, LongText, HasWords, LacksWords}
 use Rattle.capnp_values.specs.DataSections.{with_bits, with_field}
 use Rattle.capnp_orphans.specs.declared.draft.StructDraft.{StructDraft}
 use Rattle.capnp_orphans.specs.Segments.{Segment, body_of, Appends}

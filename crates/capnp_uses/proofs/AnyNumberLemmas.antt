@@ -3,10 +3,7 @@ use Rattle.std.proofs.Common.{◌≡◌, ℕ, List, [], refl, sym, subst}
 use Rattle.capnp_frame.specs.declared.error.ErrorKind.{ErrorKind}
 use Rattle.capnp_frame.specs.declared.error.ErrorKind.TheVariants.{WrongPointerKind}
 use Rattle.capnp_frame.specs.declared.message.segments.ReaderSegments.{Ghosts}
-use Rattle.capnp_wire.specs.Tree.{Form, null, struct, numbers, pointers, structs}
-use Rattle.capnp_wire.specs.Object.{nothing}
-use Rattle.capnp_wire.specs.Views.{Pointer, Denotes, Accepts, Declines, Reads}
-use Rattle.capnp_wire.specs.ObjectViews.{IsObjectView}
+use Rattle.capnp_wire.specs.Prelude.{Form, null, struct, numbers, pointers, structs, nothing, Pointer, Denotes, Accepts, Declines, Reads, IsObjectView}
 use Rattle.capnp_wire.specs.declared.any_object.numbers.Numbers.{Numbers as NumbersReader}
 use Rattle.capnp_wire.specs.declared.any_object.reader.Reader.{Reader}
 use Rattle.capnp_wire.specs.declared.any_object.reader.Reader.TheVariants.{Null, Struct, Structs, Pointers, Numbers}

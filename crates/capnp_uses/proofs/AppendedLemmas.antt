@@ -6,18 +6,11 @@ use Rattle.capnp_frame.specs.declared.serialize.segment_table.Padding.{Padding}
 use Rattle.capnp_frame.specs.declared.error.ErrorKind.{ErrorKind}
 use Rattle.capnp_frame.specs.declared.error.ErrorKind.TheVariants.{DeviceFailed, OutOfMemory}
 use Rattle.capnp_frame.specs.declared.io.Read.{Ghosts}
-use Rattle.capnp_frame.specs.Sink.{Adds, ByKind}
-use Rattle.capnp_frame.specs.Limits.{KeepsLimit}
-use Rattle.capnp_frame.specs.Message.{lengths}
-use Rattle.capnp_frame.specs.Source.{Giving, Refusing, Fails}
-use Rattle.capnp_frame.specs.Streams.{next_in, ReadsStream}
-use Rattle.capnp_frame.specs.Texts.{Grammar, AreEncodings}
-use Rattle.capnp_frame.specs.Writing.{IsWritable, IsWithinSegmentLimit}
+use Rattle.capnp_frame.specs.Prelude.{Adds, ByKind, KeepsLimit, lengths, Giving, Refusing, Fails, next_in, ReadsStream, Grammar, AreEncodings, IsWritable, IsWithinSegmentLimit}
 use Rattle.capnp_frame.proofs.sources.SourceLemmas.{IfKnown-weaker}
 use Rattle.capnp_frame.proofs.encodings.TextLemmas.{PartsStreams}
 use Rattle.capnp.specs.declared.streams.Format.{Format}
-use Rattle.capnp.specs.Streams.{grammar_of, rules_of}
-use Rattle.capnp.specs.Written.{IsTextOf, DeclinesAs, AppendsEach, RefusesManyOf, RefusesOneOf}
+use Rattle.capnp.specs.Prelude.{grammar_of, rules_of, IsTextOf, DeclinesAs, AppendsEach, RefusesManyOf, RefusesOneOf}
 use Rattle.capnp.proofs.ChunkLemmas.{format_memory}
 use Rattle.capnp.proofs.RunLemmas.{format_lawful, format_requested, format_parts}
 use Rattle.capnp.proofs.ReaderLemmas.{nothing_stands}

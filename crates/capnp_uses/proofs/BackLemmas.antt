@@ -2,15 +2,8 @@
 use Rattle.std.proofs.Common.{◌≡◌, ℕ, List, [], ◌∷◌, ◌++◌, Bool, true, false, nat_eq, map, refl, sym, subst}
 use Rattle.std.proofs.lemmas.List.{append_cancel_right}
 use Rattle.std.specs.Cmp.Lexicographic.{pointwise, told_text}
-use Rattle.capnp_wire.specs.Tree.{Form, numbers, Trees}
-use Rattle.capnp_wire.specs.Object.{Shape}
-use Rattle.capnp_wire.specs.Reached.{At, at, root}
-use Rattle.capnp_wire.specs.Readers.{unlimited_root}
-use Rattle.capnp_wire.specs.Views.{Denotes, Accepts, Reads, IsText, TakesText}
-use Rattle.capnp_wire.specs.Values.{IsTextTree}
-use Rattle.capnp_build.specs.Bytes.{Space}
-use Rattle.capnp_build.specs.BuilderState.{used_of}
-use Rattle.capnp_build.specs.Built.{message, IsSet}
+use Rattle.capnp_wire.specs.Prelude.{Form, numbers, Trees, Shape, At, at, root, unlimited_root, Denotes, Accepts, Reads, IsText, TakesText, IsTextTree}
+use Rattle.capnp_build.specs.Prelude.{Space, used_of, message, IsSet}
 use Rattle.capnp_uses.specs.Roots.{HasRootForm}
 use Rattle.capnp_uses.proofs.RootLemmas.{root_denotes, root_is_read}
 

@@ -1,13 +1,11 @@
 -- A person and a contact as values are one tree.
 use Rattle.std.proofs.Common.{◌≡◌, ℕ, List, [], ◌∷◌, ◌++◌, map, Result, Ok, Err, IfOk, ◌∙◌, ap, subst}
 use Rattle.capnp_frame.specs.declared.error.Error.{Error}
-use Rattle.capnp_wire.specs.Tree.{Form, struct, structs, numbers, Trees, none, tree}
-use Rattle.capnp_wire.specs.Trim.{before}
-use Rattle.capnp_wire.specs.Values.{IsTextTree}
+use Rattle.capnp_wire.specs.Prelude.{Form, struct, structs, numbers, Trees, none, tree, before, IsTextTree}
 use Rattle.capnp_values.specs.Fields.{IsRow}
 use Rattle.capnp_values.specs.Structs.{IsStruct}
 use Rattle.capnp_values.specs.StructLists.{AreRows, IsStructList}
-use Rattle.capnp.specs.Roots.{HasRootTree}
+use Rattle.capnp.specs.Prelude.{HasRootTree}
 use Rattle.capnp_uses.specs.Roots.{HasRootOf}
 use Rattle.capnp_uses.specs.People.{text_tree, texts, person_tree, phones_tree, contact_tree}
 

@@ -6,13 +6,9 @@ use Rattle.capnp_frame.specs.declared.error.ErrorKind.{ErrorKind}
 use Rattle.capnp_frame.specs.declared.error.ErrorKind.TheVariants.{DeviceFailed, OutOfMemory}
 use Rattle.capnp_frame.specs.declared.io.Read.{Ghosts}
 use Rattle.capnp_frame.specs.declared.serialize.segment_table.Padding.TheVariants.{Zero}
-use Rattle.capnp_frame.specs.Source.{IfKnown, Fails}
-use Rattle.capnp_frame.specs.Streams.{next_in, ReadsStream}
-use Rattle.capnp_frame.specs.Texts.{AreEncodings}
+use Rattle.capnp_frame.specs.Prelude.{IfKnown, Fails, next_in, ReadsStream, AreEncodings, TakesMemory}
 use Rattle.capnp.specs.declared.streams.Format.{Format}
-use Rattle.capnp.specs.Headline.{IsFault, ReturnsEncodings}
-use Rattle.capnp_frame.specs.Refusals.{TakesMemory}
-use Rattle.capnp.specs.Streams.{grammar_of, gives_of, rules_of, StandsNext, RefusesNext, IsStream}
+use Rattle.capnp.specs.Prelude.{IsFault, ReturnsEncodings, grammar_of, gives_of, rules_of, StandsNext, RefusesNext, IsStream}
 use Rattle.capnp.proofs.EndLemmas.{stream_once}
 use Rattle.capnp.proofs.RunLemmas.{format_parts}
 use Rattle.capnp_uses.specs.Devices.{ReadsFirst, ReadsAll}

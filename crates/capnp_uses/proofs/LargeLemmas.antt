@@ -4,16 +4,12 @@ use Rattle.std.specs.Prelude.{Any}
 use Rattle.std.proofs.lemmas.List.{length-map}
 use Rattle.capnp_frame.specs.declared.error.Error.{Error}
 use Rattle.capnp_frame.specs.declared.error.ErrorKind.{ErrorKind}
-use Rattle.capnp_wire.specs.Tree.{Trees, struct, structs, none, tree, total_words}
-use Rattle.capnp_wire.specs.Values.{HasWords, LacksWords, IsTextTree, LongText}
+use Rattle.capnp_wire.specs.Prelude.{Trees, struct, structs, none, tree, total_words, HasWords, LacksWords, IsTextTree, LongText}
 use Rattle.capnp_values.specs.Fields.{IsRow, RefusesRow}
 use Rattle.capnp_values.specs.Structs.{IsStruct, RefusesStruct}
 use Rattle.capnp_values.specs.StructLists.{RefusesRows, IsStructList, RefusesStructList}
-use Rattle.capnp_build.specs.Bytes.{Space}
+use Rattle.capnp_build.specs.Prelude.{Space, Built, FindsNoRoom, StopsFirst, RefusesCanonical}
 use Rattle.capnp_build.specs.declared.allocator.Allocator.{Ghosts}
-use Rattle.capnp_build.specs.Built.{Built}
-use Rattle.capnp_build.specs.Placed.{FindsNoRoom}
-use Rattle.capnp_build.specs.Outcomes.{StopsFirst, RefusesCanonical}
 use Rattle.capnp_uses.specs.Roots.{RefusesForm, StaysUnset, StaysUnread}
 use Rattle.capnp_uses.specs.People.{text_tree, texts, person_tree, phones_tree, contact_tree, IsTooLarge}
 use Rattle.capnp_uses.proofs.ContactLemmas.{whole_address, whole_list}

@@ -5,25 +5,15 @@ use Rattle.std.proofs.lemmas.List.{append-nil}
 use Rattle.capnp_frame.specs.declared.error.Error.{Error}
 use Rattle.capnp_frame.specs.declared.error.ErrorKind.{ErrorKind}
 use Rattle.capnp_frame.specs.declared.error.ErrorKind.TheVariants.{DeviceFailed, OutOfMemory}
-use Rattle.capnp_frame.specs.Source.{Fails}
+use Rattle.capnp_frame.specs.Prelude.{Fails, Adds, KeepsLimit, default_limit, lengths, IsWritable, IsWithinSegmentLimit, TakesMemory}
 use Rattle.capnp_frame.specs.declared.serialize.segment_table.Padding.TheVariants.{Zero}
-use Rattle.capnp_frame.specs.Sink.{Adds}
-use Rattle.capnp_frame.specs.Limits.{KeepsLimit, default_limit}
-use Rattle.capnp_frame.specs.Message.{lengths}
-use Rattle.capnp_frame.specs.Writing.{IsWritable, IsWithinSegmentLimit}
 use Rattle.capnp_frame.proofs.encodings.SizeLemmas.{HasTable-writable}
 use Rattle.capnp_frame.proofs.encodings.TextLemmas.{texts_part}
-use Rattle.capnp_pack.specs.RefusingLaws.{unpacking}
+use Rattle.capnp_pack.specs.Prelude.{unpacking}
 use Rattle.capnp_pack.proofs.encodings.PackedFrameLemmas.{packed_requests, packed_text_is}
-use Rattle.capnp_wire.specs.Readers.{default_root}
-use Rattle.capnp_wire.specs.Tree.{Form}
-use Rattle.capnp_wire.specs.Reached.{root}
-use Rattle.capnp_wire.specs.Faults.{NoWord}
-use Rattle.capnp_wire.specs.Views.{Pointer, Struct, HasData, IsStruct, Reads, Refuses, DeclinesStruct}
+use Rattle.capnp_wire.specs.Prelude.{default_root, Form, root, NoWord, Pointer, Struct, HasData, IsStruct, Reads, Refuses, DeclinesStruct}
 use Rattle.capnp.specs.declared.streams.Format.TheVariants.{Packed}
-use Rattle.capnp_frame.specs.Refusals.{TakesMemory}
-use Rattle.capnp.specs.Streams.{gives_of, BeginsPacked, RefusesNext}
-use Rattle.capnp.specs.Written.{IsPackedEncodingOf}
+use Rattle.capnp.specs.Prelude.{gives_of, BeginsPacked, RefusesNext, IsPackedEncodingOf}
 use Rattle.capnp_uses.specs.Reading.{ShowsPackedStruct}
 use Rattle.capnp_uses.specs.Roots.{HasPlainRoot, RefusesPackedStruct}
 use Rattle.capnp.proofs.StreamLemmas.{slice_refuses}

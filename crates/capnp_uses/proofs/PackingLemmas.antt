@@ -5,11 +5,9 @@ use Rattle.std.proofs.Math.Seq.{take-append_seam}
 use Rattle.capnp_frame.specs.declared.error.Error.{Error}
 use Rattle.capnp_frame.specs.declared.error.ErrorKind.{ErrorKind}
 use Rattle.capnp_frame.specs.declared.error.ErrorKind.TheVariants.{DeviceFailed}
-use Rattle.capnp_frame.specs.Source.{Fails}
+use Rattle.capnp_frame.specs.Prelude.{Fails}
 use Rattle.capnp_frame.proofs.sources.AskLemmas.{never_fails}
-use Rattle.capnp_pack.specs.Packed.{Packs}
-use Rattle.capnp_pack.specs.PackedSource.{Unpacks, RefusesChunk}
-use Rattle.capnp_pack.specs.RefusingLaws.{unpacking}
+use Rattle.capnp_pack.specs.Prelude.{Packs, Unpacks, RefusesChunk, unpacking}
 
 -- a buffer that is filled with what was packed
 pub filled_same : (words text shown filled following : List ℕ) (n : ℕ)

@@ -5,21 +5,14 @@ use Rattle.capnp_frame.specs.declared.serialize.segment_table.Padding.TheVariant
 use Rattle.capnp_frame.specs.declared.error.Error.{Error}
 use Rattle.capnp_frame.specs.declared.error.ErrorKind.{ErrorKind}
 use Rattle.capnp_frame.specs.declared.error.ErrorKind.TheVariants.{DeviceFailed, OutOfMemory}
-use Rattle.capnp_frame.specs.Limits.{default_limit}
+use Rattle.capnp_frame.specs.Prelude.{default_limit, Fails, Splits, RunsShort, RefusesBy, no_alloc_rules, next_in, TakesMemory}
 use Rattle.capnp_frame.specs.declared.message.options.ReaderOptions.{ReaderOptions}
 use Rattle.capnp_frame.specs.declared.message.options.TheConstants.{DEFAULT_READER_OPTIONS}
-use Rattle.capnp_wire.specs.Readers.{nesting_of, default_root}
-use Rattle.capnp_wire.specs.Views.{Pointer}
-use Rattle.capnp_wire.specs.Values.{IsCanonicalForm}
+use Rattle.capnp_wire.specs.Prelude.{nesting_of, default_root, Pointer, IsCanonicalForm}
 use Rattle.capnp_message.specs.Seen.{root_of}
 use Rattle.capnp_message.specs.Canonical.{LacksForm}
-use Rattle.capnp_frame.specs.Source.{Fails, Splits, RunsShort}
 use Rattle.capnp.specs.declared.streams.Format.{Format}
-use Rattle.capnp_frame.specs.FlatReaders.{RefusesBy, no_alloc_rules}
-use Rattle.capnp_frame.specs.Streams.{next_in}
-use Rattle.capnp_frame.specs.Refusals.{TakesMemory}
-use Rattle.capnp.specs.Streams.{grammar_of, gives_of, BeginsFramed, StandsNext, RefusesNext, TakesForNext, EndsBy, IsPlainSource}
-use Rattle.capnp.specs.Headline.{ReturnsEncodings}
+use Rattle.capnp.specs.Prelude.{grammar_of, gives_of, BeginsFramed, StandsNext, RefusesNext, TakesForNext, EndsBy, IsPlainSource, ReturnsEncodings}
 use Rattle.capnp.proofs.RunLemmas.{format_lawful, format_requested, format_parts}
 use Rattle.capnp.proofs.ReaderLemmas.{nothing_begins}
 use Rattle.capnp_uses.proofs.AppendedLemmas.{memory_only}

@@ -3,21 +3,13 @@ use Rattle.std.proofs.Common.{◌≡◌, ◌⊎◌, inl, inr, ℕ, ◌<◌, List
 use Rattle.std.proofs.lemmas.List.{append_cancel_right}
 use Rattle.capnp_frame.specs.declared.error.Error.{Error}
 use Rattle.capnp_frame.specs.declared.error.ErrorKind.{ErrorKind}
-use Rattle.capnp_wire.specs.Tree.{Form, null, struct, numbers, none}
-use Rattle.capnp_wire.specs.Object.{Shape, PointsTo, nothing, word_at}
-use Rattle.capnp_wire.specs.Reached.{at, root, Root}
-use Rattle.capnp_wire.specs.Faults.{NoWord, Fault}
-use Rattle.capnp_wire.specs.Views.{Pointer, Denotes, nowhere, at_place, Shows, Accepts, Reads, Refuses, MeetsLimit, IsText, DeclinesText, DeclinesStruct}
-use Rattle.capnp_wire.specs.Traversed.{Within}
-use Rattle.capnp_wire.specs.Readers.{unlimited_root}
+use Rattle.capnp_wire.specs.Prelude.{Form, null, struct, numbers, none, Shape, PointsTo, nothing, word_at, at, root, Root, NoWord, Fault, Pointer, Denotes, nowhere, at_place, Shows, Accepts, Reads, Refuses, MeetsLimit, IsText, DeclinesText, DeclinesStruct, Within, unlimited_root}
 use Rattle.capnp_layout.proofs.objects.ObjectLemmas.{one_object}
 use Rattle.capnp_wire.proofs.views.ViewLemmas.{one_denoted}
 use Rattle.capnp_layout.proofs.pointers.FaultLemmas.{word_of_object, no_word_there, invalid_pointer_has_no_object}
 use Rattle.capnp_wire.proofs.forms.FullLemmas.{null_is_zero}
 use Rattle.capnp_wire.proofs.pointers.NullLemmas.{null_by_word}
-use Rattle.capnp_build.specs.Bytes.{Space}
-use Rattle.capnp_build.specs.BuilderState.{used_of}
-use Rattle.capnp_build.specs.Built.{message}
+use Rattle.capnp_build.specs.Prelude.{Space, used_of, message}
 use Rattle.capnp_uses.specs.Roots.{HasRootForm}
 
 -- the object at the root is what the root is read as

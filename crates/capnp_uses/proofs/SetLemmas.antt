@@ -3,24 +3,15 @@ use Rattle.std.proofs.Common.{◌≡◌, ◌⊎◌, inl, inr, ℕ, List, [], ◌
 use Rattle.capnp_frame.specs.declared.error.Error.{Error}
 use Rattle.capnp_frame.specs.declared.error.ErrorKind.{ErrorKind}
 use Rattle.capnp_frame.specs.declared.error.ErrorKind.TheVariants.{DeviceFailed, OutOfMemory}
-use Rattle.capnp_frame.specs.Source.{Fails}
-use Rattle.capnp_frame.specs.Writing.{RefusesMany}
-use Rattle.capnp_wire.specs.Tree.{Form, null, struct, numbers, pointers, structs, Trees, none, tree}
-use Rattle.capnp_wire.specs.Reached.{At, at, nowhere, root, Root}
-use Rattle.capnp_wire.specs.Layout.{canon}
-use Rattle.capnp_wire.specs.Views.{Pointer, HasData, TakesStruct, DeclinesStruct}
-use Rattle.capnp_wire.specs.Values.{LeadsToTree}
+use Rattle.capnp_frame.specs.Prelude.{Fails, RefusesMany, Adds, ByKind}
+use Rattle.capnp_wire.specs.Prelude.{Form, null, struct, numbers, pointers, structs, Trees, none, tree, At, at, root, Root, canon, Pointer, HasData, TakesStruct, DeclinesStruct, LeadsToTree}
+use Rattle.capnp_wire.specs.Reached.{nowhere}
 use Rattle.capnp_layout.proofs.pointers.FaultLemmas.{word_of_object}
 use Rattle.capnp_wire.proofs.views.OneValueLemmas.{one_there}
-use Rattle.capnp_frame.specs.Sink.{Adds, ByKind}
-use Rattle.capnp_build.specs.Bytes.{Space}
+use Rattle.capnp_build.specs.Prelude.{Space, Built, message, IsSet, IsWhole, DeclinesRoot, IsFieldSet, LacksFirst}
 use Rattle.capnp_build.specs.declared.allocator.Allocator.{Ghosts}
-use Rattle.capnp_build.specs.Built.{Built, message, IsSet, IsWhole}
-use Rattle.capnp_build.specs.Placed.{DeclinesRoot}
-use Rattle.capnp_build.specs.Written.{IsFieldSet}
-use Rattle.capnp_build.specs.Outcomes.{LacksFirst}
 use Rattle.capnp.proofs.ChunkLemmas.{framed_memory}
-use Rattle.capnp.specs.Written.{IsFrameEncoding, RefusesWriter}
+use Rattle.capnp.specs.Prelude.{IsFrameEncoding, RefusesWriter}
 use Rattle.capnp_uses.specs.Roots.{IsSetWithWord}
 
 leads_one : (p : Pointer) (a b : Trees) → LeadsToTree p a → LeadsToTree p b → a ≡ b

@@ -5,10 +5,9 @@ use Rattle.std.specs.Option.{option_map}
 use Rattle.capnp_frame.specs.declared.error.Error.{Error}
 use Rattle.capnp_frame.specs.declared.io.Read.{Ghosts}
 use Rattle.capnp_frame.specs.declared.serialize.segment_table.Padding.TheVariants.{Zero}
-use Rattle.capnp_frame.specs.Streams.{ReadsStream}
+use Rattle.capnp_frame.specs.Prelude.{ReadsStream}
 use Rattle.capnp.specs.declared.streams.Format.{Format}
-use Rattle.capnp.specs.Headline.{ReturnsEncodings}
-use Rattle.capnp.specs.Streams.{grammar_of, rules_of}
+use Rattle.capnp.specs.Prelude.{ReturnsEncodings, grammar_of, rules_of}
 use Rattle.capnp.proofs.RunLemmas.{format_lawful, format_requested}
 use Rattle.capnp.proofs.ReaderLemmas.{nothing_begins, nothing_begins_known}
 use Rattle.capnp_uses.specs.Streaming.{SkipsMessage}

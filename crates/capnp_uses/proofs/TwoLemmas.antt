@@ -6,14 +6,11 @@ use Rattle.capnp_frame.specs.declared.io.Read.{Ghosts}
 use Rattle.capnp_frame.specs.declared.message.options.ReaderOptions.{ReaderOptions}
 use Rattle.capnp_frame.specs.declared.serialize.segment_table.Padding.{Padding}
 use Rattle.capnp_frame.specs.declared.serialize.segment_table.Padding.TheVariants.{Zero}
-use Rattle.capnp_frame.specs.Limits.{default_limit}
-use Rattle.capnp_frame.specs.Source.{IfKnown, Fails}
-use Rattle.capnp_frame.specs.Streams.{ReadsStream}
+use Rattle.capnp_frame.specs.Prelude.{default_limit, IfKnown, Fails, ReadsStream}
 use Rattle.capnp_frame.proofs.sources.AskLemmas.{never_fails}
 use Rattle.capnp.specs.declared.streams.Format.{Format}
 use Rattle.capnp.specs.declared.streams.message_stream.MessageStream.{MessageStream}
-use Rattle.capnp.specs.MessageStreams.{source_of, messages_left, HasSettings, IsNewStream, read_in, GivesMessage}
-use Rattle.capnp.specs.Streams.{rules_of, StandsNext}
+use Rattle.capnp.specs.Prelude.{source_of, messages_left, HasSettings, IsNewStream, read_in, GivesMessage, rules_of, StandsNext}
 use Rattle.capnp.proofs.FormatLemmas.{stands_next}
 use Rattle.capnp.proofs.ReaderLemmas.{nothing_begins}
 use Rattle.capnp.proofs.RunLemmas.{format_lawful, format_requested, format_parts}

@@ -6,30 +6,19 @@ use Rattle.capnp_frame.specs.declared.error.Error.{Error}
 use Rattle.capnp_frame.specs.declared.error.ErrorKind.{ErrorKind}
 use Rattle.capnp_frame.specs.declared.error.ErrorKind.TheVariants.{DeviceFailed, OutOfMemory, MessageTooLarge}
 use Rattle.capnp_frame.specs.declared.message.options.ReaderOptions.{ReaderOptions}
-use Rattle.capnp_frame.specs.Limits.{KeepsLimit, AreWithin}
-use Rattle.capnp_frame.specs.Refusals.{IsTooLarge}
-use Rattle.capnp_frame.specs.Message.{word_count, lengths, size_in_words}
+use Rattle.capnp_frame.specs.Prelude.{KeepsLimit, AreWithin, IsTooLarge, word_count, lengths, size_in_words, Adds, IfKnown, ReadsStream, IsWritable, IsWithinSegmentLimit}
 use Rattle.capnp_frame.specs.declared.io.Read.{Ghosts}
-use Rattle.capnp_frame.specs.Sink.{Adds}
-use Rattle.capnp_frame.specs.Source.{IfKnown}
-use Rattle.capnp_frame.specs.Streams.{ReadsStream}
-use Rattle.capnp_frame.specs.Writing.{IsWritable, IsWithinSegmentLimit}
 use Rattle.capnp_frame.proofs.slices.AgreementLemmas.{limit_cases}
 use Rattle.capnp_frame.proofs.tables.LimitLemmas.{past_limit}
-use Rattle.capnp_layout.specs.Tree.{Trees}
-use Rattle.capnp_layout.specs.Reached.{At, at, root}
-use Rattle.capnp_wire.specs.Values.{HasWords}
+use Rattle.capnp_layout.specs.Prelude.{Trees, At, at, root}
+use Rattle.capnp_wire.specs.Prelude.{HasWords}
 use Rattle.capnp_wire.proofs.layouts.LaidOutLemmas.{word_stands}
-use Rattle.capnp_build.specs.Bytes.{Space}
+use Rattle.capnp_build.specs.Prelude.{Space, Built, message, IsSet, IsPut}
 use Rattle.capnp_build.specs.declared.allocator.Allocator as allocator
-use Rattle.capnp_build.specs.Built.{Built, message, IsSet}
-use Rattle.capnp_build.specs.Placed.{IsPut}
 use Rattle.capnp_build.proofs.roots.NullLemmas.{root_stands}
 use Rattle.capnp_message.specs.Seen.{ReadMessage}
 use Rattle.capnp.specs.declared.streams.Format.{Format}
-use Rattle.capnp.specs.Headline.{IsFault, by_format, ReadsMessage, OrFailsAtEnd}
-use Rattle.capnp.specs.Streams.{rules_of, StandsNext}
-use Rattle.capnp.specs.Written.{IsTextOf, output_of}
+use Rattle.capnp.specs.Prelude.{IsFault, by_format, ReadsMessage, OrFailsAtEnd, rules_of, StandsNext, IsTextOf, output_of}
 use Rattle.capnp.proofs.AppendedLemmas.{text_stands}
 use Rattle.capnp.proofs.FormatLemmas.{or_fails_failed}
 use Rattle.capnp.proofs.ReaderLemmas.{or_fails_accepted, or_fails_reads}

@@ -2,8 +2,7 @@
 use Rattle.std.specs.Prelude.{◌≡◌, ◌⊎◌, ℕ, ◌+◌, ◌*◌, ◌/◌, ◌^◌, ◌<◌, ◌≤◌, List, [], ◌∷◌, map, sum_by, length, replicate, Any, Option, None, IsSomeAnd}
 use Rattle.capnp_frame.specs.declared.error.ErrorKind.{ErrorKind}
 use Rattle.capnp_frame.specs.declared.error.ErrorKind.TheVariants.{OutOfMemory, AllocationTooLarge, MessageTooLarge}
-use Rattle.capnp_wire.specs.Tree.{structs, Trees, none, tree}
-use Rattle.capnp_wire.specs.Values.{IsTextTree, LongText}
+use Rattle.capnp_wire.specs.Prelude.{structs, Trees, none, tree, IsTextTree, LongText}
 use Rattle.capnp_orphans.specs.Held.{AreTrees}
 use Rattle.capnp_orphans.specs.Segments.{Segment, ExceedsMost}
 use Rattle.capnp_uses.specs.declared.account_list.NewAccount.{NewAccount}

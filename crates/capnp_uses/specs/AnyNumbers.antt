@@ -2,8 +2,7 @@
 use Rattle.std.specs.Prelude.{◌≡◌, ℕ, ⊤, List, [], Option, Some, None}
 use Rattle.capnp_frame.specs.declared.error.ErrorKind.{ErrorKind}
 use Rattle.capnp_frame.specs.declared.error.ErrorKind.TheVariants.{WrongPointerKind}
-use Rattle.capnp_wire.specs.Tree.{Form, null, numbers}
-use Rattle.capnp_wire.specs.NumberViews.{sized_numbers_of}
+use Rattle.capnp_wire.specs.Prelude.{Form, null, numbers, sized_numbers_of}
 use Rattle.capnp_wire.specs.declared.any_object.numbers.Numbers.{Numbers}
 use Rattle.capnp_uses.specs.declared.any_numbers.Reader.{Reader}
 

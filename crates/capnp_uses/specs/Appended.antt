@@ -5,11 +5,9 @@ use Rattle.capnp_frame.specs.declared.error.Error.{Error}
 use Rattle.capnp_frame.specs.declared.error.ErrorKind.TheVariants.{OutOfMemory}
 use Rattle.capnp_frame.specs.declared.message.options.ReaderOptions.{ReaderOptions}
 use Rattle.capnp_frame.specs.declared.serialize.segment_table.Padding.TheVariants.{Zero}
-use Rattle.capnp_frame.specs.Texts.{AreEncodings}
-use Rattle.capnp_frame.specs.Writing.{IsWithinSegmentLimit}
+use Rattle.capnp_frame.specs.Prelude.{AreEncodings, IsWithinSegmentLimit}
 use Rattle.capnp.specs.declared.streams.Format.{Format}
-use Rattle.capnp.specs.Streams.{grammar_of}
-use Rattle.capnp.specs.Written.{IsTextOf, AppendsEach, RefusesManyOf}
+use Rattle.capnp.specs.Prelude.{grammar_of, IsTextOf, AppendsEach, RefusesManyOf}
 
 -- What a call returns that writes messages and reads them back. `text`, `readers` and `end` are
 -- what is seen of what it returns.

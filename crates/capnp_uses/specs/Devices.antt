@@ -6,8 +6,7 @@ use Rattle.capnp_frame.specs.declared.error.ErrorKind.{ErrorKind}
 use Rattle.capnp_frame.specs.declared.error.ErrorKind.TheVariants.{DeviceFailed, OutOfMemory}
 use Rattle.capnp_frame.specs.declared.serialize.segment_table.Padding.TheVariants.{Zero}
 use Rattle.capnp.specs.declared.streams.Format.{Format}
-use Rattle.capnp.specs.Headline.{IsFault}
-use Rattle.capnp.specs.Streams.{StandsNext, TakesForNext, EndsBy, IsStream}
+use Rattle.capnp.specs.Prelude.{IsFault, StandsNext, TakesForNext, EndsBy, IsStream}
 
 -- What is returned of the first message of a device that gives these bytes.
 pub record ReadsFirst (format : Format) (limit : Option ℕ) (result : Result (Option (List (List ℕ))) Error) (bytes : List ℕ) : Type 0 where

@@ -3,10 +3,9 @@
 use Rattle.std.specs.Prelude.{◌≡◌, ◌⊎◌, ℕ, ◌^◌, ◌≤◌, List, [], ◌∷◌, ◌++◌, Any, Option}
 use Rattle.capnp_frame.specs.declared.error.ErrorKind.{ErrorKind}
 use Rattle.capnp_frame.specs.declared.error.ErrorKind.TheVariants.{AllocationTooLarge}
-use Rattle.capnp_wire.specs.Tree.{Trees, struct, structs, numbers, none, tree, total_words}
-use Rattle.capnp_wire.specs.Values.{LongText}
+use Rattle.capnp_wire.specs.Prelude.{Trees, struct, structs, numbers, none, tree, total_words, LongText}
 use Rattle.capnp_build.specs.declared.allocator.Allocator.{Ghosts}
-use Rattle.capnp_build.specs.Built.{Built}
+use Rattle.capnp_build.specs.Prelude.{Built}
 use Rattle.capnp_uses.specs.Roots.{RefusesForm, StaysUnset, StaysUnread}
 
 -- a text, with its zero byte, in front of other trees

@@ -3,14 +3,11 @@ use Rattle.std.specs.Prelude.{◌≡◌, ◌⊎◌, ℕ, List, Result, IfOk, IfE
 use Rattle.capnp_frame.specs.declared.error.Error.{Error}
 use Rattle.capnp_frame.specs.declared.error.ErrorKind.TheVariants.{OutOfMemory}
 use Rattle.capnp_frame.specs.declared.serialize.segment_table.Padding.TheVariants.{Zero}
-use Rattle.capnp_frame.specs.FlatReaders.{RefusesBy, no_alloc_rules}
-use Rattle.capnp_frame.specs.Limits.{default_limit}
-use Rattle.capnp_wire.specs.Readers.{default_root}
-use Rattle.capnp_wire.specs.Values.{IsCanonicalForm}
-use Rattle.capnp_wire.specs.Views.{Pointer, HasData, Reads}
+use Rattle.capnp_frame.specs.Prelude.{RefusesBy, no_alloc_rules, default_limit}
+use Rattle.capnp_wire.specs.Prelude.{default_root, IsCanonicalForm, Pointer, HasData, Reads}
 use Rattle.capnp_message.specs.Canonical.{HasForm, LacksForm}
 use Rattle.capnp.specs.declared.streams.Format.TheVariants.{Packed}
-use Rattle.capnp.specs.Streams.{BeginsFramed, StandsNext}
+use Rattle.capnp.specs.Prelude.{BeginsFramed, StandsNext}
 
 -- What is returned of the canonical words of the message that these bytes begin with; `words` is how they are seen.
 pub record ReturnsCanonical {T : Type 0} (bytes : List ℕ) (words : T → List ℕ) (result : Result T Error) : Type 0 where

@@ -2,10 +2,8 @@
 use Rattle.std.specs.Prelude.{◌≡◌, ◌⊎◌, ℕ, ◌+◌, ◌≤◌, false, length}
 use Rattle.capnp_frame.specs.declared.error.ErrorKind.{ErrorKind}
 use Rattle.capnp_frame.specs.declared.error.ErrorKind.TheVariants.{OutOfMemory, AllocationTooLarge}
-use Rattle.capnp_wire.specs.Tree.{Trees}
-use Rattle.capnp_wire.specs.Values.{HasWords}
-use Rattle.capnp_build.specs.Built.{Built, size_in_words}
-use Rattle.capnp_build.specs.Placed.{StandsAt}
+use Rattle.capnp_wire.specs.Prelude.{Trees, HasWords}
+use Rattle.capnp_build.specs.Prelude.{Built, size_in_words, StandsAt}
 
 -- a block of this many words is just after the root's word in the one segment, and nothing else is
 -- used

@@ -5,27 +5,12 @@ use Rattle.capnp_frame.specs.declared.error.ErrorKind.{ErrorKind}
 use Rattle.capnp_frame.specs.declared.error.ErrorKind.TheVariants.{MessageTooLarge, OutOfMemory, PrematureEndOfFile}
 use Rattle.capnp_frame.specs.declared.message.options.ReaderOptions.{ReaderOptions}
 use Rattle.capnp_frame.specs.declared.serialize.segment_table.Padding.TheVariants.{Zero}
-use Rattle.capnp_frame.specs.Limits.{KeepsLimit, default_limit}
-use Rattle.capnp_frame.specs.Message.{lengths, size_in_words}
-use Rattle.capnp_frame.specs.Refusals.{IsTooLarge}
-use Rattle.capnp_frame.specs.Writing.{IsWithinSegmentLimit, RefusesMany}
-use Rattle.capnp_wire.specs.Tree.{Form, struct, Trees, none, tree}
-use Rattle.capnp_wire.specs.Object.{message_of}
-use Rattle.capnp_wire.specs.Reached.{root, Root}
-use Rattle.capnp_wire.specs.Faults.{NoWord}
-use Rattle.capnp_wire.specs.Readers.{default_root}
-use Rattle.capnp_wire.specs.Views.{Refuses, TakesStruct, DeclinesStruct}
-use Rattle.capnp_wire.specs.Values.{HasWords, LacksWords}
+use Rattle.capnp_frame.specs.Prelude.{KeepsLimit, default_limit, lengths, size_in_words, IsTooLarge, IsWithinSegmentLimit, RefusesMany}
+use Rattle.capnp_wire.specs.Prelude.{Form, struct, Trees, none, tree, message_of, root, Root, NoWord, default_root, Refuses, TakesStruct, DeclinesStruct, HasWords, LacksWords}
 use Rattle.capnp_build.specs.declared.allocator.Allocator.{Ghosts}
-use Rattle.capnp_build.specs.Bytes.{Space}
-use Rattle.capnp_build.specs.Built.{Built, message, IsSet}
-use Rattle.capnp_build.specs.Placed.{FindsNoRoom, FoundNoRoom, InitWords, IsCleared, IsPut}
-use Rattle.capnp_build.specs.Outcomes.{LacksFirst, StopsFirst, RefusesCanonical}
+use Rattle.capnp_build.specs.Prelude.{Space, Built, message, IsSet, FindsNoRoom, FoundNoRoom, InitWords, IsCleared, IsPut, LacksFirst, StopsFirst, RefusesCanonical, used_of}
 use Rattle.capnp.specs.declared.streams.Format.TheVariants.{Packed}
-use Rattle.capnp.specs.Roots.{HasRootTree}
-use Rattle.capnp.specs.Streams.{StandsNext, TakesForNext, EndsBy}
-use Rattle.capnp.specs.Written.{output_of}
-use Rattle.capnp_build.specs.BuilderState.{used_of}
+use Rattle.capnp.specs.Prelude.{HasRootTree, StandsNext, TakesForNext, EndsBy, output_of}
 
 -- an object without pointers is at the root of these segments
 abbrev pub HasPlainRoot : List (List ℕ) → Form → Type 0

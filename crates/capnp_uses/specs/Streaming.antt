@@ -6,15 +6,9 @@ use Rattle.capnp_frame.specs.declared.error.ErrorKind.{ErrorKind}
 use Rattle.capnp_frame.specs.declared.error.ErrorKind.TheVariants.{DeviceFailed, OutOfMemory}
 use Rattle.capnp_frame.specs.declared.io.Read.{Ghosts}
 use Rattle.capnp_frame.specs.declared.serialize.segment_table.Padding.TheVariants.{Zero}
-use Rattle.capnp_frame.specs.Limits.{IsWithin, default_limit}
-use Rattle.capnp_frame.specs.Refusals.{TakesMemory, IsReaderKind}
-use Rattle.capnp_frame.specs.Source.{IfKnown, Advances, Fails}
-use Rattle.capnp_frame.specs.Texts.{AreEncodings}
+use Rattle.capnp_frame.specs.Prelude.{IsWithin, default_limit, TakesMemory, IsReaderKind, IfKnown, Advances, Fails, AreEncodings}
 use Rattle.capnp.specs.declared.streams.Format.{Format}
-use Rattle.capnp.specs.Headline.{IsFault}
-use Rattle.capnp.specs.Reading.{LacksMemory}
-use Rattle.capnp.specs.RecordLog.{IsLog}
-use Rattle.capnp.specs.Streams.{grammar_of, gives_of, refuses_of, StandsNext, RefusesNext, TakesForNext, EndsBy}
+use Rattle.capnp.specs.Prelude.{IsFault, LacksMemory, IsLog, grammar_of, gives_of, refuses_of, StandsNext, RefusesNext, TakesForNext, EndsBy}
 
 -- What a call returns that reads past the next message of a stream, of zero padding, and returns
 -- whether there was one. `source` is what is seen of the source (the members of the trait Read),

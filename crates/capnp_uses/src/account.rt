@@ -5,10 +5,7 @@
 ghost use Rattle.std.specs.Prelude.{◌≡◌, ◌<◌, ◌==◌, length, slice_index, MatchResult};
 ghost use Rattle.std.specs.List.{find};
 ghost use Rattle.std.specs.Option.{option_map};
-ghost use Rattle.capnp_wire.specs.Lists.{IsIterator, all_structs};
-ghost use Rattle.capnp_wire.specs.Readers.{struct_of, pointer_of};
-ghost use Rattle.capnp_wire.specs.ListViews.{struct_list_of, element_of, IsStructList, TakesStructs, DeclinesStructs};
-ghost use Rattle.capnp_wire.specs.Views.{Struct, IsViewOf, IsText, IsStruct, Accepts, Refuses, Declines, Reads, TakesStruct, DeclinesStruct, DeclinesText, pointer_in};
+ghost use Rattle.capnp_wire.specs.Prelude.{IsIterator, all_structs, struct_of, pointer_of, struct_list_of, element_of, IsStructList, TakesStructs, DeclinesStructs, Struct, IsViewOf, IsText, IsStruct, Accepts, Refuses, Declines, Reads, TakesStruct, DeclinesStruct, DeclinesText, pointer_in};
 
 use capnp::any_struct::StructReader;
 use capnp::message::ReaderSegments;

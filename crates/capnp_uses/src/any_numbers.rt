@@ -4,8 +4,7 @@
 //! It asks for whatever the pointer leads to, which is read once, and keeps what it accepts of the
 //! kinds (Cap'n Proto's encoding, "Lists").
 ghost use Rattle.std.specs.Prelude.{◌≡◌, MatchResult};
-ghost use Rattle.capnp_wire.specs.Readers.{pointer_of};
-ghost use Rattle.capnp_wire.specs.Views.{IsViewOf, Accepts, Refuses, Declines, Reads};
+ghost use Rattle.capnp_wire.specs.Prelude.{pointer_of, IsViewOf, Accepts, Refuses, Declines, Reads};
 
 use capnp::message::ReaderSegments;
 use capnp::traits::FromPointerReader;

@@ -1,9 +1,7 @@
 //! Messages that are written one after the other, and read back.
 ghost use Rattle.std.specs.Prelude.{map};
 ghost use Rattle.std.specs.List.{AllByRecursion};
-ghost use Rattle.capnp_frame.specs.Limits.{KeepsLimit};
-ghost use Rattle.capnp_frame.specs.Message.{lengths};
-ghost use Rattle.capnp_frame.specs.Writing.{IsWritable};
+ghost use Rattle.capnp_frame.specs.Prelude.{KeepsLimit, lengths, IsWritable};
 ghost use Rattle.capnp_uses.specs.Appended.{ReadsBack};
 
 use capnp::Result;

@@ -1,8 +1,8 @@
 //! Messages that are built, and read once the view that wrote them is gone.
 ghost use Rattle.std.specs.Prelude.{◌≡◌, ◌⊎◌, ◌+◌, ◌-◌, ◌/◌, ◌<◌, ◌^◌, ◌++◌, ◌∷◌, [], length, replicate, true, IfOk, IfErr, OnOk, OnErr};
 ghost use Rattle.capnp_frame.specs.declared.error.ErrorKind.{ErrorKind};
-ghost use Rattle.capnp_wire.specs.Tree.{null, struct, numbers};
-ghost use Rattle.capnp_build.specs.Placed.{IsCleared};
+ghost use Rattle.capnp_wire.specs.Prelude.{null, struct, numbers};
+ghost use Rattle.capnp_build.specs.Prelude.{IsCleared};
 ghost use Rattle.capnp_uses.specs.Roots.{HasRootForm, LacksRoom};
 
 use capnp::any_struct::{self, StructBuilder, StructReader};

@@ -4,10 +4,8 @@ ghost use Rattle.std.specs.List.{AllByRecursion};
 ghost use Rattle.std.specs.Io.Cursor.{cursor_inner, cursor_position, cursor_remaining};
 ghost use Rattle.capnp_frame.specs.declared.error.ErrorKind.{ErrorKind};
 ghost use Rattle.capnp_frame.specs.declared.serialize.segment_table.Padding.TheVariants.{Zero};
-ghost use Rattle.capnp_frame.specs.Source.{IfKnown, Fails};
-ghost use Rattle.capnp_frame.specs.Streams.{next_in};
-ghost use Rattle.capnp.specs.Devices.{unread_of};
-ghost use Rattle.capnp.specs.Streams.{StandsNext};
+ghost use Rattle.capnp_frame.specs.Prelude.{IfKnown, Fails, next_in};
+ghost use Rattle.capnp.specs.Prelude.{unread_of, StandsNext};
 ghost use Rattle.capnp_uses.specs.Devices.{ReadsFirst, ReadsAll};
 
 use crate::streaming::next_message;

@@ -5,9 +5,7 @@
 //! (Cap'n Proto's encoding, "Structs" and "Lists").
 ghost use Rattle.std.specs.Prelude.{◌≡◌, ◌<◌, ◌≤◌, ◌==◌, length, bit_xor, MatchOption, MatchResult};
 ghost use Rattle.std.specs.Int.{w32, cast_signed};
-ghost use Rattle.capnp_wire.specs.Fields.{field};
-ghost use Rattle.capnp_wire.specs.ListViews.{struct_list_of, element_of};
-ghost use Rattle.capnp_wire.specs.Views.{IsText, Reads, Refuses, DeclinesText, pointer_in};
+ghost use Rattle.capnp_wire.specs.Prelude.{field, struct_list_of, element_of, IsText, Reads, Refuses, DeclinesText, pointer_in};
 
 use capnp::message::ReaderSegments;
 use capnp::{Result, struct_list, text};

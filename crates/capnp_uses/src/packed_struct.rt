@@ -1,11 +1,9 @@
 //! A struct that is built, written packed, and read back.
 ghost use Rattle.std.specs.Prelude.{◌≡◌, ◌⊎◌, ◌<◌, ◌∷◌, [], ℕ, List, length, OnOk, IfOk, IfErr};
 ghost use Rattle.capnp_frame.specs.declared.error.ErrorKind.{ErrorKind};
-ghost use Rattle.capnp_frame.specs.Limits.{KeepsLimit, default_limit};
-ghost use Rattle.capnp_frame.specs.Message.{lengths};
-ghost use Rattle.capnp_frame.specs.Writing.{IsWritable, IsWithinSegmentLimit, RefusesMany};
-ghost use Rattle.capnp_wire.specs.Tree.{struct};
-ghost use Rattle.capnp.specs.Written.{IsPackedEncodingOf, output_of};
+ghost use Rattle.capnp_frame.specs.Prelude.{KeepsLimit, default_limit, lengths, IsWritable, IsWithinSegmentLimit, RefusesMany};
+ghost use Rattle.capnp_wire.specs.Prelude.{struct};
+ghost use Rattle.capnp.specs.Prelude.{IsPackedEncodingOf, output_of};
 ghost use Rattle.capnp_uses.specs.Reading.{ShowsPackedStruct};
 ghost use Rattle.capnp_uses.specs.Roots.{HasPlainRoot, HasRootForm, LacksRoom, RefusesPackedStruct};
 

@@ -1,12 +1,8 @@
 //! Words that are packed, and unpacked.
 ghost use Rattle.std.specs.Prelude.{◌≡◌, ◌⊎◌, ℕ, List, length, IfOk, IfErr, IsOk, OnOk};
 ghost use Rattle.capnp_frame.specs.declared.error.ErrorKind.{ErrorKind};
-ghost use Rattle.capnp_frame.specs.Message.{IsWholeWords};
-ghost use Rattle.capnp_frame.specs.Source.{IfKnown, Fails};
-ghost use Rattle.capnp_frame.specs.Sink.{Adds};
-ghost use Rattle.capnp_pack.specs.Packed.{Packs};
-ghost use Rattle.capnp_pack.specs.PackedSink.{AppendsPacked, DeclinesPacked};
-ghost use Rattle.capnp_pack.specs.PackedSource.{Unpacks, RefusesChunk};
+ghost use Rattle.capnp_frame.specs.Prelude.{IsWholeWords, IfKnown, Fails, Adds};
+ghost use Rattle.capnp_pack.specs.Prelude.{Packs, AppendsPacked, DeclinesPacked, Unpacks, RefusesChunk};
 
 use capnp::io::{Read, Write};
 use capnp::serialize_packed::{PackedRead, PackedWrite};

@@ -3,14 +3,12 @@ ghost use Rattle.std.specs.Prelude.{◌≡◌, ◌⊎◌, ◌<◌, ◌++◌, ◌
 ghost use Rattle.capnp_frame.specs.declared.serialize.segment_table.Padding.TheVariants.{Zero};
 ghost use Rattle.capnp_frame.specs.declared.error.ErrorKind.{ErrorKind};
 ghost use Rattle.capnp_frame.specs.declared.message.options.TheConstants.{DEFAULT_READER_OPTIONS};
-ghost use Rattle.capnp_wire.specs.Tree.{numbers};
-ghost use Rattle.capnp_wire.specs.Views.{MeetsLimit, Accepts, Declines, Reads, Refuses, IsText, TakesText, DeclinesText};
+ghost use Rattle.capnp_wire.specs.Prelude.{numbers, MeetsLimit, Accepts, Declines, Reads, Refuses, IsText, TakesText, DeclinesText};
 ghost use Rattle.capnp_message.specs.Roots.{ReadsRoot};
 ghost use Rattle.capnp_message.specs.Seen.{root_of};
-ghost use Rattle.capnp_frame.specs.FlatReaders.{RefusesBy, no_alloc_rules};
+ghost use Rattle.capnp_frame.specs.Prelude.{RefusesBy, no_alloc_rules, default_limit};
 ghost use Rattle.capnp.specs.declared.streams.Format.{Format};
-ghost use Rattle.capnp.specs.Streams.{BeginsFramed, TakesForNext, EndsBy};
-ghost use Rattle.capnp_frame.specs.Limits.{default_limit};
+ghost use Rattle.capnp.specs.Prelude.{BeginsFramed, TakesForNext, EndsBy};
 ghost use Rattle.capnp_uses.specs.Roots.{HasPlainRoot};
 
 use capnp::message::{DEFAULT_READER_OPTIONS, Reader, ReaderSegments};

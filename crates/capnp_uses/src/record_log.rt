@@ -2,9 +2,7 @@
 ghost use Rattle.std.specs.Prelude.{◌≡◌, ◌⊎◌, map, IfOk, IfErr};
 ghost use Rattle.std.specs.List.{AllByRecursion};
 ghost use Rattle.capnp_frame.specs.declared.error.ErrorKind.{ErrorKind};
-ghost use Rattle.capnp_frame.specs.Limits.{KeepsLimit};
-ghost use Rattle.capnp_frame.specs.Message.{lengths};
-ghost use Rattle.capnp_frame.specs.Writing.{IsWritable, RefusesMany};
+ghost use Rattle.capnp_frame.specs.Prelude.{KeepsLimit, lengths, IsWritable, RefusesMany};
 ghost use Rattle.capnp_uses.specs.Streaming.{ReadsBoth};
 
 use capnp::Result;

@@ -1,8 +1,8 @@
 //! Messages that are built in a region that the caller provides, which is zero again afterwards.
 ghost use Rattle.std.specs.Prelude.{◌≡◌, ◌⊎◌, ℕ, ◌+◌, ◌/◌, ◌^◌, ◌<◌, false, length, IfOk, IfErr, IsOk};
 ghost use Rattle.capnp_frame.specs.declared.error.ErrorKind.TheVariants.{SegmentTaken};
-ghost use Rattle.capnp_wire.specs.Values.{HasWords, LacksWords};
-ghost use Rattle.capnp_build.specs.Built.{IsSet};
+ghost use Rattle.capnp_wire.specs.Prelude.{HasWords, LacksWords};
+ghost use Rattle.capnp_build.specs.Prelude.{IsSet};
 ghost use Rattle.capnp_message.specs.Region.{IsAvailable};
 ghost use Rattle.capnp_uses.specs.Regions.{StandsAlone, LacksRegion};
 

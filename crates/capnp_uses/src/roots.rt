@@ -1,16 +1,10 @@
 //! Roots that are copied from a message that is read, and values that are set and read back.
 ghost use Rattle.std.specs.Prelude.{◌≡◌, ◌⊎◌, false, true, IfOk, IfErr, OnOk, OnErr};
-ghost use Rattle.capnp_frame.specs.Limits.{KeepsLimit};
-ghost use Rattle.capnp_frame.specs.Message.{lengths};
-ghost use Rattle.capnp_frame.specs.Writing.{IsWritable, IsWithinSegmentLimit};
-ghost use Rattle.capnp_wire.specs.Reached.{root};
-ghost use Rattle.capnp_wire.specs.Faults.{NoWord};
-ghost use Rattle.capnp_wire.specs.Values.{HasWords, LeadsToTree, StopsWalkFrom, IsTextTree, LongText};
-ghost use Rattle.capnp_build.specs.BuilderState.{KeepsOthers};
-ghost use Rattle.capnp_build.specs.Built.{IsSet, state_of};
-ghost use Rattle.capnp_build.specs.Placed.{IsCleared, IsPut};
+ghost use Rattle.capnp_frame.specs.Prelude.{KeepsLimit, lengths, IsWritable, IsWithinSegmentLimit};
+ghost use Rattle.capnp_wire.specs.Prelude.{root, NoWord, HasWords, LeadsToTree, StopsWalkFrom, IsTextTree, LongText};
+ghost use Rattle.capnp_build.specs.Prelude.{KeepsOthers, IsSet, state_of, IsCleared, IsPut};
 ghost use Rattle.capnp_message.specs.Seen.{root_of};
-ghost use Rattle.capnp.specs.Written.{output_of};
+ghost use Rattle.capnp.specs.Prelude.{output_of};
 ghost use Rattle.capnp_uses.specs.Roots.{HasRootOf, ReadsWritten, RefusesRoot, StaysUnset, StaysUnread};
 
 use capnp::message::{Allocator, Builder, Reader, ReaderOptions, ReaderSegments};

@@ -1,15 +1,8 @@
 //! Roots that are set to what another message holds, and messages that are written right after.
 ghost use Rattle.std.specs.Prelude.{◌≡◌, ◌⊎◌, ◌<◌, ◌∷◌, [], ℕ, List, length, slice_set, false, true, OnOk, IfOk, IfErr};
-ghost use Rattle.capnp_wire.specs.Tree.{Form, Trees, none, tree, struct};
-ghost use Rattle.capnp_wire.specs.Reached.{Root};
-ghost use Rattle.capnp_wire.specs.Layout.{canon};
-ghost use Rattle.capnp_wire.specs.Readers.{pointer_of};
-ghost use Rattle.capnp_wire.specs.Views.{DeclinesStruct};
-ghost use Rattle.capnp_wire.specs.Values.{HasWords, LeadsToTree, StopsWalkFrom};
-ghost use Rattle.capnp_build.specs.Built.{message, IsSet};
-ghost use Rattle.capnp_build.specs.Outcomes.{SetsRoot, SetsRootCanonical};
-ghost use Rattle.capnp_build.specs.Placed.{IsPut};
-ghost use Rattle.capnp.specs.Written.{IsFrameEncoding, output_of};
+ghost use Rattle.capnp_wire.specs.Prelude.{Form, Trees, none, tree, struct, Root, canon, pointer_of, DeclinesStruct, HasWords, LeadsToTree, StopsWalkFrom};
+ghost use Rattle.capnp_build.specs.Prelude.{message, IsSet, SetsRoot, SetsRootCanonical, IsPut};
+ghost use Rattle.capnp.specs.Prelude.{IsFrameEncoding, output_of};
 ghost use Rattle.capnp_uses.specs.Roots.{IsSetWithWord, StaysUnset, StaysUnwritten, StaysWithoutForm};
 
 use capnp::any_struct::{self, StructBuilder};

@@ -2,7 +2,7 @@
 ghost use Rattle.std.specs.Prelude.{◌≡◌, IfSome, IfOk};
 ghost use Rattle.capnp_frame.specs.declared.message.options.TheConstants.{DEFAULT_READER_OPTIONS};
 ghost use Rattle.capnp_frame.specs.declared.serialize.segment_table.Padding.TheVariants.{Zero};
-ghost use Rattle.capnp.specs.Headline.{by_format, ReadsMessage};
+ghost use Rattle.capnp.specs.Prelude.{by_format, ReadsMessage};
 ghost use Rattle.capnp_uses.specs.Streaming.{SkipsMessage, ReadsTwo};
 
 use capnp::Result;

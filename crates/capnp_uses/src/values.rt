@@ -1,10 +1,8 @@
 //! Composed values: a person is set as the root of a message, written and read back.
 ghost use Rattle.std.specs.Prelude.{◌≡◌, ◌∷◌, [], map, IfOk, IfErr, OnOk, OnErr};
-ghost use Rattle.capnp_wire.specs.Layout.{canon};
-ghost use Rattle.capnp_build.specs.Built.{message};
-ghost use Rattle.capnp_build.specs.Placed.{IsCleared};
-ghost use Rattle.capnp.specs.Roots.{HasRootTree};
-ghost use Rattle.capnp.specs.Written.{output_of};
+ghost use Rattle.capnp_wire.specs.Prelude.{canon};
+ghost use Rattle.capnp_build.specs.Prelude.{message, IsCleared};
+ghost use Rattle.capnp.specs.Prelude.{HasRootTree, output_of};
 ghost use Rattle.capnp_uses.specs.People.{contact_tree, person_tree, RefusesAlone, RefusesBack};
 
 use crate::roots::set_and_read_back;

@@ -1,6 +1,6 @@
 -- Fields of data sections that are set (src/data_section.rt). Encoding document, "Structs".
 use Rattle.std.specs.Prelude.{ℕ, ◌+◌, ◌*◌, ◌/◌, ◌%◌, ◌^◌, List, length}
-use Rattle.capnp_layout.specs.Pointer.{digits, number_of}
+use Rattle.capnp_layout.specs.Prelude.{digits, number_of}
 
 -- a number with other bits from this bit on, `width` of them
 unfoldable pub with_bits : ℕ → ℕ → ℕ → ℕ → ℕ

@@ -1,7 +1,7 @@
 -- The trees of rows have room, and are as many as the row's size says (src/fields/).
 use Rattle.std.specs.Prelude.{◌≡◌, ℕ, ◌+◌, refl}
 use Rattle.std.proofs.Common.{arith, sym, subst}
-use Rattle.capnp_layout.specs.Tree.{Trees, none}
+use Rattle.capnp_layout.specs.Prelude.{Trees, none}
 use Rattle.capnp_values.specs.Fields.{IsRow, IsSettled}
 
 settled_at_none : IsSettled 0 none

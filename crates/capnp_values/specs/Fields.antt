@@ -1,11 +1,9 @@
 -- Rows of pointer fields (src/fields.rt).
 use Rattle.std.specs.Prelude.{◌≡◌, ◌⊎◌, ℕ, zero, suc, ◌+◌, ◌*◌, ◌^◌, ◌<◌, ◌≤◌, Bool, true, false, List}
 use Rattle.capnp_frame.specs.declared.error.ErrorKind.{ErrorKind}
-use Rattle.capnp_layout.specs.Tree.{Form, is_null, Trees, none, tree, count, total_words}
-use Rattle.capnp_layout.specs.Trim.{cut_nulls, first, trim}
-use Rattle.capnp_layout.specs.Layout.{run, output, AllHaveRoom}
-use Rattle.capnp_layout.specs.Block.{fill}
-use Rattle.capnp_wire.specs.Values.{HasWords, LacksWords}
+use Rattle.capnp_layout.specs.Tree.{is_null}
+use Rattle.capnp_layout.specs.Prelude.{Form, Trees, none, tree, count, total_words, cut_nulls, first, trim, run, output, AllHaveRoom, fill}
+use Rattle.capnp_wire.specs.Prelude.{HasWords, LacksWords}
 
 -- a value is this tree, which has room, and has fewer than 2 ^ 29 words as it is
 pub record IsPart (has_tree : Trees → Type 0) (form : Form) (children : Trees) : Type 0 where

@@ -3,9 +3,7 @@
 use Rattle.std.specs.Prelude.{◌≡◌, ◌⊎◌, ℕ, ◌+◌, ◌-◌, ◌^◌, ◌<◌, ◌≤◌, Bool, List, [], ◌∷◌, length, min}
 use Rattle.capnp_frame.specs.declared.error.ErrorKind.{ErrorKind}
 use Rattle.capnp_frame.specs.declared.error.ErrorKind.TheVariants.{AllocationTooLarge}
-use Rattle.capnp_layout.specs.Tree.{pointers, Trees, none, tree, total_words}
-use Rattle.capnp_layout.specs.Layout.{run, output}
-use Rattle.capnp_layout.specs.Block.{fill}
+use Rattle.capnp_layout.specs.Prelude.{pointers, Trees, none, tree, total_words, run, output, fill}
 use Rattle.capnp_values.specs.Fields.{IsRow, RefusesRow}
 
 -- values in order have these trees, each with room and of fewer than 2 ^ 29 words as it is

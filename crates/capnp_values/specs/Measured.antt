@@ -3,8 +3,7 @@ use Rattle.std.specs.Prelude.{◌≡◌, ◌+◌, Bool, Result, Ok, MatchResult}
 use Rattle.std.specs.Result.{IsErrAnd}
 use Rattle.capnp_frame.specs.declared.error.Error.{Error}
 use Rattle.capnp_frame.specs.declared.error.ErrorKind.{ErrorKind}
-use Rattle.capnp_layout.specs.Tree.{Trees, total_words}
-use Rattle.capnp_layout.specs.Layout.{output, AllHaveRoom}
+use Rattle.capnp_layout.specs.Prelude.{Trees, total_words, output, AllHaveRoom}
 use Rattle.capnp_wire.specs.declared.traits.TreeWords.{TreeWords}
 
 -- the words of some trees, as they are and in the form that is written

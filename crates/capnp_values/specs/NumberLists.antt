@@ -2,7 +2,7 @@
 use Rattle.std.specs.Prelude.{◌≡◌, ℕ, ◌-◌, ◌^◌, ◌<◌, ◌≤◌, min, List, length}
 use Rattle.capnp_frame.specs.declared.error.ErrorKind.{ErrorKind}
 use Rattle.capnp_frame.specs.declared.error.ErrorKind.TheVariants.{AllocationTooLarge}
-use Rattle.capnp_layout.specs.Tree.{numbers, Trees, none, tree}
+use Rattle.capnp_layout.specs.Prelude.{numbers, Trees, none, tree}
 
 -- the list of numbers of these bits, whose elements have this code
 abbrev pub IsNumberList : ℕ → List ℕ → Trees → Type 0

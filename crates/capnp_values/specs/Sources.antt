@@ -1,6 +1,6 @@
 -- Values that are made only when they are needed (src/sources.rt).
 use Rattle.capnp_frame.specs.declared.error.ErrorKind.{ErrorKind}
-use Rattle.capnp_layout.specs.Tree.{Trees}
+use Rattle.capnp_layout.specs.Prelude.{Trees}
 
 -- a value has the trees that its source declares, and fails with the kinds that its source declares
 pub record IsAsDeclared (has_tree told : Trees → Type 0) (refuses declared_reason : ErrorKind → Type 0) : Type 0 where

@@ -1,6 +1,6 @@
 -- Where a list of structs is in a block (src/tagged.rt). Encoding document, "Lists", the elements of code 7.
 use Rattle.std.specs.Prelude.{ℕ, ◌+◌, ◌*◌, ◌^◌, ◌<◌, ◌≤◌, Bool, List, length}
-use Rattle.capnp_layout.specs.Tree.{Trees}
+use Rattle.capnp_layout.specs.Prelude.{Trees}
 use Rattle.capnp_values.specs.Fields.{CanWriteRow}
 use Rattle.capnp_values.specs.StructLists.{HasRoomForRows}
 

@@ -4,10 +4,7 @@ use Rattle.std.specs.Prelude.{◌≡◌, ◌⊎◌, ℕ, ◌+◌, ◌-◌, ◌*�
 use Rattle.capnp_frame.specs.declared.error.Error.{Error}
 use Rattle.capnp_frame.specs.declared.error.ErrorKind.{ErrorKind}
 use Rattle.capnp_frame.specs.declared.error.ErrorKind.TheVariants.{AllocationTooLarge}
-use Rattle.capnp_layout.specs.Tree.{structs, Trees, none, tree, total_words}
-use Rattle.capnp_layout.specs.Trim.{first, following, before, least_data, least_pointers, narrowed, trim}
-use Rattle.capnp_layout.specs.Layout.{run, output}
-use Rattle.capnp_layout.specs.Block.{put, fill}
+use Rattle.capnp_layout.specs.Prelude.{structs, Trees, none, tree, total_words, first, following, before, least_data, least_pointers, narrowed, trim, run, output, put, fill}
 use Rattle.capnp_wire.specs.declared.traits.TreeWords.{TreeWords}
 use Rattle.capnp_values.specs.Measured.{Measures}
 

@@ -3,8 +3,7 @@
 use Rattle.std.specs.Prelude.{◌≡◌, ◌⊎◌, ℕ, ◌^◌, ◌<◌, ◌≤◌, Bool, true, false, List, length}
 use Rattle.capnp_frame.specs.declared.error.ErrorKind.{ErrorKind}
 use Rattle.capnp_frame.specs.declared.error.ErrorKind.TheVariants.{AllocationTooLarge}
-use Rattle.capnp_layout.specs.Tree.{struct, Trees, none, tree}
-use Rattle.capnp_layout.specs.Trim.{cut_zeros}
+use Rattle.capnp_layout.specs.Prelude.{struct, Trees, none, tree, cut_zeros}
 
 -- data words, and a row of this many pointers
 pub record IsStruct (words : List ℕ) (size : ℕ) (has_trees : Trees → Type 0) (trees : Trees) : Type 0 where

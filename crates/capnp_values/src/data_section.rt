@@ -1,6 +1,6 @@
 //! Fields of the data sections of structs that are values (encoding document, "Structs").
 ghost use Rattle.std.specs.Prelude.{◌≡◌, ◌+◌, ◌*◌, ◌/◌, ◌%◌, ◌^◌, ◌<◌, ◌≤◌, bit_xor, length};
-ghost use Rattle.capnp_layout.specs.Element.{width};
+ghost use Rattle.capnp_layout.specs.Prelude.{width};
 ghost use Rattle.capnp_values.specs.DataSections.{with_bits, with_field};
 
 use crate::sections::words_fit;

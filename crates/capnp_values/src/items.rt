@@ -1,7 +1,7 @@
 //! Values of one type, one after the other: how many words they have, and how they are written.
 ghost use Rattle.std.specs.Prelude.{◌≡◌, ◌+◌, ◌<◌, ◌≤◌, ◌^◌, false, length};
-ghost use Rattle.capnp_layout.specs.Pointer.{words_of};
-ghost use Rattle.capnp_wire.specs.Values.{IsFreeFrom};
+ghost use Rattle.capnp_layout.specs.Prelude.{words_of};
+ghost use Rattle.capnp_wire.specs.Prelude.{IsFreeFrom};
 ghost use Rattle.capnp_values.specs.Measured.{Measures};
 ghost use Rattle.capnp_values.specs.Lists.{AreItems, RefusesItems, HasRoomForItems, AreItemsWritten};
 

@@ -1,6 +1,6 @@
 //! Facts about the fields of data sections, each the contract of a function that does nothing.
 ghost use Rattle.std.specs.Prelude.{◌≡◌, ◌⊎◌, ◌+◌, ◌*◌, ◌<◌, ◌≤◌, ◌^◌, ℕ, List, All, length};
-ghost use Rattle.capnp_wire.specs.Fields.{field};
+ghost use Rattle.capnp_wire.specs.Prelude.{field};
 ghost use Rattle.capnp_values.specs.DataSections.{with_field};
 
 /// A field has the bits that it is set to.

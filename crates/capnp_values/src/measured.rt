@@ -1,6 +1,6 @@
 //! Sums of words, and how many words a value may have.
 ghost use Rattle.std.specs.Prelude.{◌≡◌, ◌+◌, ◌≤◌, ◌<◌, ◌^◌, false, MatchResult};
-ghost use Rattle.capnp_layout.specs.Limits.{too_large};
+ghost use Rattle.capnp_layout.specs.Prelude.{too_large};
 ghost use Rattle.capnp_values.specs.Measured.{both_words};
 
 use capnp_frame::Result;

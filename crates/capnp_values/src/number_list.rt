@@ -1,7 +1,6 @@
 //! Lists of numbers as values.
 ghost use Rattle.std.specs.Prelude.{◌≡◌, ◌+◌, ◌*◌, ◌^◌, ◌<◌, ◌≤◌, All, map, length};
-ghost use Rattle.capnp_layout.specs.Pointer.{digits, number_of, words_of};
-ghost use Rattle.capnp_layout.specs.Element.{width, words_for};
+ghost use Rattle.capnp_layout.specs.Prelude.{digits, number_of, words_of, width, words_for};
 
 use capnp_frame::Result;
 use capnp_layout::limits::{MAX_ELEMENTS, allocation_too_large};

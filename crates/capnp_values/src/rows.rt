@@ -1,8 +1,7 @@
 //! The elements of lists of structs: the words of what they lead to, and what is written of them.
 ghost use Rattle.std.specs.Prelude.{◌≡◌, ◌+◌, ◌*◌, ◌<◌, ◌^◌, false, map, length};
-ghost use Rattle.capnp_layout.specs.Pointer.{words_of};
-ghost use Rattle.capnp_layout.specs.Tree.{Trees};
-ghost use Rattle.capnp_wire.specs.Values.{IsFreeFrom};
+ghost use Rattle.capnp_layout.specs.Prelude.{words_of, Trees};
+ghost use Rattle.capnp_wire.specs.Prelude.{IsFreeFrom};
 ghost use Rattle.capnp_values.specs.StructLists.{AreRows, MeasuresRows, HasRoomForRows, AreRowsWritten, element_data, element_pointers};
 
 use crate::element::Element;

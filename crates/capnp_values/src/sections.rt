@@ -1,10 +1,7 @@
 //! The sections of structs: their data words, and their pointers.
 ghost use Rattle.std.specs.Prelude.{◌≡◌, ◌↔◌, ◌+◌, ◌*◌, ◌<◌, ◌≤◌, ◌^◌, ◌==◌, if◌then◌else◌, All, IsTrue, length, take};
-ghost use Rattle.capnp_layout.specs.Pointer.{words_of};
-ghost use Rattle.capnp_layout.specs.Trim.{cut_zeros};
-ghost use Rattle.capnp_layout.specs.Layout.{struct_pointer, minus_one};
-ghost use Rattle.capnp_layout.specs.Block.{put};
-ghost use Rattle.capnp_wire.specs.Values.{IsFreeFrom};
+ghost use Rattle.capnp_layout.specs.Prelude.{words_of, cut_zeros, struct_pointer, minus_one, put};
+ghost use Rattle.capnp_wire.specs.Prelude.{IsFreeFrom};
 ghost use Rattle.capnp_values.specs.Fields.{IsRowWritten};
 ghost use Rattle.capnp_values.specs.Structs.{kept_words};
 ghost use Rattle.capnp_values.specs.StructListPlaces.{ElementPlace};

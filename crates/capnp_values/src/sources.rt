@@ -1,7 +1,7 @@
 //! Sources of the elements of lists, which make each of them only when it is needed.
 ghost use Rattle.std.specs.Prelude.{◌≡◌, ℕ, ◌<◌, List, length, get_or};
 ghost use Rattle.capnp_frame.specs.declared.error.ErrorKind.{ErrorKind};
-ghost use Rattle.capnp_layout.specs.Tree.{Trees};
+ghost use Rattle.capnp_layout.specs.Prelude.{Trees};
 ghost use Rattle.capnp_values.specs.Fields.{IsSettled};
 ghost use Rattle.capnp_values.specs.Sources.{IsAsDeclared};
 

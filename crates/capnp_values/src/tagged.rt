@@ -1,11 +1,7 @@
 //! Lists of the structs of any source, with the tag in front of them (encoding document, "Lists").
 ghost use Rattle.std.specs.Prelude.{◌≡◌, ◌+◌, ◌-◌, ◌*◌, ◌^◌, ◌<◌, ◌≤◌, ◌∷◌, [], length, MatchResult};
-ghost use Rattle.capnp_layout.specs.Pointer.{words_of};
-ghost use Rattle.capnp_layout.specs.Tree.{Trees, total_words};
-ghost use Rattle.capnp_layout.specs.Layout.{body, output, list_pointer, struct_pointer};
-ghost use Rattle.capnp_layout.specs.Block.{put};
-ghost use Rattle.capnp_wire.specs.Copy.{IsCopied};
-ghost use Rattle.capnp_wire.specs.Values.{HasRoomAt, IsFreeFrom};
+ghost use Rattle.capnp_layout.specs.Prelude.{words_of, Trees, total_words, body, output, list_pointer, struct_pointer, put};
+ghost use Rattle.capnp_wire.specs.Prelude.{IsCopied, HasRoomAt, IsFreeFrom};
 ghost use Rattle.capnp_values.specs.Measured.{Measures};
 ghost use Rattle.capnp_values.specs.StructLists.{AreRowsWritten, IsStructList, RefusesStructList, TooManyStructs};
 ghost use Rattle.capnp_values.specs.StructListPlaces.{AreDeclared, IsDeclared, ListPlace};

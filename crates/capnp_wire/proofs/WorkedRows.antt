@@ -1,12 +1,7 @@
 -- The definitions at worked examples.
 use Rattle.std.proofs.Common.{◌≡◌, ℕ, List, [], ◌∷◌, refl, lit<, lit≤}
 use Rattle.capnp_frame.specs.declared.error.ErrorKind.TheVariants.{PointerOutOfBounds, InvalidSegmentId, NestingLimitExceeded, CapabilityRefused, WrongPointerKind}
-use Rattle.capnp_layout.specs.Pointer.{words_of}
-use Rattle.capnp_layout.specs.Tree.{null, struct, numbers, structs, Trees, none, tree, total_words}
-use Rattle.capnp_layout.specs.Trim.{trim}
-use Rattle.capnp_layout.specs.Object.{local, far, double_far, a_struct, some_numbers, some_structs, is_null, is_object}
-use Rattle.capnp_layout.specs.Reached.{At, nowhere, at, root}
-use Rattle.capnp_layout.specs.Faults.{Fault, no_word, no_segment, past_segment, capability, bad_landing_pad, no_landing_pad, not_far, too_deep, misfits, struct_outside, odd_tag}
+use Rattle.capnp_layout.specs.Prelude.{words_of, null, struct, numbers, structs, Trees, none, tree, total_words, trim, local, far, double_far, a_struct, some_numbers, some_structs, is_null, is_object, At, nowhere, at, root, Fault, no_word, no_segment, past_segment, capability, bad_landing_pad, no_landing_pad, not_far, too_deep, misfits, struct_outside, odd_tag}
 use Rattle.capnp_layout.specs.declared.place.Place.{Place}
 
 abbrev at_root : List Place

@@ -1,12 +1,7 @@
 -- What a walk tests of a segment that is in canonical form.
 use Rattle.std.specs.Prelude.{◌≡◌, ℕ, zero, suc, Option, None, ◌+◌, ◌-◌, ◌^◌, ◌<◌, ◌↔◌, All, List, [], ◌∷◌, length, Some, slice_get}
-use Rattle.capnp_layout.specs.Pointer.{digits, number_of, words_from}
-use Rattle.capnp_layout.specs.Element.{width, words_for}
-use Rattle.capnp_layout.specs.Tree.{Form, null, numbers, Trees, none, tree, count, object_size, total_words}
-use Rattle.capnp_layout.specs.Trim.{trim}
+use Rattle.capnp_layout.specs.Prelude.{digits, number_of, words_from, width, words_for, Form, null, numbers, Trees, none, tree, count, object_size, total_words, trim, Root, pointer, slots, canon, Reaches, AllReach, placed, Trimmed}
 use Rattle.capnp_layout.specs.declared.place.Place.{Place}
-use Rattle.capnp_layout.specs.Reached.{Root}
-use Rattle.capnp_layout.specs.Layout.{pointer, slots, canon, Reaches, AllReach, placed, Trimmed}
 
 -- the padding of a list that starts at a word is zero
 abbrev pub Padded : List ℕ → ℕ → Form → Type 0

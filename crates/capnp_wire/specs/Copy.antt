@@ -1,17 +1,7 @@
 -- Objects that are copied, as they are or in canonical form (src/layout/copy.rt, and pending.rt,
 -- copy_rows.rt and copy_cursor.rt beside it).
 use Rattle.std.specs.Prelude.{◌≡◌, ◌≢◌, ℕ, ◌+◌, ◌-◌, ◌/◌, ◌<◌, ◌≤◌, ◌^◌, Bool, List, [], ◌∷◌, length, Some, slice_get}
-use Rattle.capnp_layout.specs.Pointer.{words_of, words_from}
-use Rattle.capnp_layout.specs.Element.{code_of}
-use Rattle.capnp_layout.specs.Tree.{numbers, Trees, depth, total_words}
-use Rattle.capnp_layout.specs.Object.{elements as numerals, rows_from}
-use Rattle.capnp_layout.specs.Layout.{own, body, pointer_to, AllHaveRoom, output, struct_pointer}
-use Rattle.capnp_layout.specs.Body.{IsObject, room_of, words_in}
-use Rattle.capnp_layout.specs.Block.{put, put_rows, fill}
-use Rattle.capnp_layout.specs.Object.{places}
-use Rattle.capnp_layout.specs.Layout.{run}
-use Rattle.capnp_layout.specs.Rows.{segment_of, row_size, kept_in, slots_of, places_in, slots_in, end_of, Takes}
-use Rattle.capnp_layout.specs.Reached.{At}
+use Rattle.capnp_layout.specs.Prelude.{words_of, words_from, code_of, numbers, Trees, depth, total_words, elements as numerals, rows_from, own, body, pointer_to, AllHaveRoom, output, struct_pointer, IsObject, room_of, words_in, put, put_rows, fill, places, run, segment_of, row_size, kept_in, slots_of, places_in, slots_in, end_of, Takes, At, IsNarrower}
 use Rattle.capnp_layout.specs.declared.place.Place.{Place}
 use Rattle.capnp_wire.specs.declared.layout.copy.Copied.{Copied}
 use Rattle.capnp_wire.specs.declared.layout.copy_cursor.CopyCursor.{CopyCursor}
@@ -22,7 +12,6 @@ use Rattle.capnp_wire.specs.declared.layout.pending.StructCopy.TheVariants.{Whol
 use Rattle.capnp_layout.specs.declared.object.Object.{Object}
 use Rattle.capnp_layout.specs.declared.object.Body.{Body}
 use Rattle.capnp_layout.specs.declared.object.Body.TheVariants.{Struct, Numbers, Structs}
-use Rattle.capnp_layout.specs.Output.{IsNarrower}
 
 -- trees are at places within the nesting depth left, every field has room, and there is room for their copies from a word on
 pub record CanCopy (m : List (List ℕ)) (at : List Place) (nesting : ℕ) (canonical : Bool) (next room : ℕ) : Type 0 where

@@ -26,3 +26,4 @@ pub mod UpgradedValues
 pub mod Canonical
 pub mod Tested
 pub mod Constants
+pub mod Prelude

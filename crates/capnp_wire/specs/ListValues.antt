@@ -3,12 +3,7 @@ use Rattle.std.specs.Prelude.{◌≡◌, ℕ, ◌-◌, ◌^◌, ◌<◌, ◌≤�
 use Rattle.capnp_frame.specs.declared.error.ErrorKind.{ErrorKind}
 use Rattle.capnp_frame.specs.declared.error.ErrorKind.TheVariants.{AllocationTooLarge}
 use Rattle.capnp_frame.specs.declared.message.segments.ReaderSegments.{Ghosts}
-use Rattle.capnp_layout.specs.Element.{width, words_for}
-use Rattle.capnp_layout.specs.Tree.{Form, numbers, structs, Trees, none, tree, depth}
-use Rattle.capnp_layout.specs.Object.{places, row_places, rows_from}
-use Rattle.capnp_layout.specs.Reached.{At}
-use Rattle.capnp_layout.specs.Traversed.{Within}
-use Rattle.capnp_layout.specs.Faults.{StopsWalk}
+use Rattle.capnp_layout.specs.Prelude.{width, words_for, Form, numbers, structs, Trees, none, tree, depth, places, row_places, rows_from, At, Within, StopsWalk}
 use Rattle.capnp_wire.specs.ListViews.{PointerList, StructList, struct_list_of}
 use Rattle.capnp_layout.specs.declared.place.Place.{Place}
 use Rattle.capnp_layout.specs.declared.pointer.Elements.{Elements}

@@ -4,10 +4,7 @@ use Rattle.std.specs.Prelude.{◌≡◌, ℕ, ◌+◌, ◌-◌, ◌*◌, ⊤, Li
 use Rattle.capnp_frame.specs.declared.error.ErrorKind.{ErrorKind}
 use Rattle.capnp_frame.specs.declared.error.ErrorKind.TheVariants.{WrongPointerKind}
 use Rattle.capnp_frame.specs.declared.message.segments.ReaderSegments.{Ghosts}
-use Rattle.capnp_layout.specs.Pointer.{words_of}
-use Rattle.capnp_layout.specs.Tree.{Form, null, pointers, structs}
-use Rattle.capnp_layout.specs.Object.{message_of, places, row_places, rows_from}
-use Rattle.capnp_layout.specs.Traversed.{Within}
+use Rattle.capnp_layout.specs.Prelude.{words_of, Form, null, pointers, structs, message_of, places, row_places, rows_from, Within}
 use Rattle.capnp_wire.specs.Readers.{limit_of}
 use Rattle.capnp_wire.specs.Views.{Pointer, Struct, Shows}
 use Rattle.capnp_layout.specs.declared.place.Place.{Place}

@@ -1,9 +1,6 @@
 -- What the views of lists of numbers show (src/primitive_list, src/any_object/numbers.rt).
 use Rattle.std.specs.Prelude.{◌≡◌, ℕ, List, []}
-use Rattle.capnp_layout.specs.Pointer.{words_of}
-use Rattle.capnp_layout.specs.Element.{code_of}
-use Rattle.capnp_layout.specs.Tree.{Form, null, numbers}
-use Rattle.capnp_layout.specs.Object.{elements}
+use Rattle.capnp_layout.specs.Prelude.{words_of, code_of, Form, null, numbers, elements}
 use Rattle.capnp_wire.specs.declared.primitive_element.PrimitiveElement.{Ghosts}
 use Rattle.capnp_wire.specs.declared.primitive_list.reader.Reader.{Reader}
 use Rattle.capnp_wire.specs.declared.any_object.numbers.Numbers.{Numbers}

@@ -1,9 +1,7 @@
 -- What the view of whatever a pointer leads to shows (src/any_object/reader.rt).
 use Rattle.std.specs.Prelude.{◌≡◌, ℕ, ⊤, List}
 use Rattle.capnp_frame.specs.declared.message.segments.ReaderSegments.{Ghosts}
-use Rattle.capnp_layout.specs.Element.{code_of}
-use Rattle.capnp_layout.specs.Tree.{Form, null, struct, numbers, pointers, structs}
-use Rattle.capnp_layout.specs.Object.{nothing}
+use Rattle.capnp_layout.specs.Prelude.{code_of, Form, null, struct, numbers, pointers, structs, nothing}
 use Rattle.capnp_wire.specs.Readers.{struct_of}
 use Rattle.capnp_wire.specs.Views.{Pointer, Denotes, Accepts, Reads, IsStruct}
 use Rattle.capnp_wire.specs.ListViews.{IsStructList, IsPointerList, struct_list_of, pointer_list_of}

@@ -1,7 +1,7 @@
 -- The data words of structs that are elements of a list of numbers (src/any_struct/part.rt).
 -- Encoding document, "Lists".
 use Rattle.std.specs.Prelude.{ℕ, ◌*◌, ◌/◌, ◌%◌, ◌^◌, List, map, Option, Some, None}
-use Rattle.capnp_layout.specs.Element.{code_of, width}
+use Rattle.capnp_layout.specs.Prelude.{code_of, width}
 use Rattle.capnp_wire.specs.declared.any_struct.part.WordPart.{WordPart}
 
 -- a word, or the number that is one of its parts

@@ -1,2 +1,2 @@
 -- Passed on from capnp_layout.
-pub use Rattle.capnp_layout.specs.Reached.{At, at, nowhere, root, Root, IsIn, here, there, Below, directly, further}
+pub use Rattle.capnp_layout.specs.Prelude.{At, at, nowhere, root, Root, IsIn, here, there, Below, directly, further}

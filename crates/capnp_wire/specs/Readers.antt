@@ -1,14 +1,9 @@
 -- What contracts see of readers (src/arena/reader_arena.rt, src/any_pointer/reader.rt, src/any_struct/reader.rt).
 use Rattle.std.specs.Prelude.{◌≡◌, ℕ, ◌+◌, ◌-◌, ◌^◌, ◌<◌, ℤ, pos, negsuc, List, [], ◌∷◌, Option, Some, None}
 use denote.Ref.{Bor}
-use Rattle.capnp_frame.specs.Limits.{default_limit}
+use Rattle.capnp_frame.specs.Prelude.{default_limit}
 use Rattle.capnp_frame.specs.declared.message.segments.ReaderSegments.{Ghosts}
-use Rattle.capnp_layout.specs.Pointer.{words_of, words_from}
-use Rattle.capnp_layout.specs.Tree.{Form}
-use Rattle.capnp_layout.specs.Object.{message_of, places}
-use Rattle.capnp_layout.specs.Reached.{root}
-use Rattle.capnp_layout.specs.Traversed.{Within}
-use Rattle.capnp_layout.specs.Body.{IsObject, shape_of}
+use Rattle.capnp_layout.specs.Prelude.{words_of, words_from, Form, message_of, places, root, Within, IsObject, shape_of}
 use Rattle.capnp_wire.specs.Views.{Pointer, Struct}
 use Rattle.capnp_wire.specs.Parts.{own_data}
 use Rattle.capnp_layout.specs.declared.place.Place.{Place}

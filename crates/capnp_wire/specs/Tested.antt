@@ -3,17 +3,10 @@ use Rattle.std.specs.Prelude.{◌≡◌, ◌≢◌, ◌⊎◌, ℕ, ◌+◌, ◌
 use Rattle.capnp_frame.specs.declared.error.Error.{Error}
 use Rattle.capnp_frame.specs.declared.error.ErrorKind.{ErrorKind}
 use Rattle.capnp_frame.specs.declared.error.ErrorKind.TheVariants.{ReadLimitExceeded, InvalidSegmentId}
-use Rattle.capnp_layout.specs.Pointer.{pointer_kind, offset, list_count}
-use Rattle.capnp_layout.specs.Element.{code_of}
-use Rattle.capnp_layout.specs.Tree.{Form, is_null, null, struct, numbers, structs, Trees, depth, object_size, total_words}
-use Rattle.capnp_layout.specs.Object.{word_at, elements, Shape, PointsTo}
-use Rattle.capnp_layout.specs.Reached.{At, root}
-use Rattle.capnp_layout.specs.Traversed.{Within, less}
-use Rattle.capnp_layout.specs.Faults.{Fault}
-use Rattle.capnp_layout.specs.Layout.{minus_one, Trimmed}
+use Rattle.capnp_layout.specs.Prelude.{pointer_kind, offset, list_count, code_of, Form, null, struct, numbers, structs, Trees, depth, object_size, total_words, word_at, elements, Shape, PointsTo, At, root, Within, less, Fault, minus_one, Trimmed, segment_of, places_in, end_of}
+use Rattle.capnp_layout.specs.Tree.{is_null}
 use Rattle.capnp_wire.specs.Canonical.{EndsFull, Padded, IsInPreorder}
 use Rattle.capnp_layout.specs.declared.place.Place.{Place}
-use Rattle.capnp_layout.specs.Rows.{segment_of, places_in, end_of}
 use Rattle.capnp_wire.specs.declared.layout.canonical.CanonicalWalk.{CanonicalWalk}
 use Rattle.capnp_wire.specs.declared.layout.canonical.Met.{Met}
 use Rattle.capnp_wire.specs.declared.layout.canonical.Met.TheVariants.{Null, NotCanonical, Pointers}

@@ -1,14 +1,8 @@
 -- What a walk over trees may still count against the traversal limit, and the words that it has
 -- counted (src/layout/walk.rt).
-pub use Rattle.capnp_layout.specs.Traversed.{Within, less, Exceeds, TreesAt}
+pub use Rattle.capnp_layout.specs.Prelude.{Within, less, Exceeds, TreesAt}
 use Rattle.std.specs.Prelude.{◌≡◌, Bool, ℕ, ◌+◌, ◌^◌, ◌<◌, ◌≤◌, List, [], ◌∷◌, ◌++◌, slice_get, Option, Some, None, if◌then◌else◌}
-use Rattle.capnp_layout.specs.Pointer.{words_of}
-use Rattle.capnp_layout.specs.Tree.{Trees, depth, total_words}
-use Rattle.capnp_layout.specs.Object.{places}
-use Rattle.capnp_layout.specs.Body.{IsObject, shape_of, words_in}
-use Rattle.capnp_layout.specs.Reached.{At}
-use Rattle.capnp_layout.specs.Layout.{output, AllHaveRoom}
-use Rattle.capnp_layout.specs.Output.{output_body_of}
+use Rattle.capnp_layout.specs.Prelude.{words_of, Trees, depth, total_words, places, IsObject, shape_of, words_in, At, output, AllHaveRoom, output_body_of}
 use Rattle.capnp_layout.specs.declared.place.Place.{Place}
 use Rattle.capnp_wire.specs.declared.layout.walk.Walk.{Walk}
 use Rattle.capnp_layout.specs.declared.pointer_run.PointerRun.{PointerRun}

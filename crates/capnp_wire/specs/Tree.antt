@@ -1,2 +1,3 @@
 -- Passed on from capnp_layout.
-pub use Rattle.capnp_layout.specs.Tree.{Form, null, numbers, pointers, struct, structs, Trees, none, tree, count, is_null, depth, object_size, total_words}
+pub use Rattle.capnp_layout.specs.Tree.{is_null}
+pub use Rattle.capnp_layout.specs.Prelude.{Form, null, numbers, pointers, struct, structs, Trees, none, tree, count, depth, object_size, total_words}

@@ -1,9 +1,7 @@
 -- What contracts see of readers of upgraded lists (src/upgraded).
 use Rattle.std.specs.Prelude.{ℕ, zero, suc, ◌+◌, ◌-◌, List, [], ◌∷◌, map}
 use Rattle.capnp_frame.specs.declared.message.segments.ReaderSegments.{Ghosts as SegmentGhosts}
-use Rattle.capnp_layout.specs.Pointer.{words_of}
-use Rattle.capnp_layout.specs.Element.{code_of}
-use Rattle.capnp_layout.specs.Object.{message_of, elements, rows_from}
+use Rattle.capnp_layout.specs.Prelude.{words_of, code_of, message_of, elements, rows_from}
 use Rattle.capnp_wire.specs.Readers.{limit_of}
 use Rattle.capnp_wire.specs.Views.{Pointer}
 use Rattle.capnp_wire.specs.ListViews.{StructList, PointerList, struct_list_of}

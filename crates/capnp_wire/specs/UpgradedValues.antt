@@ -4,10 +4,7 @@ use Rattle.std.proofs.Common.{ap}
 use Rattle.capnp_frame.specs.declared.error.ErrorKind.{ErrorKind}
 use Rattle.capnp_frame.specs.declared.error.ErrorKind.TheVariants.{WrongPointerKind}
 use Rattle.capnp_frame.specs.declared.message.segments.ReaderSegments.{Ghosts as SegmentGhosts}
-use Rattle.capnp_layout.specs.Pointer.{words_of}
-use Rattle.capnp_layout.specs.Element.{code_of}
-use Rattle.capnp_layout.specs.Tree.{Trees, pointers, count}
-use Rattle.capnp_layout.specs.Object.{elements}
+use Rattle.capnp_layout.specs.Prelude.{words_of, code_of, Trees, pointers, count, elements}
 use Rattle.capnp_wire.specs.ListViews.{struct_list_of}
 use Rattle.capnp_wire.specs.NumberViews.{numbers_of}
 use Rattle.capnp_wire.specs.ListValues.{IsListTree, StopsInList, structs_of, pointers_in, IsNumbersTree, TooManyNumbers}

@@ -5,9 +5,7 @@
 use Rattle.std.specs.Prelude.{◌≡◌, ◌≢◌, ℕ, zero, suc, ◌-◌, ◌*◌, ◌%◌, ◌^◌, ◌<◌, ◌≤◌, ⊤, List, [], ◌∷◌, ◌++◌, length, map, take, drop, replicate, slice_index}
 use Rattle.capnp_frame.specs.declared.error.ErrorKind.{ErrorKind}
 use Rattle.capnp_frame.specs.declared.error.ErrorKind.TheVariants.{WrongPointerKind}
-use Rattle.capnp_layout.specs.Element.{width}
-use Rattle.capnp_layout.specs.Tree.{Form, null, numbers, pointers, structs}
-use Rattle.capnp_layout.specs.Traversed.{Within}
+use Rattle.capnp_layout.specs.Prelude.{width, Form, null, numbers, pointers, structs, Within}
 use Rattle.capnp_wire.specs.Views.{Pointer, Shows}
 use Rattle.capnp_wire.specs.ListViews.{StructList, PointerList}
 use Rattle.capnp_layout.specs.declared.place.Place.{Place}

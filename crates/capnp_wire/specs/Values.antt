@@ -3,19 +3,11 @@ use Rattle.std.specs.Prelude.{◌≡◌, ◌⊎◌, ℕ, ◌+◌, ◌-◌, ◌%�
 use Rattle.std.proofs.Common.{refl, ap}
 use Rattle.capnp_frame.specs.declared.error.ErrorKind.{ErrorKind}
 use Rattle.capnp_frame.specs.declared.error.ErrorKind.TheVariants.{AllocationTooLarge}
-use Rattle.capnp_frame.specs.Words.{bytes_of}
+use Rattle.capnp_frame.specs.Prelude.{bytes_of}
 use Rattle.capnp_frame.specs.declared.words.Word.{Word}
-use Rattle.capnp_layout.specs.Pointer.{number_of, words_of, words_from}
-use Rattle.capnp_layout.specs.Element.{words_for}
-use Rattle.capnp_layout.specs.Object.{places}
+use Rattle.capnp_layout.specs.Prelude.{number_of, words_of, words_from, words_for, places, null, struct, numbers, Trees, none, tree, count, depth, total_words, At, at, nowhere, trim, canon, output, AllHaveRoom, Within, too_large, StopsWalk}
 use Rattle.capnp_wire.specs.Views.{Pointer, Struct}
-use Rattle.capnp_layout.specs.Tree.{null, struct, numbers, Trees, none, tree, count, depth, is_null, total_words}
-use Rattle.capnp_layout.specs.Reached.{At, at, nowhere}
-use Rattle.capnp_layout.specs.Trim.{trim}
-use Rattle.capnp_layout.specs.Layout.{canon, output, AllHaveRoom}
-use Rattle.capnp_layout.specs.Traversed.{Within}
-use Rattle.capnp_layout.specs.Limits.{too_large}
-use Rattle.capnp_layout.specs.Faults.{StopsWalk}
+use Rattle.capnp_layout.specs.Tree.{is_null}
 use Rattle.capnp_layout.specs.declared.place.Place.{Place}
 use Rattle.capnp_wire.specs.declared.traits.TreeWords.{TreeWords}
 use Rattle.capnp_layout.specs.declared.pointer.StructSize.{StructSize}

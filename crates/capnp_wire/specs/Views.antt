@@ -5,10 +5,8 @@ use Rattle.std.specs.Result.{IsErrAnd}
 use Rattle.capnp_frame.specs.declared.error.Error.{Error}
 use Rattle.capnp_frame.specs.declared.error.ErrorKind.{ErrorKind}
 use Rattle.capnp_frame.specs.declared.error.ErrorKind.TheVariants.{ReadLimitExceeded, AllocationTooLarge, WrongPointerKind, TextNotTerminated}
-use Rattle.capnp_layout.specs.Tree.{Form, is_null, null, struct, numbers}
-use Rattle.capnp_layout.specs.Object.{Shape, PointsTo, nothing}
-use Rattle.capnp_layout.specs.Faults.{Fault, StopsWalk}
-use Rattle.capnp_layout.specs.Traversed.{TreesAt, Within}
+use Rattle.capnp_layout.specs.Tree.{is_null}
+use Rattle.capnp_layout.specs.Prelude.{Form, null, struct, numbers, Shape, PointsTo, nothing, Fault, StopsWalk, TreesAt, Within}
 use Rattle.capnp_layout.specs.declared.place.Place.{Place}
 
 -- A pointer that is read: the message, its place (a pointer past the end of a struct has none, and

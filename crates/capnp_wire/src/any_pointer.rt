@@ -1,7 +1,6 @@
 //! Pointers that may lead to anything.
 ghost use Rattle.std.specs.Prelude.{◌≡◌, ◌-◌, ◌^◌, ◌<◌, ◌≤◌, length};
-ghost use Rattle.capnp_layout.specs.Tree.{Trees};
-ghost use Rattle.capnp_layout.specs.Layout.{output};
+ghost use Rattle.capnp_layout.specs.Prelude.{Trees, output};
 ghost use Rattle.capnp_wire.specs.Copy.{IsCopied};
 ghost use Rattle.capnp_wire.specs.Readers.{pointer_of};
 ghost use Rattle.capnp_wire.specs.Values.{HasRoomAt, LeadsToTree};

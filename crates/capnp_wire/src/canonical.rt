@@ -2,11 +2,10 @@
 //! words.
 ghost use Rattle.std.specs.Prelude.{◌≡◌, ◌⊎◌, ◌+◌, ◌*◌, ℕ, true, length, replicate, Ok, IfOk, IfErr, MatchResult};
 ghost use Rattle.std.specs.Result.{IsErrAnd};
-ghost use Rattle.capnp_frame.specs.Message.{IsWholeWords};
+ghost use Rattle.capnp_frame.specs.Prelude.{IsWholeWords};
 ghost use Rattle.capnp_frame.specs.declared.error.ErrorKind.{ErrorKind};
 ghost use Rattle.capnp_frame.specs.declared.error.ErrorKind.TheVariants.{OutOfMemory};
-ghost use Rattle.capnp_layout.specs.Pointer.{words_of};
-ghost use Rattle.capnp_layout.specs.Block.{numbers_of};
+ghost use Rattle.capnp_layout.specs.Prelude.{words_of, numbers_of};
 ghost use Rattle.capnp_wire.specs.Readers.{pointer_of};
 ghost use Rattle.capnp_wire.specs.Values.{HasWords, LacksWords, LeadsToTree, StopsWalkFrom, IsCanonicalForm};
 

@@ -1,13 +1,8 @@
 //! Facts about the trees of messages, each the contract of a function that does nothing.
 ghost use Rattle.std.specs.Prelude.{◌≡◌, ◌+◌, Some, slice_get, ◌<◌, ◌≤◌, ◌^◌, ◌↔◌, ℕ, List, [], ◌∷◌, Option, None, Bool, false};
 ghost use Rattle.capnp_frame.specs.declared.error.ErrorKind.{ErrorKind};
-ghost use Rattle.capnp_layout.specs.Tree.{Form, Trees, none, tree, depth, is_null, total_words};
-ghost use Rattle.capnp_layout.specs.Trim.{trim};
-ghost use Rattle.capnp_layout.specs.Object.{Shape, PointsTo, word_at};
-ghost use Rattle.capnp_layout.specs.Reached.{At, Below, root};
-ghost use Rattle.capnp_layout.specs.Layout.{layout, canon, pointer_to, far_pointer, Laid, AllHaveRoom, AllWords};
-ghost use Rattle.capnp_layout.specs.Faults.{Fault, StopsWalk};
-ghost use Rattle.capnp_layout.specs.Traversed.{Within};
+ghost use Rattle.capnp_layout.specs.Tree.{is_null};
+ghost use Rattle.capnp_layout.specs.Prelude.{Form, Trees, none, tree, depth, total_words, trim, Shape, PointsTo, word_at, At, Below, root, layout, canon, pointer_to, far_pointer, Laid, AllHaveRoom, AllWords, Fault, StopsWalk, Within};
 ghost use Rattle.capnp_wire.specs.Canonical.{IsCanonical, TestsAreExact};
 ghost use Rattle.capnp_wire.specs.Views.{Pointer};
 ghost use Rattle.capnp_wire.specs.Values.{IsCanonicalForm};

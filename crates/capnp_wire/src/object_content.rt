@@ -1,11 +1,7 @@
 //! What views read of objects.
 ghost use Rattle.std.specs.Prelude.{◌≡◌, ◌+◌, ◌*◌, ◌/◌, ◌≤◌, length, MatchResult};
 ghost use Rattle.capnp_frame.specs.declared.error.ErrorKind.{ErrorKind};
-ghost use Rattle.capnp_layout.specs.Pointer.{words_of};
-ghost use Rattle.capnp_layout.specs.Object.{elements};
-ghost use Rattle.capnp_layout.specs.Element.{code_of, width, words_for};
-ghost use Rattle.capnp_layout.specs.Tree.{numbers};
-ghost use Rattle.capnp_layout.specs.Body.{room_of};
+ghost use Rattle.capnp_layout.specs.Prelude.{words_of, elements, code_of, width, words_for, numbers, room_of};
 ghost use Rattle.capnp_wire.specs.Readers.{form_of};
 ghost use Rattle.capnp_wire.specs.Views.{DeclinesNumbers};
 

@@ -2,8 +2,7 @@
 ghost use Rattle.std.specs.Prelude.{MatchResult};
 ghost use Rattle.std.specs.Option.{ForSome};
 ghost use Rattle.capnp_frame.specs.declared.error.ErrorKind.{ErrorKind};
-ghost use Rattle.capnp_layout.specs.Pointer.{words_of};
-ghost use Rattle.capnp_layout.specs.Object.{nothing};
+ghost use Rattle.capnp_layout.specs.Prelude.{words_of, nothing};
 ghost use Rattle.capnp_wire.specs.Views.{Pointer, Denotes, HasSegment, RejectsReading};
 ghost use Rattle.capnp_wire.specs.Readers.{pointer_of, IsEntered};
 

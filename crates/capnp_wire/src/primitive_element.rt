@@ -1,7 +1,7 @@
 //! Numbers and bools, as they are in the data sections of structs and in lists (encoding document,
 //! "Structs" and "Lists").
 ghost use Rattle.std.specs.Prelude.{◌≡◌, ◌^◌, ◌<◌, ℕ};
-ghost use Rattle.capnp_layout.specs.Element.{code_of, width};
+ghost use Rattle.capnp_layout.specs.Prelude.{code_of, width};
 
 mod signed;
 mod unsigned;

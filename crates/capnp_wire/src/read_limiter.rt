@@ -1,7 +1,7 @@
 //! How many words of a message may still be read.
 ghost use Rattle.std.specs.Prelude.{◌≡◌, ◌≢◌, ◌<◌, None, IfErr, OnOk, OnErr};
 ghost use Rattle.capnp_frame.specs.declared.error.ErrorKind.{ErrorKind};
-ghost use Rattle.capnp_layout.specs.Traversed.{Within};
+ghost use Rattle.capnp_layout.specs.Prelude.{Within};
 ghost use Rattle.capnp_wire.specs.Readers.{limit_of};
 
 use capnp_frame::{Error, ErrorKind, Result};

@@ -1,10 +1,6 @@
 //! Types and values of a request.
 ghost use Rattle.std.specs.Prelude.{◌≡◌, ℕ, ◌*◌, ◌∷◌, false, length, replicate};
-ghost use Rattle.capnp_wire.specs.Layout.{layout};
-ghost use Rattle.capnp_wire.specs.Pointer.{words_of};
-ghost use Rattle.capnp_wire.specs.Readers.{pointer_of};
-ghost use Rattle.capnp_wire.specs.Tree.{Trees};
-ghost use Rattle.capnp_wire.specs.Values.{HasWords, LeadsToTree};
+ghost use Rattle.capnp_wire.specs.Prelude.{layout, words_of, pointer_of, Trees, HasWords, LeadsToTree};
 
 use crate::request::read_text;
 use crate::schema::{Base, Object, Type, Value};

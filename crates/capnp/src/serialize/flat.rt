@@ -1,5 +1,5 @@
 //! Reading messages from slices.
-ghost use Rattle.capnp_frame.specs.FlatReaders.{slice_rules, no_alloc_rules};
+ghost use Rattle.capnp_frame.specs.Prelude.{slice_rules, no_alloc_rules};
 ghost use Rattle.capnp.specs.Headline.{ReadsFlatMessage};
 
 use capnp_frame::Result;

@@ -1,7 +1,6 @@
 //! Reading messages from a source, and skipping them.
 ghost use Rattle.std.specs.Prelude.{length};
-ghost use Rattle.capnp_frame.specs.Skipping.{SkipsMessage};
-ghost use Rattle.capnp_frame.specs.Streams.{ReadsStream};
+ghost use Rattle.capnp_frame.specs.Prelude.{SkipsMessage, ReadsStream};
 ghost use Rattle.capnp.specs.Headline.{framed, framed_reusing, ReadsMessage, ReadsMessageInto, OrFailsAtEnd};
 ghost use Rattle.capnp.specs.Streams.{skipping_rules_of};
 ghost use Rattle.capnp.specs.declared.streams.Format.{Format};

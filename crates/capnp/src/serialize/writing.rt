@@ -1,7 +1,6 @@
 //! Writing messages to a sink.
 ghost use Rattle.std.specs.Prelude.{◌≡◌, ◌*◌, ◌<◌, ℕ, List, length, IfOk};
-ghost use Rattle.capnp_frame.specs.Writers.{ReturnsEncoding, CountsWords};
-ghost use Rattle.capnp_frame.specs.Writing.{IsWritable};
+ghost use Rattle.capnp_frame.specs.Prelude.{ReturnsEncoding, CountsWords, IsWritable};
 ghost use Rattle.capnp.specs.declared.streams.Format.{Format};
 ghost use Rattle.capnp.specs.Written.{IsFrameEncoding, WritesMessage};
 

@@ -1,5 +1,5 @@
 //! Writing packed messages to a sink.
-ghost use Rattle.capnp_frame.specs.Writing.{IsWritable};
+ghost use Rattle.capnp_frame.specs.Prelude.{IsWritable};
 ghost use Rattle.capnp.specs.declared.streams.Format.{Format};
 ghost use Rattle.capnp.specs.Written.{WritesMessage};
 

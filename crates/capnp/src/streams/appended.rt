@@ -1,7 +1,7 @@
 //! Messages that are written one after the other, and as many that are read.
 ghost use Rattle.std.specs.Prelude.{map};
 ghost use Rattle.std.specs.List.{AllByRecursion};
-ghost use Rattle.capnp_frame.specs.Writing.{IsWritable};
+ghost use Rattle.capnp_frame.specs.Prelude.{IsWritable};
 ghost use Rattle.capnp.specs.Appended.{ReadsMessages};
 ghost use Rattle.capnp.specs.Headline.{by_format, ReadsMessage, OrFailsAtEnd};
 ghost use Rattle.capnp.specs.Written.{WritesMessage, WritesMessages};

@@ -1,6 +1,6 @@
 //! Fields of structs: which are shown, and their bits.
 ghost use Rattle.std.specs.Prelude.{◌↔◌, ◌%◌, IsTrue};
-ghost use Rattle.capnp_wire.specs.Readers.{struct_of};
+ghost use Rattle.capnp_wire.specs.Prelude.{struct_of};
 ghost use Rattle.capnp.specs.PrintedFields.{IsPointer, IsShown};
 
 use crate::any_struct::StructReader;

@@ -1,6 +1,6 @@
 //! Numbers, bools and enumerants by their bits.
 ghost use Rattle.std.specs.Prelude.{◌≡◌, ◌++◌, IfSome, OnOk, string_bytes};
-ghost use Rattle.capnp_wire.specs.Readers.{struct_of};
+ghost use Rattle.capnp_wire.specs.Prelude.{struct_of};
 ghost use Rattle.capnp.specs.PrintedNumbers.{stored_bits, signed_of, shown_bits};
 
 use crate::any_struct::StructReader;

@@ -5,18 +5,12 @@ use Rattle.std.specs.Option.{option_and_then}
 use Rattle.std.proofs.lemmas.List.{take_all}
 use Rattle.std.specs.Int.{to_le_bytes}
 use Rattle.capnp_layout.proofs.objects.ObjectLemmas.{one_tree}
-use Rattle.capnp_layout.specs.Pointer.{number_of, words_of, words_from}
-use Rattle.capnp_layout.specs.Tree.{Form, null, struct, numbers, pointers, structs, Trees, none, tree, total_words}
-use Rattle.capnp_layout.specs.Object.{word_at}
-use Rattle.capnp_layout.specs.Reached.{At, root}
-use Rattle.capnp_layout.specs.Layout.{pointer, minus_one, far_pointer, body, Laid, HasRoom}
+use Rattle.capnp_layout.specs.Prelude.{number_of, words_of, words_from, Form, null, struct, numbers, pointers, structs, Trees, none, tree, total_words, word_at, At, root, pointer, minus_one, far_pointer, body, Laid, HasRoom}
 use Rattle.capnp_layout.specs.declared.place.Place.{Place}
 use Rattle.capnp_layout.proofs.words.WordLemmas.{length-words_of}
 use Rattle.capnp_layout.proofs.words.MessageLemmas.{segment_stands}
 use Rattle.capnp_layout.proofs.trees.PlacedLemmas.{local_tree, far_tree, some_form}
-use Rattle.capnp_build.specs.Bytes.{Space, written}
-use Rattle.capnp_build.specs.BuilderState.{used_of, space_at}
-use Rattle.capnp_build.specs.Built.{message, IsLaid}
+use Rattle.capnp_build.specs.Prelude.{Space, written, used_of, space_at, message, IsLaid}
 use Rattle.capnp_build.specs.declared.arena.location.RootLocation.{RootLocation}
 use Rattle.capnp_build.proofs.words.WordLemmas.{part_words}
 use Rattle.capnp_build.proofs.states.SpaceLemmas.{drop_all}

@@ -2,17 +2,11 @@
 use Rattle.std.proofs.Common.{◌≡◌, ℕ, zero, suc, ◌+◌, ◌-◌, ◌*◌, ◌^◌, ◌<◌, ◌≤◌, ◌==◌, if◌then◌else◌, Bool, true, false, List, [], ◌∷◌, ◌++◌, length, take, drop, replicate, refl, ap, sym, subst, ◌∙◌, arith, drop-drop}
 use Rattle.std.proofs.lemmas.List.{append-nil, length-replicate, drop-replicate, replicate-append-replicate, take-append-drop}
 use Rattle.std.proofs.lemmas.List.Elements.{All-replicate}
-use Rattle.capnp_layout.specs.Pointer.{number_of, digits, words_of}
-use Rattle.capnp_layout.specs.Element.{words_for}
-use Rattle.capnp_layout.specs.Tree.{struct, Trees, none, tree, total_words}
-use Rattle.capnp_layout.specs.Trim.{cut_zeros, keep_word}
-use Rattle.capnp_layout.specs.Layout.{body, pointer, output, struct_pointer, minus_one, AllHaveRoom}
-use Rattle.capnp_layout.specs.Block.{put}
-use Rattle.capnp_wire.specs.Copy.{IsCopied}
-use Rattle.capnp_wire.specs.Values.{HasWords, HasRoomAt, IsFreeFrom}
+use Rattle.capnp_layout.specs.Prelude.{number_of, digits, words_of, words_for, struct, Trees, none, tree, total_words, cut_zeros, keep_word, body, pointer, output, struct_pointer, minus_one, AllHaveRoom, put}
+use Rattle.capnp_wire.specs.Prelude.{IsCopied, HasWords, HasRoomAt, IsFreeFrom}
 use Rattle.capnp_wire.proofs.layouts.FreeLemmas.{body_long}
 use Rattle.capnp_layout.proofs.layouts.LayoutLemmas.{if_positive}
-use Rattle.capnp_build.specs.NewBody.{words_of_body, Fits, body_pointer_word, zero_form, output_new_object}
+use Rattle.capnp_build.specs.Prelude.{words_of_body, Fits, body_pointer_word, zero_form, output_new_object}
 use Rattle.capnp_build.specs.declared.object.NewBody.{NewBody}
 use Rattle.capnp_build.specs.declared.object.NewBody.TheVariants.{Bytes, Words, Struct}
 

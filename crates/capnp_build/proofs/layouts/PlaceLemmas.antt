@@ -4,12 +4,9 @@ use Rattle.std.specs.Prelude.{⊤}
 use Rattle.std.proofs.lemmas.Bool.{cases_lt}
 use Rattle.capnp_frame.specs.declared.error.Error.{Error}
 use Rattle.capnp_frame.specs.declared.error.ErrorKind.{ErrorKind}
-use Rattle.capnp_build.specs.Bytes.{Space}
-use Rattle.capnp_build.specs.BuilderState.{space_at, free_words_of, KeepsOthers}
+use Rattle.capnp_build.specs.Prelude.{Space, space_at, free_words_of, KeepsOthers, Built, size_in_words, HasNullRoot, KeepsOutside, state_of, IsAdded, IsAtEnd, IsPlaced, IsZeroAt, IsCleared, FindsNoRoom, FoundNoRoom, KeepsRooms, HasRootAlone}
 use Rattle.capnp_build.specs.declared.allocator.Allocator.{Ghosts}
-use Rattle.capnp_build.specs.Built.{Built, size_in_words, HasNullRoot, KeepsOutside, state_of}
-use Rattle.capnp_build.specs.Placed.{IsAdded, IsAtEnd, IsPlaced, IsZeroAt, IsCleared, FindsNoRoom, FoundNoRoom, KeepsRooms, HasRootAlone}
-use Rattle.capnp_frame.specs.Source.{IsPreorder}
+use Rattle.capnp_frame.specs.Prelude.{IsPreorder}
 use Rattle.capnp_build.proofs.states.SpaceLemmas.{size_added, past_all, added_there}
 
 -- a place in a segment that is new

@@ -1,17 +1,9 @@
 -- Bodies in segments, and pointers to them.
 use Rattle.std.proofs.Common.{◌≡◌, ℕ, zero, suc, ◌+◌, ◌-◌, ◌*◌, ◌^◌, ◌<◌, ◌≤◌, List, [], ◌++◌, length, take, drop, Some, slice_set, w64, refl, ap, sym, subst, ◌∙◌, arith, length-set, length-append}
 use Rattle.std.specs.Int.{to_le_bytes}
-use Rattle.capnp_layout.specs.Pointer.{number_of, words_of, words_from}
-use Rattle.capnp_layout.specs.Tree.{Form, Trees, none, tree, count, total_words}
-use Rattle.capnp_layout.specs.Object.{word_at}
-use Rattle.capnp_layout.specs.Reached.{root}
-use Rattle.capnp_layout.specs.Layout.{pointer, far_pointer, body, Laid, AllHaveRoom}
+use Rattle.capnp_layout.specs.Prelude.{number_of, words_of, words_from, Form, Trees, none, tree, count, total_words, word_at, root, pointer, far_pointer, body, Laid, AllHaveRoom}
 use Rattle.capnp_layout.proofs.words.WordLemmas.{length-words_of}
-use Rattle.capnp_build.specs.Bytes.{Space, written, with_bytes}
-use Rattle.capnp_build.specs.Filled.{with_more}
-use Rattle.capnp_build.specs.Out.{Out}
-use Rattle.capnp_build.specs.BuilderState.{BuilderState, space_at, pairs, with_space, KeepsOthers}
-use Rattle.capnp_build.specs.Built.{message, size_in_words, root_word, landing_pad_of, HasBody, HasSomeBody, IsLaid, IsLonger, IsRewritten}
+use Rattle.capnp_build.specs.Prelude.{Space, written, with_bytes, with_more, Out, BuilderState, space_at, pairs, with_space, KeepsOthers, message, size_in_words, root_word, landing_pad_of, HasBody, HasSomeBody, IsLaid, IsLonger, IsRewritten}
 use Rattle.capnp_build.specs.declared.arena.location.RootLocation.{RootLocation}
 use Rattle.capnp_build.proofs.words.WordLemmas.{part_words}
 use Rattle.capnp_build.proofs.words.UsedLemmas.{written_length, written_zero}

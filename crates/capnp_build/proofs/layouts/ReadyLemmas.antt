@@ -1,22 +1,15 @@
 -- Values that are written after a pointer.
 use Rattle.std.proofs.Common.{◌≡◌, ℕ, ◌+◌, ◌*◌, ◌^◌, ◌<◌, Bool, true, false, List, [], ◌∷◌, length, take, Some, slice_get, refl, ap, sym, subst, ◌∙◌, arith}
 use Rattle.std.proofs.lemmas.List.{take_all}
-use Rattle.capnp_frame.specs.Words.{bytes_of}
+use Rattle.capnp_frame.specs.Prelude.{bytes_of}
 use Rattle.capnp_frame.specs.declared.words.Word.{Word}
-use Rattle.capnp_layout.specs.Pointer.{number_of, words_of, words_from}
-use Rattle.capnp_layout.specs.Object.{word_at}
-use Rattle.capnp_layout.specs.Tree.{Form, Trees, none, tree, count, total_words}
-use Rattle.capnp_layout.specs.Reached.{At, root}
-use Rattle.capnp_layout.specs.Layout.{pointer, body, layout, output, AllHaveRoom}
-use Rattle.capnp_wire.specs.Values.{HasWords, pointed}
+use Rattle.capnp_layout.specs.Prelude.{number_of, words_of, words_from, word_at, Form, Trees, none, tree, count, total_words, At, root, pointer, body, layout, output, AllHaveRoom}
+use Rattle.capnp_wire.specs.Prelude.{HasWords, pointed}
 use Rattle.capnp_layout.proofs.trees.TrimLemmas.{count-trim}
 use Rattle.capnp_wire.proofs.layouts.OpenLemmas.{room_output}
 use Rattle.capnp_layout.proofs.words.WordLemmas.{length-words_of, heads, tails}
 use Rattle.capnp_layout.proofs.trees.PlacedLemmas.{alone}
-use Rattle.capnp_build.specs.Bytes.{Space}
-use Rattle.capnp_build.specs.Filled.{IsBlockOf}
-use Rattle.capnp_build.specs.BuilderState.{space_at}
-use Rattle.capnp_build.specs.Built.{message, root_word, HasValue, IsLaid, IsSet, IsWhole}
+use Rattle.capnp_build.specs.Prelude.{Space, IsBlockOf, space_at, message, root_word, HasValue, IsLaid, IsSet, IsWhole}
 use Rattle.capnp_build.specs.declared.arena.location.RootLocation.{RootLocation}
 use Rattle.capnp_build.proofs.states.SpaceLemmas.{one_space}
 use Rattle.capnp_build.proofs.layouts.LaidLemmas.{laid_root}

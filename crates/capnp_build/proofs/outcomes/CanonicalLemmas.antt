@@ -3,12 +3,10 @@ use Rattle.std.proofs.Common.{◌≡◌, inl, inr, ℕ, ◌<◌, ◌≤◌, true
 use Rattle.capnp_frame.specs.declared.error.Error.{Error}
 use Rattle.capnp_frame.specs.declared.error.ErrorKind.{ErrorKind}
 use Rattle.capnp_frame.specs.declared.error.ErrorKind.TheVariants.{NotOneSegment, SegmentTaken}
-use Rattle.capnp_layout.specs.Tree.{Trees}
-use Rattle.capnp_wire.specs.Values.{HasWords, LacksWords}
+use Rattle.capnp_layout.specs.Prelude.{Trees}
+use Rattle.capnp_wire.specs.Prelude.{HasWords, LacksWords}
 use Rattle.capnp_build.specs.declared.allocator.Allocator as allocator
-use Rattle.capnp_build.specs.BuilderState.{space_at, free_words_of}
-use Rattle.capnp_build.specs.Built.{Built}
-use Rattle.capnp_build.specs.Outcomes.{SetsRootCanonical, ClearsRoot, RefusesCanonical}
+use Rattle.capnp_build.specs.Prelude.{space_at, free_words_of, Built, SetsRootCanonical, ClearsRoot, RefusesCanonical}
 use Rattle.capnp_build.proofs.outcomes.OutcomeLemmas.{cleared_root, room_first}
 
 -- why a value fails once the root is cleared: `many`, `measured` and `full` say what each line

@@ -1,10 +1,6 @@
 -- The first action on a message.
 use Rattle.std.proofs.Common.{◌≡◌, inl, inr, ℕ, ◌+◌, ◌/◌, ◌^◌, ◌<◌, ◌≤◌, min, List, [], ◌∷◌, length, ap, ◌∙◌, arith}
-use Rattle.capnp_build.specs.Bytes.{Space}
-use Rattle.capnp_build.specs.Out.{HasLarge}
-use Rattle.capnp_build.specs.BuilderState.{space_at, pairs}
-use Rattle.capnp_build.specs.Built.{Built, size_in_words}
-use Rattle.capnp_build.specs.Placed.{HasRootAlone, HasNoRoom, IsPlaced, IsFirst, most_words}
+use Rattle.capnp_build.specs.Prelude.{Space, HasLarge, space_at, pairs, Built, size_in_words, HasRootAlone, HasNoRoom, IsPlaced, IsFirst, most_words}
 use Rattle.capnp_build.proofs.states.SpaceLemmas.{past_all}
 
 one_word : (spaces : List Space) → HasRootAlone spaces → size_in_words spaces ≡ 1

@@ -1,16 +1,12 @@
 -- What making the root a new object keeps, from what its steps keep.
 use Rattle.std.proofs.Common.{◌≡◌, ◌∙◌, inl, inr, ℕ, length, Result, Ok, Err, refl, ap, sym, arith}
 use Rattle.capnp_frame.specs.declared.error.Error.{Error}
-use Rattle.capnp_layout.specs.Tree.{Form, null}
+use Rattle.capnp_layout.specs.Prelude.{Form, null}
 use Rattle.capnp_build.specs.declared.allocator.Allocator as allocator
 use Rattle.capnp_build.specs.declared.owned_builder.OwnedBuilder as owned_builder
-use Rattle.capnp_frame.specs.Source.{IsPreorder}
-use Rattle.capnp_build.specs.Built.{Built}
-use Rattle.capnp_build.specs.Placed.{NewWords, InitWords}
-use Rattle.capnp_build.specs.Blocks.{IsNew, PutsBlock}
+use Rattle.capnp_frame.specs.Prelude.{IsPreorder}
+use Rattle.capnp_build.specs.Prelude.{Built, NewWords, InitWords, IsNew, PutsBlock, InitsRoot, ClearsRoot, LacksFirst, InitsView}
 use Rattle.std.specs.Borrow.{MutBor}
-use Rattle.capnp_build.specs.Outcomes.{InitsRoot, ClearsRoot, LacksFirst}
-use Rattle.capnp_build.specs.RootViews.{InitsView}
 use Rattle.capnp_build.proofs.roots.NullLemmas.{null_root}
 use Rattle.capnp_build.proofs.layouts.PlaceLemmas.{still_cleared, found_no_room}
 use Rattle.capnp_build.proofs.outcomes.FirstLemmas.{first_put}

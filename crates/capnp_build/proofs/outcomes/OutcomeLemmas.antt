@@ -2,20 +2,13 @@
 use Rattle.std.proofs.Common.{◌≡◌, ◌/◌, inl, inr, ℕ, ◌<◌, ◌≤◌, false, List, [], length, Result, Ok, Err, IfErr, OnOk, refl, ap, subst, sym, ◌+◌, ◌^◌, ◌∷◌, ◌∙◌, arith}
 use Rattle.capnp_frame.specs.declared.error.Error.{Error}
 use Rattle.capnp_frame.specs.declared.error.ErrorKind.{ErrorKind}
-use Rattle.capnp_layout.specs.Tree.{Form, null, Trees, none}
-use Rattle.capnp_wire.specs.Values.{HasWords, LacksWords}
+use Rattle.capnp_layout.specs.Prelude.{Form, null, Trees, none}
+use Rattle.capnp_wire.specs.Prelude.{HasWords, LacksWords}
 use Rattle.capnp_build.specs.declared.allocator.Allocator as allocator
 use Rattle.capnp_build.specs.declared.owned_builder.OwnedBuilder as owned_builder
 use Rattle.capnp_build.specs.declared.root_kind.RootKind.{RootKind}
-use Rattle.capnp_build.specs.Bytes.{Space}
-use Rattle.capnp_frame.specs.Source.{IsPreorder}
-use Rattle.capnp_build.specs.Out.{Out, HasLarge}
-use Rattle.capnp_build.specs.BuilderState.{pairs, space_at, free_words_of}
-use Rattle.capnp_build.specs.Built.{Built, state_of, size_in_words, HasNullRoot, ForRoot, IsSet}
-use Rattle.capnp_build.specs.Placed.{DeclinesRoot, HasNoRoom, LacksSegment, FindsNoRoom, IsPut, IsGranted, IsCleared, IsLookedAt}
-use Rattle.capnp_build.specs.Blocks.{PutsBlock}
-use Rattle.capnp_build.specs.Outcomes.{SetsRoot, ClearsRoot, EnsuresRoot, LooksAtRoot, HasRoomFirst}
-use Rattle.capnp_build.specs.RootKind.{ShowsRoot, HoldsForm}
+use Rattle.capnp_build.specs.Prelude.{Space, Out, HasLarge, pairs, space_at, free_words_of, Built, state_of, size_in_words, HasNullRoot, ForRoot, IsSet, DeclinesRoot, HasNoRoom, LacksSegment, FindsNoRoom, IsPut, IsGranted, IsCleared, IsLookedAt, PutsBlock, SetsRoot, ClearsRoot, EnsuresRoot, LooksAtRoot, HasRoomFirst, ShowsRoot, HoldsForm}
+use Rattle.capnp_frame.specs.Prelude.{IsPreorder}
 use Rattle.capnp_build.proofs.roots.NullLemmas.{null_root}
 use Rattle.capnp_build.proofs.layouts.PlaceLemmas.{still_cleared}
 use Rattle.capnp_build.proofs.outcomes.FirstLemmas.{first_put, no_large}

@@ -2,13 +2,8 @@
 use Rattle.std.proofs.Common.{◌≡◌, ◌<◌, ℕ, List, [], ◌∷◌, length, Result, Ok, Err, IfErr, refl, ap, sym, subst, arith}
 use Rattle.capnp_frame.specs.declared.error.Error.{Error}
 use Rattle.capnp_frame.specs.declared.error.ErrorKind.{ErrorKind}
-use Rattle.capnp_layout.specs.Tree.{Form, null, struct, numbers, Trees, none, tree}
-use Rattle.capnp_layout.specs.Reached.{Root, root}
-use Rattle.capnp_build.specs.Bytes.{Space}
-use Rattle.capnp_build.specs.Built.{message, ForRoot, IsRootKind}
-use Rattle.capnp_build.specs.Placed.{DeclinesRoot}
-use Rattle.capnp_build.specs.Written.{HasField, HasNumber}
-use Rattle.capnp_build.specs.RootKind.{ShowsRoot, HoldsForm}
+use Rattle.capnp_layout.specs.Prelude.{Form, null, struct, numbers, Trees, none, tree, Root, root}
+use Rattle.capnp_build.specs.Prelude.{Space, message, ForRoot, IsRootKind, DeclinesRoot, HasField, HasNumber, ShowsRoot, HoldsForm}
 use Rattle.capnp_build.specs.declared.root_kind.RootKind.{RootKind}
 use Rattle.capnp_build.specs.declared.root_kind.RootKind.TheVariants.{Null, Bytes, Words, Struct, Other}
 use Rattle.capnp_build.proofs.roots.NullLemmas.{root_there}

@@ -1,15 +1,10 @@
 -- The null root.
 use Rattle.std.proofs.Common.{◌≡◌, inl, inr, ℕ, ◌+◌, ◌<◌, ◌≤◌, List, [], ◌∷◌, length, Some, slice_get, refl, ap, sym, ◌∙◌, arith, max, replicate, slice_set, length-set}
-use Rattle.capnp_layout.specs.Pointer.{number_of, words_of}
-use Rattle.capnp_layout.specs.Tree.{Form, null, none, Trees, tree}
-use Rattle.capnp_layout.specs.Object.{places, word_at, Target, Lands, local, far, Shape, PointsTo, is_null, is_object, double_far}
-use Rattle.capnp_layout.specs.Reached.{At, at, nowhere, root, Root}
+use Rattle.capnp_layout.specs.Prelude.{number_of, words_of, Form, null, none, Trees, tree, places, word_at, Target, Lands, local, far, Shape, PointsTo, is_null, is_object, double_far, At, at, nowhere, root, Root}
 use Rattle.capnp_layout.specs.declared.place.Place.{Place}
 use Rattle.capnp_layout.proofs.words.WordLemmas.{length-words_of}
 use Rattle.capnp_layout.proofs.objects.ObjectLemmas.{one_tree}
-use Rattle.capnp_build.specs.Bytes.{Space, written, with_bytes}
-use Rattle.capnp_build.specs.BuilderState.{space_at}
-use Rattle.capnp_build.specs.Built.{message, HasNullRoot, size_in_words}
+use Rattle.capnp_build.specs.Prelude.{Space, written, with_bytes, space_at, message, HasNullRoot, size_in_words}
 use Rattle.capnp_build.proofs.states.SpaceLemmas.{size_set, set_room}
 use Rattle.capnp_build.proofs.words.UsedLemmas.{written_length}
 use Rattle.capnp_build.proofs.words.ByteLemmas.{word_there, eight_here}

@@ -6,19 +6,12 @@ use Rattle.std.specs.Int.{to_le_bytes}
 use Rattle.std.proofs.lemmas.List.{take_all, append-nil, take-append-le}
 use Rattle.std.proofs.lemmas.List.Elements.{All-set}
 use Rattle.std.proofs.Math.Seq.{take-append_seam}
-use Rattle.capnp_layout.specs.Pointer.{number_of, digits, words_of, words_from}
-use Rattle.capnp_layout.specs.Element.{words_for}
-use Rattle.capnp_layout.specs.Tree.{Form, null, struct, numbers, pointers, structs, Trees, none, tree, count, object_size}
-use Rattle.capnp_layout.specs.Reached.{At, root}
-use Rattle.capnp_wire.specs.Views.{HasData, IsWords}
-use Rattle.capnp_layout.specs.Layout.{body, pointers_to, slots}
+use Rattle.capnp_layout.specs.Prelude.{number_of, digits, words_of, words_from, words_for, Form, null, struct, numbers, pointers, structs, Trees, none, tree, count, object_size, At, root, body, pointers_to, slots}
+use Rattle.capnp_wire.specs.Prelude.{HasData, IsWords}
 use Rattle.capnp_layout.proofs.words.DigitLemmas.{digits-number_of}
 use Rattle.capnp_layout.proofs.words.WordLemmas.{length-words_of}
 use Rattle.capnp_layout.proofs.objects.ObjectLemmas.{one_tree}
-use Rattle.capnp_build.specs.Bytes.{Space, written, with_bytes}
-use Rattle.capnp_build.specs.BuilderState.{space_at}
-use Rattle.capnp_build.specs.Built.{message, IsLaid, IsRootKind}
-use Rattle.capnp_build.specs.RootKind.{ShowsRoot, HoldsForm}
+use Rattle.capnp_build.specs.Prelude.{Space, written, with_bytes, space_at, message, IsLaid, IsRootKind, ShowsRoot, HoldsForm}
 use Rattle.capnp_build.specs.declared.root_kind.RootKind.{RootKind}
 use Rattle.capnp_build.specs.declared.root_kind.RootKind.TheVariants.{Null, Bytes, Words, Struct, Other}
 use Rattle.capnp_build.specs.declared.arena.location.RootLocation.{RootLocation}

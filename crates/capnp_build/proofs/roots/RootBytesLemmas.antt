@@ -1,13 +1,7 @@
 -- The bytes of a root's block are those of its tree.
 use Rattle.std.proofs.Common.{◌≡◌, ℕ, ◌*◌, ◌<◌, List, [], length, take, drop, Some, slice_index_or, refl, ap, ◌∙◌, arith}
-use Rattle.capnp_layout.specs.Tree.{Form, Trees, total_words}
-use Rattle.capnp_layout.specs.Layout.{body}
-use Rattle.capnp_layout.specs.Reached.{Root}
-use Rattle.capnp_build.specs.Bytes.{Space}
-use Rattle.capnp_build.specs.BuilderState.{space_at}
-use Rattle.capnp_build.specs.Built.{message, HasNullRoot, IsBuilt}
-use Rattle.capnp_build.specs.RootKind.{HoldsForm}
-use Rattle.capnp_build.specs.RootViews.{HoldsTree}
+use Rattle.capnp_layout.specs.Prelude.{Form, Trees, total_words, body, Root}
+use Rattle.capnp_build.specs.Prelude.{Space, space_at, message, HasNullRoot, IsBuilt, HoldsForm, HoldsTree}
 use Rattle.capnp_build.specs.declared.arena.location.RootLocation.{RootLocation}
 use Rattle.capnp_build.proofs.roots.NullLemmas.{null_tree_only}
 use Rattle.capnp_build.proofs.layouts.LaidLemmas.{laid_as}

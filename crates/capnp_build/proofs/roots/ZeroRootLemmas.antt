@@ -1,12 +1,8 @@
 -- The root's word made zero, and before it the block that it leads to.
 use Rattle.std.proofs.Common.{◌≡◌, inl, inr, ℕ, ◌+◌, ◌*◌, ◌<◌, ◌≤◌, List, length, replicate, Some, None, slice_set, ap, sym, subst, ◌∙◌, refl, arith}
 use Rattle.std.proofs.lemmas.List.{length-replicate}
-use Rattle.capnp_layout.specs.Object.{word_at}
-use Rattle.capnp_layout.specs.Reached.{root}
-use Rattle.capnp_build.specs.Bytes.{Space, with_bytes}
-use Rattle.capnp_build.specs.BuilderState.{BuilderState, space_at, with_space}
-use Rattle.capnp_build.specs.Built.{message, size_in_words, HasNullRoot, IsBuilt, root_word}
-use Rattle.capnp_build.specs.Blocks.{ZeroesRoot}
+use Rattle.capnp_layout.specs.Prelude.{word_at, root}
+use Rattle.capnp_build.specs.Prelude.{Space, with_bytes, BuilderState, space_at, with_space, message, size_in_words, HasNullRoot, IsBuilt, root_word, ZeroesRoot}
 use Rattle.capnp_build.specs.declared.allocator.Allocator.{Ghosts}
 use Rattle.capnp_build.specs.declared.arena.location.RootLocation.{RootLocation}
 use Rattle.capnp_build.proofs.states.BuilderStateLemmas.{edit_keeps}

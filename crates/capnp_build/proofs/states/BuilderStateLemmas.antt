@@ -2,9 +2,7 @@
 use Rattle.std.proofs.Common.{◌≡◌, ℕ, zero, suc, ◌+◌, ◌-◌, ◌/◌, ◌^◌, ◌<◌, Bool, List, [], ◌∷◌, ◌++◌, length, take, Option, Some, None, MatchOption, slice_index_or, slice_set, refl, ap, sym}
 use Rattle.std.proofs.Common.{subst, ◌∙◌, arith, length-set, length-append}
 use Rattle.std.specs.Prelude.{⊤}
-use Rattle.capnp_build.specs.Bytes.{Space}
-use Rattle.capnp_build.specs.Out.{Out, Removed, here, IsOut}
-use Rattle.capnp_build.specs.BuilderState.{BuilderState, pair, pairs, space_at, no_space, spaces_of, with_space, AreOut, KeepsOthers, ReturnsEach}
+use Rattle.capnp_build.specs.Prelude.{Space, Out, Removed, here, IsOut, BuilderState, pair, pairs, space_at, no_space, spaces_of, with_space, AreOut, KeepsOthers, ReturnsEach}
 
 -- a segment more is the first pair
 pub pairs_more : (spaces : List Space) (space : Space) (others : List Out) → pairs (spaces ++ space ∷ []) others ≡ pair space ∷ pairs spaces others

@@ -4,10 +4,7 @@ use Rattle.std.proofs.Common.{length-take, length-drop}
 use Rattle.std.specs.Prelude.{⊤}
 use Rattle.std.proofs.lemmas.Bool.{cases_lt}
 use Rattle.std.proofs.lemmas.List.{drop-take, take-append-le, drop-append-le, length-replicate}
-use Rattle.capnp_build.specs.Bytes.{Space, written, with_bytes}
-use Rattle.capnp_build.specs.BuilderState.{space_at}
-use Rattle.capnp_build.specs.Built.{KeepsBytes, KeepsOutside}
-use Rattle.capnp_build.specs.Placed.{IsAdded, IsZeroAt}
+use Rattle.capnp_build.specs.Prelude.{Space, written, with_bytes, space_at, KeepsBytes, KeepsOutside, IsAdded, IsZeroAt}
 use Rattle.capnp_build.specs.declared.arena.location.RootLocation.{RootLocation}
 use Rattle.capnp_build.proofs.words.ByteLemmas.{front_same}
 use Rattle.capnp_build.proofs.words.UsedLemmas.{written_zero}

@@ -3,13 +3,8 @@ use Rattle.std.proofs.lemmas.List.{length-replicate, length-map}
 use Rattle.std.proofs.Common.{◌≡◌, ℕ, zero, suc, ◌+◌, ◌-◌, ◌*◌, ◌^◌, ◌<◌, ◌≤◌, List, [], ◌∷◌, ◌++◌, length, map, replicate, Option, Some, None, slice_set, slice_index_or}
 use Rattle.std.proofs.Common.{ap, sym, subst, ◌∙◌, arith, length-append}
 use Rattle.std.specs.List.{AllByRecursion}
-use Rattle.capnp_frame.specs.Message.{IsWholeWords, lengths}
-use Rattle.capnp_frame.specs.SegmentTable.{FitsField}
-use Rattle.capnp_frame.specs.Writing.{IsWritable}
-use Rattle.capnp_build.specs.Bytes.{Space, with_block, with_bytes, written}
-use Rattle.capnp_build.specs.Filled.{with_more}
-use Rattle.capnp_build.specs.BuilderState.{used_of, spaces_of, space_at, no_space, free_words_of}
-use Rattle.capnp_build.specs.Output.{UsesWords}
+use Rattle.capnp_frame.specs.Prelude.{IsWholeWords, lengths, FitsField, IsWritable}
+use Rattle.capnp_build.specs.Prelude.{Space, with_block, with_bytes, written, with_more, used_of, spaces_of, space_at, no_space, free_words_of, UsesWords}
 use Rattle.capnp_build.proofs.states.BuilderStateLemmas.{same_at}
 use Rattle.capnp_build.proofs.words.UsedLemmas.{written_length}
 

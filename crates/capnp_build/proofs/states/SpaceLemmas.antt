@@ -2,13 +2,8 @@
 use Rattle.std.proofs.lemmas.List.{length-replicate}
 use Rattle.std.proofs.Common.{◌≡◌, ℕ, zero, suc, ◌+◌, ◌-◌, ◌*◌, ◌/◌, ◌^◌, ◌<◌, ◌≤◌, List, [], ◌∷◌, length, map, take, drop, Option, Some, None, slice_get, refl, sym, ap, ◌∙◌, arith, ◌++◌}
 use Rattle.std.proofs.Common.{replicate, slice_index_or, slice_set, subst, length-set, min}
-use Rattle.capnp_layout.specs.Pointer.{words_of}
-use Rattle.capnp_layout.specs.Object.{word_at}
-use Rattle.capnp_layout.specs.Reached.{root}
-use Rattle.capnp_build.specs.Bytes.{Space, written, with_bytes}
-use Rattle.capnp_build.specs.BuilderState.{used_of, space_at, free_words_of}
-use Rattle.capnp_build.specs.Built.{message, size_in_words}
-use Rattle.capnp_build.specs.Placed.{KeepsRooms}
+use Rattle.capnp_layout.specs.Prelude.{words_of, word_at, root}
+use Rattle.capnp_build.specs.Prelude.{Space, written, with_bytes, used_of, space_at, free_words_of, message, size_in_words, KeepsRooms}
 use Rattle.capnp_build.proofs.words.UsedLemmas.{written_length, written_zero}
 use Rattle.capnp_build.proofs.words.ByteLemmas.{used_at, set_here, part_here}
 

@@ -1,18 +1,14 @@
 -- Values that are written into a part of a segment, which is just their words.
 use Rattle.std.proofs.Common.{◌≡◌, ℕ, ◌+◌, ◌-◌, ◌/◌, ◌%◌, ◌≤◌, Bool, List, ◌∷◌, ◌++◌, length, take, drop, ◌∙◌, ap, arith, length-take, length-drop, drop-drop}
 use Rattle.std.specs.Prelude.{replicate}
-use Rattle.capnp_frame.specs.Words.{bytes_of}
+use Rattle.capnp_frame.specs.Prelude.{bytes_of}
 use Rattle.capnp_frame.specs.declared.words.Word.{Word}
-use Rattle.capnp_layout.specs.Pointer.{number_of, words_of}
-use Rattle.capnp_layout.specs.Tree.{Trees, total_words}
-use Rattle.capnp_layout.specs.Layout.{body, output}
-use Rattle.capnp_wire.specs.Copy.{IsCopied}
-use Rattle.capnp_wire.specs.Values.{HasWords, HasRoomAt, IsFreeFrom}
+use Rattle.capnp_layout.specs.Prelude.{number_of, words_of, Trees, total_words, body, output}
+use Rattle.capnp_wire.specs.Prelude.{IsCopied, HasWords, HasRoomAt, IsFreeFrom}
 use Rattle.capnp_wire.specs.declared.layout.copy.Copied.{Copied}
 use Rattle.capnp_layout.proofs.words.WordLemmas.{length-words_of}
 use Rattle.capnp_wire.proofs.layouts.FreeLemmas.{free_part, has_room, whole_written}
-use Rattle.capnp_build.specs.Bytes.{written}
-use Rattle.capnp_build.specs.Filled.{IsBlockOf}
+use Rattle.capnp_build.specs.Prelude.{written, IsBlockOf}
 
 part_words : (bytes : List ℕ) (from n : ℕ) → from + n ≤ length bytes → length (words_of (take n (drop from bytes))) ≡ n / 8
 part_words bytes from n room =

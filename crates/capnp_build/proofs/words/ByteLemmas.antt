@@ -5,15 +5,11 @@ use Rattle.std.proofs.lemmas.List.{drop-drop, drop-take}
 use Rattle.std.proofs.lemmas.Nat.{from_le_bytes-to_le_bytes_8}
 use Rattle.std.specs.Int.{from_le_bytes, to_le_bytes}
 use Rattle.std.specs.Simd.{first_chunks}
-use Rattle.capnp_layout.specs.Pointer.{number_of, words_of}
-use Rattle.capnp_layout.specs.Object.{word_at}
-use Rattle.capnp_layout.specs.Reached.{root}
+use Rattle.capnp_layout.specs.Prelude.{number_of, words_of, word_at, root}
 use Rattle.capnp_layout.specs.declared.place.Place.{Place}
 use Rattle.capnp_layout.proofs.words.MessageLemmas.{word_stands}
 use Rattle.capnp_layout.proofs.words.WordLemmas.{number_of_eight}
-use Rattle.capnp_build.specs.Bytes.{Space, written, with_bytes}
-use Rattle.capnp_build.specs.BuilderState.{used_of, space_at}
-use Rattle.capnp_build.specs.Built.{message}
+use Rattle.capnp_build.specs.Prelude.{Space, written, with_bytes, used_of, space_at, message}
 use Rattle.capnp_build.proofs.words.UsedLemmas.{written_length, written_used}
 
 -- the eight bytes of a word

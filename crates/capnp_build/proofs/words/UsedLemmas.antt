@@ -5,7 +5,7 @@ use Rattle.std.proofs.lemmas.List.Elements.{All-drop}
 use Rattle.std.proofs.lemmas.List.{drop-drop, take-take, take-append-drop, drop-take}
 use Rattle.std.proofs.lemmas.Slice.{drop-append-drop}
 use Rattle.std.proofs.Math.Seq.{take-append-add, take-append_seam}
-use Rattle.capnp_build.specs.Bytes.{written, Space, ZeroFrom}
+use Rattle.capnp_build.specs.Prelude.{written, Space, ZeroFrom}
 
 -- the first of many zeros
 zeros : (n : ℕ) (xs : List ℕ) → n ≤ length xs → All (λ b. b ≡ 0) xs → take n xs ≡ replicate n 0

@@ -4,9 +4,9 @@ use Rattle.std.proofs.Common.{◌∙◌, arith, length-take, length-drop}
 use Rattle.std.specs.Int.{to_le_bytes}
 use Rattle.std.specs.Simd.{first_chunks}
 use Rattle.std.proofs.lemmas.List.{take-take, drop-drop, drop-take}
-use Rattle.capnp_layout.specs.Pointer.{number_of, words_of, words_from}
+use Rattle.capnp_layout.specs.Prelude.{number_of, words_of, words_from}
 use Rattle.capnp_layout.proofs.words.WordLemmas.{length-words_of}
-use Rattle.capnp_build.specs.Bytes.{written}
+use Rattle.capnp_build.specs.Prelude.{written}
 use Rattle.capnp_build.proofs.words.UsedLemmas.{written_length, written_zero}
 use Rattle.capnp_build.proofs.words.ByteLemmas.{eight_here, eight_before, word_back, drop_written}
 

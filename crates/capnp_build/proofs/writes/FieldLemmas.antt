@@ -6,15 +6,9 @@ use Rattle.std.proofs.lemmas.List.Elements.{All-set}
 use Rattle.std.proofs.Math.Seq.{take-set-lt}
 use Rattle.std.specs.Int.{to_le_bytes}
 use Rattle.capnp_layout.proofs.objects.ObjectLemmas.{one_tree}
-use Rattle.capnp_layout.specs.Pointer.{words_of, words_from}
-use Rattle.capnp_layout.specs.Tree.{struct, Trees, none, tree, count, object_size, total_words}
-use Rattle.capnp_layout.specs.Object.{word_at}
-use Rattle.capnp_layout.specs.Reached.{At, root}
-use Rattle.capnp_layout.specs.Layout.{struct_pointer, minus_one, body, pointers_to, slots, run, Laid}
+use Rattle.capnp_layout.specs.Prelude.{words_of, words_from, struct, Trees, none, tree, count, object_size, total_words, word_at, At, root, struct_pointer, minus_one, body, pointers_to, slots, run, Laid}
 use Rattle.capnp_layout.proofs.words.WordLemmas.{length-words_of}
-use Rattle.capnp_build.specs.Bytes.{Space, written, with_bytes}
-use Rattle.capnp_build.specs.BuilderState.{space_at}
-use Rattle.capnp_build.specs.Built.{message, root_word, landing_pad_of, IsLaid}
+use Rattle.capnp_build.specs.Prelude.{Space, written, with_bytes, space_at, message, root_word, landing_pad_of, IsLaid}
 use Rattle.capnp_build.specs.declared.arena.location.RootLocation.{RootLocation}
 use Rattle.capnp_build.proofs.words.WordLemmas.{words_set}
 use Rattle.capnp_build.proofs.states.SpaceLemmas.{set_used}

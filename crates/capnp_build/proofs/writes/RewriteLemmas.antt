@@ -4,17 +4,10 @@ use Rattle.std.proofs.Common.{arith, lit<, length-append, length-take, length-dr
 use Rattle.std.specs.Prelude.{All}
 use Rattle.std.proofs.lemmas.List.{take_all, append-nil, take-append-le, drop-append-le, length-replicate}
 use Rattle.std.proofs.lemmas.List.Elements.{All-head, All-tail, All-cons, All-append, All-take, All-drop}
-use Rattle.capnp_layout.specs.Pointer.{number_of, digits, words_of, words_from}
-use Rattle.capnp_layout.specs.Element.{words_for}
-use Rattle.capnp_layout.specs.Tree.{Form, numbers, Trees, none, tree, count, object_size, total_words}
-use Rattle.capnp_layout.specs.Object.{word_at}
-use Rattle.capnp_layout.specs.Reached.{root}
-use Rattle.capnp_layout.specs.Layout.{pointer, body, HasRoom}
+use Rattle.capnp_layout.specs.Prelude.{number_of, digits, words_of, words_from, words_for, Form, numbers, Trees, none, tree, count, object_size, total_words, word_at, root, pointer, body, HasRoom}
 use Rattle.capnp_layout.proofs.words.WordLemmas.{numbers_from, bytes_back, length-words_of}
 use Rattle.capnp_layout.proofs.words.BytesLemmas.{padded, below_zeros}
-use Rattle.capnp_build.specs.Bytes.{Space, written, with_bytes}
-use Rattle.capnp_build.specs.BuilderState.{space_at}
-use Rattle.capnp_build.specs.Built.{message, root_word, landing_pad_of, IsLaid}
+use Rattle.capnp_build.specs.Prelude.{Space, written, with_bytes, space_at, message, root_word, landing_pad_of, IsLaid}
 use Rattle.capnp_build.specs.declared.arena.location.RootLocation.{RootLocation}
 use Rattle.capnp_build.proofs.words.WordLemmas.{part_words}
 use Rattle.capnp_build.proofs.states.SpaceLemmas.{set_used}

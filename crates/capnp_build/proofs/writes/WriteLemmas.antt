@@ -2,7 +2,7 @@
 use Rattle.std.proofs.Common.{refl, ◌≡◌, inl, inr, sym, subst, MatchOption, ℕ, ◌+◌, ◌*◌, ◌^◌, ◌<◌, ◌≤◌, List, length, Option, Some, slice_set, w64, ap, arith, ◌∙◌, slice_index_or, length-set}
 use Rattle.std.specs.Prelude.{⊤}
 use Rattle.std.specs.Int.{to_le_bytes}
-use Rattle.capnp_layout.specs.Tree.{null, numbers, none, struct}
+use Rattle.capnp_layout.specs.Prelude.{null, numbers, none, struct}
 use Rattle.capnp_build.proofs.writes.FieldLemmas.{field_laid, same_fields}
 use Rattle.capnp_build.proofs.states.BuilderStateLemmas.{pairs_set}
 use Rattle.capnp_build.proofs.states.KeptLemmas.{kept_outside}
@@ -11,10 +11,7 @@ use Rattle.capnp_build.proofs.roots.ReadLemmas.{number_laid, same_numbers}
 use Rattle.capnp_build.proofs.writes.RewriteLemmas.{bytes_laid}
 use Rattle.capnp_build.proofs.states.SpaceLemmas.{size_set}
 use Rattle.capnp_build.proofs.words.UsedLemmas.{written_length}
-use Rattle.capnp_build.specs.Built.{Built, IsLaid, IsBuilt, LiesOutside, size_in_words}
-use Rattle.capnp_build.specs.Written.{IsWritten, HasField, IsFieldSet, HasNumber, IsNumberSet, HasBytes, IsBytesSet}
-use Rattle.capnp_build.specs.Bytes.{Space, written, with_bytes}
-use Rattle.capnp_build.specs.BuilderState.{BuilderState, space_at, with_space, pairs}
+use Rattle.capnp_build.specs.Prelude.{Built, IsLaid, IsBuilt, LiesOutside, size_in_words, IsWritten, HasField, IsFieldSet, HasNumber, IsNumberSet, HasBytes, IsBytesSet, Space, written, with_bytes, BuilderState, space_at, with_space, pairs}
 use Rattle.capnp_build.specs.declared.arena.location.RootLocation.{RootLocation}
 
 -- bytes of the root's body are written

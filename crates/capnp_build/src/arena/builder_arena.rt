@@ -4,10 +4,8 @@ ghost use Rattle.capnp_build.specs.BuilderState.{used_of};
 ghost use Rattle.capnp_build.specs.Built.{state_of, ForRoot, IsRootKind, size_in_words, message, Built};
 ghost use Rattle.capnp_build.specs.RootKind.{ShowsRoot, HoldsForm};
 ghost use Rattle.capnp_build.specs.Output.{CanBeWritten};
-ghost use Rattle.capnp_layout.specs.Tree.{Form, Trees, none, tree, count};
-ghost use Rattle.capnp_layout.specs.Reached.{At, root};
-ghost use Rattle.capnp_layout.specs.Layout.{pointer};
-ghost use Rattle.capnp_wire.specs.Readers.{pointer_of, unlimited_root};
+ghost use Rattle.capnp_layout.specs.Prelude.{Form, Trees, none, tree, count, At, root, pointer};
+ghost use Rattle.capnp_wire.specs.Prelude.{pointer_of, unlimited_root};
 ghost use Rattle.capnp_build.specs.Outcomes.{ClearsRoot, EnsuresRoot, IsNewMessage, GivesBack};
 ghost use Rattle.capnp_build.specs.RootViews.{HoldsTree};
 

@@ -5,10 +5,8 @@ ghost use Rattle.capnp_build.specs.Out.{Out, HasLarge};
 ghost use Rattle.capnp_build.specs.BuilderState.{space_at, free_words_of, pairs};
 ghost use Rattle.capnp_build.specs.Built.{state_of, IsSet, IsWhole};
 ghost use Rattle.capnp_build.specs.Placed.{LacksSegment, IsAdded};
-ghost use Rattle.capnp_layout.specs.Tree.{count};
-ghost use Rattle.capnp_layout.specs.Reached.{root};
-ghost use Rattle.capnp_layout.specs.Layout.{pointer};
-ghost use Rattle.capnp_wire.specs.Values.{HasWords};
+ghost use Rattle.capnp_layout.specs.Prelude.{count, root, pointer};
+ghost use Rattle.capnp_wire.specs.Prelude.{HasWords};
 ghost use Rattle.capnp_build.specs.Blocks.{LeavesNull, PutsBlock, PlacesBlock};
 
 use crate::allocator::Allocator;

@@ -3,8 +3,7 @@ ghost use Rattle.std.specs.Prelude.{◌≡◌, ℕ, ◌-◌, ◌/◌, ◌<◌, l
 ghost use Rattle.capnp_build.specs.Built.{message, Built};
 ghost use Rattle.capnp_build.specs.Placed.{NewWords};
 ghost use Rattle.capnp_build.specs.NewBody.{Fits, zero_form};
-ghost use Rattle.capnp_layout.specs.Tree.{none};
-ghost use Rattle.capnp_layout.specs.Reached.{root};
+ghost use Rattle.capnp_layout.specs.Prelude.{none, root};
 ghost use Rattle.capnp_build.specs.Outcomes.{SetsRoot, SetsRootCanonical, InitsRoot};
 ghost use Rattle.capnp_build.specs.Blocks.{IsNew, PutsBlock};
 

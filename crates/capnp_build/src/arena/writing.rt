@@ -1,7 +1,7 @@
 //! Writing into the object at the root.
 ghost use Rattle.std.specs.Prelude.{◌+◌, ◌*◌, ◌/◌, ◌<◌, length, Some};
 ghost use Rattle.capnp_build.specs.Written.{HasField, IsFieldSet, HasBytes, IsBytesSet, HasNumber, IsNumberSet};
-ghost use Rattle.capnp_layout.specs.Reached.{root};
+ghost use Rattle.capnp_layout.specs.Prelude.{root};
 ghost use Rattle.capnp_build.specs.RootViews.{WritesRoot};
 
 use crate::allocator::Allocator;

@@ -2,13 +2,9 @@
 use Rattle.std.proofs.Common.{◌≡◌, ℕ, ◌+◌, ◌-◌, ◌*◌, ◌/◌, List, [], ◌∷◌, ◌++◌, length, take, drop, replicate, refl, sym, ap, ◌∙◌, subst, arith, ◌↔◌, append_assoc, length-append}
 use Rattle.std.proofs.lemmas.List.{take-append-drop, length-take-le, length-drop, length-replicate}
 use Rattle.std.specs.List.{concat, flat_map, AllByRecursion}
-use Rattle.capnp_frame.specs.Message.{IsWholeWords, word_count, lengths, size_in_words}
+use Rattle.capnp_frame.specs.Prelude.{IsWholeWords, word_count, lengths, size_in_words, field, padding_len, zero_padded_table, HasTable, IsTable, IsFrame, frame_bytes, Splits, MessageStands}
 use Rattle.capnp_frame.specs.declared.serialize.segment_table.Padding.{Padding}
 use Rattle.capnp_frame.specs.declared.serialize.segment_table.Padding.TheVariants.{Any, Zero}
-use Rattle.capnp_frame.specs.SegmentTable.{field, padding_len, zero_padded_table, HasTable, IsTable}
-use Rattle.capnp_frame.specs.Frame.{IsFrame, frame_bytes}
-use Rattle.capnp_frame.specs.Source.{Splits}
-use Rattle.capnp_frame.specs.Requests.{MessageStands}
 use Rattle.capnp_frame.proofs.tables.TableLemmas.{length-fields, any_table, zero_table, zeros_kept}
 use Rattle.std.proofs.lemmas.List.Sums.{sum_by-cons}
 

@@ -6,13 +6,9 @@ use Rattle.std.proofs.lemmas.List.Sums.{sum_by-cons}
 use lib.Seq.{take-add}
 use Rattle.std.specs.Prelude.{sum}
 use Rattle.std.specs.List.{concat, AllByRecursion}
-use Rattle.capnp_frame.specs.Message.{IsWholeWords, lengths, size_in_words}
+use Rattle.capnp_frame.specs.Prelude.{IsWholeWords, lengths, size_in_words, table_size, KeepsPadding, IsTable, cut, KeepsLimit, AreWithin, IsWithin, HasFrame, number, declared_lengths, declared_padding, declared_segments, DeclaresTable, HoldsMessage}
 use Rattle.capnp_frame.specs.declared.serialize.segment_table.Padding.{Padding}
 use Rattle.capnp_frame.specs.declared.serialize.segment_table.Padding.TheVariants.{Any}
-use Rattle.capnp_frame.specs.SegmentTable.{table_size, KeepsPadding, IsTable}
-use Rattle.capnp_frame.specs.SegmentLengths.{cut}
-use Rattle.capnp_frame.specs.Limits.{KeepsLimit, AreWithin, IsWithin}
-use Rattle.capnp_frame.specs.Front.{HasFrame, number, declared_lengths, declared_padding, declared_segments, DeclaresTable, HoldsMessage}
 use Rattle.capnp_frame.proofs.tables.Ranges.{concat-cut, length-cut}
 use Rattle.capnp_frame.proofs.encodings.RequestLemmas.{lengths-cut}
 use Rattle.capnp_frame.proofs.encodings.FrameLemmas.{length-table, length-segments}

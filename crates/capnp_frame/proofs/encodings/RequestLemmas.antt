@@ -4,18 +4,11 @@ use Rattle.std.proofs.lemmas.List.{length-take-le, length-drop}
 use Rattle.std.specs.Prelude.{sum}
 use Rattle.std.specs.List.{concat, AllByRecursion}
 use Rattle.std.proofs.lemmas.List.Sums.{sum_by-cons}
-use Rattle.capnp_frame.specs.Message.{IsWholeWords, word_count, lengths, size_in_words}
+use Rattle.capnp_frame.specs.Prelude.{IsWholeWords, word_count, lengths, size_in_words, AreWithin, IsWithin, cut, Giving, IfKnown, TableStands, MessageStands, overwritten, same_front, zero_padded_table}
 use Rattle.capnp_frame.specs.declared.serialize.segment_table.Padding.{Padding}
-use Rattle.capnp_frame.specs.Limits.{AreWithin, IsWithin}
-use Rattle.capnp_frame.specs.SegmentLengths.{cut}
-use Rattle.capnp_frame.specs.Source.{Giving, IfKnown}
-use Rattle.capnp_frame.specs.Requests.{TableStands, MessageStands}
-use Rattle.capnp_frame.specs.Lending.{overwritten}
 use Rattle.std.proofs.lemmas.Option.{none-some, same_Some}
-use Rattle.capnp_frame.specs.SplittingLaws.{same_front}
 use Rattle.capnp_frame.proofs.tables.Ranges.{concat-cut}
 use Rattle.capnp_frame.proofs.sources.SourceLemmas.{IfKnown-join}
-use Rattle.capnp_frame.specs.SegmentTable.{zero_padded_table}
 use Rattle.capnp_frame.specs.declared.serialize.segment_table.Padding.TheVariants.{Any, Zero}
 use Rattle.capnp_frame.proofs.tables.TableLemmas.{any_table, zero_table, TableStands-once}
 use Rattle.capnp_frame.proofs.encodings.FrameLemmas.{zero_table_is}

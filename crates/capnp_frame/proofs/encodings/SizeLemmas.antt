@@ -8,13 +8,7 @@ use Rattle.std.specs.Prelude.{Some, sum}
 use Rattle.std.specs.List.{concat, AllByRecursion}
 use Rattle.capnp_frame.specs.declared.error.ErrorKind.{ErrorKind}
 use Rattle.capnp_frame.specs.declared.error.ErrorKind.TheVariants.{DeviceFailed, OutOfMemory}
-use Rattle.capnp_frame.specs.Message.{lengths, size_in_words}
-use Rattle.capnp_frame.specs.SegmentTable.{FitsField, zero_padded_table, HasTable}
-use Rattle.capnp_frame.specs.Frame.{frame_bytes}
-use Rattle.capnp_frame.specs.Source.{IfKnown, Fails}
-use Rattle.capnp_frame.specs.Sink.{Adds, AppendsAll, AppendsSame, ByKind, DeclinesSome}
-use Rattle.capnp_frame.specs.Writers.{RefusesUnwritten}
-use Rattle.capnp_frame.specs.Writing.{IsWritable, IsWithinSegmentLimit, RefusesMany, word_and_rest, chunks, serialized_words}
+use Rattle.capnp_frame.specs.Prelude.{lengths, size_in_words, FitsField, zero_padded_table, HasTable, frame_bytes, IfKnown, Fails, Adds, AppendsAll, AppendsSame, ByKind, DeclinesSome, RefusesUnwritten, IsWritable, IsWithinSegmentLimit, RefusesMany, word_and_rest, chunks, serialized_words}
 use Rattle.capnp_frame.specs.declared.serialize.segment_table.Padding.TheVariants.{Zero}
 use Rattle.capnp_frame.proofs.encodings.FrameLemmas.{zero_padded_is, length-table, length-segments}
 use Rattle.capnp_frame.proofs.sources.AskLemmas.{never_fails}

@@ -4,12 +4,7 @@ use Rattle.std.specs.List.{concat}
 use Rattle.capnp_frame.specs.declared.error.ErrorKind.{ErrorKind}
 use Rattle.capnp_frame.specs.declared.serialize.segment_table.Padding.{Padding}
 use Rattle.capnp_frame.specs.declared.serialize.segment_table.Padding.TheVariants.{Any}
-use Rattle.capnp_frame.specs.Source.{Giving, Refusing, IsSource}
-use Rattle.capnp_frame.specs.Requests.{MessageStands}
-use Rattle.capnp_frame.specs.Sink.{AppendsSame, AppendsAll}
-use Rattle.capnp_frame.specs.Texts.{Grammar, BeginsWith, AreEncodings, EndsEncodings}
-use Rattle.capnp_frame.specs.Frame.{IsFrame}
-use Rattle.capnp_frame.specs.SplittingLaws.{same_front, splitting}
+use Rattle.capnp_frame.specs.Prelude.{Giving, Refusing, IsSource, MessageStands, AppendsSame, AppendsAll, Grammar, BeginsWith, AreEncodings, EndsEncodings, IsFrame, same_front, splitting}
 use Rattle.capnp_frame.proofs.encodings.FrameLemmas.{plain_requests, any_frame}
 use Rattle.capnp_frame.proofs.encodings.RequestLemmas.{MessageStands-once}
 use Rattle.capnp_frame.proofs.errors.RefusalLemmas.{given_some, RefusesStream-apart, RefusesStream-once, RefusesStream-some}

@@ -5,14 +5,7 @@ use Rattle.capnp_frame.specs.declared.error.ErrorKind.{ErrorKind}
 use Rattle.capnp_frame.specs.declared.error.ErrorKind.TheVariants.{BufferNotLargeEnough, MessageTooLarge, NonZeroPadding, DeviceFailed}
 use Rattle.capnp_frame.specs.declared.serialize.segment_table.Padding.{Padding}
 use Rattle.capnp_frame.specs.declared.serialize.segment_table.Padding.TheVariants.{Any, Zero}
-use Rattle.capnp_frame.specs.SegmentTable.{table_size, KeepsPadding, IsTable}
-use Rattle.capnp_frame.specs.Front.{declared_lengths, declared_padding, DeclaresTable}
-use Rattle.capnp_frame.specs.Limits.{KeepsLimit, AreWithin}
-use Rattle.capnp_frame.specs.Source.{Giving, Refusing, IsSource, IfKnown, IsTail, IsRefused}
-use Rattle.capnp_frame.specs.Requests.{TableStands}
-use Rattle.capnp_frame.specs.Refusals.{Tells, DeclaresAccepted, Outgrows, TakesForLengths, IsTooLarge, LacksRoom, IsTableKind, IsReaderKind, IsProvidedReaderKind}
-use Rattle.capnp_frame.specs.Refusals.{RefusesAtLimit, RefusesTable, RefusesStream}
-use Rattle.capnp_frame.specs.Steps.{StopsAtTable, RefusesComplete}
+use Rattle.capnp_frame.specs.Prelude.{table_size, KeepsPadding, IsTable, declared_lengths, declared_padding, DeclaresTable, KeepsLimit, AreWithin, Giving, Refusing, IsSource, IfKnown, IsTail, IsRefused, TableStands, Tells, DeclaresAccepted, Outgrows, TakesForLengths, IsTooLarge, LacksRoom, IsTableKind, IsReaderKind, IsProvidedReaderKind, RefusesAtLimit, RefusesTable, RefusesStream, StopsAtTable, RefusesComplete}
 use Rattle.capnp_frame.proofs.sources.SourceLemmas.{IfKnown-join, IfKnown-weaker, IfKnown-refused}
 use Rattle.capnp_frame.proofs.tables.LimitLemmas.{RefusesAtStart-from}
 use Rattle.capnp_frame.proofs.tables.TableReading.{whole_table, broken_table}

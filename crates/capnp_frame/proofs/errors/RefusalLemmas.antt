@@ -4,14 +4,8 @@ use Rattle.std.specs.Prelude.{sum}
 use Rattle.std.specs.List.{concat}
 use Rattle.capnp_frame.specs.declared.error.ErrorKind.{ErrorKind}
 use Rattle.capnp_frame.specs.declared.error.ErrorKind.TheVariants.{BufferNotLargeEnough, InvalidNumberOfSegments, MessageTooLarge, NonZeroPadding}
-use Rattle.capnp_frame.specs.Message.{lengths, size_in_words}
+use Rattle.capnp_frame.specs.Prelude.{lengths, size_in_words, table_size, IsTable, KeepsLimit, AreWithin, IsWithin, Giving, Refusing, IsSource, TableStands, MessageStands, Unless, Asks, Tells, IsOutOfRange, IsTooLarge, LacksRoom, StopsBy, BreaksPadding, RefusesAtLimit, RefusesRest, RefusesAtCount, RefusesAtStart, RefusesStream}
 use Rattle.capnp_frame.specs.declared.serialize.segment_table.Padding.{Padding}
-use Rattle.capnp_frame.specs.SegmentTable.{table_size, IsTable}
-use Rattle.capnp_frame.specs.Limits.{KeepsLimit, AreWithin, IsWithin}
-use Rattle.capnp_frame.specs.Source.{Giving, Refusing, IsSource}
-use Rattle.capnp_frame.specs.Requests.{TableStands, MessageStands}
-use Rattle.capnp_frame.specs.Refusals.{Unless, Asks, Tells, IsOutOfRange, IsTooLarge, LacksRoom, StopsBy, BreaksPadding}
-use Rattle.capnp_frame.specs.Refusals.{RefusesAtLimit, RefusesRest, RefusesAtCount, RefusesAtStart, RefusesStream}
 use Rattle.capnp_frame.proofs.tables.TableLemmas.{IsTable-once, field-once, count_declared}
 
 pub Unless-once : {S L A M B P : Type 0} → (L → M → P) → (A → B → P) → Unless S L A → Unless S M B → P

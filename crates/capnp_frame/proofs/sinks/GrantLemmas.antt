@@ -7,10 +7,7 @@ use Rattle.std.specs.Prelude.{slice_get}
 use Rattle.std.specs.List.{concat, AllByRecursion}
 use Rattle.capnp_frame.specs.declared.error.Error.{Error}
 use Rattle.capnp_frame.specs.declared.error.ErrorKind.{ErrorKind}
-use Rattle.capnp_frame.specs.Message.{IsWholeWords}
-use Rattle.capnp_frame.specs.SegmentTable.{table_size}
-use Rattle.capnp_frame.specs.Writers.{TakesGranted, LacksNothing}
-use Rattle.capnp_frame.specs.Writing.{serialized_words}
+use Rattle.capnp_frame.specs.Prelude.{IsWholeWords, table_size, TakesGranted, LacksNothing, serialized_words}
 use Rattle.capnp_frame.proofs.encodings.FrameLemmas.{length-segments}
 use Rattle.capnp_frame.proofs.sinks.WritingLemmas.{take-next}
 

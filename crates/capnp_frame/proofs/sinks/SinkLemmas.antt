@@ -7,11 +7,7 @@ use Rattle.capnp_frame.specs.declared.error.Error.{Error}
 use Rattle.capnp_frame.specs.declared.error.ErrorKind.{ErrorKind}
 use Rattle.capnp_frame.specs.declared.io.Write.{Ghosts}
 use Rattle.capnp_frame.specs.declared.error.ErrorKind.TheVariants.{DeviceFailed, InvalidNumberOfSegments}
-use Rattle.capnp_frame.specs.Asking.{FailsOr}
-use Rattle.capnp_frame.specs.Source.{IfKnown, IsFront, IsPreorder, Fails}
-use Rattle.capnp_frame.specs.Sink.{Appending, Leaving, AppendsSame, Adds, AppendsAll, LeavesSome, DeclinesSome, Grows}
-use Rattle.capnp_frame.specs.Writers.{WritesTo, WritesChunks, WritesSegments, TakesGranted, KeepsCount, RefusesUnwritten}
-use Rattle.capnp_frame.specs.Writing.{IsWithinSegmentLimit, RefusesMany, chunks, serialized_words}
+use Rattle.capnp_frame.specs.Prelude.{FailsOr, IfKnown, IsFront, IsPreorder, Fails, Appending, Leaving, AppendsSame, Adds, AppendsAll, LeavesSome, DeclinesSome, Grows, WritesTo, WritesChunks, WritesSegments, TakesGranted, KeepsCount, RefusesUnwritten, IsWithinSegmentLimit, RefusesMany, chunks, serialized_words}
 use Rattle.capnp_frame.proofs.sources.SourceLemmas.{IfKnown-join, IfKnown-weaker, IfKnown-refl, Grows-join, Grows-refl, Fails-join}
 use Rattle.capnp_frame.proofs.sinks.WritingLemmas.{take-next, written_more, written_one, DeclinesSome-front, DeclinesSome-back, refused_at}
 

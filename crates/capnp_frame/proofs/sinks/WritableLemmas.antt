@@ -5,9 +5,7 @@ use Rattle.std.proofs.lemmas.List.{take_all}
 use Rattle.std.proofs.lemmas.Option.{slice_get_within}
 use Rattle.std.specs.List.{AllByRecursion}
 use Rattle.std.specs.Prelude.{slice_get, option_copied}
-use Rattle.capnp_frame.specs.Message.{IsWholeWords, word_count, lengths}
-use Rattle.capnp_frame.specs.SegmentTable.{FitsField}
-use Rattle.capnp_frame.specs.Writing.{IsWritable}
+use Rattle.capnp_frame.specs.Prelude.{IsWholeWords, word_count, lengths, FitsField, IsWritable}
 use Rattle.capnp_frame.proofs.slices.AgreementLemmas.{index_below}
 use Rattle.capnp_frame.proofs.sinks.WritingLemmas.{AllByRecursion-at, fits_at, le_of_not_lt}
 

@@ -10,11 +10,7 @@ use Rattle.std.proofs.lemmas.Bool.{cases_lt}
 use Rattle.std.specs.Prelude.{slice_get, sum}
 use Rattle.std.specs.List.{flat_map, AllByRecursion}
 use Rattle.capnp_frame.specs.declared.error.ErrorKind.{ErrorKind}
-use Rattle.capnp_frame.specs.Message.{word_count, lengths, size_in_words}
-use Rattle.capnp_frame.specs.SegmentTable.{field, FitsField, table_size, padding_len, zero_padded_table}
-use Rattle.capnp_frame.specs.Source.{IfKnown}
-use Rattle.capnp_frame.specs.Sink.{Appending, Declining, AppendsAll, DeclinesSome, Adds}
-use Rattle.capnp_frame.specs.Writing.{word_and_rest}
+use Rattle.capnp_frame.specs.Prelude.{word_count, lengths, size_in_words, field, FitsField, table_size, padding_len, zero_padded_table, IfKnown, Appending, Declining, AppendsAll, DeclinesSome, Adds, word_and_rest}
 use Rattle.capnp_frame.proofs.sources.SourceLemmas.{IfKnown-join, IfKnown-weaker}
 use Rattle.capnp_frame.proofs.tables.Ranges.{sum_push}
 use Rattle.capnp_frame.proofs.tables.TableLemmas.{length-fields}

@@ -6,11 +6,7 @@ use Rattle.std.proofs.lemmas.Bool.{cases_lt, false≢true}
 use Rattle.capnp_frame.specs.declared.error.ErrorKind.{ErrorKind}
 use Rattle.capnp_frame.specs.declared.error.ErrorKind.TheVariants.{InvalidNumberOfSegments, MessageTooLarge, MessageEndsPrematurely, NonZeroPadding}
 use Rattle.capnp_frame.specs.declared.serialize.segment_table.Padding.{Padding}
-use Rattle.capnp_frame.specs.SegmentTable.{table_size, KeepsPadding}
-use Rattle.capnp_frame.specs.Limits.{KeepsLimit}
-use Rattle.capnp_frame.specs.Refusals.{Unless, IsOutOfRange, IsTooLarge}
-use Rattle.capnp_frame.specs.Front.{HasFrame, number, declared_lengths, declared_padding}
-use Rattle.capnp_frame.specs.FlatRefusals.{FlatForm, by_words, by_fields, empty_kind, cut_kind, count_end, count_of, lengths_end, RefusesLengths, RefusesFlat}
+use Rattle.capnp_frame.specs.Prelude.{table_size, KeepsPadding, KeepsLimit, Unless, IsOutOfRange, IsTooLarge, HasFrame, number, declared_lengths, declared_padding, FlatForm, by_words, by_fields, empty_kind, cut_kind, count_end, count_of, lengths_end, RefusesLengths, RefusesFlat}
 use Rattle.capnp_frame.proofs.errors.RefusalLemmas.{Unless-after, in_range, within_limit}
 use Rattle.capnp_frame.proofs.tables.PaddingLemmas.{padding_cases}
 use Rattle.capnp_frame.proofs.encodings.TextLemmas.{frames_part}

@@ -8,13 +8,7 @@ use Rattle.capnp_frame.specs.declared.error.ErrorKind.{ErrorKind}
 use Rattle.capnp_frame.specs.declared.error.ErrorKind.TheVariants.{BufferNotLargeEnough, InvalidNumberOfSegments, MessageEndsPrematurely, MessageTooLarge, NonZeroPadding}
 use Rattle.capnp_frame.specs.declared.serialize.segment_table.Padding.{Padding}
 use Rattle.capnp_frame.specs.declared.serialize.segment_table.Padding.TheVariants.{Any}
-use Rattle.capnp_frame.specs.SegmentTable.{field, table_size, KeepsPadding, IsTable}
-use Rattle.capnp_frame.specs.Limits.{KeepsLimit, IsWithin}
-use Rattle.capnp_frame.specs.Source.{Splits, RunsShort}
-use Rattle.capnp_frame.specs.Requests.{TableStands}
-use Rattle.capnp_frame.specs.Refusals.{Unless, Tells, TakesForLengths, StopsBy, LacksRoom, RefusesAtLimit, RefusesRest, IsOutOfRange, IsTooLarge, BreaksPadding, RefusesTable}
-use Rattle.capnp_frame.specs.Front.{HasFrame, number, declared_lengths, declared_padding}
-use Rattle.capnp_frame.specs.FlatRefusals.{FlatForm, by_words, by_fields, cut_kind, count_end, count_of, AcceptsSeveral, lengths_end, CutsSegments, RefusesLengths, RefusesCount, RefusesFlat}
+use Rattle.capnp_frame.specs.Prelude.{field, table_size, KeepsPadding, IsTable, KeepsLimit, IsWithin, Splits, RunsShort, TableStands, Unless, Tells, TakesForLengths, StopsBy, LacksRoom, RefusesAtLimit, RefusesRest, IsOutOfRange, IsTooLarge, BreaksPadding, RefusesTable, HasFrame, number, declared_lengths, declared_padding, FlatForm, by_words, by_fields, cut_kind, count_end, count_of, AcceptsSeveral, lengths_end, CutsSegments, RefusesLengths, RefusesCount, RefusesFlat}
 use Rattle.capnp_frame.proofs.tables.TableLemmas.{count_declared}
 use Rattle.capnp_frame.proofs.encodings.FrameLemmas.{length-table}
 use Rattle.capnp_frame.proofs.tables.DeclaredTables.{number-field, table_is, Declared, declared_from_table}

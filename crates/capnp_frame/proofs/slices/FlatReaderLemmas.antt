@@ -6,11 +6,7 @@ use Rattle.capnp_frame.specs.declared.error.Error.{Error}
 use Rattle.capnp_frame.specs.declared.error.ErrorKind.{ErrorKind}
 use Rattle.capnp_frame.specs.declared.error.ErrorKind.TheVariants.{OutOfMemory}
 use Rattle.capnp_frame.specs.declared.serialize.segment_table.Padding.{Padding}
-use Rattle.capnp_frame.specs.SegmentTable.{table_size, KeepsPadding}
-use Rattle.capnp_frame.specs.Limits.{KeepsLimit}
-use Rattle.capnp_frame.specs.Front.{number, declared_lengths, declared_padding, declared_segments, HoldsMessage}
-use Rattle.capnp_frame.specs.FlatRefusals.{FlatForm, by_words, by_fields, count_of, AcceptsSeveral, RefusesFlat}
-use Rattle.capnp_frame.specs.FlatReaders.{FlatRules, StandsBy, RefusesBy, Leaves, OrLacksMemory, AcceptsFlat, ReadsFlat}
+use Rattle.capnp_frame.specs.Prelude.{table_size, KeepsPadding, KeepsLimit, number, declared_lengths, declared_padding, declared_segments, HoldsMessage, FlatForm, by_words, by_fields, count_of, AcceptsSeveral, RefusesFlat, FlatRules, StandsBy, RefusesBy, Leaves, OrLacksMemory, AcceptsFlat, ReadsFlat}
 use Rattle.capnp_frame.proofs.encodings.FrontMessages.{found_from_held, within_declared}
 use Rattle.capnp_frame.proofs.slices.FlatLemmas.{RefusesFlat-once, frame_counted, RefusesFlat-apart}
 

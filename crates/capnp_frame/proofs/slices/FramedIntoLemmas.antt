@@ -5,9 +5,7 @@ use borrow.Rule.Slice.PartMut.{put_mid, post_of}
 use Rattle.std.specs.Prelude.{sum}
 use Rattle.std.specs.List.{flat_map}
 use Rattle.capnp_frame.specs.declared.serialize.segment_table.Padding.TheVariants.{Any, Zero}
-use Rattle.capnp_frame.specs.SegmentTable.{field, table_size, padding_len, zero_padded_table, IsTable, KeepsPadding}
-use Rattle.capnp_frame.specs.SegmentLengths.{cut}
-use Rattle.capnp_frame.specs.Front.{HasFrame, declared_lengths, declared_padding, declared_segments, DeclaresTable, HoldsMessage}
+use Rattle.capnp_frame.specs.Prelude.{field, table_size, padding_len, zero_padded_table, IsTable, KeepsPadding, cut, HasFrame, declared_lengths, declared_padding, declared_segments, DeclaresTable, HoldsMessage}
 use Rattle.capnp_frame.proofs.tables.TableLemmas.{length-fields}
 use Rattle.capnp_frame.proofs.encodings.FrameLemmas.{zero_padded_is, length-table}
 use Rattle.capnp_frame.proofs.tables.DeclaredTables.{table_is, Declared, declared_from_table, length-declared}

@@ -6,17 +6,9 @@ use Rattle.std.specs.Prelude.{sum, Bool, false, IsTrue}
 use Rattle.capnp_frame.specs.declared.error.ErrorKind.{ErrorKind}
 use Rattle.capnp_frame.specs.declared.error.ErrorKind.TheVariants.{DeviceFailed, OutOfMemory, MessageEndsPrematurely}
 use Rattle.capnp_frame.specs.declared.serialize.segment_table_info.NoAllocSegmentTableInfo.{NoAllocSegmentTableInfo}
-use Rattle.capnp_frame.specs.Message.{size_in_words}
+use Rattle.capnp_frame.specs.Prelude.{size_in_words, table_size, KeepsPadding, cut, KeepsLimit, AreWithin, IsWithin, Splits, RunsShort, IfKnown, Fails, TableStands, TakesForLengths, RefusesTable, HasFrame, IsDescribed, HaveSameNumbers, number, declared_lengths, declared_padding, declared_segments, HoldsMessage, by_words, by_fields, AcceptsSeveral, RefusesFlat}
 use Rattle.capnp_frame.specs.declared.serialize.segment_table.Padding.{Padding}
 use Rattle.capnp_frame.specs.declared.serialize.segment_table.Padding.TheVariants.{Any}
-use Rattle.capnp_frame.specs.SegmentTable.{table_size, KeepsPadding}
-use Rattle.capnp_frame.specs.SegmentLengths.{cut}
-use Rattle.capnp_frame.specs.Limits.{KeepsLimit, AreWithin, IsWithin}
-use Rattle.capnp_frame.specs.Source.{Splits, RunsShort, IfKnown, Fails}
-use Rattle.capnp_frame.specs.Requests.{TableStands}
-use Rattle.capnp_frame.specs.Refusals.{TakesForLengths, RefusesTable}
-use Rattle.capnp_frame.specs.Front.{HasFrame, IsDescribed, HaveSameNumbers, number, declared_lengths, declared_padding, declared_segments, HoldsMessage}
-use Rattle.capnp_frame.specs.FlatRefusals.{by_words, by_fields, AcceptsSeveral, RefusesFlat}
 use Rattle.capnp_frame.proofs.sources.AskLemmas.{never_fails}
 use Rattle.capnp_frame.proofs.encodings.FrontMessages.{found_from_held, held_from_begins, within_declared, length-declared_segments}
 use Rattle.capnp_frame.proofs.slices.FlatLemmas.{RefusesFlat-apart, declared_by_requests, several_accepted, words_refused, past_lengths, cut_segments}

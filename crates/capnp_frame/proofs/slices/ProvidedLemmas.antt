@@ -7,19 +7,10 @@ use Rattle.std.proofs.Common.{◌⊎◌, inl, inr, Result, Ok, Err, IfErr}
 use Rattle.capnp_frame.specs.declared.error.Error.{Error}
 use Rattle.capnp_frame.specs.declared.error.ErrorKind.{ErrorKind}
 use Rattle.capnp_frame.specs.declared.error.ErrorKind.TheVariants.{DeviceFailed, BufferNotLargeEnough}
-use Rattle.capnp_frame.specs.Message.{lengths, size_in_words}
+use Rattle.capnp_frame.specs.Prelude.{lengths, size_in_words, table_size, IsTable, cut, KeepsLimit, AreWithin, IsWithin, Giving, Refusing, IsSource, IfKnown, IsTail, IsRefused, Advances, Fails, RefusesStream, IsProvidedReaderKind, framed_rules, ReadsStreamInto, MessageStands, FindsTable, FindsMessage, declared_lengths, declared_segments, DeclaresTable, HoldsMessage}
 use Rattle.capnp_frame.specs.declared.serialize.segment_table.Padding.{Padding}
 use Rattle.capnp_frame.specs.declared.serialize.segment_table.Padding.TheVariants.{Any}
-use Rattle.capnp_frame.specs.SegmentTable.{table_size, IsTable}
-use Rattle.capnp_frame.specs.SegmentLengths.{cut}
-use Rattle.capnp_frame.specs.Limits.{KeepsLimit, AreWithin, IsWithin}
-use Rattle.capnp_frame.specs.Source.{Giving, Refusing, IsSource, IfKnown, IsTail, IsRefused, Advances, Fails}
-use Rattle.capnp_frame.specs.Refusals.{RefusesStream, IsProvidedReaderKind}
 use Rattle.capnp_frame.specs.declared.io.Read.{Ghosts}
-use Rattle.capnp_frame.specs.Streams.{framed_rules, ReadsStreamInto}
-use Rattle.capnp_frame.specs.Requests.{MessageStands}
-use Rattle.capnp_frame.specs.Steps.{FindsTable, FindsMessage}
-use Rattle.capnp_frame.specs.Front.{declared_lengths, declared_segments, DeclaresTable, HoldsMessage}
 use Rattle.capnp_frame.proofs.encodings.RequestLemmas.{MessageStands-cut}
 use Rattle.capnp_frame.proofs.slices.HeldLemmas.{within_held, begins_held}
 use Rattle.capnp_frame.proofs.errors.MetRefusals.{body_met, segments_met}

@@ -4,9 +4,8 @@ use Rattle.std.specs.Result.{IsErrAnd}
 use Rattle.capnp_frame.specs.declared.error.Error.{Error}
 use Rattle.capnp_frame.specs.declared.error.ErrorKind.{ErrorKind}
 use Rattle.capnp_frame.specs.declared.error.ErrorKind.TheVariants.{DeviceFailed}
-use Rattle.capnp_frame.specs.Source.{Advances, Fails}
+use Rattle.capnp_frame.specs.Prelude.{Advances, Fails, Asked}
 use Rattle.capnp_frame.proofs.sources.SourceLemmas.{Advances-join, Fails-join}
-use Rattle.capnp_frame.specs.Asking.{Asked}
 
 -- a device whose count of failures stays 0 is never blamed
 pub never_fails : (kind : ErrorKind) → (kind ≡ DeviceFailed → Fails 0 0) → kind ≡ DeviceFailed → ⊥

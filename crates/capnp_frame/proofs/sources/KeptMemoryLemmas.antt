@@ -3,11 +3,8 @@ use Rattle.std.proofs.Common.{◌≡◌, ℕ, ◌*◌, ◌<◌, ◌≤◌, inl, 
 use Rattle.std.proofs.lemmas.List.{length-map}
 use Rattle.std.specs.Prelude.{sum}
 use Rattle.std.specs.List.{concat}
-use Rattle.capnp_frame.specs.Message.{lengths, word_count, size_in_words}
+use Rattle.capnp_frame.specs.Prelude.{lengths, word_count, size_in_words, Giving, Refusing, IsSource, MessageStands, Tells, Outgrows}
 use Rattle.capnp_frame.specs.declared.serialize.segment_table.Padding.{Padding}
-use Rattle.capnp_frame.specs.Source.{Giving, Refusing, IsSource}
-use Rattle.capnp_frame.specs.Requests.{MessageStands}
-use Rattle.capnp_frame.specs.Refusals.{Tells, Outgrows}
 use Rattle.capnp_frame.proofs.tables.TableLemmas.{TableStands-once}
 use Rattle.capnp_frame.proofs.errors.RefusalLemmas.{few_tells}
 

@@ -4,17 +4,11 @@ use Rattle.std.specs.Prelude.{IfOk, IfNone}
 use Rattle.std.specs.List.{AllByRecursion}
 use Rattle.std.specs.Result.{IsErrAnd}
 use Rattle.capnp_frame.specs.declared.io.Read.{Ghosts}
-use Rattle.capnp_frame.specs.Message.{IsWholeWords}
-use Rattle.capnp_frame.specs.Streams.{StreamRules, framed_rules, ReadsStream}
-use Rattle.capnp_frame.specs.Steps.{AsksNext}
+use Rattle.capnp_frame.specs.Prelude.{IsWholeWords, StreamRules, framed_rules, ReadsStream, AsksNext, IsWithin, Giving, Refusing, IsSource, IfKnown, MessageStands, RefusesStream}
 use Rattle.capnp_frame.specs.declared.error.Error.{Error}
 use Rattle.capnp_frame.specs.declared.error.ErrorKind.{ErrorKind}
 use Rattle.capnp_frame.specs.declared.error.ErrorKind.TheVariants.{DeviceFailed, OutOfMemory}
 use Rattle.capnp_frame.specs.declared.serialize.segment_table.Padding.{Padding}
-use Rattle.capnp_frame.specs.Limits.{IsWithin}
-use Rattle.capnp_frame.specs.Source.{Giving, Refusing, IsSource, IfKnown}
-use Rattle.capnp_frame.specs.Requests.{MessageStands}
-use Rattle.capnp_frame.specs.Refusals.{RefusesStream}
 use Rattle.capnp_frame.proofs.sources.SourceLemmas.{IfKnown-weaker}
 use Rattle.capnp_frame.proofs.errors.RefusalLemmas.{Unless-after, RefusesStream-once, RefusesStream-apart}
 

@@ -4,21 +4,12 @@ use Rattle.std.proofs.lemmas.List.{drop-drop, drop_at, take-append-drop, length-
 use Rattle.std.specs.Prelude.{sum}
 use Rattle.std.specs.List.{AllByRecursion}
 use Rattle.std.specs.Result.{IsErrAnd}
-use Rattle.capnp_frame.specs.Asking.{Asked, FailsOr}
+use Rattle.capnp_frame.specs.Prelude.{Asked, FailsOr, AreWithin, IsWholeWords, lengths, TakesForLengths, TableStands, MessageStands, cut, SkipsMessage, LengthsStand, Drops, Giving, Refusing, Splits, RunsShort, IsSource, IfKnown, IsRefused, Advances, ReadsTable, skipping_rules, ReadsStream}
 use Rattle.capnp_frame.specs.declared.error.Error.{Error}
 use Rattle.capnp_frame.specs.declared.error.ErrorKind.{ErrorKind}
 use Rattle.capnp_frame.specs.declared.error.ErrorKind.TheVariants.{DeviceFailed, FailedToFillTheWholeBuffer}
 use Rattle.capnp_frame.specs.declared.io.Read.{Ghosts}
 use Rattle.capnp_frame.specs.declared.serialize.segment_table.Padding.{Padding}
-use Rattle.capnp_frame.specs.Limits.{AreWithin}
-use Rattle.capnp_frame.specs.Message.{IsWholeWords, lengths}
-use Rattle.capnp_frame.specs.Refusals.{TakesForLengths}
-use Rattle.capnp_frame.specs.Requests.{TableStands, MessageStands}
-use Rattle.capnp_frame.specs.SegmentLengths.{cut}
-use Rattle.capnp_frame.specs.Skipping.{SkipsMessage, LengthsStand, Drops}
-use Rattle.capnp_frame.specs.Source.{Giving, Refusing, Splits, RunsShort, IsSource, IfKnown, IsRefused, Advances}
-use Rattle.capnp_frame.specs.Steps.{ReadsTable}
-use Rattle.capnp_frame.specs.Streams.{skipping_rules, ReadsStream}
 use Rattle.capnp_frame.proofs.sources.SourceLemmas.{IfKnown-join, IfKnown-refl, IfKnown-weaker}
 use Rattle.capnp_frame.proofs.encodings.RequestLemmas.{lengths-cut, MessageStands-cut, table_not_empty}
 use Rattle.capnp_frame.proofs.errors.MetRefusals.{reader_kind, source_kind, or_memory, table_met_skipping, segments_met}

@@ -5,8 +5,7 @@ use Rattle.std.proofs.lemmas.List.{append-nil, length-take, length-drop, take_at
 use borrow.Rule.Slice.PartMut.{put_mid, post_of}
 use lib.Seq.{take-add, take-append-le}
 use Rattle.capnp_frame.specs.declared.error.ErrorKind.{ErrorKind}
-use Rattle.capnp_frame.specs.Source.{Giving, Refusing, Fails, IfKnown, IsTail, IsFront, Advances, IsRefused, ReturnsPart}
-use Rattle.capnp_frame.specs.Sink.{Grows}
+use Rattle.capnp_frame.specs.Prelude.{Giving, Refusing, Fails, IfKnown, IsTail, IsFront, Advances, IsRefused, ReturnsPart, Grows}
 
 pub IfKnown-join : {P Q R : List ℕ → List ℕ → Type 0} (a b c : Option (List ℕ)) → ((x y z : List ℕ) → P x y → Q y z → R x z) → IfKnown a b P → IfKnown b c Q → IfKnown a c R
 IfKnown-join None b c join p q = tt

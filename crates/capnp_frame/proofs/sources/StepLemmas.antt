@@ -7,12 +7,8 @@ use Rattle.capnp_frame.specs.declared.error.ErrorKind.{ErrorKind}
 use Rattle.capnp_frame.specs.declared.error.ErrorKind.TheVariants.{DeviceFailed, OutOfMemory}
 use Rattle.capnp_frame.specs.declared.serialize.segment_table.Padding.{Padding}
 use Rattle.capnp_frame.specs.declared.io.Read.{Ghosts}
-use Rattle.capnp_frame.specs.Source.{Giving, Refusing, IsSource, IfKnown, IsTail, IsRefused, Advances}
-use Rattle.capnp_frame.specs.Asking.{Asked}
-use Rattle.capnp_frame.specs.Refusals.{DeclaresAccepted, TakesForLengths, RefusesTable, IsReaderKind, IsProvidedReaderKind}
-use Rattle.capnp_frame.specs.Steps.{StopsAtTable, ReadsLengths, ReadsTable, AsksNext, AsksNextInto}
+use Rattle.capnp_frame.specs.Prelude.{Giving, Refusing, IsSource, IfKnown, IsTail, IsRefused, Advances, Asked, DeclaresAccepted, TakesForLengths, RefusesTable, IsReaderKind, IsProvidedReaderKind, StopsAtTable, ReadsLengths, ReadsTable, AsksNext, AsksNextInto, range_len}
 use Rattle.capnp_frame.proofs.sources.AskLemmas.{Asked-ok, Asked-err}
-use Rattle.capnp_frame.specs.SegmentLengths.{range_len}
 use Rattle.capnp_frame.proofs.encodings.RequestLemmas.{word_not_empty}
 use Rattle.capnp_frame.proofs.tables.TableReading.{table_stands}
 use Rattle.capnp_frame.proofs.errors.MetRefusals.{or_memory, rest_met, reader_kind, source_kind, lengths_taken}

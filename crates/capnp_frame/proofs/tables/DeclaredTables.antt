@@ -9,8 +9,7 @@ use Rattle.std.specs.Prelude.{sum, slice_get}
 use Rattle.std.specs.List.{flat_map, AllByRecursion}
 use Rattle.std.specs.Int.{w32, from_le_bytes}
 use Rattle.capnp_frame.specs.declared.serialize.segment_table.Padding.{Padding}
-use Rattle.capnp_frame.specs.SegmentTable.{field, FitsField, table_size, padding_len, KeepsPadding, IsTable}
-use Rattle.capnp_frame.specs.Front.{number, numbers, declared_lengths, declared_padding, SpellsLengths, DeclaresTable}
+use Rattle.capnp_frame.specs.Prelude.{field, FitsField, table_size, padding_len, KeepsPadding, IsTable, number, numbers, declared_lengths, declared_padding, SpellsLengths, DeclaresTable}
 use Rattle.capnp_frame.proofs.tables.Ranges.{sum_push}
 use Rattle.capnp_frame.proofs.tables.TableLemmas.{length-fields, AllByRecursion-push, padding_at}
 use Rattle.capnp_frame.proofs.encodings.FrameLemmas.{length-table}

@@ -6,12 +6,7 @@ use lib.Seq.{take-append-le}
 use Rattle.capnp_frame.specs.declared.error.ErrorKind.{ErrorKind}
 use Rattle.capnp_frame.specs.declared.error.ErrorKind.TheVariants.{MessageTooLarge, NonZeroPadding}
 use Rattle.capnp_frame.specs.declared.serialize.segment_table.Padding.{Padding}
-use Rattle.capnp_frame.specs.SegmentTable.{field, table_size, IsTable}
-use Rattle.capnp_frame.specs.Message.{lengths, word_count}
-use Rattle.capnp_frame.specs.Limits.{AreWithin}
-use Rattle.capnp_frame.specs.Source.{Giving, Refusing, IsSource}
-use Rattle.capnp_frame.specs.Requests.{TableStands, MessageStands}
-use Rattle.capnp_frame.specs.Refusals.{Unless, Tells, IsTooLarge, LacksRoom, StopsBy, BreaksPadding, RefusesAtLimit, RefusesAtCount, RefusesAtStart, RefusesStream}
+use Rattle.capnp_frame.specs.Prelude.{field, table_size, IsTable, lengths, word_count, AreWithin, Giving, Refusing, IsSource, TableStands, MessageStands, Unless, Tells, IsTooLarge, LacksRoom, StopsBy, BreaksPadding, RefusesAtLimit, RefusesAtCount, RefusesAtStart, RefusesStream}
 use Rattle.capnp_frame.proofs.tables.TableLemmas.{any_table}
 use Rattle.capnp_frame.proofs.errors.RefusalLemmas.{in_range, within_limit, small_room, given_some}
 

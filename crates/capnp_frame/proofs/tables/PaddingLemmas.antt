@@ -3,8 +3,7 @@ use Rattle.std.proofs.Common.{◌≡◌, ℕ, ◌+◌, ◌*◌, ◌%◌, ◌<◌
 use Rattle.std.proofs.lemmas.List.{drop-take, length-drop, length-take-le}
 use Rattle.capnp_frame.specs.declared.serialize.segment_table.Padding.{Padding}
 use Rattle.capnp_frame.specs.declared.serialize.segment_table.Padding.TheVariants.{Any, Zero}
-use Rattle.capnp_frame.specs.SegmentTable.{field, table_size, KeepsPadding}
-use Rattle.capnp_frame.specs.Front.{declared_padding}
+use Rattle.capnp_frame.specs.Prelude.{field, table_size, KeepsPadding, declared_padding}
 use Rattle.capnp_frame.proofs.tables.TableLemmas.{field-once}
 
 none_kept : (padding : List ℕ) → length padding ≡ 0 → KeepsPadding Zero padding

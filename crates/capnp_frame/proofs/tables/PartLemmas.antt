@@ -3,9 +3,7 @@ use Rattle.std.proofs.Common.{◌≡◌, ℕ, ◌+◌, ◌-◌, ◌*◌, ◌<◌
 use Rattle.std.proofs.lemmas.List.{drop-drop}
 use Rattle.std.proofs.lemmas.List.Sums.{sum_by-cons}
 use Rattle.std.specs.Prelude.{sum, slice_get}
-use Rattle.capnp_frame.specs.SegmentTable.{field, table_size}
-use Rattle.capnp_frame.specs.SegmentLengths.{cut}
-use Rattle.capnp_frame.specs.Front.{number, declared_lengths, declared_segments, HoldsMessage}
+use Rattle.capnp_frame.specs.Prelude.{field, table_size, cut, number, declared_lengths, declared_segments, HoldsMessage}
 use Rattle.capnp_frame.proofs.tables.DeclaredTables.{number_at, numbers-take, numbers-suc, number-field}
 use Rattle.capnp_frame.proofs.tables.Ranges.{sum_push}
 

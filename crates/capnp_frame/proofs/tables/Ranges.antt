@@ -8,7 +8,7 @@ use Rattle.std.proofs.lemmas.Bool.{not-false}
 use Rattle.std.proofs.lemmas.Option.{slice_get_past, none-some}
 use denote.Ref.{Bor}
 use Rattle.std.specs.List.{concat}
-use Rattle.capnp_frame.specs.SegmentLengths.{ranges_from, ranges, range_len, cut, AreRanges}
+use Rattle.capnp_frame.specs.Prelude.{ranges_from, ranges, range_len, cut, AreRanges}
 
 sum-cons : (n : ℕ) (ns : List ℕ) → sum (n ∷ ns) ≡ n + sum ns
 sum-cons n ns = sum_by-cons (λ x. x) n ns

@@ -6,12 +6,9 @@ use Rattle.std.specs.List.{flat_map, AllByRecursion}
 use Rattle.std.specs.Int.{w32, from_le_bytes}
 use Rattle.std.proofs.lemmas.Nat.{from_le_bytes-to_le_bytes_4}
 use Rattle.std.proofs.lemmas.List.{drop_at, length-replicate}
-use Rattle.capnp_frame.specs.SplittingLaws.{same_front}
+use Rattle.capnp_frame.specs.Prelude.{same_front, field, FitsField, table_bytes, zero_padded_table, KeepsPadding, IsTable, Giving, TableStands}
 use Rattle.capnp_frame.specs.declared.serialize.segment_table.Padding.{Padding}
 use Rattle.capnp_frame.specs.declared.serialize.segment_table.Padding.TheVariants.{Any, Zero}
-use Rattle.capnp_frame.specs.SegmentTable.{field, FitsField, table_bytes, zero_padded_table, KeepsPadding, IsTable}
-use Rattle.capnp_frame.specs.Source.{Giving}
-use Rattle.capnp_frame.specs.Requests.{TableStands}
 
 pub AllByRecursion-push : {X : Type 0} (P : X → Type 0) (xs : List X) (y : X) → AllByRecursion P xs → P y → AllByRecursion P (xs ++ y ∷ [])
 AllByRecursion-push P [] y all here = (here, tt)

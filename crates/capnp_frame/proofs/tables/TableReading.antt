@@ -3,11 +3,7 @@ use Rattle.std.proofs.Common.{◌≡◌, ℕ, ◌+◌, ◌-◌, ◌*◌, ◌/◌
 use Rattle.std.proofs.lemmas.List.{take-take, take-append-drop, take_all, take_at, drop_at}
 use borrow.Rule.Slice.PartMut.{put_mid}
 use Rattle.capnp_frame.specs.declared.serialize.segment_table.Padding.{Padding}
-use Rattle.capnp_frame.specs.SegmentTable.{table_size, KeepsPadding, IsTable}
-use Rattle.capnp_frame.specs.Source.{Giving, IfKnown}
-use Rattle.capnp_frame.specs.Requests.{RestStands, TableStands}
-use Rattle.capnp_frame.specs.Refusals.{DeclaresAccepted}
-use Rattle.capnp_frame.specs.Front.{declared_lengths, declared_padding, SpellsLengths, DeclaresTable}
+use Rattle.capnp_frame.specs.Prelude.{table_size, KeepsPadding, IsTable, Giving, IfKnown, RestStands, TableStands, DeclaresAccepted, declared_lengths, declared_padding, SpellsLengths, DeclaresTable}
 use Rattle.capnp_frame.proofs.sources.SourceLemmas.{IfKnown-join, IfKnown-weaker, length-put_mid, put_mid_front}
 use Rattle.capnp_frame.proofs.tables.DeclaredTables.{length-declared, table_is, padding_declared}
 

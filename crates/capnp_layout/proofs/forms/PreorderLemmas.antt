@@ -1,9 +1,7 @@
 -- The tests of a walk hold exactly where the words are those of a layout.
 use Rattle.std.proofs.Common.{◌≡◌, ℕ, ◌+◌, ◌*◌, ◌/◌, ◌^◌, ◌<◌, List, [], ◌∷◌, Some, slice_get, refl, subst, arith}
-use Rattle.capnp_layout.specs.Pointer.{pointer_kind, offset}
-use Rattle.capnp_layout.specs.Tree.{Form}
+use Rattle.capnp_layout.specs.Prelude.{pointer_kind, offset, Form, Shape, local, far, double_far, ShapeStands, PointsTo, is_null, is_object}
 use Rattle.capnp_layout.specs.declared.place.Place.{Place}
-use Rattle.capnp_layout.specs.Object.{Shape, local, far, double_far, ShapeStands, PointsTo, is_null, is_object}
 
 -- a pointer within its segment that is not null, and where its object starts
 pub record Local (segment : List ℕ) (word tag : ℕ) (form : Form) (children : List Place) : Type 0 where

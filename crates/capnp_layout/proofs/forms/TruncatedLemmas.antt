@@ -1,7 +1,7 @@
 -- What the words at the ends of data and of pointers say of sizes.
 use Rattle.std.proofs.Common.{◌≡◌, ℕ, zero, suc, ◌+◌, ◌<◌, ◌≤◌, List, [], ◌∷◌, length, drop, slice_index_or, refl, ◌∙◌, ap}
 use Rattle.std.proofs.Common.{arith, length-take, length-drop}
-use Rattle.capnp_layout.specs.Pointer.{words_from}
+use Rattle.capnp_layout.specs.Prelude.{words_from}
 
 pub length-subslice : (words : List ℕ) (s n : ℕ) → s + n ≤ length words → length (words_from words s n) ≡ n
 length-subslice words s n room = omega (arith, length-take n (drop s words), length-drop s words)

@@ -1,9 +1,8 @@
 -- What a pointer leads to that is copied.
 use Rattle.std.proofs.Common.{◌≡◌, ℕ, ◌+◌, ◌≤◌, Bool, if◌then◌else◌, List, [], ◌∷◌, ap, arith}
 use Rattle.capnp_frame.specs.declared.error.ErrorKind.{ErrorKind}
-use Rattle.capnp_layout.specs.Tree.{Trees, depth, is_null}
-use Rattle.capnp_layout.specs.Reached.{At, nowhere, at}
-use Rattle.capnp_layout.specs.Faults.{Fault}
+use Rattle.capnp_layout.specs.Tree.{is_null}
+use Rattle.capnp_layout.specs.Prelude.{Trees, depth, At, nowhere, at, Fault}
 use Rattle.capnp_layout.specs.declared.place.Place.{Place}
 use Rattle.capnp_layout.proofs.pointers.FaultLemmas.{invalid_pointer_has_no_object}
 

@@ -1,14 +1,7 @@
 -- A layout is read back as its tree.
 use Rattle.std.proofs.Common.{◌≡◌, ℕ, ◌+◌, ◌-◌, ◌*◌, ◌^◌, ◌<◌, ◌≤◌, ◌==◌, if◌then◌else◌, List, [], ◌∷◌, ◌++◌, length, Some, slice_get, refl, sym, ◌∙◌, ap, subst, arith, length-append}
 use Rattle.std.proofs.lemmas.Bool.Decides.{nat_tests}
-use Rattle.capnp_layout.specs.Pointer.{offset}
-use Rattle.capnp_layout.specs.Layout.{struct_pointer, list_pointer, minus_one}
-use Rattle.capnp_layout.specs.Tree.{Form, null, struct, numbers, pointers, structs, Trees, none, tree, count}
-use Rattle.capnp_layout.specs.Object.{PointsTo, is_null}
-use Rattle.capnp_layout.specs.Reached.{At, nowhere, at}
-use Rattle.capnp_layout.specs.Tree.{object_size, total_words}
-use Rattle.capnp_layout.specs.Layout.{pointer, slots, pointers_to, own, body, HasRoom, AllHaveRoom, Reaches, AllReach}
-use Rattle.capnp_layout.specs.Layout.{placed}
+use Rattle.capnp_layout.specs.Prelude.{offset, struct_pointer, list_pointer, minus_one, Form, null, struct, numbers, pointers, structs, Trees, none, tree, count, PointsTo, is_null, At, nowhere, at, object_size, total_words, pointer, slots, pointers_to, own, body, HasRoom, AllHaveRoom, Reaches, AllReach, placed}
 use Rattle.capnp_layout.proofs.words.SubsliceLemmas.{Holds, holds_left, holds_right, holds_room, holds_none}
 use Rattle.capnp_layout.proofs.pointers.TagLemmas.{StructFields, ListFields, struct_fields, list_fields}
 use Rattle.capnp_layout.proofs.pointers.SlotLemmas.{Linked}

@@ -1,6 +1,6 @@
 -- Each object opens to what is copied of it.
 use Rattle.std.proofs.Common.{ℕ, zero, suc, ◌+◌, ◌≤◌, List, arith}
-use Rattle.capnp_layout.specs.Block.{most_used}
+use Rattle.capnp_layout.specs.Prelude.{most_used}
 use Rattle.capnp_layout.proofs.words.UsedLemmas.{most_within}
 
 pub most_within_rows : (words : List ℕ) (start k step n : ℕ) → most_used words start k step n ≤ k

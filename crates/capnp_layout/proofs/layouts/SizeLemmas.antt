@@ -2,11 +2,7 @@
 use Rattle.std.proofs.lemmas.List.Elements.{All-head, All-tail}
 use Rattle.std.proofs.Common.{◌≡◌, ℕ, zero, suc, ◌+◌, ◌*◌, ◌^◌, ◌<◌, ◌≤◌, List, [], ◌∷◌, ◌++◌, length, take, drop, refl, sym, ◌∙◌, ap, subst, arith, length-append, length-take, length-drop}
 use Rattle.std.specs.Prelude.{All, ⊤}
-use Rattle.capnp_layout.specs.Pointer.{number_of}
-use Rattle.capnp_layout.specs.Element.{width, words_for}
-use Rattle.capnp_layout.specs.Tree.{Form, null, struct, numbers, pointers, structs, Trees, none, tree, count}
-use Rattle.capnp_layout.specs.Tree.{object_size, total_words}
-use Rattle.capnp_layout.specs.Layout.{run, row_run, slots, pointers_to, woven, own, body, HasRoom, AllHaveRoom}
+use Rattle.capnp_layout.specs.Prelude.{number_of, width, words_for, Form, null, struct, numbers, pointers, structs, Trees, none, tree, count, object_size, total_words, run, row_run, slots, pointers_to, woven, own, body, HasRoom, AllHaveRoom}
 use Rattle.capnp_layout.proofs.words.DigitLemmas.{length-digits}
 use Rattle.capnp_layout.proofs.pointers.SlotLemmas.{AllOf}
 

@@ -1,14 +1,9 @@
 -- The objects of a layout are read back, form by form.
 use Rattle.std.proofs.Common.{◌≡◌, ℕ, ◌+◌, ◌*◌, ◌/◌, ◌^◌, ◌<◌, ◌≤◌, List, [], ◌∷◌, ◌++◌, length, Some, slice_get, refl, sym, ap, subst, arith, length-append}
 use Rattle.std.specs.Prelude.{All}
-use Rattle.capnp_layout.specs.Pointer.{digits, number_of, words_from, pointer_kind, offset, data_words, pointer_words, code, list_count}
-use Rattle.capnp_layout.specs.Element.{width, words_for}
-use Rattle.capnp_layout.specs.Tree.{Form, struct, numbers, pointers, structs}
+use Rattle.capnp_layout.specs.Prelude.{digits, number_of, words_from, pointer_kind, offset, data_words, pointer_words, code, list_count, width, words_for, Form, struct, numbers, pointers, structs, Lands, local, Shape, ShapeStands, places, row_places, rows_from, struct_shape, numbers_shape, pointers_shape, structs_shape, a_struct, some_numbers, some_pointers, some_structs, PointsTo, is_object, run, row_run, slots, woven, placed}
 use Rattle.capnp_layout.specs.declared.place.Place.{Place}
-use Rattle.capnp_layout.specs.Object.{Lands, local, following, Shape, ShapeStands, places, row_places, rows_from, struct_shape, numbers_shape, pointers_shape, structs_shape, a_struct}
-use Rattle.capnp_layout.specs.Object.{some_numbers, some_pointers, some_structs, PointsTo, is_object}
-use Rattle.capnp_layout.specs.Layout.{run, row_run, slots, woven}
-use Rattle.capnp_layout.specs.Layout.{placed}
+use Rattle.capnp_layout.specs.Object.{following}
 use Rattle.capnp_layout.proofs.words.SubsliceLemmas.{Holds, holds_left, holds_right, holds_words, holds_first, holds_room}
 use Rattle.capnp_layout.proofs.words.DigitLemmas.{length-digits, numbers_back}
 use Rattle.capnp_layout.proofs.pointers.TagLemmas.{StructFields, ListFields}

@@ -1,7 +1,6 @@
 -- Where an object leads back to itself, there is no tree.
 use Rattle.std.proofs.Common.{◌≡◌, ℕ, ◌+◌, ◌<◌, ◌≤◌, List, [], ◌∷◌, subst, arith}
-use Rattle.capnp_layout.specs.Tree.{Form, Trees, none, tree}
-use Rattle.capnp_layout.specs.Reached.{At, nowhere, at, IsIn, here, there, Below, directly, further}
+use Rattle.capnp_layout.specs.Prelude.{Form, Trees, none, tree, At, nowhere, at, IsIn, here, there, Below, directly, further}
 use Rattle.capnp_layout.specs.declared.place.Place.{Place}
 use Rattle.capnp_layout.proofs.objects.ObjectLemmas.{one_object, one_tree}
 

@@ -7,9 +7,7 @@ use Rattle.std.proofs.Common.{◌≡◌, ℕ, zero, suc, ◌+◌, ◌*◌, ◌/�
 use Rattle.std.proofs.Common.{length-take, length-drop}
 use Rattle.std.specs.Prelude.{All}
 use Rattle.std.specs.Simd.{first_chunks}
-use Rattle.capnp_layout.specs.Pointer.{digits, number_of, words_of, words_from}
-use Rattle.capnp_layout.specs.Element.{words_for}
-use Rattle.capnp_layout.specs.Object.{elements}
+use Rattle.capnp_layout.specs.Prelude.{digits, number_of, words_of, words_from, words_for, elements}
 use Rattle.capnp_layout.proofs.words.WordLemmas.{numbers_from, bytes_back}
 
 part_fits : (bytes : List ℕ) (start k : ℕ) → ((i : ℕ) → slice_index_or bytes i 0 < 256) → (i : ℕ) → slice_index_or (take (8 * k) (drop (8 * start) bytes)) i 0 < 256

@@ -2,9 +2,8 @@
 use Rattle.std.proofs.Common.{◌≡◌, ℕ, zero, suc, ◌+◌, ◌/◌, ◌<◌, ◌≤◌, List, [], ◌∷◌, length, take, drop, Some, None, slice_index_or, refl, sym, ◌∙◌, ap, arith, length-take, length-drop, slice_get}
 use Rattle.std.proofs.lemmas.List.{get_or-take, get_or-drop}
 use Rattle.std.proofs.lemmas.List.Sums.{sum_by-cons}
-use Rattle.capnp_frame.specs.Message.{size_in_words, lengths}
-use Rattle.capnp_layout.specs.Pointer.{words_of, words_from}
-use Rattle.capnp_layout.specs.Object.{places}
+use Rattle.capnp_frame.specs.Prelude.{size_in_words, lengths}
+use Rattle.capnp_layout.specs.Prelude.{words_of, words_from, places}
 use Rattle.capnp_layout.proofs.words.WordLemmas.{length-words_of}
 
 -- what a struct reader reads

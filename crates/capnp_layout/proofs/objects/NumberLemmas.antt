@@ -1,9 +1,7 @@
 -- Consecutive numbers of one size: none of them lies in two words.
 use Rattle.std.proofs.lemmas.List.{take-take, take_all}
 use Rattle.std.proofs.Common.{◌≡◌, ℕ, ◌+◌, ◌*◌, ◌/◌, ◌%◌, ◌^◌, ◌<◌, ◌≤◌, List, length, take, drop, sym, ◌∙◌, ap, arith}
-use Rattle.capnp_layout.specs.Pointer.{digits, number_of, words_of}
-use Rattle.capnp_layout.specs.Element.{code_of, width, words_for}
-use Rattle.capnp_layout.specs.Object.{elements}
+use Rattle.capnp_layout.specs.Prelude.{digits, number_of, words_of, code_of, width, words_for, elements}
 use Rattle.capnp_layout.proofs.words.WordLemmas.{length-words_of}
 use Rattle.capnp_layout.proofs.words.PutLemmas.{words_part}
 use Rattle.capnp_layout.proofs.words.DigitLemmas.{digits-number_of}

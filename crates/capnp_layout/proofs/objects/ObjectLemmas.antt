@@ -1,10 +1,7 @@
 -- At most one object, and one tree, is at a place.
 use Rattle.std.proofs.Common.{◌≡◌, ℕ, List, Some, refl, ap, subst, sym, ◌∙◌, arith}
-use Rattle.capnp_layout.specs.Pointer.{list_count, offset, data_words, pointer_words}
-use Rattle.capnp_layout.specs.Tree.{Trees}
-use Rattle.capnp_layout.specs.Object.{word_at, Origin, following, exactly, IsStart, Target, Lands, local, far, double_far, landing_pad, landing_pad_tag, Shape, ShapeStands, structs_shape, a_struct, some_numbers}
-use Rattle.capnp_layout.specs.Object.{some_pointers, some_structs, PointsTo, is_null, is_object}
-use Rattle.capnp_layout.specs.Reached.{At, nowhere, at}
+use Rattle.capnp_layout.specs.Prelude.{list_count, offset, data_words, pointer_words, Trees, word_at, Origin, exactly, IsStart, Target, Lands, local, far, double_far, landing_pad, landing_pad_tag, Shape, ShapeStands, structs_shape, a_struct, some_numbers, some_pointers, some_structs, PointsTo, is_null, is_object, At, nowhere, at}
+use Rattle.capnp_layout.specs.Object.{following}
 use Rattle.capnp_layout.specs.declared.place.Place.{Place}
 
 pub same_word : (m : List (List ℕ)) (place : Place) (v w : ℕ) → word_at m place ≡ Some v → word_at m place ≡ Some w → v ≡ w

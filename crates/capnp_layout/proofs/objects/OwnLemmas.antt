@@ -1,7 +1,6 @@
 -- A struct that is copied has the data words that its copy keeps.
 use Rattle.std.proofs.Common.{◌≡◌, ℕ, ◌+◌, ◌≤◌, subst, arith}
-use Rattle.capnp_layout.specs.Body.{room_of}
-use Rattle.capnp_layout.specs.Output.{IsNarrower}
+use Rattle.capnp_layout.specs.Prelude.{room_of, IsNarrower}
 use Rattle.capnp_layout.specs.declared.pointer.StructSize.{StructSize}
 use Rattle.capnp_layout.specs.declared.object.Body.{Body}
 use Rattle.capnp_layout.specs.declared.object.Body.TheVariants.{Struct, Numbers, Pointers, Structs}

@@ -1,12 +1,8 @@
 -- The words of an object, as it is read.
 use Rattle.std.proofs.Common.{◌≡◌, ℕ, zero, suc, ◌+◌, ◌*◌, ◌/◌, ◌≤◌, ◌^◌, List, length, refl, ap, arith, length-take, length-drop, drop}
-use Rattle.capnp_layout.specs.Pointer.{digits, number_of, words_from}
-use Rattle.capnp_layout.specs.Element.{code_of, width, words_for}
-use Rattle.capnp_layout.specs.Body.{shape_of, room_of, words_in}
+use Rattle.capnp_layout.specs.Prelude.{digits, number_of, words_from, code_of, width, words_for, shape_of, room_of, words_in, object_size, rows_from}
 use Rattle.capnp_layout.specs.declared.object.Body.{Body}
 use Rattle.capnp_layout.specs.declared.object.Body.TheVariants.{Struct, Numbers, Pointers, Structs}
-use Rattle.capnp_layout.specs.Tree.{object_size}
-use Rattle.capnp_layout.specs.Object.{rows_from}
 use Rattle.capnp_layout.specs.declared.place.Place.{Place}
 use Rattle.capnp_layout.proofs.objects.FieldLemmas.{length-places}
 

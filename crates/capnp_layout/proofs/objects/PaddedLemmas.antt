@@ -4,8 +4,7 @@ use Rattle.std.proofs.lemmas.Nat.{pow_pos, pow-add}
 use Rattle.std.proofs.lemmas.List.{drop-drop}
 use Rattle.std.proofs.Common.{◌≡◌, ℕ, suc, ◌+◌, ◌*◌, ◌/◌, ◌^◌, ◌<◌, ◌≤◌, List, [], ◌∷◌, ◌++◌, length, take, drop, slice_index_or, sym, ◌∙◌, ap, subst, arith}
 use Rattle.std.specs.Prelude.{All, ◌↔◌}
-use Rattle.capnp_layout.specs.Pointer.{digits, number_of, words_from}
-use Rattle.capnp_layout.specs.Element.{words_for}
+use Rattle.capnp_layout.specs.Prelude.{digits, number_of, words_from, words_for}
 use Rattle.capnp_layout.proofs.words.WordLemmas.{number-append, take-add}
 use Rattle.capnp_layout.proofs.words.DigitLemmas.{length-digits, digits-number_of, number_below, number-digits, room_for, pow-mul}
 use Rattle.capnp_layout.proofs.trees.RoomLemmas.{digits_below, words_below as stretch_below}

@@ -8,12 +8,7 @@ use Rattle.std.proofs.lemmas.List.{get_or-take, get_or-drop, get_or_past}
 use Rattle.std.proofs.lemmas.Option.{slice_get_cases}
 use Rattle.std.proofs.Common.{◌≡◌, ℕ, zero, suc, ◌+◌, ◌-◌, ◌*◌, ◌/◌, ◌%◌, ◌^◌, ◌<◌, ◌≤◌, List, [], ◌∷◌, ◌++◌, length, take, drop, Some, slice_get, slice_index_or, inl, inr, refl, sym, ◌∙◌}
 use Rattle.std.proofs.Common.{All, ap, arith, length-append, length-take, length-drop, lit<}
-use Rattle.capnp_layout.specs.Pointer.{digits, number_of, words_from}
-use Rattle.capnp_layout.specs.Element.{width, words_for}
-use Rattle.capnp_layout.specs.Tree.{numbers}
-use Rattle.capnp_layout.specs.Object.{elements}
-use Rattle.capnp_layout.specs.Layout.{own}
-use Rattle.capnp_layout.specs.Block.{put}
+use Rattle.capnp_layout.specs.Prelude.{digits, number_of, words_from, width, words_for, numbers, elements, own, put}
 use Rattle.capnp_layout.proofs.words.DigitLemmas.{length-digits, pow-mul}
 use Rattle.capnp_layout.proofs.objects.ElementLemmas.{low_digit, high_digits, digits_back}
 use Rattle.capnp_layout.proofs.words.UsedLemmas.{take_more, get_after}

@@ -1,8 +1,7 @@
 -- An object in the segment of its pointer, in a message of one segment, and what is tested of it.
 use Rattle.std.proofs.Common.{◌≡◌, ◌≢◌, ℕ, ◌+◌, ◌*◌, ◌/◌, ◌^◌, ◌<◌, ◌≤◌, List, [], ◌∷◌, length, Some, slice_get, sym, ◌∙◌, ap, subst, arith}
-use Rattle.capnp_layout.specs.Pointer.{pointer_kind, offset, words_of}
-use Rattle.capnp_layout.specs.Object.{word_at, following, IsStart, Target, Lands, local, far, double_far, Shape, ShapeStands, PointsTo}
-use Rattle.capnp_layout.specs.Body.{IsObject, shape_of, room_of}
+use Rattle.capnp_layout.specs.Prelude.{pointer_kind, offset, words_of, word_at, IsStart, Target, Lands, local, far, double_far, Shape, ShapeStands, PointsTo, IsObject, shape_of, room_of}
+use Rattle.capnp_layout.specs.Object.{following}
 use Rattle.capnp_layout.specs.declared.place.Place.{Place}
 use Rattle.capnp_layout.specs.declared.object.Object.{Object as ReadObject}
 use Rattle.capnp_layout.proofs.forms.PreorderLemmas.{local_object}

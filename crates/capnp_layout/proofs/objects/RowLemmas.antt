@@ -1,8 +1,7 @@
 -- The elements of a list of structs are consecutive.
 use Rattle.std.proofs.Common.{◌≡◌, ℕ, zero, suc, ◌+◌, ◌*◌, ◌<◌, ◌≤◌, List, [], ◌++◌, length, take, drop, slice_index_or, sym, ◌∙◌, ap, arith}
 use Rattle.std.proofs.Math.Seq.{take-append_seam, drop-append-add}
-use Rattle.capnp_layout.specs.Pointer.{words_from}
-use Rattle.capnp_layout.specs.Object.{places, rows_from, row_places}
+use Rattle.capnp_layout.specs.Prelude.{words_from, places, rows_from, row_places}
 use Rattle.capnp_layout.specs.declared.place.Place.{Place}
 use Rattle.capnp_layout.proofs.objects.FieldLemmas.{length-places}
 use Rattle.capnp_layout.proofs.trees.RoomLemmas.{length-rows_from}

@@ -2,11 +2,7 @@
 use Rattle.std.proofs.Common.{ℕ, ◌+◌, ◌<◌, ◌^◌, List, drop}
 use Rattle.std.proofs.Common.{arith, length-take}
 use Rattle.std.specs.Prelude.{All}
-use Rattle.capnp_layout.specs.Pointer.{words_from}
-use Rattle.capnp_layout.specs.Tree.{struct, Trees, count}
-use Rattle.capnp_layout.specs.Object.{places}
-use Rattle.capnp_layout.specs.Reached.{At}
-use Rattle.capnp_layout.specs.Layout.{HasRoom}
+use Rattle.capnp_layout.specs.Prelude.{words_from, struct, Trees, count, places, At, HasRoom}
 use Rattle.capnp_layout.specs.declared.place.Place.{Place}
 use Rattle.capnp_layout.specs.declared.pointer.StructSize.{StructSize}
 use Rattle.capnp_layout.proofs.objects.FieldLemmas.{length-places}

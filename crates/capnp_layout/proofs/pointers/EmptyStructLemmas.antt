@@ -1,10 +1,7 @@
 -- Structs of no words that begin where their pointers do: a walk meets no words there, and their copies are such pointers.
 use Rattle.std.proofs.Common.{◌≡◌, ℕ, Bool, true, false, List, [], Some, slice_get, refl, arith, lit<}
 use Rattle.std.proofs.lemmas.Option.{slice_get_within}
-use Rattle.capnp_layout.specs.Tree.{struct, Trees, none, tree}
-use Rattle.capnp_layout.specs.Object.{Shape, PointsTo, local, a_struct, is_object}
-use Rattle.capnp_layout.specs.Layout.{output}
-use Rattle.capnp_layout.specs.Local.{empty_struct}
+use Rattle.capnp_layout.specs.Prelude.{struct, Trees, none, tree, Shape, PointsTo, local, a_struct, is_object, output, empty_struct}
 use Rattle.capnp_layout.specs.declared.place.Place.{Place}
 use Rattle.capnp_layout.proofs.pointers.LocalLemmas.{word_there}
 

@@ -1,13 +1,8 @@
 -- Where a pointer is invalid, there is no object within the nesting depth left.
 use Rattle.std.proofs.Common.{◌≡◌, ℕ, ◌+◌, ◌*◌, ◌<◌, ◌≤◌, true, false, List, Some, None, slice_get, refl, sym, ◌∙◌, ap, subst, arith}
 use Rattle.capnp_frame.specs.declared.error.ErrorKind.{ErrorKind}
-use Rattle.capnp_layout.specs.Element.{width, words_for}
-use Rattle.capnp_layout.specs.Pointer.{pointer_kind, code, has_wide_landing_pad, landing_pad_segment, offset, data_words, pointer_words, list_count}
+use Rattle.capnp_layout.specs.Prelude.{width, words_for, pointer_kind, code, has_wide_landing_pad, landing_pad_segment, offset, data_words, pointer_words, list_count, word_at, IsFar, landing_pad, landing_pad_tag, IsStart, Target, Lands, local, far, double_far, Shape, ShapeStands, a_struct, some_numbers, some_pointers, some_structs, PointsTo, nothing, is_null as null_there, is_object, NoWord, no_segment, past_segment, BadLandingPad, no_landing_pad, far_again, landing_pad_capability, no_tag, not_far, no_content, far_tag, capability_tag, RejectsSize, struct_outside, list_outside, structs_outside, odd_tag, many_elements, Fault, no_word, capability, bad_landing_pad, too_deep, no_start, misfits}
 use Rattle.capnp_layout.specs.Tree.{is_null}
-use Rattle.capnp_layout.specs.Object.{word_at, IsFar, landing_pad, landing_pad_tag, IsStart, Target, Lands, local, far, double_far, Shape, ShapeStands, a_struct}
-use Rattle.capnp_layout.specs.Object.{some_numbers, some_pointers, some_structs, PointsTo, nothing, is_null as null_there, is_object}
-use Rattle.capnp_layout.specs.Faults.{NoWord, no_segment, past_segment, BadLandingPad, no_landing_pad, far_again, landing_pad_capability, no_tag, not_far, no_content, far_tag, capability_tag, RejectsSize}
-use Rattle.capnp_layout.specs.Faults.{struct_outside, list_outside, structs_outside, odd_tag, many_elements, Fault, no_word, capability, bad_landing_pad, too_deep, no_start, misfits}
 use Rattle.capnp_layout.specs.declared.place.Place.{Place}
 use Rattle.capnp_layout.proofs.objects.ObjectLemmas.{same_word, one_landing, one_start, null_lands_nowhere}
 

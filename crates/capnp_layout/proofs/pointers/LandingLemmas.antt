@@ -3,10 +3,7 @@ use Rattle.std.proofs.Common.{◌≡◌, ℕ, ◌+◌, ◌*◌, ◌/◌, ◌<◌
 use Rattle.std.proofs.lemmas.Option.{slice_get-get_or}
 use Rattle.capnp_frame.specs.declared.error.ErrorKind.{ErrorKind}
 use Rattle.capnp_frame.specs.declared.error.ErrorKind.TheVariants.{PointerOutOfBounds, WrongPointerKind}
-use Rattle.capnp_layout.specs.Pointer.{words_of, pointer_kind, code, offset, data_words, pointer_words, list_count}
-use Rattle.capnp_layout.specs.Element.{width, words_for}
-use Rattle.capnp_layout.specs.Object.{ShapeStands, a_struct, some_numbers, some_pointers, some_structs, struct_shape, numbers_shape, pointers_shape, structs_shape}
-use Rattle.capnp_layout.specs.Faults.{RejectsSize, struct_outside, list_outside, structs_outside, odd_tag, many_elements}
+use Rattle.capnp_layout.specs.Prelude.{words_of, pointer_kind, code, offset, data_words, pointer_words, list_count, width, words_for, ShapeStands, a_struct, some_numbers, some_pointers, some_structs, struct_shape, numbers_shape, pointers_shape, structs_shape, RejectsSize, struct_outside, list_outside, structs_outside, odd_tag, many_elements}
 use Rattle.capnp_layout.specs.declared.place.Place.{Place}
 use Rattle.capnp_layout.proofs.words.WordLemmas.{length-words_of}
 use Rattle.capnp_layout.proofs.pointers.FaultLemmas.{words_for_pointers}

@@ -5,12 +5,8 @@ use Rattle.std.specs.Result.{IsErrAnd}
 use Rattle.capnp_frame.specs.declared.error.Error.{Error}
 use Rattle.capnp_frame.specs.declared.error.ErrorKind.{ErrorKind}
 use Rattle.capnp_frame.specs.declared.error.ErrorKind.TheVariants.{PointerOutOfBounds, InvalidSegmentId}
-use Rattle.capnp_layout.specs.Pointer.{words_of, has_wide_landing_pad, landing_pad_segment, landing_pad_position}
-use Rattle.capnp_layout.specs.PointerWord.{IsLocal, IsLocalShape, IsFarPointer}
-use Rattle.capnp_layout.specs.Object.{message_of, word_at, landing_pad, landing_pad_tag, IsFar, following, exactly, IsStart, Lands, far as by_landing_pad, double_far, ShapeStands, PointsTo, is_object}
-use Rattle.capnp_layout.specs.Landing.{HasWideLandingPad, IsLanding, NotLocal}
-use Rattle.capnp_layout.specs.Body.{shape_of, traversed_of}
-use Rattle.capnp_layout.specs.Faults.{NoWord, no_segment, past_segment, BadLandingPad, no_landing_pad, far_again, landing_pad_capability, far_tag, capability_tag}
+use Rattle.capnp_layout.specs.Prelude.{words_of, has_wide_landing_pad, landing_pad_segment, landing_pad_position, IsLocal, IsLocalShape, IsFarPointer, message_of, word_at, landing_pad, landing_pad_tag, IsFar, exactly, IsStart, Lands, far as by_landing_pad, double_far, ShapeStands, PointsTo, is_object, HasWideLandingPad, IsLanding, NotLocal, shape_of, traversed_of, NoWord, no_segment, past_segment, BadLandingPad, no_landing_pad, far_again, landing_pad_capability, far_tag, capability_tag}
+use Rattle.capnp_layout.specs.Object.{following}
 use Rattle.capnp_layout.specs.declared.place.Place.{Place}
 use Rattle.capnp_layout.specs.declared.object.Body.{Body}
 use Rattle.capnp_layout.specs.declared.object.Body.TheVariants.{Struct, Numbers, Pointers, Structs}

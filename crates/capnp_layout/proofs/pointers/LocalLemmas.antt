@@ -1,13 +1,8 @@
 -- Lists and structs in the segments of their pointers: they are where the pointers lead.
 use Rattle.std.proofs.Common.{◌≡◌, Bool, true, false, if◌then◌else◌, ℕ, ◌+◌, ◌*◌, ◌/◌, ◌^◌, ◌<◌, ◌≤◌, List, All, length, Some, slice_get, Bor, refl, ap, subst, arith}
 use Rattle.std.specs.Prelude.{⊤}
-use Rattle.capnp_layout.specs.Pointer.{words_of, offset, pointer_kind}
-use Rattle.capnp_layout.specs.PointerWord.{IsLocalShape, IsElementsTag}
-use Rattle.capnp_layout.specs.Element.{code_of, width, words_for}
-use Rattle.capnp_layout.specs.Object.{word_at, local, following, Target, Lands, Shape, ShapeStands, PointsTo, is_object}
-use Rattle.capnp_layout.specs.Body.{IsObject, shape_of, room_of, words_in, traversed_of}
-use Rattle.capnp_layout.specs.Local.{local_struct_of, structs_of}
-use Rattle.capnp_layout.specs.Output.{least_size, output_body_of}
+use Rattle.capnp_layout.specs.Prelude.{words_of, offset, pointer_kind, IsLocalShape, IsElementsTag, code_of, width, words_for, word_at, local, Target, Lands, Shape, ShapeStands, PointsTo, is_object, IsObject, shape_of, room_of, words_in, traversed_of, local_struct_of, structs_of, least_size, output_body_of}
+use Rattle.capnp_layout.specs.Object.{following}
 use Rattle.capnp_layout.specs.declared.place.Place.{Place}
 use Rattle.capnp_layout.specs.declared.element_size.ElementSize.{ElementSize}
 use Rattle.capnp_layout.specs.declared.pointer.LocalShape.TheVariants.{Numbers as LocalNumbers, Pointers as LocalPointers, Struct as LocalStructShape, Structs as LocalStructs}

@@ -1,7 +1,6 @@
 -- A pointer leads to the next free word exactly where its word is that of a layout.
 use Rattle.std.proofs.Common.{◌≡◌, ℕ, ◌+◌, ◌-◌, ◌*◌, ◌/◌, ◌^◌, ◌<◌, arith}
-use Rattle.capnp_layout.specs.Pointer.{pointer_kind, offset, data_words, pointer_words, code, list_count}
-use Rattle.capnp_layout.specs.Layout.{struct_pointer, list_pointer}
+use Rattle.capnp_layout.specs.Prelude.{pointer_kind, offset, data_words, pointer_words, code, list_count, struct_pointer, list_pointer}
 
 pub list_parts : (word o c n : ℕ) → pointer_kind word ≡ 1 → code word ≡ c → list_count word ≡ n → offset word ≡ o → word ≡ list_pointer o c n
 list_parts word o c n k is many at = omega arith

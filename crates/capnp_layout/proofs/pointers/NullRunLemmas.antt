@@ -3,15 +3,7 @@ use Rattle.std.proofs.Common.{◌≡◌, ◌⊎◌, inl, inr, ℕ, zero, suc, �
 use Rattle.std.proofs.Common.{length-take, length-drop}
 use Rattle.std.proofs.lemmas.List.{drop-drop}
 use Rattle.std.proofs.lemmas.Option.{slice_get-get_or}
-use Rattle.capnp_layout.specs.Pointer.{words_from}
-use Rattle.capnp_layout.specs.Tree.{null, Trees, none, tree, depth, total_words}
-use Rattle.capnp_layout.specs.Trim.{keep_word, cut_zeros, trim}
-use Rattle.capnp_layout.specs.Object.{places, is_null as null_there}
-use Rattle.capnp_layout.specs.Reached.{At, nowhere, at}
-use Rattle.capnp_layout.specs.Layout.{output, run, AllHaveRoom}
-use Rattle.capnp_layout.specs.Block.{put, fill}
-use Rattle.capnp_layout.specs.Local.{AreNull}
-use Rattle.capnp_layout.specs.Output.{least_size, output_body_of}
+use Rattle.capnp_layout.specs.Prelude.{words_from, null, Trees, none, tree, depth, total_words, keep_word, cut_zeros, trim, places, is_null as null_there, At, nowhere, at, output, run, AllHaveRoom, put, fill, AreNull, least_size, output_body_of}
 use Rattle.capnp_layout.specs.declared.pointer.StructSize.{StructSize}
 use Rattle.capnp_layout.specs.declared.object.Body.TheVariants.{Struct}
 use Rattle.capnp_layout.proofs.words.WordLemmas.{take-add}

@@ -1,9 +1,7 @@
 -- The pointers of an object, one taken after the other.
 use Rattle.std.proofs.Common.{◌≡◌, ◌⊎◌, inl, inr, ℕ, zero, suc, ◌+◌, ◌-◌, ◌<◌, ◌≤◌, List, [], ◌++◌, refl, sym, ◌∙◌, ap, arith}
-use Rattle.capnp_layout.specs.Object.{places, row_places}
+use Rattle.capnp_layout.specs.Prelude.{places, row_places, shape_of, row_size, kept_places, kept_in, row_slots}
 use Rattle.std.proofs.lemmas.List.{append-nil}
-use Rattle.capnp_layout.specs.Body.{shape_of}
-use Rattle.capnp_layout.specs.Rows.{row_size, kept_places, kept_in, row_slots}
 use Rattle.capnp_layout.specs.declared.object.Body.{Body}
 use Rattle.capnp_layout.specs.declared.object.Body.TheVariants.{Struct, Numbers, Pointers, Structs}
 use Rattle.capnp_layout.specs.declared.place.Place.{Place}

@@ -2,11 +2,7 @@
 use Rattle.std.proofs.Common.{◌≡◌, ◌⊎◌, inl, inr, ℕ, ◌+◌, ◌<◌, ◌≤◌, List, length, Some, None, slice_get, refl, sym, ◌∙◌, subst, arith}
 use Rattle.capnp_frame.specs.declared.error.ErrorKind.{ErrorKind}
 use Rattle.capnp_frame.specs.declared.error.ErrorKind.TheVariants.{PointerOutOfBounds, InvalidSegmentId, NestingLimitExceeded, CapabilityRefused, WrongPointerKind}
-use Rattle.capnp_layout.specs.Pointer.{pointer_kind, code, has_wide_landing_pad, landing_pad_segment, list_count}
-use Rattle.capnp_layout.specs.Object.{word_at, IsFar, landing_pad, landing_pad_tag, IsStart, Target, Lands}
-use Rattle.capnp_layout.specs.Landing.{NotLocal}
-use Rattle.capnp_layout.specs.Faults.{NoWord, no_segment, past_segment, BadLandingPad, no_landing_pad, far_again, landing_pad_capability, no_tag, not_far, no_content, far_tag, capability_tag, RejectsSize}
-use Rattle.capnp_layout.specs.Faults.{struct_outside, list_outside, structs_outside, odd_tag, many_elements, Fault, no_word, capability, bad_landing_pad, too_deep, no_start, misfits}
+use Rattle.capnp_layout.specs.Prelude.{pointer_kind, code, has_wide_landing_pad, landing_pad_segment, list_count, word_at, IsFar, landing_pad, landing_pad_tag, IsStart, Target, Lands, NotLocal, NoWord, no_segment, past_segment, BadLandingPad, no_landing_pad, far_again, landing_pad_capability, no_tag, not_far, no_content, far_tag, capability_tag, RejectsSize, struct_outside, list_outside, structs_outside, odd_tag, many_elements, Fault, no_word, capability, bad_landing_pad, too_deep, no_start, misfits}
 use Rattle.capnp_layout.specs.declared.place.Place.{Place}
 use Rattle.capnp_layout.proofs.objects.ObjectLemmas.{same_word, one_landing, one_start}
 use Rattle.capnp_layout.proofs.pointers.FaultLemmas.{no_word_there, lands_by_a_word, capability_lands_nowhere, bad_landing_pad_leads_nowhere}

@@ -3,11 +3,8 @@ use Rattle.std.proofs.lemmas.List.{take-append-drop}
 use Rattle.std.proofs.lemmas.List.Elements.{All-head, All-tail}
 use Rattle.std.proofs.Common.{◌≡◌, ℕ, zero, suc, ◌+◌, ◌*◌, List, [], ◌∷◌, ◌++◌, length, take, drop, Some, slice_get, refl, sym, ap, subst, arith, length-append, length-take, length-drop}
 use Rattle.std.specs.Prelude.{All}
-use Rattle.capnp_layout.specs.Pointer.{words_from}
+use Rattle.capnp_layout.specs.Prelude.{words_from, places, row_places, rows_from, run, row_run, woven, placed}
 use Rattle.capnp_layout.specs.declared.place.Place.{Place}
-use Rattle.capnp_layout.specs.Object.{places, row_places, rows_from}
-use Rattle.capnp_layout.specs.Layout.{run, row_run, woven}
-use Rattle.capnp_layout.specs.Layout.{placed}
 use Rattle.capnp_layout.proofs.words.SubsliceLemmas.{Holds, holds_left, holds_right, holds_words, holds_first}
 
 -- each of some links is in its slot, counted from a base

@@ -1,7 +1,6 @@
 -- The fields of pointer words.
 use Rattle.std.proofs.Common.{◌≡◌, ℕ, ◌^◌, ◌<◌, arith}
-use Rattle.capnp_layout.specs.Pointer.{pointer_kind, offset, data_words, pointer_words, code, list_count}
-use Rattle.capnp_layout.specs.Layout.{struct_pointer, list_pointer}
+use Rattle.capnp_layout.specs.Prelude.{pointer_kind, offset, data_words, pointer_words, code, list_count, struct_pointer, list_pointer}
 
 pub record StructFields (word o d p : ℕ) : Type 0 where
   pub kind_is : pointer_kind word ≡ 0

@@ -1,9 +1,7 @@
 -- Some trees of many: without nulls at the end, the first ones, those after, the first of each row.
 use Rattle.std.specs.Prelude.{⊤}
 use Rattle.std.proofs.Common.{◌≡◌, ℕ, zero, suc, ◌+◌, ◌*◌, ◌≤◌, List, [], ◌∷◌, length, refl, sym, ◌∙◌, ap, arith}
-use Rattle.capnp_layout.specs.Tree.{Form, null, struct, numbers, pointers, structs, Trees, none, tree, count}
-use Rattle.capnp_layout.specs.Trim.{first, following, before, keep_tree, cut_nulls, least_pointers, narrowed}
-use Rattle.capnp_layout.specs.Tree.{object_size, total_words}
+use Rattle.capnp_layout.specs.Prelude.{Form, null, struct, numbers, pointers, structs, Trees, none, tree, count, first, following, before, keep_tree, cut_nulls, least_pointers, narrowed, object_size, total_words}
 
 -- what holds of each tree
 abbrev pub Each : (Form → Trees → Type 0) → Trees → Type 0

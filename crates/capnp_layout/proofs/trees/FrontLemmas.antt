@@ -2,9 +2,8 @@
 use Rattle.std.proofs.lemmas.List.{take-take}
 use Rattle.std.proofs.Common.{◌≡◌, ℕ, zero, suc, ◌+◌, ◌≤◌, Bool, true, false, List, [], ◌∷◌, length, take, drop, refl, sym}
 use Rattle.std.proofs.Common.{◌∙◌, ap, arith}
-use Rattle.capnp_layout.specs.Pointer.{words_from}
-use Rattle.capnp_layout.specs.Tree.{Form, null, struct, numbers, pointers, structs, Trees, none, tree, count, is_null}
-use Rattle.capnp_layout.specs.Trim.{first, following, before, keep_word, cut_zeros, keep_tree, cut_nulls, narrowed, trim_form, trim_children, trim}
+use Rattle.capnp_layout.specs.Prelude.{words_from, Form, null, struct, numbers, pointers, structs, Trees, none, tree, count, first, following, before, keep_word, cut_zeros, keep_tree, cut_nulls, narrowed, trim_form, trim_children, trim}
+use Rattle.capnp_layout.specs.Tree.{is_null}
 
 -- trimming, chunk by chunk
 pub trim_first : (n : ℕ) (t : Trees) → trim (first n t) ≡ first n (trim t)

@@ -3,14 +3,8 @@ use Rattle.std.proofs.lemmas.List.{take-take}
 use Rattle.std.proofs.Common.{◌≡◌, ℕ, zero, suc, ◌+◌, ◌-◌, ◌<◌, ◌≤◌, false, if◌then◌else◌, max, List, [], ◌∷◌, ◌++◌, length, map, take, drop, Option, Some, slice_get, refl, sym}
 use Rattle.std.proofs.Common.{◌∙◌, ap, subst, arith}
 use Rattle.std.specs.Prelude.{option_and_then}
-use Rattle.capnp_layout.specs.Pointer.{words_from}
-use Rattle.capnp_layout.specs.Tree.{Form, null, struct, numbers, pointers, structs, Trees, none, tree, count, depth, is_null}
-use Rattle.capnp_layout.specs.Trim.{first, following, before, keep_word, cut_zeros, keep_tree, cut_nulls, least_data, least_pointers, narrowed, trim}
-use Rattle.capnp_layout.specs.Object.{is_null as null_there, is_object, Lands, local, far, double_far, Target, word_at, places, row_places, rows_from}
-use Rattle.capnp_layout.specs.Reached.{At, nowhere, at}
-use Rattle.capnp_layout.specs.Block.{most_used}
-use Rattle.capnp_layout.specs.Rows.{kept_places}
-use Rattle.capnp_layout.specs.Layout.{AllHaveRoom}
+use Rattle.capnp_layout.specs.Prelude.{words_from, Form, null, struct, numbers, pointers, structs, Trees, none, tree, count, depth, first, following, before, keep_word, cut_zeros, keep_tree, cut_nulls, least_data, least_pointers, narrowed, trim, is_null as null_there, is_object, Lands, local, far, double_far, Target, word_at, places, row_places, rows_from, At, nowhere, at, most_used, kept_places, AllHaveRoom}
+use Rattle.capnp_layout.specs.Tree.{is_null}
 use Rattle.capnp_layout.specs.declared.place.Place.{Place}
 use Rattle.capnp_layout.proofs.trees.ChunkLemmas.{Each, each_first, each_after, each_narrowed}
 use Rattle.capnp_layout.proofs.trees.TrimLemmas.{RoomOne, each_room, room_each}

@@ -1,7 +1,6 @@
 -- The pointers of rows, narrowed: what narrowing again leaves.
 use Rattle.std.proofs.Common.{◌≡◌, ℕ, zero, suc, ◌+◌, ◌*◌, ◌≤◌, List, [], ◌∷◌, length, map, refl, ap, arith}
-use Rattle.capnp_layout.specs.Tree.{Trees, none, tree, count}
-use Rattle.capnp_layout.specs.Trim.{first, following, before, cut_nulls, least_pointers, narrowed}
+use Rattle.capnp_layout.specs.Prelude.{Trees, none, tree, count, first, following, before, cut_nulls, least_pointers, narrowed}
 use Rattle.capnp_layout.proofs.trees.ChunkLemmas.{cut-first, count-first, count-following}
 
 pub first-before : (n : ℕ) (trees others : Trees) → count trees ≡ n → first n (before trees others) ≡ trees

@@ -5,16 +5,9 @@ use Rattle.std.proofs.lemmas.Nat.{pow_pos}
 use Rattle.std.proofs.Common.{◌≡◌, ℕ, zero, suc, ◌+◌, ◌*◌, ◌/◌, ◌%◌, ◌^◌, ◌<◌, ◌≤◌, List, [], ◌∷◌, length, drop, Option, Some, None, slice_get, refl, sym, ap, subst, arith, length-take}
 use Rattle.std.proofs.Common.{length-drop, length-append}
 use Rattle.std.specs.Prelude.{All, option_and_then}
-use Rattle.capnp_layout.specs.Pointer.{digits, number_of, words_from, offset, data_words, pointer_words, code, list_count}
-use Rattle.capnp_layout.specs.Element.{width, words_for}
+use Rattle.capnp_layout.specs.Prelude.{digits, number_of, words_from, offset, data_words, pointer_words, code, list_count, width, words_for, word_at, Lands, Target, local, far, double_far, landing_pad, landing_pad_tag, Shape, ShapeStands, rows_from, places, row_places, a_struct, some_numbers, some_pointers, some_structs, PointsTo, is_null, is_object, At, nowhere, at, HasRoom, AllWords, AllHaveRoom, Trees}
 use Rattle.capnp_layout.specs.declared.place.Place.{Place}
-use Rattle.capnp_layout.specs.Object.{word_at, Lands, Target, local, far, double_far, landing_pad, landing_pad_tag, Shape, ShapeStands, rows_from, places, row_places, a_struct, some_numbers, some_pointers}
-use Rattle.capnp_layout.specs.Object.{some_structs, PointsTo, is_null, is_object}
-use Rattle.capnp_layout.specs.Reached.{At, nowhere, at}
-use Rattle.capnp_layout.specs.Layout.{HasRoom}
-use Rattle.capnp_layout.specs.Layout.{AllWords, AllHaveRoom}
 use Rattle.capnp_layout.proofs.words.DigitLemmas.{length-digits}
-use Rattle.capnp_layout.specs.Tree.{Trees}
 use Rattle.capnp_layout.proofs.objects.FieldLemmas.{length-places}
 use Rattle.capnp_layout.proofs.trees.StandLemmas.{count_at}
 

@@ -1,9 +1,6 @@
 -- Trees at places, and what walks over them count, in all and against the traversal limit.
 use Rattle.std.proofs.Common.{◌≡◌, ℕ, ◌+◌, ◌-◌, ◌<◌, ◌≤◌, max, Bool, true, false, if◌then◌else◌, List, ◌++◌, length, Option, Some, None, refl, sym, ap, subst, arith, zero-add}
-use Rattle.capnp_layout.specs.Tree.{Trees, none, tree, count, depth}
-use Rattle.capnp_layout.specs.Trim.{before}
-use Rattle.capnp_layout.specs.Reached.{At, nowhere, at}
-use Rattle.capnp_layout.specs.Traversed.{Within, less}
+use Rattle.capnp_layout.specs.Prelude.{Trees, none, tree, count, depth, before, At, nowhere, at, Within, less}
 use Rattle.capnp_layout.specs.declared.place.Place.{Place}
 
 -- limits

@@ -1,15 +1,7 @@
 -- Trees at places with room for their fields, and the words that they have, as they are or in canonical form.
 use Rattle.std.proofs.Common.{◌≡◌, ℕ, suc, ◌+◌, ◌*◌, ◌<◌, ◌≤◌, Bool, true, false, List, [], ◌∷◌, length, map, take, Some, slice_get, refl, sym, ◌∙◌, ap, subst, arith}
 use Rattle.std.proofs.lemmas.List.{length-map}
-use Rattle.capnp_layout.specs.Pointer.{words_of, words_from}
-use Rattle.capnp_layout.specs.Tree.{Form, null, struct, numbers, pointers, structs, Trees, none, tree, count, object_size, total_words}
-use Rattle.capnp_layout.specs.Trim.{first, following, before, keep_tree, cut_zeros, cut_nulls, least_data, least_pointers, narrowed, trim}
-use Rattle.capnp_layout.specs.Object.{Shape, places, row_places, rows_from}
-use Rattle.capnp_layout.specs.Body.{IsObject, shape_of, room_of, words_in}
-use Rattle.capnp_layout.specs.Reached.{At}
-use Rattle.capnp_layout.specs.Layout.{output, HasRoom, AllHaveRoom}
-use Rattle.capnp_layout.specs.Block.{most_used}
-use Rattle.capnp_layout.specs.Output.{output_body_of}
+use Rattle.capnp_layout.specs.Prelude.{words_of, words_from, Form, null, struct, numbers, pointers, structs, Trees, none, tree, count, object_size, total_words, first, following, before, keep_tree, cut_zeros, cut_nulls, least_data, least_pointers, narrowed, trim, Shape, places, row_places, rows_from, IsObject, shape_of, room_of, words_in, At, output, HasRoom, AllHaveRoom, most_used, output_body_of}
 use Rattle.capnp_layout.specs.declared.place.Place.{Place}
 use Rattle.capnp_layout.specs.declared.object.Body.{Body}
 use Rattle.capnp_layout.specs.declared.object.Body.TheVariants.{Struct, Numbers, Pointers, Structs}

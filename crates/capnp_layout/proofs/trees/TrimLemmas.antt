@@ -4,11 +4,7 @@ use Rattle.std.proofs.Math.Nat.{mul-le-mul_left}
 use Rattle.std.proofs.lemmas.List.{length-map}
 use Rattle.std.proofs.Common.{◌≡◌, ℕ, ◌+◌, ◌*◌, ◌^◌, ◌<◌, ◌≤◌, length, map, take, refl, sym, ap, subst, arith, length-take}
 use Rattle.std.specs.Prelude.{All, slice_index_or}
-use Rattle.capnp_layout.specs.Tree.{Form, null, struct, numbers, pointers, structs, Trees, none, tree, count}
-use Rattle.capnp_layout.specs.Trim.{cut_nulls, least_data, least_pointers, narrowed, trim_form, trim_children, trim}
-use Rattle.capnp_layout.specs.Tree.{object_size, total_words}
-use Rattle.capnp_layout.specs.Layout.{HasRoom, AllHaveRoom}
-use Rattle.capnp_layout.specs.Layout.{Trimmed}
+use Rattle.capnp_layout.specs.Prelude.{Form, null, struct, numbers, pointers, structs, Trees, none, tree, count, cut_nulls, least_data, least_pointers, narrowed, trim_form, trim_children, trim, object_size, total_words, HasRoom, AllHaveRoom, Trimmed}
 use Rattle.capnp_layout.proofs.pointers.SlotLemmas.{AllOf}
 use Rattle.capnp_layout.proofs.layouts.SizeLemmas.{rows_even}
 use Rattle.capnp_layout.proofs.words.CutLemmas.{length-cut, all_cut, least_data_within, least_data-take, take-rows}

@@ -6,7 +6,7 @@ use Rattle.std.proofs.lemmas.List.Elements.{All-head, All-tail}
 use Rattle.std.proofs.Common.{◌≡◌, ℕ, zero, suc, ◌+◌, ◌-◌, ◌*◌, ◌/◌, ◌%◌, ◌^◌, ◌<◌, ◌≤◌, List, [], ◌∷◌, slice_index_or, refl, sym, ◌∙◌, ap, arith}
 use native.Mathlib.Nat.{pow-zero}
 use Rattle.std.specs.Prelude.{All}
-use Rattle.capnp_layout.specs.Pointer.{digits, number_of}
+use Rattle.capnp_layout.specs.Prelude.{digits, number_of}
 use Rattle.capnp_layout.proofs.objects.ElementLemmas.{low_digit, high_digits}
 
 -- a word among some words

@@ -2,10 +2,7 @@
 use Rattle.std.proofs.lemmas.List.{take_all}
 use Rattle.std.proofs.Common.{◌≡◌, ℕ, zero, suc, ◌+◌, ◌*◌, ◌/◌, ◌<◌, ◌^◌, List, [], ◌∷◌, ◌++◌, length, take, drop, replicate, slice_index_or, refl, sym, ◌∙◌, ap, arith, length-append, lit<}
 use native.Mathlib.Nat.{mul-zero}
-use Rattle.capnp_layout.specs.Pointer.{digits, number_of, words_of}
-use Rattle.capnp_layout.specs.Element.{words_for}
-use Rattle.capnp_layout.specs.Tree.{numbers}
-use Rattle.capnp_layout.specs.Layout.{own}
+use Rattle.capnp_layout.specs.Prelude.{digits, number_of, words_of, words_for, numbers, own}
 use Rattle.capnp_layout.proofs.words.WordLemmas.{numbers_from, number-append, length-words_of}
 use Rattle.capnp_layout.proofs.objects.ElementLemmas.{digits_back, words_below}
 

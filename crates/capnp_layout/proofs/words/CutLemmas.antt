@@ -3,7 +3,7 @@ use Rattle.std.proofs.lemmas.List.Elements.{All-nil, All-cons, All-head, All-tai
 use Rattle.std.proofs.lemmas.List.{take-take}
 use Rattle.std.proofs.Common.{◌≡◌, ℕ, zero, suc, ◌≤◌, List, [], ◌∷◌, length, map, take, refl, sym, ◌∙◌, ap, arith}
 use Rattle.std.specs.Prelude.{All}
-use Rattle.capnp_layout.specs.Trim.{keep_word, cut_zeros, least_data}
+use Rattle.capnp_layout.specs.Prelude.{keep_word, cut_zeros, least_data}
 use Rattle.capnp_layout.proofs.pointers.SlotLemmas.{AllOf}
 
 cut-keep_word : (rest : List ℕ) (word : ℕ) → cut_zeros (keep_word rest word) ≡ keep_word (cut_zeros rest) word

@@ -5,8 +5,7 @@ use Rattle.std.proofs.lemmas.Nat.{div_below, pow-add}
 use Rattle.std.proofs.lemmas.List.Elements.{All-head, All-tail}
 use Rattle.std.proofs.Common.{◌≡◌, ℕ, zero, suc, ◌+◌, ◌*◌, ◌/◌, ◌%◌, ◌^◌, ◌<◌, ◌≤◌, List, [], ◌∷◌, length, refl, ap, arith}
 use Rattle.std.specs.Prelude.{All}
-use Rattle.capnp_layout.specs.Pointer.{digits, number_of}
-use Rattle.capnp_layout.specs.Element.{words_for}
+use Rattle.capnp_layout.specs.Prelude.{digits, number_of, words_for}
 use Rattle.capnp_layout.proofs.objects.ElementLemmas.{low_digit, high_digits}
 
 pub length-digits : (base n x : ℕ) → length (digits base n x) ≡ n

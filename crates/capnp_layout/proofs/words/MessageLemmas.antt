@@ -1,7 +1,6 @@
 -- Segments of bytes, as a message shows them.
 use Rattle.std.proofs.Common.{◌≡◌, ℕ, zero, suc, List, [], ◌∷◌, Some, None, slice_get, refl, ap}
-use Rattle.capnp_layout.specs.Pointer.{words_of}
-use Rattle.capnp_layout.specs.Object.{message_of, word_at}
+use Rattle.capnp_layout.specs.Prelude.{words_of, message_of, word_at}
 use Rattle.capnp_layout.specs.declared.place.Place.{Place}
 
 pub segment_stands : (segments : List (List ℕ)) (i : ℕ) (bytes : List ℕ) → slice_get segments i ≡ Some bytes → slice_get (message_of segments) i ≡ Some (words_of bytes)

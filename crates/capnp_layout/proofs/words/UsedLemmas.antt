@@ -1,9 +1,7 @@
 -- How many of some words are left without the zeros at their end.
 use Rattle.std.proofs.Common.{◌≡◌, ℕ, zero, suc, ◌+◌, ◌-◌, ◌*◌, ◌<◌, ◌≤◌, max, List, [], ◌∷◌, ◌++◌, length, take, drop, Some, slice_get, refl, sym, ◌∙◌, ap, arith, length-append}
 use Rattle.std.proofs.Common.{length-take, length-drop}
-use Rattle.capnp_layout.specs.Pointer.{words_from}
-use Rattle.capnp_layout.specs.Trim.{keep_word, cut_zeros}
-use Rattle.capnp_layout.specs.Block.{most_used}
+use Rattle.capnp_layout.specs.Prelude.{words_from, keep_word, cut_zeros, most_used}
 use Rattle.capnp_layout.proofs.words.CutLemmas.{length-cut}
 
 pub take_more : (k : ℕ) (xs : List ℕ) (x : ℕ) → slice_get xs k ≡ Some x → take (suc k) xs ≡ take k xs ++ x ∷ []

@@ -6,7 +6,7 @@ use Rattle.std.proofs.Common.{zero-add, suc-add, ◌≡◌, ℕ, zero, suc, ◌+
 use Rattle.std.proofs.Common.{w64, refl, sym, ◌∙◌, ap, arith, length-take, length-drop}
 use Rattle.std.specs.Int.{from_le_bytes}
 use Rattle.std.specs.Simd.{first_chunks}
-use Rattle.capnp_layout.specs.Pointer.{digits, number_of, words_of}
+use Rattle.capnp_layout.specs.Prelude.{digits, number_of, words_of}
 
 -- eight bytes are a word
 pub number_of_eight : (bytes : List ℕ) → length bytes ≡ 8 → number_of 256 bytes ≡ from_le_bytes w64 bytes

@@ -1,6 +1,6 @@
 //! Structs as objects.
 ghost use Rattle.std.specs.Prelude.{◌≡◌, ◌+◌, ◌<◌, ◌^◌, ◌==◌, if◌then◌else◌, length, All};
-ghost use Rattle.capnp_layout.specs.Layout.{struct_pointer, minus_one};
+ghost use Rattle.capnp_layout.specs.Prelude.{struct_pointer, minus_one};
 
 use crate::draft::StructDraft;
 use crate::object::Object;

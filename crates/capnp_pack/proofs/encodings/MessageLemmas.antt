@@ -2,17 +2,12 @@
 use Rattle.std.proofs.Common.{◌≡◌, ◌++◌, ℕ, Option, Some, None, IfSome, Result, Ok, Err, IfOk, List}
 use Rattle.capnp_frame.specs.declared.error.Error.{Error}
 use Rattle.capnp_frame.specs.declared.serialize.segment_table.Padding.{Padding}
-use Rattle.capnp_frame.specs.Limits.{IsWithin}
-use Rattle.capnp_frame.specs.Source.{IfKnown}
-use Rattle.capnp_frame.specs.Requests.{MessageStands}
+use Rattle.capnp_frame.specs.Prelude.{IsWithin, IfKnown, MessageStands, lengths}
 use Rattle.capnp_frame.proofs.sources.SourceLemmas.{IfKnown-weaker}
 use Rattle.capnp_frame.proofs.tables.TableLemmas.{any_table}
 use Rattle.capnp_frame.proofs.encodings.TextLemmas.{texts_part}
-use Rattle.capnp_frame.specs.Message.{lengths}
 use Rattle.capnp_frame.specs.declared.serialize.segment_table.Padding.TheVariants.{Any}
-use Rattle.capnp_pack.specs.PackedFrame.{IsPackedFrame, PackedStands}
-use Rattle.capnp_pack.specs.PackedSource.{Unpacks}
-use Rattle.capnp_pack.specs.RefusingLaws.{unpacking}
+use Rattle.capnp_pack.specs.Prelude.{IsPackedFrame, PackedStands, Unpacks, unpacking}
 use Rattle.capnp_pack.proofs.encodings.PackedFrameLemmas.{packed_requests}
 
 -- the readers over a packed source, in packed encodings

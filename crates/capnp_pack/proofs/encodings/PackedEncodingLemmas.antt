@@ -2,14 +2,9 @@
 use Rattle.std.proofs.Common.{◌≡◌, ℕ, List, [], ◌∷◌, ◌++◌, refl, sym, ap, ◌∙◌, subst, ◌↔◌, inl, inr, ◌≤◌, length, drop, arith, length-drop, append_assoc}
 use Rattle.std.proofs.lemmas.Bool.{cases_lt}
 use Rattle.std.proofs.lemmas.List.{append-nil, nil_from_length}
-use Rattle.capnp_frame.specs.Message.{lengths}
-use Rattle.capnp_frame.specs.SegmentTable.{zero_padded_table}
-use Rattle.capnp_frame.specs.Sink.{AppendsAll, AppendsSame}
-use Rattle.capnp_frame.specs.Writing.{chunks}
+use Rattle.capnp_frame.specs.Prelude.{lengths, zero_padded_table, AppendsAll, AppendsSame, chunks}
 use Rattle.capnp_frame.proofs.sinks.WritingLemmas.{parts_one, parts_two}
-use Rattle.capnp_pack.specs.Packed.{Packs}
-use Rattle.capnp_pack.specs.PackedFrame.{IsPackedEncoding, table_first, table_others}
-use Rattle.capnp_pack.specs.PackedSink.{AppendsPacked}
+use Rattle.capnp_pack.specs.Prelude.{Packs, IsPackedEncoding, table_first, table_others, AppendsPacked}
 use Rattle.capnp_frame.proofs.encodings.TextLemmas.{chunks_joined}
 use Rattle.capnp_pack.proofs.packing.PackerLemmas.{Packs-once}
 

@@ -4,19 +4,12 @@ use Rattle.std.proofs.lemmas.List.{take-append-drop, length-take-le, length-drop
 use Rattle.std.proofs.lemmas.List.Concat.{flat_map-append}
 use Rattle.std.proofs.lemmas.List.Folds.{concat-append}
 use Rattle.std.specs.List.{concat, flat_map, AllByRecursion}
-use Rattle.capnp_frame.specs.Message.{IsWholeWords, lengths}
+use Rattle.capnp_frame.specs.Prelude.{IsWholeWords, lengths, field, padding_len, zero_padded_table, HasTable, IsTable, MessageStands, AppendsAll}
 use Rattle.capnp_frame.specs.declared.serialize.segment_table.Padding.{Padding}
 use Rattle.capnp_frame.specs.declared.serialize.segment_table.Padding.TheVariants.{Zero}
-use Rattle.capnp_frame.specs.SegmentTable.{field, padding_len, zero_padded_table, HasTable, IsTable}
-use Rattle.capnp_frame.specs.Requests.{MessageStands}
-use Rattle.capnp_frame.specs.Sink.{AppendsAll}
 use Rattle.capnp_frame.proofs.tables.TableLemmas.{length-fields, zero_table}
 use Rattle.capnp_frame.proofs.encodings.FrameLemmas.{zero_padded_is, length-table, length-segments}
-use Rattle.capnp_pack.specs.Group.{IsGroup, group_encoding, group_words}
-use Rattle.capnp_pack.specs.Chunk.{IsChunk, text_of, words_of_groups}
-use Rattle.capnp_pack.specs.Packed.{Packs}
-use Rattle.capnp_pack.specs.PackedFrame.{IsPackedFrame, IsPackedEncoding}
-use Rattle.capnp_pack.specs.PackedSource.{Unpacks}
+use Rattle.capnp_pack.specs.Prelude.{IsGroup, group_encoding, group_words, IsChunk, text_of, words_of_groups, Packs, IsPackedFrame, IsPackedEncoding, Unpacks}
 use Rattle.capnp_pack.proofs.words.AllLemmas.{AllByRecursion-append}
 use Rattle.capnp_pack.proofs.packing.PackerLemmas.{Packs-some, Packs-whole}
 

@@ -6,19 +6,10 @@ use Rattle.capnp_frame.specs.declared.error.Error.{Error}
 use Rattle.capnp_frame.specs.declared.error.ErrorKind.TheVariants.{DeviceFailed, OutOfMemory}
 use Rattle.capnp_frame.specs.declared.serialize.segment_table.Padding.{Padding}
 use Rattle.capnp_frame.specs.declared.io.Read.{Ghosts}
-use Rattle.capnp_frame.specs.Message.{size_in_words}
-use Rattle.capnp_frame.specs.Refusals.{Outgrows, TakesForLengths}
-use Rattle.capnp_frame.specs.Requests.{TableStands}
-use Rattle.capnp_frame.specs.SegmentLengths.{cut}
-use Rattle.capnp_frame.specs.Skipping.{SkipsMessage, LengthsStand}
-use Rattle.capnp_frame.specs.Source.{IfKnown}
+use Rattle.capnp_frame.specs.Prelude.{size_in_words, Outgrows, TakesForLengths, TableStands, cut, SkipsMessage, LengthsStand, IfKnown, ReadsTable, table_size, framed_rules, reusing_rules, skipping_rules, ReadsStream, ReadsStreamInto}
 use Rattle.capnp_frame.proofs.encodings.RequestLemmas.{lengths-cut, MessageStands-cut}
 use Rattle.capnp_frame.proofs.sources.SourceLemmas.{IfKnown-join}
-use Rattle.capnp_frame.specs.Steps.{ReadsTable}
-use Rattle.capnp_frame.specs.SegmentTable.{table_size}
-use Rattle.capnp_frame.specs.Streams.{framed_rules, reusing_rules, skipping_rules, ReadsStream, ReadsStreamInto}
-use Rattle.capnp_pack.specs.PackedSource.{Unpacks, RefusesChunk}
-use Rattle.capnp_pack.specs.PackedStreams.{packed_rules, packed_reusing_rules, packed_skipping_rules, packed_source}
+use Rattle.capnp_pack.specs.Prelude.{Unpacks, RefusesChunk, packed_rules, packed_reusing_rules, packed_skipping_rules, packed_source}
 use Rattle.capnp_pack.proofs.encodings.MessageLemmas.{found_packed, accepted_packed}
 
 -- what unpacks a source: what is seen of it is what is seen of that source

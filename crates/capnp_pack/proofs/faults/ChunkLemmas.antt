@@ -4,13 +4,9 @@ use Rattle.std.proofs.lemmas.List.{nil_from_length, take_all}
 use borrow.Rule.Slice.PartMut.{put_mid}
 use Rattle.capnp_frame.specs.declared.error.ErrorKind.{ErrorKind}
 use Rattle.capnp_frame.specs.declared.error.ErrorKind.TheVariants.{FailedToFillTheWholeBuffer, PrematureEndOfPackedInput, NotWholeWords, DeviceFailed}
-use Rattle.capnp_frame.specs.Source.{IfKnown, IsTail, ReturnsPart, IsRefused}
+use Rattle.capnp_frame.specs.Prelude.{IfKnown, IsTail, ReturnsPart, IsRefused}
 use Rattle.capnp_frame.proofs.sources.SourceLemmas.{IfKnown-weaker, IsRefused-fill, refused_fill, ReturnsPart-none, ReturnsPart-filled, ReturnsPart-given, length-put_mid}
-use Rattle.capnp_pack.specs.Group.{zeros}
-use Rattle.capnp_pack.specs.PackedSource.{Unpacks, IsGroupFault, MeetsFault, RefusesChunk}
-use Rattle.capnp_pack.specs.UnpackingLaws.{takes_no_group, unpack_nothing, unpack_once}
-use Rattle.capnp_pack.specs.RefusingLaws.{packed_apart}
-use Rattle.capnp_pack.specs.Steps.{FirstGroupFails}
+use Rattle.capnp_pack.specs.Prelude.{zeros, Unpacks, IsGroupFault, MeetsFault, RefusesChunk, takes_no_group, unpack_nothing, unpack_once, packed_apart, FirstGroupFails}
 use Rattle.capnp_pack.proofs.faults.FaultLemmas.{meets_first, no_count, long_run}
 
 -- a later group is missing

@@ -7,11 +7,8 @@ use Rattle.std.proofs.lemmas.List.{append-nil, nil_from_length, length-replicate
 use Rattle.std.specs.List.{concat}
 use Rattle.capnp_frame.specs.declared.error.ErrorKind.{ErrorKind}
 use Rattle.capnp_frame.specs.declared.error.ErrorKind.TheVariants.{PrematureEndOfPackedInput, PackedInputDidNotEndCleanlyOnASegmentBoundary}
-use Rattle.capnp_frame.specs.Source.{IfKnown, IsRefused, RunsShort}
-use Rattle.capnp_pack.specs.Group.{tagged, zeros, literal, AreZero, zero_word, marked, unmarked}
-use Rattle.capnp_pack.specs.PackedSource.{group_size, IsHeadAt, IsGroupFault, MeetsFault}
-use Rattle.capnp_pack.specs.Steps.{FirstGroupFails, FaultAfter}
-use Rattle.capnp_pack.specs.UnpackingLaws.{zero_words, true_false, bit_cases}
+use Rattle.capnp_frame.specs.Prelude.{IfKnown, IsRefused, RunsShort}
+use Rattle.capnp_pack.specs.Prelude.{tagged, zeros, literal, AreZero, zero_word, marked, unmarked, group_size, IsHeadAt, IsGroupFault, MeetsFault, FirstGroupFails, FaultAfter, zero_words, true_false, bit_cases}
 use Rattle.capnp_pack.proofs.unpacking.GroupLemmas.{concat-zeros}
 
 -- a fault after a tag is one of the chunk

@@ -5,12 +5,9 @@ use Rattle.std.proofs.lemmas.List.Folds.{concat-append}
 use Rattle.std.proofs.lemmas.List.Concat.{flat_map-append}
 use Rattle.capnp_frame.specs.declared.error.ErrorKind.{ErrorKind}
 use Rattle.capnp_frame.specs.declared.error.ErrorKind.TheVariants.{DeviceFailed, PackedInputDidNotEndCleanlyOnASegmentBoundary}
-use Rattle.capnp_frame.specs.Source.{IfKnown, IsRefused, RunsShort}
+use Rattle.capnp_frame.specs.Prelude.{IfKnown, IsRefused, RunsShort}
 use Rattle.capnp_frame.proofs.sources.SourceLemmas.{IfKnown-join, IfKnown-weaker}
-use Rattle.capnp_pack.specs.Group.{IsGroup, zeros, literal, IsWord, group_encoding, group_words, marked, zero_word}
-use Rattle.capnp_pack.specs.Chunk.{text_of, words_of_groups}
-use Rattle.capnp_pack.specs.PackedSource.{LeavesOverrun, head_encoding}
-use Rattle.capnp_pack.specs.Steps.{HasProgress, HeadOver, CountOver, MarkedAt, Lacks}
+use Rattle.capnp_pack.specs.Prelude.{IsGroup, zeros, literal, IsWord, group_encoding, group_words, marked, zero_word, text_of, words_of_groups, LeavesOverrun, head_encoding, HasProgress, HeadOver, CountOver, MarkedAt, Lacks}
 use Rattle.capnp_pack.proofs.words.AllLemmas.{AllByRecursion-append}
 use Rattle.capnp_pack.proofs.faults.FaultLemmas.{literal_head, literal_size, zeros_size}
 use Rattle.capnp_pack.proofs.words.WordLemmas.{full_word}

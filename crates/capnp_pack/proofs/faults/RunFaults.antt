@@ -3,9 +3,8 @@ use Rattle.std.proofs.Common.{◌≡◌, ℕ, ◌+◌, ◌*◌, ◌<◌, ◌≤�
 use Rattle.std.proofs.lemmas.List.{nil_from_length}
 use Rattle.capnp_frame.specs.declared.error.ErrorKind.{ErrorKind}
 use Rattle.capnp_frame.specs.declared.error.ErrorKind.TheVariants.{PrematureEndOfPackedInput, PackedInputDidNotEndCleanlyOnASegmentBoundary}
-use Rattle.capnp_frame.specs.Source.{IfKnown, IsRefused, RunsShort}
-use Rattle.capnp_pack.specs.Group.{IsWord, marked}
-use Rattle.capnp_pack.specs.Steps.{FaultAfter, MarkedAt, marked_count, Lacks, RefusesRun}
+use Rattle.capnp_frame.specs.Prelude.{IfKnown, IsRefused, RunsShort}
+use Rattle.capnp_pack.specs.Prelude.{IsWord, marked, FaultAfter, MarkedAt, marked_count, Lacks, RefusesRun}
 use Rattle.capnp_pack.proofs.faults.FaultLemmas.{literal_cut, literal_long, literal_run_cut, tagged_cut}
 use Rattle.capnp_pack.proofs.words.WordLemmas.{full_word, marks_some}
 use Rattle.std.proofs.lemmas.Bool.{cases_lt}

@@ -2,13 +2,9 @@
 use Rattle.std.proofs.Common.{◌≡◌, ℕ, zero, suc, ◌<◌, refl, ◌+◌, ◌-◌, ◌≤◌, Option, Some, None, List, [], ◌∷◌, ◌++◌, length, take, drop, sym, ap, ◌∙◌, subst, arith, append_assoc}
 use Rattle.std.proofs.lemmas.List.{append-nil, drop_all, take_all, length-drop}
 use Rattle.capnp_frame.proofs.sources.SourceLemmas.{IfKnown-join}
-use Rattle.capnp_frame.specs.Sink.{Appending}
-use Rattle.capnp_frame.specs.Source.{IfKnown}
+use Rattle.capnp_frame.specs.Prelude.{Appending, IfKnown}
 use lib.Count.{ones, ones-le}
-use Rattle.capnp_pack.specs.Group.{Group, IsWord, group_encoding}
-use Rattle.capnp_pack.specs.Packed.{IfFirst}
-use Rattle.capnp_pack.specs.PackedWords.{PacksWords, PacksTo, HandsTo}
-use Rattle.capnp_pack.specs.Steps.{Hands, IsGroupOf, IsZero, tag_of, nonzero}
+use Rattle.capnp_pack.specs.Prelude.{Group, IsWord, group_encoding, IfFirst, PacksWords, PacksTo, HandsTo, Hands, IsGroupOf, IsZero, tag_of, nonzero}
 use Rattle.capnp_pack.proofs.packing.PackingLemmas.{other_words, words_after, packed_more, PacksTo-more, ends_zeros, ends_tagged, filled_by, run_of_none}
 use Rattle.capnp_pack.proofs.packing.HandingLemmas.{Hands-join, Hands-none}
 

@@ -6,14 +6,10 @@ use Rattle.capnp_frame.specs.declared.error.ErrorKind.{ErrorKind}
 use Rattle.capnp_frame.specs.declared.error.ErrorKind.TheVariants.{DeviceFailed}
 use Rattle.capnp_frame.specs.declared.io.Read.{Ghosts as Source}
 use Rattle.capnp_frame.specs.declared.io.Write.{Ghosts as Sink}
-use Rattle.capnp_frame.specs.Asking.{Asked, FailsOr}
-use Rattle.capnp_frame.specs.Sink.{Adds, DeclinesAny, Grows}
-use Rattle.capnp_frame.specs.Source.{IsPreorder, IfKnown, Advances, Fails}
-use Rattle.capnp_frame.specs.Writers.{WritesTo}
+use Rattle.capnp_frame.specs.Prelude.{Asked, FailsOr, Adds, DeclinesAny, Grows, IsPreorder, IfKnown, Advances, Fails, WritesTo}
 use Rattle.capnp_frame.proofs.sources.AskLemmas.{Asked-ok, Asked-err}
 use Rattle.capnp_frame.proofs.sources.SourceLemmas.{Grows-join, Fails-join}
-use Rattle.capnp_pack.specs.Calls.{LeavesOf, HandsOn, TakesFrom, TakesNext}
-use Rattle.capnp_pack.specs.Steps.{Hands}
+use Rattle.capnp_pack.specs.Prelude.{LeavesOf, HandsOn, TakesFrom, TakesNext, Hands}
 use Rattle.capnp_pack.proofs.packing.HandingLemmas.{IfKnown-flush, declines_any}
 use Rattle.capnp_pack.proofs.packing.LeavingLemmas.{left_chunk}
 

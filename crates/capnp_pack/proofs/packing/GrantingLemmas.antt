@@ -3,13 +3,11 @@ use Rattle.std.proofs.Common.{◌≡◌, ℕ, ◌+◌, ◌<◌, ◌≤◌, List,
 use Rattle.std.specs.List.{concat, flat_map, AllByRecursion}
 use Rattle.std.proofs.lemmas.List.{length-take-le}
 use Rattle.std.proofs.lemmas.List.Concat.{concat_is}
-use Rattle.capnp_pack.specs.Group.{Group, literal, IsWord, group_encoding}
-use Rattle.capnp_pack.specs.Steps.{HasFewZeros, IsRun, IsGroupOf, tag_of}
+use Rattle.capnp_pack.specs.Prelude.{Group, literal, IsWord, group_encoding, HasFewZeros, IsRun, IsGroupOf, tag_of, PacksWords, PacksTo, GrantsTo}
 use Rattle.capnp_pack.proofs.words.AllLemmas.{AllByRecursion-drop}
 use Rattle.capnp_pack.proofs.words.Chunks.{each_word}
 use Rattle.capnp_pack.proofs.words.RunLemmas.{IsRun-once, IsRun-some, few_or_not}
 use Rattle.capnp_pack.proofs.packing.PackerGroups.{IsGroupOf-some, IsGroupOf-once, IsGroupOf-literal}
-use Rattle.capnp_pack.specs.PackedWords.{PacksWords, PacksTo, GrantsTo}
 use Rattle.capnp_pack.proofs.packing.PackerLemmas.{PacksWords-each, PacksWords-more, PacksWords-none, PacksWords-some, PacksWords-once}
 use Rattle.capnp_pack.proofs.packing.PackingLemmas.{words_after}
 

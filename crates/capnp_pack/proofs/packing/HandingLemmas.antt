@@ -5,14 +5,11 @@ use Rattle.std.proofs.lemmas.List.{append-nil}
 use Rattle.std.proofs.lemmas.List.Folds.{concat-append}
 use Rattle.std.proofs.lemmas.List.Concat.{concat_is}
 use Rattle.capnp_frame.specs.declared.error.ErrorKind.{ErrorKind}
-use Rattle.capnp_frame.specs.Source.{IfKnown}
-use Rattle.capnp_frame.specs.Sink.{DeclinesAny, Appending, Declining, Adds}
+use Rattle.capnp_frame.specs.Prelude.{IfKnown, DeclinesAny, Appending, Declining, Adds, IsWholeWords}
 use Rattle.capnp_frame.proofs.sources.SourceLemmas.{IfKnown-join, IfKnown-weaker}
-use Rattle.capnp_pack.specs.PackedSink.{DeclinesPacked}
+use Rattle.capnp_pack.specs.Prelude.{DeclinesPacked, Hands}
 use Rattle.capnp_frame.specs.declared.error.Error.{Error}
-use Rattle.capnp_frame.specs.Message.{IsWholeWords}
 use Rattle.capnp_frame.proofs.sinks.WritingLemmas.{AppendsAll-append}
-use Rattle.capnp_pack.specs.Steps.{Hands}
 
 pub Hands-join : (appends : Appending) (old s mid t new x y z : List ℕ) → Hands appends old s mid x y → Hands appends mid t new y z → Hands appends old (s ++ t) new x z
 Hands-join appends old s mid t new x y z p q = record {

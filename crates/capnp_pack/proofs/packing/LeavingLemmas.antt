@@ -4,18 +4,13 @@ use Rattle.std.specs.List.{concat, flat_map, AllByRecursion}
 use Rattle.std.proofs.lemmas.List.{append-nil, length-take-le}
 use Rattle.std.proofs.lemmas.List.Folds.{concat-append}
 use Rattle.std.proofs.lemmas.List.Concat.{concat_is}
-use Rattle.capnp_frame.specs.Source.{IfKnown}
-use Rattle.capnp_frame.specs.Sink.{Appending, Leaving, Adds}
+use Rattle.capnp_frame.specs.Prelude.{IfKnown, Appending, Leaving, Adds}
 use Rattle.capnp_frame.proofs.sources.SourceLemmas.{IfKnown-join, IfKnown-weaker}
 use Rattle.capnp_frame.proofs.sinks.SinkLemmas.{left_front, left_after}
-use Rattle.capnp_pack.specs.Group.{literal, IsWord, group_encoding}
-use Rattle.capnp_pack.specs.Packed.{Packs}
-use Rattle.capnp_pack.specs.PackedSink.{LeavesPacked}
-use Rattle.capnp_pack.specs.Steps.{HasFewZeros, IsRun, Hands, LeavesParts, LiteralAfter, GroupAfter, tag_of}
+use Rattle.capnp_pack.specs.Prelude.{literal, IsWord, group_encoding, Packs, LeavesPacked, HasFewZeros, IsRun, Hands, LeavesParts, LiteralAfter, GroupAfter, tag_of, PacksWords, PacksTo, HandsTo, RestAfter}
 use Rattle.capnp_pack.proofs.words.AllLemmas.{AllByRecursion-drop}
 use Rattle.capnp_pack.proofs.words.Chunks.{each_word}
 use Rattle.capnp_pack.proofs.packing.PackerGroups.{IsGroupOf-literal}
-use Rattle.capnp_pack.specs.PackedWords.{PacksWords, PacksTo, HandsTo, RestAfter}
 use Rattle.capnp_pack.proofs.packing.PackerLemmas.{PacksWords-more, PacksWords-none, PacksWords-some, Packs-words}
 
 -- a front of longer bytes

@@ -3,8 +3,7 @@ use Rattle.std.proofs.Common.{◌≡◌, ℕ, zero, suc, ◌+◌, ◌<◌, ◌�
 use Rattle.std.proofs.lemmas.Bool.{cases_lt}
 use Rattle.std.specs.List.{AllByRecursion}
 use Rattle.std.proofs.lemmas.List.{length-take-le, length-replicate}
-use Rattle.capnp_pack.specs.Group.{Group, tagged, zeros, literal, IsWord, zero_word, zero_bytes}
-use Rattle.capnp_pack.specs.Steps.{IsZero, HasFewZeros, tag_of, IsRun, IsGroupOf}
+use Rattle.capnp_pack.specs.Prelude.{Group, tagged, zeros, literal, IsWord, zero_word, zero_bytes, IsZero, HasFewZeros, tag_of, IsRun, IsGroupOf}
 use Rattle.capnp_pack.proofs.words.TagLemmas.{ArePositive, tag_zero, tag_full, tag_whole, tag_once, tag_below, top, top_word, marked_tag, unmarked_tag, nonzero_marked}
 use Rattle.capnp_pack.proofs.words.AllLemmas.{AllByRecursion-take}
 use Rattle.capnp_pack.proofs.words.RunLemmas.{IsRun-once, IsRun-some, IfFirst-weaker, same_zeros, all_zeros, few_or_not, zero_or_not}

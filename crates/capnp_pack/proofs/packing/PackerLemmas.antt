@@ -3,14 +3,8 @@ use Rattle.std.proofs.Common.{◌≡◌, ℕ, zero, suc, ◌/◌, ◌%◌, ◌�
 use Rattle.std.specs.List.{concat, AllByRecursion}
 use Rattle.std.specs.Simd.{first_chunks}
 use Rattle.std.proofs.lemmas.List.{length-drop, take-append-drop, take_at, drop_at}
-use Rattle.capnp_frame.specs.SplittingLaws.{same_front}
-use Rattle.capnp_pack.specs.Group.{Group, tagged, zeros, literal, IsGroup, IsWord, zero_word, group_encoding, group_words}
-use Rattle.capnp_pack.specs.Chunk.{text_of, words_of_groups}
-use Rattle.capnp_pack.specs.Packed.{Packs, IsLongest, AreLongest}
-use Rattle.capnp_pack.specs.Steps.{IsGroupOf}
-use Rattle.capnp_pack.specs.PackedWords.{PacksWords}
-use Rattle.capnp_pack.specs.PackedSource.{Unpacks}
-use Rattle.capnp_pack.specs.UnpackingLaws.{words_len, unpack_once, zero_words}
+use Rattle.capnp_frame.specs.Prelude.{same_front}
+use Rattle.capnp_pack.specs.Prelude.{Group, tagged, zeros, literal, IsGroup, IsWord, zero_word, group_encoding, group_words, text_of, words_of_groups, Packs, IsLongest, AreLongest, IsGroupOf, PacksWords, Unpacks, words_len, unpack_once, zero_words}
 use Rattle.capnp_pack.proofs.words.AllLemmas.{AllByRecursion-append, AllByRecursion-drop}
 use Rattle.capnp_pack.proofs.packing.PackerGroups.{IsGroupOf-some, IsGroupOf-once, first_is}
 use Rattle.capnp_pack.proofs.words.Chunks.{chunks_whole}

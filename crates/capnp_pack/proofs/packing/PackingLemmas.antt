@@ -2,17 +2,12 @@
 use Rattle.std.proofs.Common.{◌≡◌, ℕ, zero, suc, ◌+◌, ◌<◌, Option, Result, Ok, Err, IfOk, List, [], ◌∷◌, ◌++◌, length, take, drop, refl, sym, ap, ◌∙◌, subst, arith, append_assoc, replicate, get_or, add-one, drop-cons, length-drop, ◌-◌}
 use Rattle.std.specs.List.{concat, AllByRecursion}
 use Rattle.std.proofs.lemmas.List.{take_all, append-nil, length-take-le, drop-drop}
-use Rattle.capnp_frame.specs.Source.{IfKnown}
-use Rattle.capnp_frame.specs.Sink.{Appending, Adds}
+use Rattle.capnp_frame.specs.Prelude.{IfKnown, Appending, Adds}
 use Rattle.capnp_frame.proofs.sources.SourceLemmas.{IfKnown-join, IfKnown-weaker}
 use Rattle.capnp_frame.specs.declared.error.Error.{Error}
-use Rattle.capnp_pack.specs.Group.{Group, tagged, zeros, literal, IsWord, group_encoding, zero_bytes, zero_word}
-use Rattle.capnp_pack.specs.Packed.{IfFirst, Packs}
-use Rattle.capnp_pack.specs.PackedSink.{AppendsPacked}
-use Rattle.capnp_pack.specs.Steps.{IsZero, HasFewZeros, tag_of, nonzero, IsRun, IsGroupOf, EndsGroup, Hands}
+use Rattle.capnp_pack.specs.Prelude.{Group, tagged, zeros, literal, IsWord, group_encoding, zero_bytes, zero_word, IfFirst, Packs, AppendsPacked, IsZero, HasFewZeros, tag_of, nonzero, IsRun, IsGroupOf, EndsGroup, Hands, PacksWords, PacksTo, HandsTo}
 use Rattle.capnp_pack.proofs.words.TagLemmas.{tag_zero, tag_full, top_word, marked_tag, zeros_cons, zeros_suc, nonzero_suc}
 use Rattle.capnp_pack.proofs.packing.PackerGroups.{IsGroupOf-zeros, IsGroupOf-literal, IsGroupOf-tagged}
-use Rattle.capnp_pack.specs.PackedWords.{PacksWords, PacksTo, HandsTo}
 use Rattle.capnp_pack.proofs.packing.PackerLemmas.{PacksWords-more, PacksWords-none, Packs-words}
 use Rattle.capnp_pack.proofs.packing.HandingLemmas.{Hands-join, Hands-none}
 

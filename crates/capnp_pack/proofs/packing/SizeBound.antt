@@ -3,11 +3,7 @@ use Rattle.std.proofs.Common.{◌≡◌, ℕ, zero, suc, ◌+◌, ◌*◌, ◌/�
 use Rattle.std.proofs.lemmas.Bool.{cases_lt}
 use Rattle.std.specs.List.{concat, AllByRecursion}
 use Rattle.std.proofs.lemmas.List.{length-replicate}
-use Rattle.capnp_pack.specs.Group.{Group, tagged, zeros, literal, IsGroup, zero_word, zero_bytes, group_encoding, marked}
-use Rattle.capnp_pack.specs.Chunk.{text_of, words_of_groups}
-use Rattle.capnp_pack.specs.Packed.{Packs, IsLongest, AreLongest, IfFirst}
-use Rattle.capnp_pack.specs.Steps.{tag_of, nonzero}
-use Rattle.capnp_pack.specs.UnpackingLaws.{length-words}
+use Rattle.capnp_pack.specs.Prelude.{Group, tagged, zeros, literal, IsGroup, zero_word, zero_bytes, group_encoding, marked, text_of, words_of_groups, Packs, IsLongest, AreLongest, IfFirst, tag_of, nonzero, length-words}
 use Rattle.capnp_pack.proofs.words.TagLemmas.{zeros_cons, zeros_suc, nonzero_suc, tag_once, tag_whole, top, top_word, marked_tag}
 use Rattle.capnp_pack.proofs.packing.PackerLemmas.{words_whole}
 

@@ -8,8 +8,7 @@ use lib.Count.{ones}
 use borrow.Rule.Simd.Moves.{swz_l}
 use borrow.Rule.Slice.PartMut.{put_mid, mid_of}
 use Rattle.capnp_frame.proofs.sources.SourceLemmas.{put_mid_front}
-use Rattle.capnp_pack.specs.Group.{IsWord}
-use Rattle.capnp_pack.specs.Steps.{MarkedAt, tag_of, nonzero}
+use Rattle.capnp_pack.specs.Prelude.{IsWord, MarkedAt, tag_of, nonzero}
 use Rattle.capnp_pack.proofs.tables.MarkLemmas.{mark_row, mark_row_len, nonzero_lanes}
 use Rattle.capnp_pack.proofs.tables.PlaceLemmas.{padded, row, row_len, spread_word}
 

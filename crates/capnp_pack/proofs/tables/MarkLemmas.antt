@@ -13,8 +13,7 @@ use mir.Val.{zeroes}
 use borrow.Rule.Simd.Moves.{SwzOk, swz_l}
 use Rattle.capnp_pack.proofs.tables.TableRows.{rows, row_at}
 use Rattle.capnp_pack.specs.declared.compact_shuffle.TheConstants.{COMPACT_SHUFFLE}
-use Rattle.capnp_pack.specs.Group.{IsWord, marked}
-use Rattle.capnp_pack.specs.Steps.{tag_of, nonzero}
+use Rattle.capnp_pack.specs.Prelude.{IsWord, marked, tag_of, nonzero}
 use Rattle.capnp_pack.proofs.words.TagLemmas.{marked_tag, tag_below, top_word, tag_suc, nonzero_suc}
 use Rattle.capnp_pack.proofs.tables.PlaceLemmas.{IsPlace, later, lane_at, padded, padded_at}
 use Rattle.std.proofs.lemmas.List.{take-take}

@@ -14,8 +14,7 @@ use mir.Val.{zeroes}
 use borrow.Rule.Simd.Moves.{SwzOk, swz_l}
 use Rattle.capnp_pack.proofs.tables.TableRows.{rows, row_at}
 use Rattle.capnp_pack.specs.declared.expand_shuffle.TheConstants.{EXPAND_SHUFFLE}
-use Rattle.capnp_pack.specs.Group.{marked}
-use Rattle.capnp_pack.specs.Steps.{MarkedAt}
+use Rattle.capnp_pack.specs.Prelude.{marked, MarkedAt}
 use Rattle.capnp_pack.proofs.words.WordLemmas.{byte_joins}
 use Rattle.capnp_pack.proofs.unpacking.UnpackedLemmas.{bit_here}
 

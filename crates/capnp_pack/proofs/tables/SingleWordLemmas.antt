@@ -6,8 +6,7 @@ use Rattle.std.proofs.lemmas.Bool.Decides.{nat_tests}
 use lib.Count.{ones, ones-le}
 use borrow.Rule.Slice.PartMut.{put_mid}
 use Rattle.capnp_frame.proofs.sources.SourceLemmas.{length-put_mid}
-use Rattle.capnp_pack.specs.Group.{IsWord}
-use Rattle.capnp_pack.specs.Steps.{MarkedAt, GroupFollowing, Unpacked}
+use Rattle.capnp_pack.specs.Prelude.{IsWord, MarkedAt, GroupFollowing, Unpacked}
 use Rattle.capnp_pack.proofs.unpacking.UnpackedLemmas.{group_unpacked, tagged_after, zero_after_single_word, unpacked_more}
 use Rattle.capnp_pack.proofs.unpacking.WordGroups.{literal_found}
 

@@ -4,15 +4,10 @@ use Rattle.std.proofs.Common.{take, replicate, refl, sym, ap, ◌∙◌, subst, 
 use Rattle.std.proofs.lemmas.List.{length-take-le, replicate-append-replicate}
 use Rattle.std.proofs.lemmas.List.Folds.{concat-append}
 use Rattle.std.specs.List.{concat, AllByRecursion}
-use Rattle.capnp_frame.specs.Source.{IfKnown, ReturnsPart}
+use Rattle.capnp_frame.specs.Prelude.{IfKnown, ReturnsPart}
 use Rattle.capnp_frame.proofs.sources.SourceLemmas.{IfKnown-join, IfKnown-weaker}
-use Rattle.capnp_pack.specs.Group.{Group, zeros, IsGroup, zero_word, group_encoding, group_words}
-use Rattle.capnp_pack.specs.Chunk.{text_of, words_of_groups}
-use Rattle.capnp_pack.specs.PackedSource.{Unpacks, MeetsFault}
-use Rattle.capnp_pack.specs.Steps.{GroupAt, TakesGroups}
+use Rattle.capnp_pack.specs.Prelude.{Group, zeros, IsGroup, zero_word, group_encoding, group_words, text_of, words_of_groups, Unpacks, MeetsFault, GroupAt, TakesGroups, group_len, same_group, fault_later, fault_after}
 use Rattle.capnp_pack.proofs.unpacking.ProgressLemmas.{group_taken}
-use Rattle.capnp_pack.specs.UnpackingLaws.{group_len, same_group}
-use Rattle.capnp_pack.specs.RefusingLaws.{fault_later, fault_after}
 
 -- a group at the front is a part of the result of each request that it fits into
 pub group_takes : (n tag : ℕ) (bytes raw left : List ℕ) → GroupAt tag bytes raw left → length bytes ≤ n → ReturnsPart Unpacks MeetsFault n bytes (tag ∷ raw) left

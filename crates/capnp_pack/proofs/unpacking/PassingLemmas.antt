@@ -6,8 +6,7 @@ use Rattle.std.proofs.lemmas.Simd.{length-swz_l}
 use Rattle.std.proofs.lemmas.Bool.{cases_lt}
 use lib.Count.{ones}
 use borrow.Rule.Simd.Moves.{swz_l}
-use Rattle.capnp_pack.specs.Group.{IsWord}
-use Rattle.capnp_pack.specs.Steps.{MarkedAt, HasProgress, Unpacked, Passes}
+use Rattle.capnp_pack.specs.Prelude.{IsWord, MarkedAt, HasProgress, Unpacked, Passes}
 use Rattle.capnp_pack.proofs.tables.PlaceLemmas.{padded, row, row_len, spread_word, spread_front}
 use Rattle.capnp_pack.proofs.unpacking.ProgressLemmas.{shown_taken, more_taken}
 use Rattle.capnp_pack.proofs.unpacking.UnpackedLemmas.{tagged_after, zeros_after, literal_after, group_unpacked}

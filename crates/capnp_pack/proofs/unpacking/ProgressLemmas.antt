@@ -5,11 +5,9 @@ use Rattle.std.proofs.lemmas.List.{append-nil, length-take-le, take-append-drop}
 use Rattle.std.proofs.lemmas.List.Folds.{concat-append}
 use Rattle.std.proofs.lemmas.List.Concat.{flat_map-append}
 use lib.Seq.{take-append-le}
-use Rattle.capnp_frame.specs.Source.{IfKnown, IsFront}
+use Rattle.capnp_frame.specs.Prelude.{IfKnown, IsFront}
 use Rattle.capnp_frame.proofs.sources.SourceLemmas.{IfKnown-join}
-use Rattle.capnp_pack.specs.Group.{IsGroup, group_encoding, group_words}
-use Rattle.capnp_pack.specs.Chunk.{text_of, words_of_groups}
-use Rattle.capnp_pack.specs.Steps.{HasProgress, GroupAt, Unpacked}
+use Rattle.capnp_pack.specs.Prelude.{IsGroup, group_encoding, group_words, text_of, words_of_groups, HasProgress, GroupAt, Unpacked}
 use Rattle.capnp_pack.proofs.words.AllLemmas.{AllByRecursion-append}
 
 pub more_taken : (j k : ℕ) (a b c : Option (List ℕ)) → IfKnown a b (HasProgress j) → IfKnown b c (HasProgress k) → IfKnown a c (HasProgress (j + k))

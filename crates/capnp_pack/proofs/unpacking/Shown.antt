@@ -2,7 +2,7 @@
 use Rattle.std.proofs.Common.{◌≡◌, ℕ, zero, suc, ◌<◌, List, [], ◌∷◌, length, take, drop, refl, sym, arith}
 use Rattle.std.specs.Prelude.{min}
 use Rattle.std.proofs.lemmas.List.{take-append-drop}
-use Rattle.capnp_frame.specs.Source.{IsFront}
+use Rattle.capnp_frame.specs.Prelude.{IsFront}
 
 pub front_taken : (n : ℕ) (bytes : List ℕ) → IsFront (take n bytes) bytes
 front_taken n bytes = (drop n bytes, sym (take-append-drop n bytes))

@@ -9,15 +9,9 @@ use Rattle.capnp_frame.specs.declared.error.Error.{Error}
 use Rattle.capnp_frame.specs.declared.error.ErrorKind.{ErrorKind}
 use Rattle.capnp_frame.specs.declared.error.ErrorKind.TheVariants.{DeviceFailed, FailedToFillTheWholeBuffer, PrematureEndOfPackedInput, PackedInputDidNotEndCleanlyOnASegmentBoundary}
 use Rattle.capnp_frame.specs.declared.io.Read.{Ghosts}
-use Rattle.capnp_frame.specs.Asking.{FailsOr}
-use Rattle.capnp_frame.specs.Source.{IfKnown, IsFront, IsRefused}
+use Rattle.capnp_frame.specs.Prelude.{FailsOr, IfKnown, IsFront, IsRefused}
 use Rattle.capnp_frame.proofs.sources.SourceLemmas.{IfKnown-weaker}
-use Rattle.capnp_pack.specs.Calls.{TakesNext}
-use Rattle.capnp_pack.specs.Group.{Group, tagged, zeros, literal, IsGroup, group_encoding, group_words}
-use Rattle.capnp_pack.specs.Chunk.{text_of, words_of_groups}
-use Rattle.capnp_pack.specs.PackedSource.{Unpacks, group_size, IsGroupFault, MeetsFault, RefusesChunk, LeavesOverrun, Overran}
-use Rattle.capnp_pack.specs.Steps.{FirstGroupFails, HasProgress, TakesGroups, Passes, PassesGroups}
-use Rattle.capnp_pack.specs.UnpackingLaws.{length-words}
+use Rattle.capnp_pack.specs.Prelude.{TakesNext, Group, tagged, zeros, literal, IsGroup, group_encoding, group_words, text_of, words_of_groups, Unpacks, group_size, IsGroupFault, MeetsFault, RefusesChunk, LeavesOverrun, Overran, FirstGroupFails, HasProgress, TakesGroups, Passes, PassesGroups, length-words}
 use Rattle.capnp_pack.proofs.words.AllLemmas.{AllByRecursion-append}
 use Rattle.capnp_pack.proofs.faults.ChunkLemmas.{group_error, group_meets, chunk_refused, end_refused, none_refused, end_before}
 use Rattle.capnp_pack.proofs.faults.FaultLemmas.{zeros_size}

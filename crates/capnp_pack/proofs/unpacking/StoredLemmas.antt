@@ -4,7 +4,7 @@ use Rattle.std.proofs.lemmas.List.{take-append-drop, take-append-le, take_all, l
 use Rattle.std.proofs.lemmas.Slice.{take-put_mid}
 use borrow.Rule.Slice.PartMut.{put_mid}
 use Rattle.capnp_frame.specs.declared.error.ErrorKind.{ErrorKind}
-use Rattle.capnp_frame.specs.Source.{Giving, Refusing, Splits, RunsShort, IfKnown, IsFront, IsRefused}
+use Rattle.capnp_frame.specs.Prelude.{Giving, Refusing, Splits, RunsShort, IfKnown, IsFront, IsRefused}
 use Rattle.capnp_frame.proofs.sources.SourceLemmas.{IfKnown-join, length-put_mid}
 
 -- a given number of bytes of what is shown are taken

@@ -8,12 +8,9 @@ use Rattle.std.proofs.lemmas.List.Folds.{concat-append}
 use Rattle.std.proofs.Math.Seq.{take-add}
 use Rattle.std.specs.List.{concat, AllByRecursion}
 use borrow.Rule.Slice.PartMut.{put_mid}
-use Rattle.capnp_frame.specs.Source.{IfKnown, IsFront, ReturnsPart}
+use Rattle.capnp_frame.specs.Prelude.{IfKnown, IsFront, ReturnsPart}
 use Rattle.capnp_frame.proofs.sources.SourceLemmas.{ReturnsPart-join, ReturnsPart-none, length-put_mid}
-use Rattle.capnp_pack.specs.Group.{Group, tagged, zeros, literal, IsGroup, IsWord, AreZero, group_encoding, group_words, marked, unmarked}
-use Rattle.capnp_pack.specs.Chunk.{text_of, words_of_groups}
-use Rattle.capnp_pack.specs.PackedSource.{Unpacks, MeetsFault}
-use Rattle.capnp_pack.specs.Steps.{MarkedAt, RunAt, GroupFollowing, Unpacked}
+use Rattle.capnp_pack.specs.Prelude.{Group, tagged, zeros, literal, IsGroup, IsWord, AreZero, group_encoding, group_words, marked, unmarked, text_of, words_of_groups, Unpacks, MeetsFault, MarkedAt, RunAt, GroupFollowing, Unpacked}
 use Rattle.capnp_pack.proofs.words.AllLemmas.{AllByRecursion-append}
 use Rattle.capnp_pack.proofs.unpacking.GroupLemmas.{group_takes, zeros_at}
 use Rattle.capnp_pack.proofs.words.WordLemmas.{clear_byte, set_byte, full_word}

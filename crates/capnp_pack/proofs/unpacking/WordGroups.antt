@@ -5,10 +5,9 @@ use Rattle.std.specs.List.{concat}
 use Rattle.std.specs.Simd.{first_chunks}
 use borrow.Rule.Slice.PartMut.{put_mid, post_of}
 use lib.Seq.{take-add, take-append-le}
-use Rattle.capnp_frame.specs.Source.{IfKnown}
+use Rattle.capnp_frame.specs.Prelude.{IfKnown}
 use Rattle.capnp_frame.proofs.sources.SourceLemmas.{IfKnown-join, IfKnown-weaker}
-use Rattle.capnp_pack.specs.Group.{tagged, literal, IsWord, marked}
-use Rattle.capnp_pack.specs.Steps.{GroupAt, MarkedAt, RunAt}
+use Rattle.capnp_pack.specs.Prelude.{tagged, literal, IsWord, marked, GroupAt, MarkedAt, RunAt}
 use Rattle.capnp_pack.proofs.words.Chunks.{chunks_whole, chunks_len}
 use Rattle.capnp_pack.proofs.words.WordLemmas.{full_word}
 

@@ -3,8 +3,8 @@ use Rattle.std.proofs.Common.{◌≡◌, ℕ, zero, suc, ◌*◌, ◌/◌, ◌<�
 use Rattle.std.proofs.lemmas.List.{nil_from_length, take-append-drop, length-take-le, length-drop}
 use Rattle.std.specs.List.{concat, AllByRecursion}
 use Rattle.std.specs.Simd.{first_chunks}
-use Rattle.capnp_frame.specs.Message.{IsWholeWords}
-use Rattle.capnp_pack.specs.Group.{IsWord}
+use Rattle.capnp_frame.specs.Prelude.{IsWholeWords}
+use Rattle.capnp_pack.specs.Prelude.{IsWord}
 
 pub chunks_whole : (k : ℕ) (bytes : List ℕ) → length bytes ≡ 8 * k → (concat (first_chunks 8 k bytes) ≡ bytes) × AllByRecursion IsWord (first_chunks 8 k bytes)
 chunks_whole zero bytes long = (sym (nil_from_length bytes long), tt)

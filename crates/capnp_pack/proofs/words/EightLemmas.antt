@@ -4,19 +4,15 @@ use Rattle.std.proofs.Common.{ap, ◌∙◌, subst, arith, cond, not, eqb, map, 
 use Rattle.std.specs.Int.RustNames.{count_ones}
 use Rattle.std.specs.List.{concat, flat_map, AllByRecursion, prefix_len}
 use Rattle.std.proofs.Math.Dec.{eqb-suc-zero}
-use Rattle.capnp_pack.specs.Packed.{IfFirst}
-use Rattle.capnp_pack.specs.Group.{zero_word}
+use Rattle.capnp_pack.specs.Prelude.{IfFirst, zero_word, IsWord, zero_bytes, IsZero, HasFewZeros, tag_of, length-words}
 use Rattle.capnp_pack.proofs.words.RunLemmas.{zero_or_not}
 use Rattle.std.specs.Simd.Lanes.{zip2, mask_l, top}
 use Rattle.std.proofs.lemmas.List.{take_all, take-take}
 use Rattle.std.proofs.Math.Seq.{take-add}
 use Rattle.std.proofs.lemmas.List.Concat.{concat_is}
-use Rattle.capnp_pack.specs.Group.{IsWord, zero_bytes}
-use Rattle.capnp_pack.specs.Steps.{IsZero, HasFewZeros, tag_of}
 use Rattle.capnp_pack.proofs.words.AllLemmas.{AllByRecursion-append}
 use lib.Count.{count_trailing_zeros}
 use Rattle.capnp_pack.proofs.words.LaneLemmas.{marks_lanes, zeros_lanes, trailing_tag}
-use Rattle.capnp_pack.specs.UnpackingLaws.{length-words}
 use Rattle.capnp_pack.proofs.words.TagLemmas.{tag_zero, tag_suc, zeros_cons}
 
 flat_lanes : (words : List (List ℕ)) (flat : List ℕ) → AllByRecursion IsWord words → length words ≡ 8 → flat ≡ flat_map (λ x. x) words → (take 64 flat ≡ concat words) × (length (concat words) ≡ 64)

@@ -6,8 +6,7 @@ use Rattle.std.specs.Simd.Lanes.{zip2, mask_l, top}
 use Rattle.std.specs.List.{prefix_len}
 use lib.Count.{count_trailing_zeros}
 use Rattle.std.proofs.lemmas.Simd.{bitmask_splat, ones-mask_l, trailing_mask_l}
-use Rattle.capnp_pack.specs.Group.{zero_bytes}
-use Rattle.capnp_pack.specs.Steps.{tag_of}
+use Rattle.capnp_pack.specs.Prelude.{zero_bytes, tag_of}
 
 bit_is : (b : Bool) → ◌≡◌ {A = ℕ} (cond (not b) 1 0) (if b then 0 else 1)
 bit_is true = refl

@@ -2,9 +2,7 @@
 use Rattle.std.proofs.Common.{◌≡◌, ℕ, zero, suc, ◌<◌, ◌≤◌, ◌⊎◌, inl, inr, List, [], ◌∷◌, length, take, drop, replicate, refl, ap, ◌∙◌, arith}
 use Rattle.std.proofs.lemmas.Bool.{cases_order}
 use Rattle.std.specs.List.{AllByRecursion}
-use Rattle.capnp_pack.specs.Group.{zero_word, zero_bytes}
-use Rattle.capnp_pack.specs.Packed.{IfFirst}
-use Rattle.capnp_pack.specs.Steps.{IsZero, HasFewZeros, IsRun}
+use Rattle.capnp_pack.specs.Prelude.{zero_word, zero_bytes, IfFirst, IsZero, HasFewZeros, IsRun}
 
 clash : (P : List ℕ → Type 0) (m n : ℕ) (ws : List (List ℕ)) → m < n → n ≤ length ws → AllByRecursion P (take n ws) → IfFirst (drop m ws) (λ w. P w → ⊥) → ⊥
 clash P m n [] low long each ends = omega arith

@@ -6,8 +6,7 @@ use Rattle.std.specs.List.{AllByRecursion}
 use Rattle.std.specs.Int.Bits.{bit_or, or_zero_l}
 use Rattle.std.proofs.lemmas.Nat.{le_or_l}
 use Rattle.std.proofs.lemmas.List.Sums.{sum_by-cons}
-use Rattle.capnp_pack.specs.Group.{IsWord, AreZero, zero_bytes, marked, unmarked, bytes_at}
-use Rattle.capnp_pack.specs.Steps.{tag_of, nonzero}
+use Rattle.capnp_pack.specs.Prelude.{IsWord, AreZero, zero_bytes, marked, unmarked, bytes_at, tag_of, nonzero}
 
 pub zeros_cons : (b : ℕ) (w : List ℕ) → zero_bytes (b ∷ w) ≡ cond (b == 0) 1 0 + zero_bytes w
 zeros_cons b w = sum_by-cons (λ x. cond (x == 0) 1 0) b w

@@ -4,10 +4,9 @@ use Rattle.std.proofs.Common.{[], ◌∷◌, ◌++◌, length, replicate, refl, 
 use Rattle.std.specs.Prelude.{◌==◌, if◌then◌else◌}
 use Rattle.std.proofs.lemmas.List.{append-nil}
 use Rattle.capnp_frame.specs.declared.error.ErrorKind.{ErrorKind}
-use Rattle.capnp_frame.specs.Source.{IfKnown}
+use Rattle.capnp_frame.specs.Prelude.{IfKnown}
 use Rattle.capnp_frame.proofs.sources.SourceLemmas.{IfKnown-join, IfKnown-weaker, IfKnown-refl}
-use Rattle.capnp_pack.specs.Group.{IsWord, AreZero, marked, unmarked}
-use Rattle.capnp_pack.specs.Steps.{MarkedAt, marked_count, Lacks}
+use Rattle.capnp_pack.specs.Prelude.{IsWord, AreZero, marked, unmarked, MarkedAt, marked_count, Lacks}
 use Rattle.capnp_pack.proofs.words.AllLemmas.{AllByRecursion-append}
 
 -- Of the bytes of a word under a tag these are known, and the others are given by these bits.

@@ -1,8 +1,6 @@
 //! Skipping packed messages of a source, of which only the lengths of the segments are returned.
 ghost use Rattle.std.specs.Prelude.{length};
-ghost use Rattle.capnp_frame.specs.Skipping.{SkipsMessage};
-ghost use Rattle.capnp_frame.specs.Steps.{ReadsTable};
-ghost use Rattle.capnp_frame.specs.Streams.{ReadsStream};
+ghost use Rattle.capnp_frame.specs.Prelude.{SkipsMessage, ReadsTable, ReadsStream};
 ghost use Rattle.capnp_pack.specs.PackedStreams.{packed_skipping_rules, packed_source};
 
 use crate::packed_read::PackedRead;

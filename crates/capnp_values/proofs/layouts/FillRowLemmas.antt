@@ -1,11 +1,7 @@
 -- Rows that are put into a block one by one, each with its pointers and what these lead to.
 use Rattle.std.proofs.Common.{◌≡◌, ℕ, zero, suc, ◌+◌, ◌-◌, ◌*◌, ◌≤◌, List, [], ◌∷◌, ◌++◌, length, refl, sym, ◌∙◌, ap, arith}
 use Rattle.std.proofs.lemmas.List.Elements.{All-head, All-tail}
-use Rattle.capnp_layout.specs.Tree.{Trees, none, tree, count, object_size, total_words}
-use Rattle.capnp_layout.specs.Trim.{first, following, before}
-use Rattle.capnp_layout.specs.Layout.{pointer, run, body, AllHaveRoom}
-use Rattle.capnp_layout.specs.Block.{put, put_rows, fill}
-use Rattle.capnp_layout.specs.Rows.{row_slots}
+use Rattle.capnp_layout.specs.Prelude.{Trees, none, tree, count, object_size, total_words, first, following, before, pointer, run, body, AllHaveRoom, put, put_rows, fill, row_slots}
 use Rattle.capnp_layout.proofs.pointers.SlotLemmas.{AllOf}
 use Rattle.capnp_layout.proofs.trees.ChunkLemmas.{count-first, count-following, total-before, before_chunks}
 use Rattle.capnp_layout.proofs.trees.KeptLemmas.{rooms_first, rooms_after}

@@ -1,9 +1,6 @@
 -- Objects whose own words are put into a block, and whose pointers are filled in, are laid out there.
 use Rattle.std.proofs.Common.{◌≡◌, ℕ, ◌+◌, ◌*◌, ◌≤◌, List, [], ◌∷◌, length, take, drop, sym, ◌∙◌, ap, arith, length-take, length-drop}
-use Rattle.capnp_layout.specs.Tree.{struct, pointers, structs, Trees, none, tree, count, total_words}
-use Rattle.capnp_layout.specs.Layout.{run, row_run, woven, body, struct_pointer, HasRoom, AllHaveRoom}
-use Rattle.capnp_layout.specs.Block.{put, put_rows, fill, moved}
-use Rattle.capnp_layout.specs.Rows.{row_slots}
+use Rattle.capnp_layout.specs.Prelude.{struct, pointers, structs, Trees, none, tree, count, total_words, run, row_run, woven, body, struct_pointer, HasRoom, AllHaveRoom, put, put_rows, fill, moved, row_slots}
 use Rattle.capnp_layout.proofs.layouts.SizeLemmas.{length-woven, rows_even}
 use Rattle.capnp_layout.proofs.layouts.BlockLemmas.{put_both, length-put, put_none}
 use Rattle.capnp_wire.proofs.layouts.BlockRowLemmas.{moved_run, moved_rows, put_short, put_rows_woven}

@@ -3,9 +3,8 @@ use Rattle.std.proofs.Common.{◌≡◌, ℕ, zero, suc, ◌+◌, ◌*◌, ◌<�
 use Rattle.std.specs.Result.{IsErrAnd}
 use Rattle.capnp_frame.specs.declared.error.Error.{Error}
 use Rattle.capnp_frame.specs.declared.error.ErrorKind.{ErrorKind}
-use Rattle.capnp_layout.specs.Tree.{Trees, none, tree, count, total_words}
-use Rattle.capnp_layout.specs.Layout.{output}
-use Rattle.capnp_wire.specs.Values.{LacksWords, HasPart}
+use Rattle.capnp_layout.specs.Prelude.{Trees, none, tree, count, total_words, output}
+use Rattle.capnp_wire.specs.Prelude.{LacksWords, HasPart}
 use Rattle.capnp_wire.specs.declared.traits.TreeWords.{TreeWords}
 use Rattle.capnp_layout.proofs.trees.TrimLemmas.{total-trim}
 use Rattle.capnp_wire.proofs.views.PartWordLemmas.{as_is_words, same_tree_words}

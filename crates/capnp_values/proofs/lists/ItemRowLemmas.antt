@@ -1,11 +1,7 @@
 -- Values of one type, one after the other: what is written of them.
 use Rattle.std.proofs.Common.{◌≡◌, ℕ, suc, ◌+◌, ◌-◌, ◌/◌, ◌<◌, ◌≤◌, Bool, List, [], ◌∷◌, length, drop, refl, sym, ◌∙◌, ap, subst, arith, get_or}
-use Rattle.capnp_layout.specs.Pointer.{words_of}
-use Rattle.capnp_layout.specs.Tree.{Form, Trees, none, tree, total_words}
-use Rattle.capnp_layout.specs.Layout.{pointer_to, run, body, output}
-use Rattle.capnp_layout.specs.Block.{put, fill}
-use Rattle.capnp_wire.specs.Copy.{IsCopied}
-use Rattle.capnp_wire.specs.Values.{HasRoomAt, IsFreeFrom}
+use Rattle.capnp_layout.specs.Prelude.{words_of, Form, Trees, none, tree, total_words, pointer_to, run, body, output, put, fill}
+use Rattle.capnp_wire.specs.Prelude.{IsCopied, HasRoomAt, IsFreeFrom}
 use Rattle.capnp_wire.specs.declared.layout.copy.Copied.{Copied}
 use Rattle.capnp_layout.proofs.words.WordLemmas.{length-words_of}
 use Rattle.capnp_layout.proofs.layouts.BlockLemmas.{length-put}

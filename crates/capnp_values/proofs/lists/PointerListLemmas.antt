@@ -4,11 +4,8 @@ use Rattle.std.specs.Prelude.{min, ◌-◌}
 use Rattle.capnp_frame.specs.declared.error.Error.{Error}
 use Rattle.capnp_frame.specs.declared.error.ErrorKind.{ErrorKind}
 use Rattle.capnp_frame.specs.declared.error.ErrorKind.TheVariants.{AllocationTooLarge}
-use Rattle.capnp_layout.specs.Tree.{pointers, Trees, none, tree, count, total_words}
-use Rattle.capnp_layout.specs.Layout.{list_pointer, run, output, AllHaveRoom}
-use Rattle.capnp_layout.specs.Block.{fill}
-use Rattle.capnp_wire.specs.Copy.{IsCopied}
-use Rattle.capnp_wire.specs.Values.{HasRoomAt}
+use Rattle.capnp_layout.specs.Prelude.{pointers, Trees, none, tree, count, total_words, list_pointer, run, output, AllHaveRoom, fill}
+use Rattle.capnp_wire.specs.Prelude.{IsCopied, HasRoomAt}
 use Rattle.capnp_layout.proofs.trees.TrimLemmas.{count-trim}
 use Rattle.capnp_wire.proofs.layouts.OpenLemmas.{room_output}
 use Rattle.capnp_wire.proofs.views.PartWordLemmas.{same_tree_words}

@@ -7,8 +7,8 @@ use Rattle.std.proofs.lemmas.List.{length-set}
 use Rattle.std.proofs.lemmas.List.Elements.{All-set}
 use Rattle.std.proofs.Common.{◌≡◌, ◌⊎◌, ℕ, zero, suc, ◌+◌, ◌-◌, ◌*◌, ◌/◌, ◌%◌, ◌^◌, ◌<◌, ◌≤◌, List, [], ◌∷◌, length, slice_index_or, slice_set, sym, ◌∙◌, ap, subst, inl, inr, lit<, arith}
 use Rattle.std.specs.Prelude.{All}
-use Rattle.capnp_layout.specs.Pointer.{digits, number_of}
-use Rattle.capnp_wire.specs.Fields.{field}
+use Rattle.capnp_layout.specs.Prelude.{digits, number_of}
+use Rattle.capnp_wire.specs.Prelude.{field}
 use Rattle.capnp_layout.proofs.trees.RoomLemmas.{digits_below}
 use Rattle.capnp_wire.proofs.words.BitLemmas.{field_in_word}
 use Rattle.capnp_layout.proofs.words.DigitLemmas.{length-digits, digits-number_of, number-digits, number_below, pow-mul}

@@ -2,9 +2,7 @@
 use Rattle.std.proofs.Common.{◌≡◌, ℕ, zero, suc, ◌+◌, ◌-◌, ◌*◌, ◌/◌, ◌%◌, ◌<◌, ◌≤◌, ◌^◌, List, [], ◌∷◌, length, map, take, drop, Some, slice_get, arith}
 use Rattle.std.specs.Prelude.{All}
 use Rattle.std.proofs.Math.Nat.{mul-le-mul_left}
-use Rattle.capnp_layout.specs.Pointer.{digits, number_of, words_of}
-use Rattle.capnp_layout.specs.Element.{width, words_for}
-use Rattle.capnp_layout.specs.Block.{put}
+use Rattle.capnp_layout.specs.Prelude.{digits, number_of, words_of, width, words_for, put}
 use Rattle.capnp_layout.proofs.words.DigitLemmas.{length-digits}
 use Rattle.capnp_values.proofs.numbers.NumberListLemmas.{digit_at}
 use Rattle.capnp_values.proofs.structs.SectionLemmas.{next_put, all_put}

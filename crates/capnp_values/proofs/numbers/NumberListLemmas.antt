@@ -5,12 +5,8 @@ use Rattle.std.specs.Prelude.{All, min}
 use Rattle.std.proofs.Math.Nat.{mul-le-mul_left}
 use Rattle.std.proofs.lemmas.List.{take-map, drop-map, length-map}
 use Rattle.std.proofs.lemmas.List.Elements.{All-cons, All-take, All-drop}
-use Rattle.capnp_layout.specs.Pointer.{digits, number_of, words_of}
-use Rattle.capnp_layout.specs.Element.{width, words_for}
-use Rattle.capnp_layout.specs.Tree.{numbers, Trees, none, tree, total_words}
-use Rattle.capnp_layout.specs.Layout.{own, output, AllHaveRoom}
-use Rattle.capnp_layout.specs.Block.{put}
-use Rattle.capnp_wire.specs.Values.{HasRoomAt}
+use Rattle.capnp_layout.specs.Prelude.{digits, number_of, words_of, width, words_for, numbers, Trees, none, tree, total_words, own, output, AllHaveRoom, put}
+use Rattle.capnp_wire.specs.Prelude.{HasRoomAt}
 use Rattle.capnp_layout.proofs.words.WordLemmas.{length-words_of}
 use Rattle.capnp_layout.proofs.words.PutLemmas.{put_mid_words}
 use Rattle.capnp_wire.proofs.layouts.FreeLemmas.{numbers_total as numbers_total_of}

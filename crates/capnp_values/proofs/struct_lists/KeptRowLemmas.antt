@@ -1,7 +1,6 @@
 -- Lists of structs: what each element keeps in canonical form.
 use Rattle.std.proofs.Common.{◌≡◌, ℕ, ◌+◌, ◌<◌, ◌≤◌, true, max, List, ◌∷◌, length, map, drop, ◌∙◌, ap, subst, arith, get_or}
-use Rattle.capnp_layout.specs.Tree.{Trees, count}
-use Rattle.capnp_layout.specs.Trim.{cut_zeros, least_data, least_pointers, trim}
+use Rattle.capnp_layout.specs.Prelude.{Trees, count, cut_zeros, least_data, least_pointers, trim}
 use Rattle.capnp_values.specs.Fields.{IsSettled, kept_row}
 use Rattle.capnp_values.specs.StructLists.{AreRows}
 use Rattle.capnp_values.proofs.lists.ItemLemmas.{from_here, none_left}

@@ -5,9 +5,7 @@ use Rattle.std.proofs.Math.Nat.{mul-le-mul_left}
 use Rattle.std.proofs.lemmas.List.Elements.{All-nil, All-cons}
 use Rattle.capnp_frame.specs.declared.error.Error.{Error}
 use Rattle.capnp_frame.specs.declared.error.ErrorKind.{ErrorKind}
-use Rattle.capnp_layout.specs.Tree.{Trees, none, total_words}
-use Rattle.capnp_layout.specs.Trim.{before}
-use Rattle.capnp_layout.specs.Layout.{output}
+use Rattle.capnp_layout.specs.Prelude.{Trees, none, total_words, before, output}
 use Rattle.capnp_layout.proofs.trees.ChunkLemmas.{total-before}
 use Rattle.capnp_wire.specs.declared.traits.TreeWords.{TreeWords}
 use Rattle.capnp_wire.proofs.views.PartWordLemmas.{same_tree_words}

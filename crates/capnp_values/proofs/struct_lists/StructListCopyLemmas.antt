@@ -1,11 +1,8 @@
 -- Lists of structs as values: what is written of them.
 use Rattle.std.proofs.Common.{◌≡◌, ℕ, ◌+◌, ◌*◌, ◌≤◌, Bool, List, [], ◌∷◌, length, map, take, sym, ◌∙◌, ap, subst, arith}
 use Rattle.std.proofs.lemmas.List.{length-map}
-use Rattle.capnp_layout.specs.Tree.{structs, Trees, none, tree, count, total_words}
-use Rattle.capnp_layout.specs.Layout.{list_pointer, struct_pointer, output, AllHaveRoom}
-use Rattle.capnp_layout.specs.Block.{put, put_rows, fill}
-use Rattle.capnp_layout.specs.Rows.{row_slots}
-use Rattle.capnp_wire.specs.Copy.{IsCopied}
+use Rattle.capnp_layout.specs.Prelude.{structs, Trees, none, tree, count, total_words, list_pointer, struct_pointer, output, AllHaveRoom, put, put_rows, fill, row_slots}
+use Rattle.capnp_wire.specs.Prelude.{IsCopied}
 use Rattle.capnp_layout.proofs.layouts.SizeLemmas.{rows_even}
 use Rattle.capnp_layout.proofs.layouts.BlockLemmas.{length-put}
 use Rattle.capnp_wire.proofs.layouts.OpenLemmas.{room_output}

@@ -3,9 +3,7 @@ use Rattle.std.proofs.Common.{◌≡◌, ℕ, suc, ◌+◌, ◌*◌, ◌<◌, �
 use Rattle.std.specs.Prelude.{All}
 use Rattle.std.proofs.lemmas.List.{take_all, length-map}
 use Rattle.std.proofs.lemmas.List.Elements.{All-head, All-tail}
-use Rattle.capnp_layout.specs.Tree.{structs, Trees, none, tree, count, total_words}
-use Rattle.capnp_layout.specs.Trim.{first, following, before, cut_nulls, least_pointers, narrowed, trim}
-use Rattle.capnp_layout.specs.Layout.{output, AllHaveRoom}
+use Rattle.capnp_layout.specs.Prelude.{structs, Trees, none, tree, count, total_words, first, following, before, cut_nulls, least_pointers, narrowed, trim, output, AllHaveRoom}
 use Rattle.capnp_layout.proofs.trees.FrontLemmas.{trim_before}
 use Rattle.capnp_layout.proofs.trees.NarrowLemmas.{first-before, following-before, first_all}
 use Rattle.capnp_layout.proofs.trees.ChunkLemmas.{count-first, count-before, count-following, total-before, before_chunks}

@@ -6,8 +6,7 @@ use Rattle.std.proofs.lemmas.List.{length-map}
 use Rattle.capnp_frame.specs.declared.error.Error.{Error}
 use Rattle.capnp_frame.specs.declared.error.ErrorKind.{ErrorKind}
 use Rattle.capnp_frame.specs.declared.error.ErrorKind.TheVariants.{AllocationTooLarge}
-use Rattle.capnp_layout.specs.Tree.{structs, Trees, none, tree, count, total_words}
-use Rattle.capnp_layout.specs.Layout.{output, AllHaveRoom}
+use Rattle.capnp_layout.specs.Prelude.{structs, Trees, none, tree, count, total_words, output, AllHaveRoom}
 use Rattle.capnp_layout.proofs.words.CutLemmas.{least_data_within}
 use Rattle.capnp_layout.proofs.layouts.SizeLemmas.{rows_even}
 use Rattle.capnp_wire.proofs.views.PartWordLemmas.{same_tree_words}

@@ -1,12 +1,8 @@
 -- Lists of structs: what is written of their elements.
 use Rattle.std.proofs.Common.{◌≡◌, ℕ, ◌+◌, ◌*◌, ◌<◌, ◌≤◌, Bool, true, false, List, ◌∷◌, length, map, take, drop, refl, sym, ◌∙◌, ap, subst, arith, get_or, length-take}
 use Rattle.std.proofs.Math.Nat.{mul-le-mul_left}
-use Rattle.capnp_layout.specs.Pointer.{words_of}
-use Rattle.capnp_layout.specs.Tree.{Trees, count, total_words}
-use Rattle.capnp_layout.specs.Trim.{first, following, before, trim}
-use Rattle.capnp_layout.specs.Layout.{run, output}
-use Rattle.capnp_layout.specs.Block.{put, fill}
-use Rattle.capnp_wire.specs.Values.{IsFreeFrom}
+use Rattle.capnp_layout.specs.Prelude.{words_of, Trees, count, total_words, first, following, before, trim, run, output, put, fill}
+use Rattle.capnp_wire.specs.Prelude.{IsFreeFrom}
 use Rattle.capnp_layout.proofs.trees.ChunkLemmas.{count-first, total-before, least_pointers_within}
 use Rattle.capnp_layout.proofs.trees.NarrowLemmas.{first-before, following-before}
 use Rattle.capnp_values.specs.Fields.{IsSettled, IsRowWritten}

@@ -1,7 +1,7 @@
 -- How many pointers of a row are kept.
 use Rattle.std.proofs.Common.{◌≡◌, ℕ, zero, suc, ◌+◌, ◌<◌, ◌≤◌, Bool, true, false, refl, sym, ◌∙◌, ap, arith}
-use Rattle.capnp_layout.specs.Tree.{Form, null, struct, numbers, pointers, structs, Trees, none, tree, count, is_null}
-use Rattle.capnp_layout.specs.Trim.{keep_tree, cut_nulls, trim, trim_form, trim_children}
+use Rattle.capnp_layout.specs.Tree.{is_null}
+use Rattle.capnp_layout.specs.Prelude.{Form, null, struct, numbers, pointers, structs, Trees, none, tree, count, keep_tree, cut_nulls, trim, trim_form, trim_children}
 use Rattle.capnp_values.specs.Fields.{kept_row, is_left_out}
 use Rattle.capnp_values.proofs.values.PartLemmas.{no_trees}
 

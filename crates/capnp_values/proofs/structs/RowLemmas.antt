@@ -1,12 +1,7 @@
 -- Rows that are written: the first value, and those after it.
 use Rattle.std.proofs.Common.{◌≡◌, ℕ, suc, ◌+◌, ◌-◌, ◌/◌, ◌<◌, ◌≤◌, Bool, true, false, List, [], ◌∷◌, length, sym, ◌∙◌, ap, arith}
-use Rattle.capnp_layout.specs.Pointer.{words_of}
-use Rattle.capnp_layout.specs.Tree.{Form, Trees, none, tree, count, total_words}
-use Rattle.capnp_layout.specs.Trim.{first, trim, trim_form, trim_children}
-use Rattle.capnp_layout.specs.Layout.{pointer_to, run, body, output}
-use Rattle.capnp_layout.specs.Block.{put, fill}
-use Rattle.capnp_wire.specs.Copy.{IsCopied}
-use Rattle.capnp_wire.specs.Values.{HasRoomAt, IsFreeFrom}
+use Rattle.capnp_layout.specs.Prelude.{words_of, Form, Trees, none, tree, count, total_words, first, trim, trim_form, trim_children, pointer_to, run, body, output, put, fill}
+use Rattle.capnp_wire.specs.Prelude.{IsCopied, HasRoomAt, IsFreeFrom}
 use Rattle.capnp_wire.specs.declared.layout.copy.Copied.{Copied}
 use Rattle.capnp_layout.proofs.words.WordLemmas.{length-words_of}
 use Rattle.capnp_wire.proofs.layouts.CopyLemmas.{fill_step}

@@ -3,15 +3,13 @@ use Rattle.std.proofs.Common.{◌≡◌, ℕ, zero, suc, ◌+◌, ◌-◌, ◌*�
 use Rattle.std.proofs.Common.{Some, slice_get, slice_index_or, length-take, length-drop, length-append, w64}
 use Rattle.std.specs.Int.{to_le_bytes}
 use Rattle.std.proofs.lemmas.List.{take_all}
-use Rattle.capnp_layout.specs.Block.{put}
-use Rattle.capnp_wire.specs.Values.{IsFreeFrom}
+use Rattle.capnp_layout.specs.Prelude.{put, words_of, words_from, cut_zeros}
+use Rattle.capnp_wire.specs.Prelude.{IsFreeFrom}
 use Rattle.capnp_layout.proofs.layouts.BlockLemmas.{put_both, length-put}
 use Rattle.capnp_wire.proofs.layouts.FreeLemmas.{free_after}
 use Rattle.capnp_layout.proofs.words.UsedLemmas.{take_more, last_used, last_unused}
 use Rattle.capnp_wire.proofs.views.ValueLemmas.{put_whole}
 use Rattle.capnp_layout.proofs.objects.PartLemmas.{one_word}
-use Rattle.capnp_layout.specs.Pointer.{words_of, words_from}
-use Rattle.capnp_layout.specs.Trim.{cut_zeros}
 use Rattle.capnp_layout.proofs.words.WordLemmas.{length-words_of}
 use Rattle.capnp_layout.proofs.words.PutLemmas.{put_mid_words}
 

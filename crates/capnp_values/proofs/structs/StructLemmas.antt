@@ -6,12 +6,8 @@ use Rattle.std.proofs.lemmas.List.{take_all}
 use Rattle.capnp_frame.specs.declared.error.Error.{Error}
 use Rattle.capnp_frame.specs.declared.error.ErrorKind.{ErrorKind}
 use Rattle.capnp_frame.specs.declared.error.ErrorKind.TheVariants.{AllocationTooLarge}
-use Rattle.capnp_layout.specs.Tree.{struct, Trees, none, tree, count, total_words}
-use Rattle.capnp_layout.specs.Trim.{first, trim}
-use Rattle.capnp_layout.specs.Layout.{struct_pointer, minus_one, run, output, AllHaveRoom}
-use Rattle.capnp_layout.specs.Block.{put, fill}
-use Rattle.capnp_wire.specs.Copy.{IsCopied}
-use Rattle.capnp_wire.specs.Values.{HasRoomAt}
+use Rattle.capnp_layout.specs.Prelude.{struct, Trees, none, tree, count, total_words, first, trim, struct_pointer, minus_one, run, output, AllHaveRoom, put, fill}
+use Rattle.capnp_wire.specs.Prelude.{IsCopied, HasRoomAt}
 use Rattle.capnp_layout.proofs.trees.FrontLemmas.{first_cut, cut_front}
 use Rattle.capnp_layout.proofs.trees.NarrowLemmas.{first_all}
 use Rattle.capnp_layout.proofs.trees.TrimLemmas.{count-trim, room_trim}

@@ -3,8 +3,8 @@ use Rattle.std.proofs.Common.{◌≡◌, ℕ, ◌+◌, false, Result, Ok, Err, M
 use Rattle.std.specs.Result.{IsErrAnd}
 use Rattle.capnp_frame.specs.declared.error.Error.{Error}
 use Rattle.capnp_frame.specs.declared.error.ErrorKind.{ErrorKind}
-use Rattle.capnp_layout.specs.Tree.{Trees, none, tree, count, total_words}
-use Rattle.capnp_wire.specs.Values.{HasWords, HasPart}
+use Rattle.capnp_layout.specs.Prelude.{Trees, none, tree, count, total_words}
+use Rattle.capnp_wire.specs.Prelude.{HasWords, HasPart}
 use Rattle.capnp_wire.specs.declared.traits.TreeWords.{TreeWords}
 use Rattle.capnp_wire.proofs.views.PartWordLemmas.{as_is_words, same_tree_words}
 use Rattle.capnp_values.specs.Measured.{Measures}

@@ -3,10 +3,8 @@ use Rattle.std.proofs.Common.{◌≡◌, ℕ, ◌<◌, ◌≤◌, ◌^◌, Bool,
 use Rattle.std.specs.Result.{IsErrAnd}
 use Rattle.capnp_frame.specs.declared.error.Error.{Error}
 use Rattle.capnp_frame.specs.declared.error.ErrorKind.{ErrorKind}
-use Rattle.capnp_layout.specs.Tree.{Trees, total_words}
-use Rattle.capnp_layout.specs.Layout.{output, AllHaveRoom}
-use Rattle.capnp_wire.specs.Values.{HasWords, LacksWords, HasPart}
-use Rattle.capnp_layout.specs.Limits.{too_large}
+use Rattle.capnp_layout.specs.Prelude.{Trees, total_words, output, AllHaveRoom, too_large}
+use Rattle.capnp_wire.specs.Prelude.{HasWords, LacksWords, HasPart}
 use Rattle.capnp_wire.specs.declared.traits.TreeWords.{TreeWords}
 use Rattle.capnp_wire.proofs.views.PartWordLemmas.{same_tree_words}
 use Rattle.capnp_values.specs.Measured.{tree_words, Measures}

@@ -1,8 +1,7 @@
 -- The null pointer as a value.
 use Rattle.std.proofs.Common.{◌≡◌, Bool, true, false, refl, sym, ◌∙◌, arith}
-use Rattle.capnp_layout.specs.Tree.{null, Trees, none, tree, total_words}
-use Rattle.capnp_layout.specs.Layout.{output}
-use Rattle.capnp_wire.specs.Values.{HasWords}
+use Rattle.capnp_layout.specs.Prelude.{null, Trees, none, tree, total_words, output}
+use Rattle.capnp_wire.specs.Prelude.{HasWords}
 use Rattle.capnp_wire.proofs.views.OneValueLemmas.{IsOne}
 
 abbrev pub IsNull : Trees → Type 0

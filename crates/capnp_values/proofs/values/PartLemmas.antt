@@ -1,9 +1,7 @@
 -- Values as parts of rows: their trees as they are or in canonical form, and their words.
 use Rattle.std.proofs.Common.{◌≡◌, ℕ, ◌+◌, ◌≤◌, Bool, true, false, refl, ◌∙◌, ap, subst, arith}
-use Rattle.capnp_layout.specs.Tree.{Form, Trees, none, tree, count, total_words}
-use Rattle.capnp_layout.specs.Trim.{trim, trim_form, trim_children}
-use Rattle.capnp_layout.specs.Layout.{output, AllHaveRoom}
-use Rattle.capnp_wire.specs.Values.{HasPart}
+use Rattle.capnp_layout.specs.Prelude.{Form, Trees, none, tree, count, total_words, trim, trim_form, trim_children, output, AllHaveRoom}
+use Rattle.capnp_wire.specs.Prelude.{HasPart}
 use Rattle.capnp_wire.specs.declared.traits.TreeWords.{TreeWords}
 use Rattle.capnp_layout.proofs.trees.TrimLemmas.{total-trim}
 use Rattle.capnp_values.specs.Measured.{tree_words}

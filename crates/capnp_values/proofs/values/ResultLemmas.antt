@@ -3,8 +3,8 @@ use Rattle.std.proofs.Common.{◌≡◌, Bool, false, Result, Ok, Err, inl, inr,
 use Rattle.std.specs.Result.{IsErrAnd}
 use Rattle.capnp_frame.specs.declared.error.Error.{Error}
 use Rattle.capnp_frame.specs.declared.error.ErrorKind.{ErrorKind}
-use Rattle.capnp_layout.specs.Tree.{Trees}
-use Rattle.capnp_wire.specs.Values.{LacksWords, HasPart}
+use Rattle.capnp_layout.specs.Prelude.{Trees}
+use Rattle.capnp_wire.specs.Prelude.{LacksWords, HasPart}
 use Rattle.capnp_wire.specs.declared.traits.TreeWords.{TreeWords}
 use Rattle.capnp_wire.proofs.views.PartWordLemmas.{part_words}
 use Rattle.capnp_values.specs.Fields.{RefusesRow}

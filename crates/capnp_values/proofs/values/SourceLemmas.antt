@@ -3,8 +3,8 @@
 use Rattle.std.proofs.Common.{◌≡◌, ℕ, Bool, List, Result, Ok, Err, inl, inr, sym, subst, get_or}
 use Rattle.capnp_frame.specs.declared.error.Error.{Error}
 use Rattle.capnp_frame.specs.declared.error.ErrorKind.{ErrorKind}
-use Rattle.capnp_layout.specs.Tree.{Trees}
-use Rattle.capnp_wire.specs.Values.{LacksWords, HasPart, HasRoomAt}
+use Rattle.capnp_layout.specs.Prelude.{Trees}
+use Rattle.capnp_wire.specs.Prelude.{LacksWords, HasPart, HasRoomAt}
 use Rattle.capnp_wire.specs.declared.traits.TreeWords.{TreeWords}
 use Rattle.capnp_values.specs.Measured.{Measures}
 use Rattle.capnp_values.specs.Fields.{CanWriteRow, IsRowWritten}

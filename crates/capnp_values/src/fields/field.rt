@@ -1,6 +1,6 @@
 //! A field in front of the other fields of a row.
 ghost use Rattle.std.specs.Prelude.{◌≡◌};
-ghost use Rattle.capnp_layout.specs.Tree.{Form, Trees};
+ghost use Rattle.capnp_layout.specs.Prelude.{Form, Trees};
 ghost use Rattle.capnp_values.specs.Fields.{IsPart, is_left_out};
 
 use crate::fields::Fields;

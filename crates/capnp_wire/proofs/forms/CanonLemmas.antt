@@ -1,9 +1,6 @@
 -- Layouts tell trees apart, where the root of a layout is its tree.
 use Rattle.std.proofs.Common.{◌≡◌, ℕ, ◌<◌, ◌^◌, List, [], ◌∷◌, subst}
-use Rattle.capnp_layout.specs.Tree.{Form, Trees, none, tree, total_words}
-use Rattle.capnp_layout.specs.Trim.{trim, trim_form, trim_children}
-use Rattle.capnp_layout.specs.Reached.{At, root}
-use Rattle.capnp_layout.specs.Layout.{layout, canon, AllHaveRoom}
+use Rattle.capnp_layout.specs.Prelude.{Form, Trees, none, tree, total_words, trim, trim_form, trim_children, At, root, layout, canon, AllHaveRoom}
 use Rattle.capnp_layout.proofs.objects.ObjectLemmas.{one_tree}
 use Rattle.capnp_wire.proofs.layouts.LayoutLemmas.{root_of_layout}
 use Rattle.capnp_layout.proofs.trees.TrimLemmas.{room_trim}

@@ -9,20 +9,13 @@ use Rattle.std.specs.Result.{IsErrAnd}
 use Rattle.capnp_frame.specs.declared.error.Error.{Error}
 use Rattle.capnp_frame.specs.declared.error.ErrorKind.{ErrorKind}
 use Rattle.capnp_frame.specs.declared.error.ErrorKind.TheVariants.{InvalidSegmentId}
-use Rattle.capnp_layout.specs.Pointer.{words_of}
-use Rattle.capnp_layout.specs.Tree.{Form, Trees, none, tree, depth, total_words}
-use Rattle.capnp_layout.specs.Object.{message_of, word_at}
-use Rattle.capnp_layout.specs.Reached.{At, nowhere, at, Root, root}
-use Rattle.capnp_layout.specs.Traversed.{Within}
-use Rattle.capnp_layout.specs.Faults.{StopsWalk, no_segment, no_word, at_pointer as stops_at}
-use Rattle.capnp_wire.specs.Canonical.{IsInPreorder, IsCanonical}
-use Rattle.capnp_wire.specs.Tested.{Passes, Ends, refused, not_canonical, RejectsCanonicity, no_first_segment, on_the_walk}
+use Rattle.capnp_layout.specs.Prelude.{words_of, Form, Trees, none, tree, depth, total_words, message_of, word_at, At, nowhere, at, Root, root, Within, StopsWalk, no_segment, no_word, at_pointer as stops_at, Trimmed}
+use Rattle.capnp_wire.specs.Prelude.{IsInPreorder, IsCanonical, Passes, Ends, refused, not_canonical, RejectsCanonicity, no_first_segment, on_the_walk}
 use Rattle.capnp_layout.proofs.objects.ObjectLemmas.{one_tree}
 use Rattle.capnp_wire.proofs.walks.StopLemmas.{stops_has_no_trees}
 use Rattle.capnp_wire.proofs.layouts.LaidOutLemmas.{word_stands}
 use Rattle.capnp_wire.proofs.walks.EndLemmas.{ends_stops, ends_not}
 use Rattle.capnp_wire.proofs.forms.ExactnessLemmas.{tests_are_exact}
-use Rattle.capnp_layout.specs.Layout.{Trimmed}
 
 -- the one tree at the root
 root_tree : (m : List (List ℕ)) (trees : Trees) (traversed : ℕ) → At m (root ∷ []) trees traversed → (form : Form) × (children : Trees) × (trees ≡ tree form children none)

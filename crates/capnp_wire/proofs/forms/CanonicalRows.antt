@@ -1,11 +1,8 @@
 -- The canonical form at worked examples.
 use Rattle.std.proofs.Common.{◌≡◌, [], ◌∷◌, Some, None, refl, lit<, arith}
 use Rattle.capnp_frame.specs.declared.error.ErrorKind.TheVariants.{PointerOutOfBounds, InvalidSegmentId}
-use Rattle.capnp_layout.specs.Tree.{null, struct, numbers, structs, none, tree}
-use Rattle.capnp_layout.specs.Reached.{root}
-use Rattle.capnp_layout.specs.Layout.{canon}
-use Rattle.capnp_wire.specs.Canonical.{IsCanonical}
-use Rattle.capnp_wire.specs.Tested.{Ends, not_canonical, far, at_pointer, RejectsCanonicity, no_first_segment, on_the_walk}
+use Rattle.capnp_layout.specs.Prelude.{null, struct, numbers, structs, none, tree, root, canon}
+use Rattle.capnp_wire.specs.Prelude.{IsCanonical, Ends, not_canonical, far, at_pointer, RejectsCanonicity, no_first_segment, on_the_walk}
 use Rattle.capnp_wire.proofs.WorkedRows.{hello, hello_words, hello_stands, hello_far, five, seven, letter, null_stands, empty_stands, past_end_refused}
 
 pub hello_canon : canon hello ≡ hello_words

@@ -2,11 +2,8 @@
 use Rattle.std.proofs.lemmas.List.{nil_from_length, append-nil}
 use Rattle.std.proofs.Common.{◌≡◌, ℕ, ◌+◌, ◌-◌, ◌^◌, ◌<◌, List, [], ◌∷◌, ◌++◌, length, Some, slice_get, refl, sym, ◌∙◌, ap, subst, arith, length-append}
 use Rattle.std.specs.Prelude.{All}
-use Rattle.capnp_layout.specs.Tree.{Form, Trees, none, tree, count, object_size, total_words}
-use Rattle.capnp_layout.specs.Trim.{trim, trim_form, trim_children}
-use Rattle.capnp_layout.specs.Reached.{At, Root}
-use Rattle.capnp_layout.specs.Layout.{pointer, slots, body, layout, canon, AllHaveRoom, Reaches, AllReach, placed, Trimmed}
-use Rattle.capnp_wire.specs.Canonical.{IsInPreorder, IsCanon, TestsAreExact}
+use Rattle.capnp_layout.specs.Prelude.{Form, Trees, none, tree, count, object_size, total_words, trim, trim_form, trim_children, At, Root, pointer, slots, body, layout, canon, AllHaveRoom, Reaches, AllReach, placed, Trimmed}
+use Rattle.capnp_wire.specs.Prelude.{IsInPreorder, IsCanon, TestsAreExact}
 use Rattle.capnp_layout.proofs.objects.ObjectLemmas.{one_tree}
 use Rattle.capnp_layout.proofs.words.SubsliceLemmas.{Holds, holds_right, holds_all}
 use Rattle.capnp_layout.proofs.layouts.SizeLemmas.{length-body}

@@ -4,18 +4,15 @@ use Rattle.std.proofs.lemmas.List.{take_all}
 use Rattle.std.proofs.lemmas.Bool.{cases_lt}
 use Rattle.std.proofs.lemmas.Option.{slice_get_within, get_or_from_slice_get}
 use Rattle.std.proofs.lemmas.List.Elements.{All-head, All-tail}
-use Rattle.capnp_layout.specs.Tree.{null, struct, numbers, pointers, structs, Trees, none, tree, count}
-use Rattle.capnp_layout.specs.Trim.{first, following, keep_word, cut_zeros, keep_tree, cut_nulls, least_data, least_pointers, narrowed, trim_form, trim_children}
+use Rattle.capnp_layout.specs.Prelude.{null, struct, numbers, pointers, structs, Trees, none, tree, count, first, following, keep_word, cut_zeros, keep_tree, cut_nulls, least_data, least_pointers, narrowed, trim_form, trim_children, Shape, ShapeStands, a_struct, some_numbers, some_pointers, some_structs, is_null, is_object, PointsTo, word_at, HasRoom}
 use Rattle.capnp_layout.specs.declared.place.Place.{Place}
-use Rattle.capnp_layout.specs.Object.{Shape, ShapeStands, a_struct, some_numbers, some_pointers, some_structs, is_null, is_object, PointsTo, word_at}
-use Rattle.capnp_wire.specs.Canonical.{EndsFull, nth_form, EndsSome}
+use Rattle.capnp_wire.specs.Prelude.{EndsFull, nth_form, EndsSome}
 use Rattle.capnp_layout.proofs.objects.ObjectLemmas.{null_lands_nowhere}
 use Rattle.capnp_layout.proofs.layouts.SizeLemmas.{rows_even}
 use Rattle.capnp_layout.proofs.pointers.SlotLemmas.{AllOf}
 use Rattle.capnp_layout.proofs.words.CutLemmas.{length-keep_word, least_data_within}
 use Rattle.capnp_layout.proofs.trees.ChunkLemmas.{kept, before_chunks}
 use Rattle.capnp_layout.proofs.trees.NarrowLemmas.{rows_split, first_all}
-use Rattle.capnp_layout.specs.Layout.{HasRoom}
 use Rattle.std.specs.Prelude.{All, ◌↔◌}
 
 shorter : (words : List ℕ) (k : ℕ) → length words ≡ k + 1 → slice_get words k ≡ Some 0 → length (cut_zeros words) ≤ k

@@ -1,9 +1,8 @@
 -- What is tested of the pointers of a trimmed list of structs.
 use Rattle.std.proofs.Common.{◌≡◌, inl, inr, ℕ, zero, suc, ◌+◌, ◌*◌, ◌<◌, ◌≤◌, List, [], ◌∷◌, length, Some, refl, sym, ◌∙◌, ap, arith, ◌⊎◌}
 use Rattle.std.proofs.lemmas.Bool.{cases_lt}
-use Rattle.capnp_layout.specs.Tree.{null, Trees, none, tree, count}
-use Rattle.capnp_layout.specs.Trim.{first, following, cut_nulls, least_pointers}
-use Rattle.capnp_wire.specs.Canonical.{nth_form, EndsSome}
+use Rattle.capnp_layout.specs.Prelude.{null, Trees, none, tree, count, first, following, cut_nulls, least_pointers}
+use Rattle.capnp_wire.specs.Prelude.{nth_form, EndsSome}
 use Rattle.capnp_layout.proofs.trees.ChunkLemmas.{least_pointers_within}
 use Rattle.capnp_layout.proofs.trees.NarrowLemmas.{rows_split}
 use Rattle.capnp_wire.proofs.forms.FullLemmas.{fewer, some_same}

@@ -1,13 +1,9 @@
 -- The tests of a walk hold exactly where the words are those of a layout.
 use Rattle.std.proofs.Common.{◌≡◌, ℕ, ◌+◌, ◌-◌, ◌*◌, ◌^◌, ◌<◌, ◌≤◌, List, [], ◌∷◌, length, Some, slice_get, refl, sym, ◌∙◌, ap, subst, arith}
 use Rattle.std.proofs.lemmas.List.{nil_from_length}
-use Rattle.capnp_layout.specs.Pointer.{pointer_kind, offset}
-use Rattle.capnp_layout.specs.Layout.{struct_pointer, list_pointer, minus_one, pointer, HasRoom, Reaches}
-use Rattle.capnp_layout.specs.Tree.{Form, null, struct, numbers, pointers, structs, Trees, tree}
+use Rattle.capnp_layout.specs.Prelude.{pointer_kind, offset, struct_pointer, list_pointer, minus_one, pointer, HasRoom, Reaches, Form, null, struct, numbers, pointers, structs, Trees, tree, Shape, ShapeStands, PointsTo, is_null, is_object, At, at}
 use Rattle.capnp_layout.specs.declared.place.Place.{Place}
-use Rattle.capnp_layout.specs.Object.{Shape, ShapeStands, PointsTo, is_null, is_object}
-use Rattle.capnp_layout.specs.Reached.{At, at}
-use Rattle.capnp_wire.specs.Canonical.{Padded}
+use Rattle.capnp_wire.specs.Prelude.{Padded}
 use Rattle.capnp_layout.proofs.words.SubsliceLemmas.{Holds, holds_none}
 use Rattle.capnp_layout.proofs.pointers.TagLemmas.{struct_fields, list_fields}
 use Rattle.capnp_layout.proofs.objects.ObjectLemmas.{null_lands_nowhere}

@@ -5,10 +5,8 @@ use Rattle.std.proofs.lemmas.Option.{slice_get_within}
 use Rattle.std.proofs.Common.{◌≡◌, ◌≢◌, inl, inr, ℕ, zero, suc, ◌+◌, ◌-◌, ◌*◌, ◌<◌, ◌≤◌, List, [], ◌∷◌, ◌++◌, length, take, Some, None, slice_get, slice_index_or, refl, sym, ◌∙◌, ap}
 use Rattle.std.proofs.Common.{subst, arith}
 use Rattle.std.specs.Prelude.{◌↔◌}
-use Rattle.capnp_layout.specs.Pointer.{words_from}
-use Rattle.capnp_layout.specs.Object.{places, row_places, rows_from}
-use Rattle.capnp_wire.specs.Canonical.{EndsFull}
-use Rattle.capnp_wire.specs.Tested.{NeedData, NeedPointers, links_at}
+use Rattle.capnp_layout.specs.Prelude.{words_from, places, row_places, rows_from}
+use Rattle.capnp_wire.specs.Prelude.{EndsFull, NeedData, NeedPointers, links_at}
 use Rattle.capnp_layout.specs.declared.place.Place.{Place}
 use Rattle.capnp_layout.proofs.trees.RoomLemmas.{length-rows_from}
 use Rattle.capnp_layout.proofs.forms.TruncatedLemmas.{drop_first, length-subslice}

@@ -1,6 +1,6 @@
 -- Words that are put into a block.
 use Rattle.std.proofs.Common.{◌≡◌, ℕ, ◌+◌, ◌-◌, ◌≤◌, List, ◌++◌, length, refl, sym, ◌∙◌, ap, arith, append_assoc, length-append}
-use Rattle.capnp_layout.specs.Block.{put}
+use Rattle.capnp_layout.specs.Prelude.{put}
 use Rattle.capnp_layout.proofs.layouts.BlockLemmas.{parts, put_parts}
 
 -- words before others are put in either order

@@ -6,9 +6,7 @@ use Rattle.capnp_layout.proofs.pointers.SlotLemmas.{AllOf}
 use Rattle.capnp_layout.proofs.layouts.SizeLemmas.{length-woven}
 use Rattle.std.proofs.Common.{◌≡◌, ℕ, zero, suc, ◌+◌, ◌*◌, ◌≤◌, List, [], ◌∷◌, ◌++◌, length, take, drop, refl, sym, ◌∙◌, ap}
 use Rattle.std.proofs.Common.{arith, append_assoc, length-append, length-take, length-drop}
-use Rattle.capnp_layout.specs.Layout.{run, row_run, woven}
-use Rattle.capnp_layout.specs.Block.{put, put_rows, moved}
-use Rattle.capnp_layout.specs.Rows.{row_slots}
+use Rattle.capnp_layout.specs.Prelude.{run, row_run, woven, put, put_rows, moved, row_slots}
 use Rattle.capnp_layout.proofs.layouts.BlockLemmas.{put_both, length-put, put_none}
 
 -- runs of slots

@@ -1,18 +1,9 @@
 -- What a pointer leads to that is copied.
 use Rattle.std.proofs.Common.{◌≡◌, ℕ, zero, suc, ◌+◌, ◌-◌, ◌*◌, ◌≤◌, Bool, true, false, List, [], ◌∷◌, ◌++◌, ◌<◌, ◌^◌, length, Some, slice_get, refl, sym, ◌∙◌, ap, subst, arith, length-append}
 use Rattle.std.proofs.lemmas.List.{append-nil}
-use Rattle.capnp_layout.specs.Pointer.{words_of, words_from}
-use Rattle.capnp_layout.specs.Tree.{null, Trees, none, tree, total_words}
-use Rattle.capnp_layout.specs.Object.{nothing, places, word_at, is_null as null_there}
-use Rattle.capnp_layout.specs.Body.{IsObject, words_in}
-use Rattle.capnp_layout.specs.Reached.{At}
-use Rattle.capnp_layout.specs.Layout.{body, run, pointer_to, output}
-use Rattle.capnp_layout.specs.Block.{put, fill}
-use Rattle.capnp_layout.specs.Rows.{row_size, row_count, first_row, kept_places, kept_in, slots_of}
-use Rattle.capnp_wire.specs.Copy.{CanCopy, IsCopied, Copies, IsCopyable, Begins, BeginsRun, put_own}
-use Rattle.capnp_layout.specs.Output.{IsNarrower, output_body_of, pointer_of_body}
+use Rattle.capnp_layout.specs.Prelude.{words_of, words_from, null, Trees, none, tree, total_words, nothing, places, word_at, is_null as null_there, IsObject, words_in, At, body, run, pointer_to, output, put, fill, row_size, row_count, first_row, kept_places, kept_in, slots_of, IsNarrower, output_body_of, pointer_of_body, local_struct_of}
+use Rattle.capnp_wire.specs.Prelude.{CanCopy, IsCopied, Copies, IsCopyable, Begins, BeginsRun, put_own}
 use Rattle.capnp_layout.specs.declared.place.Place.{Place}
-use Rattle.capnp_layout.specs.Local.{local_struct_of}
 use Rattle.capnp_layout.specs.declared.fast_path.LocalStruct.{LocalStruct}
 use Rattle.capnp_layout.specs.declared.pointer.StructSize.{StructSize}
 use Rattle.capnp_layout.specs.declared.object.Body.{Body}

@@ -1,12 +1,7 @@
 -- Trees that are copied one after the other.
 use Rattle.std.proofs.Common.{◌≡◌, ◌≢◌, ℕ, ◌+◌, ◌-◌, ◌<◌, ◌≤◌, Bool, true, false, List, [], ◌∷◌, length, Some, slice_get, refl, sym, ◌∙◌, ap, subst, arith}
-use Rattle.capnp_layout.specs.Tree.{Form, Trees, none, tree, count, depth, object_size, total_words}
-use Rattle.capnp_layout.specs.Trim.{trim, trim_form, trim_children}
-use Rattle.capnp_layout.specs.Reached.{At, nowhere, at}
-use Rattle.capnp_layout.specs.Layout.{pointer, body, pointer_to, output, AllHaveRoom}
-use Rattle.capnp_layout.specs.Block.{put, fill}
-use Rattle.capnp_layout.specs.Rows.{places_in, slots_in, end_of}
-use Rattle.capnp_wire.specs.Copy.{CanCopy, Copies, CopiesAll, CanCopyRows, ArePaired, TakesPair}
+use Rattle.capnp_layout.specs.Prelude.{Form, Trees, none, tree, count, depth, object_size, total_words, trim, trim_form, trim_children, At, nowhere, at, pointer, body, pointer_to, output, AllHaveRoom, put, fill, places_in, slots_in, end_of}
+use Rattle.capnp_wire.specs.Prelude.{CanCopy, Copies, CopiesAll, CanCopyRows, ArePaired, TakesPair}
 use Rattle.capnp_wire.specs.declared.layout.copy_cursor.CopyCursor.{CopyCursor}
 use Rattle.capnp_layout.specs.declared.place.Place.{Place}
 use Rattle.capnp_wire.specs.declared.layout.copy.Copied.{Copied}

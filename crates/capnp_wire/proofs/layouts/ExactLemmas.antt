@@ -3,13 +3,9 @@ use Rattle.std.proofs.Common.{◌≡◌, ℕ, zero, suc, ◌+◌, ◌*◌, ◌^�
 use Rattle.std.proofs.Common.{length-drop, append_assoc}
 use Rattle.std.proofs.lemmas.List.{take-append-drop, drop_at}
 use Rattle.std.proofs.lemmas.Option.{slice_get_within}
-use Rattle.capnp_layout.specs.Pointer.{digits, number_of, words_from, pointer_kind, offset, data_words, pointer_words, code, list_count}
-use Rattle.capnp_layout.specs.Layout.{struct_pointer, run, row_run, slots, woven, own, placed}
-use Rattle.capnp_layout.specs.Element.{width, words_for}
-use Rattle.capnp_layout.specs.Tree.{Form, struct, numbers, pointers, structs}
+use Rattle.capnp_layout.specs.Prelude.{digits, number_of, words_from, pointer_kind, offset, data_words, pointer_words, code, list_count, struct_pointer, run, row_run, slots, woven, own, placed, width, words_for, Form, struct, numbers, pointers, structs, Shape, ShapeStands, places, row_places, rows_from, a_struct, some_numbers, some_pointers, some_structs}
 use Rattle.capnp_layout.specs.declared.place.Place.{Place}
-use Rattle.capnp_layout.specs.Object.{Shape, ShapeStands, places, row_places, rows_from, a_struct, some_numbers, some_pointers, some_structs}
-use Rattle.capnp_wire.specs.Canonical.{Padded}
+use Rattle.capnp_wire.specs.Prelude.{Padded}
 use Rattle.capnp_layout.proofs.words.SubsliceLemmas.{Holds, holds_none, holds_same}
 use Rattle.capnp_layout.proofs.words.DigitLemmas.{length-digits}
 use Rattle.capnp_layout.proofs.layouts.SizeLemmas.{length-run}

@@ -2,9 +2,7 @@
 use Rattle.std.proofs.lemmas.List.{take-append-drop, append-nil}
 use Rattle.std.proofs.lemmas.List.Elements.{All-head, All-tail}
 use Rattle.std.proofs.Common.{◌≡◌, ℕ, suc, ◌+◌, ◌-◌, ◌*◌, ◌≤◌, List, [], ◌∷◌, ◌++◌, length, take, drop, refl, sym, ◌∙◌, ap, subst, arith, append_assoc, length-append, length-take, length-drop}
-use Rattle.capnp_layout.specs.Tree.{Form, null, struct, numbers, pointers, structs, Trees, none, tree, count, object_size, total_words}
-use Rattle.capnp_layout.specs.Layout.{pointer, run, row_run, slots, pointers_to, woven, own, body, struct_pointer, HasRoom, AllHaveRoom}
-use Rattle.capnp_layout.specs.Block.{put, fill, moved}
+use Rattle.capnp_layout.specs.Prelude.{Form, null, struct, numbers, pointers, structs, Trees, none, tree, count, object_size, total_words, pointer, run, row_run, slots, pointers_to, woven, own, body, struct_pointer, HasRoom, AllHaveRoom, put, fill, moved}
 use Rattle.capnp_layout.proofs.pointers.SlotLemmas.{AllOf}
 use Rattle.capnp_layout.proofs.layouts.SizeLemmas.{Before, before_more, length-run, length-slots, slots_before, length-own, length-body, links_of, length-links, rows_even}
 use Rattle.capnp_layout.proofs.layouts.BlockLemmas.{put_parts, put_none, put_both, put_inside, length-put}

@@ -5,13 +5,8 @@ use Rattle.std.specs.Simd.{first_chunks}
 use Rattle.std.proofs.Math.Seq.{drop-append_seam}
 use Rattle.std.proofs.lemmas.List.{append-nil, take-append-drop, drop-append-le, take-replicate, drop-replicate, length-replicate, replicate-append-replicate}
 use Rattle.std.proofs.lemmas.List.Elements.{All-take, All-drop, All-replicate}
-use Rattle.capnp_layout.specs.Pointer.{digits, number_of, words_of}
-use Rattle.capnp_layout.specs.Element.{width, words_for}
-use Rattle.capnp_layout.specs.Tree.{null, numbers, Trees, none, tree, total_words}
-use Rattle.capnp_layout.specs.Layout.{own, body, layout, list_pointer, pointer_to, output, AllHaveRoom}
-use Rattle.capnp_layout.specs.Block.{put}
-use Rattle.capnp_wire.specs.Copy.{IsCopied}
-use Rattle.capnp_wire.specs.Values.{HasWords, HasRoomAt, IsFreeFrom}
+use Rattle.capnp_layout.specs.Prelude.{digits, number_of, words_of, width, words_for, null, numbers, Trees, none, tree, total_words, own, body, layout, list_pointer, pointer_to, output, AllHaveRoom, put}
+use Rattle.capnp_wire.specs.Prelude.{IsCopied, HasWords, HasRoomAt, IsFreeFrom}
 use Rattle.capnp_wire.specs.declared.layout.copy.Copied.{Copied}
 use Rattle.capnp_layout.proofs.words.WordLemmas.{length-words_of}
 use Rattle.capnp_layout.proofs.words.PutLemmas.{words_part, put_mid_words}

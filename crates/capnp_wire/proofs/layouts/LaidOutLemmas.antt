@@ -2,15 +2,9 @@
 use Rattle.std.proofs.Math.Nat.{mul-le-mul_left}
 use Rattle.std.proofs.Common.{◌≡◌, ◌⊎◌, inl, inr, ℕ, zero, suc, ◌+◌, ◌-◌, ◌*◌, ◌^◌, ◌<◌, ◌≤◌, false, List, [], ◌∷◌, length, Option, Some, slice_get, slice_index_or, refl, sym, ◌∙◌, ap, subst, arith}
 use Rattle.std.specs.Prelude.{All, ◌↔◌}
-use Rattle.capnp_layout.specs.Pointer.{pointer_kind}
-use Rattle.capnp_layout.specs.Tree.{Form, is_null, null, struct, numbers, pointers, structs, Trees, none, tree, count, depth, object_size}
-use Rattle.capnp_layout.specs.Trim.{trim_form, trim_children}
-use Rattle.capnp_layout.specs.Object.{word_at, local, far, double_far, Shape, ShapeStands, PointsTo, is_null as null_there, is_object}
-use Rattle.capnp_layout.specs.Reached.{At, nowhere, at}
-use Rattle.capnp_layout.specs.Traversed.{less}
-use Rattle.capnp_layout.specs.Layout.{pointer, Reaches, HasRoom}
-use Rattle.capnp_wire.specs.Canonical.{EndsFull, EndsSome, nth_form, Padded, IsInPreorder}
-use Rattle.capnp_wire.specs.Tested.{IsFarAt, IsNext, links_at, NeedPointers, IsTruncated, IsLaidOut, MeetsObject, Passes}
+use Rattle.capnp_layout.specs.Prelude.{pointer_kind, Form, null, struct, numbers, pointers, structs, Trees, none, tree, count, depth, object_size, trim_form, trim_children, word_at, local, far, double_far, Shape, ShapeStands, PointsTo, is_null as null_there, is_object, At, nowhere, at, less, pointer, Reaches, HasRoom}
+use Rattle.capnp_layout.specs.Tree.{is_null}
+use Rattle.capnp_wire.specs.Prelude.{EndsFull, EndsSome, nth_form, Padded, IsInPreorder, IsFarAt, IsNext, links_at, NeedPointers, IsTruncated, IsLaidOut, MeetsObject, Passes}
 use Rattle.capnp_layout.specs.declared.place.Place.{Place}
 use Rattle.capnp_layout.proofs.trees.StandLemmas.{count_at, one_deeper}
 use Rattle.capnp_wire.proofs.forms.TruncatedLemmas.{or_there, there_or}

@@ -1,10 +1,6 @@
 -- A layout is read back as its tree.
 use Rattle.std.proofs.Common.{ℕ, ◌+◌, ◌^◌, ◌<◌, List, [], ◌∷◌, refl, arith}
-use Rattle.capnp_layout.specs.Tree.{Form, Trees, none, tree, count}
-use Rattle.capnp_layout.specs.Reached.{At}
-use Rattle.capnp_layout.specs.Tree.{total_words}
-use Rattle.capnp_layout.specs.Layout.{pointer, body, layout, AllHaveRoom, AllReach}
-use Rattle.capnp_layout.specs.Reached.{root}
+use Rattle.capnp_layout.specs.Prelude.{Form, Trees, none, tree, count, At, total_words, pointer, body, layout, AllHaveRoom, AllReach, root}
 use Rattle.capnp_layout.proofs.words.SubsliceLemmas.{Holds, holds_right, holds_all}
 use Rattle.capnp_layout.proofs.layouts.LayoutLemmas.{few_reach, stands}
 

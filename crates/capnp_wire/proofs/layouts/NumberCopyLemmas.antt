@@ -1,14 +1,7 @@
 -- Lists that are copied: nothing is below numbers, and pointers have no other words.
 use Rattle.std.proofs.Common.{◌≡◌, ℕ, ◌+◌, ◌-◌, Bool, List, [], ◌∷◌, ◌<◌, ◌^◌, length, refl, sym, subst, arith}
-use Rattle.capnp_layout.specs.Pointer.{words_of}
-use Rattle.capnp_layout.specs.Element.{code_of, width, words_for}
-use Rattle.capnp_layout.specs.Object.{places}
-use Rattle.capnp_layout.specs.Body.{IsObject}
-use Rattle.capnp_layout.specs.Layout.{run}
-use Rattle.capnp_layout.specs.Rows.{slots_of}
-use Rattle.capnp_layout.specs.Local.{object_of, pointers_of}
-use Rattle.capnp_wire.specs.Copy.{CanCopy, Copies, Begins, BeginsRun, put_own}
-use Rattle.capnp_layout.specs.Output.{pointer_of_body}
+use Rattle.capnp_layout.specs.Prelude.{words_of, code_of, width, words_for, places, IsObject, run, slots_of, object_of, pointers_of, pointer_of_body}
+use Rattle.capnp_wire.specs.Prelude.{CanCopy, Copies, Begins, BeginsRun, put_own}
 use Rattle.capnp_layout.specs.declared.place.Place.{Place}
 use Rattle.capnp_layout.specs.declared.number_list.NumberList.{NumberList}
 use Rattle.capnp_layout.specs.declared.pointer_run.PointerRun.{PointerRun}

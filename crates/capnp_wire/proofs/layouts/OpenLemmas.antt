@@ -8,17 +8,8 @@ use Rattle.capnp_wire.proofs.layouts.CopyLemmas.{none_output, fill_nothing}
 use Rattle.capnp_layout.proofs.trees.RoomLemmas.{length-rows_from}
 use Rattle.std.proofs.Common.{◌≡◌, ℕ, ◌+◌, ◌-◌, ◌*◌, ◌<◌, ◌≤◌, ◌^◌, ◌==◌, if◌then◌else◌, Bool, true, false, List, [], ◌∷◌, ◌++◌, length, take, drop, refl, sym, ◌∙◌, ap, subst}
 use Rattle.std.proofs.Common.{arith, length-take, length-drop}
-use Rattle.capnp_layout.specs.Pointer.{number_of, words_from}
-use Rattle.capnp_layout.specs.Element.{code_of, width, words_for}
-use Rattle.capnp_layout.specs.Tree.{Form, struct, numbers, pointers, structs, Trees, none, tree, count, depth, object_size, total_words}
-use Rattle.capnp_layout.specs.Object.{Shape, PointsTo, places, rows_from, elements as numerals}
-use Rattle.capnp_layout.specs.Body.{words_in}
-use Rattle.capnp_layout.specs.Reached.{At, nowhere, at}
-use Rattle.capnp_layout.specs.Layout.{pointer, body, own, slots, run, row_run, woven, pointer_to, output, struct_pointer, list_pointer, minus_one, AllHaveRoom}
-use Rattle.capnp_layout.specs.Block.{put, put_rows, fill, moved}
-use Rattle.capnp_wire.specs.Copy.{CanCopy, put_own, element_count}
-use Rattle.capnp_layout.specs.Output.{list_length, pointer_of_body}
-use Rattle.capnp_layout.specs.Rows.{row_size, kept_in, slots_of, kept_places, row_slots}
+use Rattle.capnp_layout.specs.Prelude.{number_of, words_from, code_of, width, words_for, Form, struct, numbers, pointers, structs, Trees, none, tree, count, depth, object_size, total_words, Shape, PointsTo, places, rows_from, elements as numerals, words_in, At, nowhere, at, pointer, body, own, slots, run, row_run, woven, pointer_to, output, struct_pointer, list_pointer, minus_one, AllHaveRoom, put, put_rows, fill, moved, list_length, pointer_of_body, row_size, kept_in, slots_of, kept_places, row_slots}
+use Rattle.capnp_wire.specs.Prelude.{CanCopy, put_own, element_count}
 use Rattle.capnp_layout.specs.declared.place.Place.{Place}
 use Rattle.capnp_layout.specs.declared.element_size.ElementSize.{ElementSize}
 use Rattle.capnp_layout.specs.declared.pointer.Elements.{Elements}

@@ -1,16 +1,8 @@
 -- Each object opens to what is copied of it.
 use Rattle.std.proofs.Common.{◌≡◌, ℕ, ◌+◌, ◌-◌, ◌*◌, ◌<◌, ◌≤◌, Bool, true, false, if◌then◌else◌, List, [], ◌∷◌, length, map, take, Some, slice_get, refl, sym, ◌∙◌, ap, subst, arith}
-use Rattle.capnp_layout.specs.Pointer.{words_from}
-use Rattle.capnp_layout.specs.Tree.{Form, struct, structs, Trees, none, tree, count, depth, is_null, total_words}
-use Rattle.capnp_layout.specs.Trim.{first, narrowed, cut_zeros, cut_nulls, least_data, least_pointers, trim}
-use Rattle.capnp_layout.specs.Object.{PointsTo, places, row_places, rows_from}
-use Rattle.capnp_layout.specs.Body.{shape_of, room_of, words_in}
-use Rattle.capnp_layout.specs.Reached.{At}
-use Rattle.capnp_layout.specs.Layout.{output, AllHaveRoom}
-use Rattle.capnp_layout.specs.Block.{most_used}
-use Rattle.capnp_wire.specs.Copy.{CanCopy}
-use Rattle.capnp_layout.specs.Output.{least_size, output_body_of}
-use Rattle.capnp_layout.specs.Rows.{kept_places}
+use Rattle.capnp_layout.specs.Prelude.{words_from, Form, struct, structs, Trees, none, tree, count, depth, total_words, first, narrowed, cut_zeros, cut_nulls, least_data, least_pointers, trim, PointsTo, places, row_places, rows_from, shape_of, room_of, words_in, At, output, AllHaveRoom, most_used, least_size, output_body_of, kept_places}
+use Rattle.capnp_layout.specs.Tree.{is_null}
+use Rattle.capnp_wire.specs.Prelude.{CanCopy}
 use Rattle.capnp_layout.specs.declared.place.Place.{Place}
 use Rattle.capnp_layout.specs.declared.pointer.Elements.{Elements}
 use Rattle.capnp_layout.specs.declared.pointer.StructSize.{StructSize}

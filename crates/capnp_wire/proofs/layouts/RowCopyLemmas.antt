@@ -1,8 +1,6 @@
 -- Rows that are put into a block one after the other.
 use Rattle.std.proofs.Common.{◌≡◌, ℕ, zero, suc, ◌+◌, ◌-◌, ◌*◌, ◌<◌, ◌≤◌, List, [], length, drop, refl, ◌∙◌, arith, length-take, length-drop}
-use Rattle.capnp_layout.specs.Pointer.{words_from}
-use Rattle.capnp_layout.specs.Object.{rows_from}
-use Rattle.capnp_layout.specs.Block.{put, put_rows}
+use Rattle.capnp_layout.specs.Prelude.{words_from, rows_from, put, put_rows}
 use Rattle.capnp_layout.proofs.layouts.BlockLemmas.{put_none}
 
 pub fewer_rows : (start step n there : ℕ) → 0 < n → start + n * step ≤ there → start + step + (n - 1) * step ≤ there

@@ -1,7 +1,6 @@
 -- How long the parts of a layout are.
 use Rattle.std.proofs.Common.{ℕ, List, ◌++◌}
-use Rattle.capnp_layout.specs.Tree.{Form, Trees}
-use Rattle.capnp_layout.specs.Layout.{own, body}
+use Rattle.capnp_layout.specs.Prelude.{Form, Trees, own, body}
 use Rattle.capnp_layout.proofs.layouts.SizeLemmas.{links_of}
 
 -- all that is written of an object: its own words, and what it leads to

@@ -1,12 +1,10 @@
 -- Consecutive numbers of one size: none of them lies in two words.
 use Rattle.std.proofs.lemmas.List.{take_all}
 use Rattle.std.proofs.Common.{◌≡◌, ℕ, ◌*◌, ◌/◌, ◌%◌, ◌^◌, ◌<◌, List, length, take, slice_index_or, sym, ◌∙◌, ap, arith}
-use Rattle.capnp_layout.specs.Pointer.{words_of}
-use Rattle.capnp_layout.specs.Element.{code_of, width, words_for}
-use Rattle.capnp_layout.specs.Object.{elements}
+use Rattle.capnp_layout.specs.Prelude.{words_of, code_of, width, words_for, elements}
 use Rattle.capnp_layout.proofs.words.WordLemmas.{length-words_of}
 use Rattle.capnp_wire.proofs.words.BitLemmas.{field_in_word, element_is_field}
-use Rattle.capnp_wire.specs.Fields.{field}
+use Rattle.capnp_wire.specs.Prelude.{field}
 use Rattle.std.specs.Prelude.{All}
 use Rattle.capnp_layout.specs.declared.element_size.ElementSize.{ElementSize}
 use Rattle.capnp_layout.proofs.objects.NumberLemmas.{within_word}

@@ -1,11 +1,8 @@
 -- The padding of a list of numbers, by its last word.
 use Rattle.std.proofs.Common.{◌≡◌, ℕ, ◌+◌, ◌*◌, ◌/◌, ◌%◌, ◌^◌, ◌<◌, ◌≤◌, List, length, slice_index_or, refl, sym, ◌∙◌, ap, subst, arith}
 use Rattle.std.specs.Prelude.{All, ◌↔◌}
-use Rattle.capnp_layout.specs.Pointer.{digits, number_of, words_from}
-use Rattle.capnp_layout.specs.Element.{width, words_for}
-use Rattle.capnp_layout.specs.Tree.{numbers}
-use Rattle.capnp_layout.specs.Object.{elements}
-use Rattle.capnp_wire.specs.Canonical.{Padded}
+use Rattle.capnp_layout.specs.Prelude.{digits, number_of, words_from, width, words_for, numbers, elements}
+use Rattle.capnp_wire.specs.Prelude.{Padded}
 use Rattle.capnp_layout.proofs.words.DigitLemmas.{length-digits}
 use Rattle.capnp_layout.proofs.objects.PaddedLemmas.{padded_small, part_small, small_padded, whole_small}
 

@@ -3,12 +3,8 @@ use Rattle.std.proofs.lemmas.List.{length-map}
 use Rattle.std.proofs.Math.Nat.{zero-div}
 use Rattle.std.proofs.Common.{◌≡◌, ℕ, ◌+◌, ◌*◌, ◌/◌, ◌%◌, ◌^◌, ◌<◌, List, [], ◌∷◌, length, Option, Some, None, slice_index_or, refl, sym, ◌∙◌, ap, arith}
 use Rattle.std.specs.Prelude.{All}
-use Rattle.capnp_layout.specs.Pointer.{words_from}
-use Rattle.capnp_layout.specs.Element.{code_of, width}
-use Rattle.capnp_layout.specs.Object.{places}
-use Rattle.capnp_wire.specs.Parts.{own_part, own_data}
-use Rattle.capnp_wire.specs.Values.{fields_at}
-use Rattle.capnp_wire.specs.Views.{Struct}
+use Rattle.capnp_layout.specs.Prelude.{words_from, code_of, width, places}
+use Rattle.capnp_wire.specs.Prelude.{own_part, own_data, fields_at, Struct}
 use Rattle.capnp_wire.specs.declared.any_struct.part.WordPart.{WordPart}
 use Rattle.capnp_layout.specs.declared.place.Place.{Place}
 use Rattle.capnp_layout.specs.declared.pointer.StructSize.{StructSize}

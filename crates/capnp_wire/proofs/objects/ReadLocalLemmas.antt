@@ -1,13 +1,8 @@
 -- An object in the segment of its pointer, in a message of one segment, and what is tested of it.
 use Rattle.std.proofs.Common.{◌≡◌, ℕ, ◌+◌, ◌*◌, ◌/◌, ◌^◌, ◌<◌, ◌≤◌, List, length, Some, slice_get, sym, subst, arith}
 use Rattle.std.specs.Prelude.{◌↔◌}
-use Rattle.capnp_layout.specs.Pointer.{offset}
-use Rattle.capnp_layout.specs.Element.{code_of}
-use Rattle.capnp_layout.specs.Tree.{numbers, object_size}
-use Rattle.capnp_layout.specs.Object.{elements}
-use Rattle.capnp_layout.specs.Body.{shape_of, room_of, words_in}
-use Rattle.capnp_wire.specs.Canonical.{Padded}
-use Rattle.capnp_wire.specs.Tested.{IsNext, NextOf, PaddedOf, IsTruncated, links_at, IsLaidOut}
+use Rattle.capnp_layout.specs.Prelude.{offset, code_of, numbers, object_size, elements, shape_of, room_of, words_in}
+use Rattle.capnp_wire.specs.Prelude.{Padded, IsNext, NextOf, PaddedOf, IsTruncated, links_at, IsLaidOut}
 use Rattle.capnp_layout.specs.declared.place.Place.{Place}
 use Rattle.capnp_layout.specs.declared.object.Body.{Body}
 use Rattle.capnp_layout.specs.declared.object.Body.TheVariants.{Struct, Numbers, Pointers, Structs}

@@ -3,20 +3,9 @@ use Rattle.std.proofs.Common.{◌≡◌, ◌≢◌, ℕ, zero, suc, [], ◌+◌,
 use Rattle.std.proofs.Common.{subst, arith, Some, slice_get}
 use Rattle.std.specs.Prelude.{All}
 use Rattle.capnp_frame.specs.declared.error.Error.{Error}
-use Rattle.capnp_layout.specs.Pointer.{words_from}
-use Rattle.capnp_layout.specs.Tree.{struct, Trees, none, tree, object_size, total_words}
-use Rattle.capnp_layout.specs.Object.{places}
-use Rattle.capnp_layout.specs.Body.{words_in}
-use Rattle.capnp_layout.specs.Reached.{At}
-use Rattle.capnp_wire.specs.Traversed.{WalkedAll}
-use Rattle.capnp_layout.specs.Layout.{output, AllHaveRoom}
-use Rattle.capnp_layout.specs.Block.{fill}
-use Rattle.capnp_layout.specs.Output.{output_body_of, pointer_of_body}
-use Rattle.capnp_wire.specs.Copy.{put_own, IsCopied, CopiesAll}
+use Rattle.capnp_layout.specs.Prelude.{words_from, struct, Trees, none, tree, object_size, total_words, places, words_in, At, output, AllHaveRoom, fill, output_body_of, pointer_of_body, row_size, kept_in, slots_of, too_large}
+use Rattle.capnp_wire.specs.Prelude.{WalkedAll, put_own, IsCopied, CopiesAll, HasWords, LacksWords, HasRoomAt, IsTreeOf, StopsInside, HoldsPointers, fields_at}
 use Rattle.capnp_wire.specs.declared.layout.copy.Copied.{Copied}
-use Rattle.capnp_layout.specs.Rows.{row_size, kept_in, slots_of}
-use Rattle.capnp_wire.specs.Values.{HasWords, LacksWords, HasRoomAt, IsTreeOf, StopsInside, HoldsPointers, fields_at}
-use Rattle.capnp_layout.specs.Limits.{too_large}
 use Rattle.capnp_layout.specs.declared.place.Place.{Place}
 use Rattle.capnp_layout.specs.declared.pointer.StructSize.{StructSize}
 use Rattle.capnp_layout.specs.declared.object.Body.{Body}

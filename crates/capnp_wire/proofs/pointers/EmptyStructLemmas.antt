@@ -1,14 +1,8 @@
 -- Structs of no words that begin where their pointers do: a walk meets no words there, and their copies are such pointers.
 use Rattle.std.proofs.Common.{◌≡◌, ℕ, ◌<◌, ◌^◌, Bool, List, [], Option, Some, slice_get, inl, inr, sym, ◌∙◌, ap, subst, arith, lit<}
 use Rattle.std.proofs.lemmas.List.Elements.{All-nil}
-use Rattle.capnp_layout.specs.Tree.{struct, Trees, none, tree, total_words}
-use Rattle.capnp_layout.specs.Object.{is_null as null_there}
-use Rattle.capnp_layout.specs.Reached.{nowhere, at}
-use Rattle.capnp_layout.specs.Layout.{body, pointer_to, output}
-use Rattle.capnp_layout.specs.Block.{put}
-use Rattle.capnp_layout.specs.Local.{empty_struct, IsNullOrEmptyStruct}
-use Rattle.capnp_wire.specs.Traversed.{Walked}
-use Rattle.capnp_wire.specs.Copy.{Copies}
+use Rattle.capnp_layout.specs.Prelude.{struct, Trees, none, tree, total_words, is_null as null_there, nowhere, at, body, pointer_to, output, put, empty_struct, IsNullOrEmptyStruct}
+use Rattle.capnp_wire.specs.Prelude.{Walked, Copies}
 use Rattle.capnp_layout.specs.declared.place.Place.{Place}
 use Rattle.capnp_layout.proofs.pointers.LocalLemmas.{word_there}
 use Rattle.capnp_layout.proofs.trees.StandLemmas.{within_none, less_none}

@@ -1,12 +1,7 @@
 -- Lists of numbers and structs in the segments of their pointers: they are where the pointers lead.
 use Rattle.std.proofs.Common.{◌≡◌, Bool, ℕ, ◌+◌, ◌<◌, List, Option, refl, ◌∙◌, ap, subst}
-use Rattle.capnp_layout.specs.Pointer.{words_of}
-use Rattle.capnp_layout.specs.Element.{code_of, width, words_for}
-use Rattle.capnp_layout.specs.Body.{IsObject, words_in, traversed_of}
-use Rattle.capnp_layout.specs.Local.{object_of, local_struct_of, pointers_of}
-use Rattle.capnp_layout.specs.Traversed.{Within, less}
-use Rattle.capnp_wire.specs.Traversed.{CountsMore, EntersObject, Walked}
-use Rattle.capnp_layout.specs.Output.{output_body_of}
+use Rattle.capnp_layout.specs.Prelude.{words_of, code_of, width, words_for, IsObject, words_in, traversed_of, object_of, local_struct_of, pointers_of, Within, less, output_body_of}
+use Rattle.capnp_wire.specs.Prelude.{CountsMore, EntersObject, Walked}
 use Rattle.capnp_layout.specs.declared.place.Place.{Place}
 use Rattle.capnp_layout.specs.declared.number_list.NumberList.{NumberList}
 use Rattle.capnp_layout.specs.declared.pointer.StructSize.{StructSize}

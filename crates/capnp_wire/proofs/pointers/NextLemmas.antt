@@ -1,12 +1,8 @@
 -- A pointer leads to the next free word exactly where its word is that of a layout.
 use Rattle.std.proofs.Common.{◌≡◌, ℕ, zero, suc, ◌+◌, ◌-◌, ◌*◌, ◌/◌, ◌^◌, ◌<◌, ◌≤◌, List, [], ◌∷◌, length, refl, sym, ◌∙◌, ap, arith, drop, length-take, length-drop}
 use Rattle.std.specs.Prelude.{◌↔◌}
-use Rattle.capnp_layout.specs.Pointer.{pointer_kind, offset, data_words, pointer_words, code, list_count, words_from, number_of}
-use Rattle.capnp_layout.specs.Element.{width, words_for}
-use Rattle.capnp_layout.specs.Tree.{struct, object_size}
-use Rattle.capnp_layout.specs.Object.{Shape, ShapeStands, places, rows_from, elements, a_struct, some_numbers, some_pointers, some_structs}
-use Rattle.capnp_layout.specs.Layout.{struct_pointer, list_pointer, minus_one, pointer, Reaches}
-use Rattle.capnp_wire.specs.Tested.{LeadsTo, IsNext}
+use Rattle.capnp_layout.specs.Prelude.{pointer_kind, offset, data_words, pointer_words, code, list_count, words_from, number_of, width, words_for, struct, object_size, Shape, ShapeStands, places, rows_from, elements, a_struct, some_numbers, some_pointers, some_structs, struct_pointer, list_pointer, minus_one, pointer, Reaches}
+use Rattle.capnp_wire.specs.Prelude.{LeadsTo, IsNext}
 use Rattle.capnp_layout.specs.declared.place.Place.{Place}
 use Rattle.capnp_layout.proofs.layouts.LayoutLemmas.{if_positive}
 use Rattle.capnp_layout.proofs.objects.FieldLemmas.{length-places}

@@ -2,9 +2,8 @@
 use Rattle.std.proofs.Common.{◌≡◌, ℕ, nat_eq, true, Some, ap, subst, ◌∙◌}
 use Rattle.std.proofs.lemmas.Bool.{eq-eqb, eqb-true}
 use Rattle.capnp_frame.specs.declared.error.ErrorKind.{ErrorKind}
-use Rattle.capnp_layout.specs.Object.{word_at, PointsTo, nothing, is_null as null_there}
-use Rattle.capnp_wire.specs.Views.{Pointer, Denotes, nowhere, at_place}
-use Rattle.capnp_layout.specs.Faults.{NoWord}
+use Rattle.capnp_layout.specs.Prelude.{word_at, PointsTo, nothing, is_null as null_there, NoWord}
+use Rattle.capnp_wire.specs.Prelude.{Pointer, Denotes, nowhere, at_place}
 use Rattle.capnp_layout.specs.declared.place.Place.{Place}
 use Rattle.capnp_layout.proofs.pointers.FaultLemmas.{no_word_there, word_of_object, word_of_null}
 

@@ -2,17 +2,8 @@
 use Rattle.std.proofs.Common.{◌≡◌, ℕ, ◌+◌, ◌≤◌, Bool, List, [], ◌∷◌, ◌++◌, Option, Some, slice_get, length, drop, refl, sym, ◌∙◌, ap, subst, arith}
 use Rattle.std.proofs.Common.{length-take, length-drop}
 use Rattle.std.proofs.lemmas.List.{append-nil}
-use Rattle.capnp_layout.specs.Pointer.{words_of, words_from}
-use Rattle.capnp_layout.specs.Tree.{Trees, total_words}
-use Rattle.capnp_layout.specs.Object.{places}
-use Rattle.capnp_layout.specs.Body.{IsObject}
-use Rattle.capnp_layout.specs.Reached.{At}
-use Rattle.capnp_layout.specs.Layout.{output, run}
-use Rattle.capnp_layout.specs.Block.{put, fill}
-use Rattle.capnp_layout.specs.Local.{AreNull, local_struct_of}
-use Rattle.capnp_wire.specs.Traversed.{WalkedAll}
-use Rattle.capnp_wire.specs.Copy.{CanCopy, Copies}
-use Rattle.capnp_layout.specs.Output.{output_body_of, pointer_of_body}
+use Rattle.capnp_layout.specs.Prelude.{words_of, words_from, Trees, total_words, places, IsObject, At, output, run, put, fill, AreNull, local_struct_of, output_body_of, pointer_of_body}
+use Rattle.capnp_wire.specs.Prelude.{WalkedAll, CanCopy, Copies}
 use Rattle.capnp_layout.specs.declared.place.Place.{Place}
 use Rattle.capnp_layout.specs.declared.fast_path.LocalStruct.{LocalStruct}
 use Rattle.capnp_layout.specs.declared.pointer.StructSize.{StructSize}

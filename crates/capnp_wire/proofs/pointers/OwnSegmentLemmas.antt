@@ -1,10 +1,9 @@
 -- The segment of a pointer, and of the pointers of a struct.
 use Rattle.std.proofs.Common.{◌≡◌, ◌+◌, ◌<◌, ℕ, zero, suc, List, Some, slice_get, Bor, subst, arith}
 use Rattle.std.specs.Option.{ForSome}
-use Rattle.capnp_layout.specs.Pointer.{words_of}
-use Rattle.capnp_layout.specs.Object.{places}
+use Rattle.capnp_layout.specs.Prelude.{words_of, places}
 use Rattle.capnp_layout.specs.declared.place.Place.{Place}
-use Rattle.capnp_wire.specs.Views.{Pointer, HasSegment}
+use Rattle.capnp_wire.specs.Prelude.{Pointer, HasSegment}
 
 -- a segment that is known to be the pointer's is, in an option
 pub known_segment : (p : Pointer) (segment : Bor (List ℕ)) → HasSegment p (words_of segment.now) → ForSome (Some segment) (λ known. HasSegment p (words_of known.now))

@@ -1,6 +1,6 @@
 -- Trees at places, and what walks over them count, in all and against the traversal limit.
 use Rattle.std.proofs.Common.{ℕ, ◌+◌, Option, subst, arith}
-use Rattle.capnp_wire.specs.Traversed.{Counts, CountsMore}
+use Rattle.capnp_wire.specs.Prelude.{Counts, CountsMore}
 
 -- numbers of words that may not fit
 pub counts_none : (words : Option ℕ) → CountsMore words words 0

@@ -1,12 +1,8 @@
 -- Trees at places with room for their fields, and the words that they have, as they are or in canonical form.
 use Rattle.std.proofs.Common.{ℕ, ◌+◌, ◌-◌, ◌<◌, Bool, List, [], ◌∷◌, ◌++◌, refl, sym, ◌∙◌, subst, arith}
-use Rattle.capnp_layout.specs.Tree.{none, tree, depth, is_null, total_words}
-use Rattle.capnp_layout.specs.Trim.{before}
-use Rattle.capnp_layout.specs.Object.{Shape, PointsTo, nothing}
-use Rattle.capnp_layout.specs.Reached.{At, nowhere, at}
-use Rattle.capnp_layout.specs.Layout.{HasRoom}
-use Rattle.capnp_layout.specs.Traversed.{TreesAt}
-use Rattle.capnp_wire.specs.Traversed.{TreesWithRoom}
+use Rattle.capnp_layout.specs.Tree.{is_null}
+use Rattle.capnp_layout.specs.Prelude.{none, tree, depth, total_words, before, Shape, PointsTo, nothing, At, nowhere, at, HasRoom, TreesAt}
+use Rattle.capnp_wire.specs.Prelude.{TreesWithRoom}
 use Rattle.capnp_layout.specs.declared.place.Place.{Place}
 use Rattle.capnp_layout.proofs.trees.StandLemmas.{at_both, depth_both, one_deeper, count_at}
 use Rattle.capnp_layout.proofs.trees.StoodLemmas.{OwnOf, none_is, null_total, output_both, rooms_both}

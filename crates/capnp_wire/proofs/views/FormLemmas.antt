@@ -5,14 +5,8 @@ use Rattle.std.proofs.Math.Seq.{take-suc, get_or-append_seam}
 use Rattle.capnp_frame.specs.declared.error.Error.{Error}
 use Rattle.capnp_frame.specs.declared.error.ErrorKind.{ErrorKind}
 use Rattle.capnp_frame.specs.declared.error.ErrorKind.TheVariants.{WrongPointerKind, TextNotTerminated}
-use Rattle.capnp_layout.specs.Pointer.{words_of, words_from}
-use Rattle.capnp_layout.specs.Element.{code_of}
-use Rattle.capnp_layout.specs.Tree.{Form, numbers}
-use Rattle.capnp_layout.specs.Object.{elements, places}
-use Rattle.capnp_layout.specs.Traversed.{Within}
-use Rattle.capnp_layout.specs.Body.{shape_of}
-use Rattle.capnp_wire.specs.Views.{Pointer, at_place, Shows, Reads, Refuses, IsText, HasData, TakesNumbers, TakesText, TakesStruct, DeclinesNumbers, DeclinesText, DeclinesStruct}
-use Rattle.capnp_wire.specs.Readers.{IsEntered, form_of}
+use Rattle.capnp_layout.specs.Prelude.{words_of, words_from, code_of, Form, numbers, elements, places, Within, shape_of}
+use Rattle.capnp_wire.specs.Prelude.{Pointer, at_place, Shows, Reads, Refuses, IsText, HasData, TakesNumbers, TakesText, TakesStruct, DeclinesNumbers, DeclinesText, DeclinesStruct, IsEntered, form_of}
 use Rattle.capnp_layout.specs.declared.place.Place.{Place}
 use Rattle.capnp_layout.specs.declared.element_size.ElementSize.{ElementSize}
 use Rattle.capnp_layout.specs.declared.element_size.ElementSize.TheVariants.{Void, Bit, Byte, TwoBytes, FourBytes, EightBytes}

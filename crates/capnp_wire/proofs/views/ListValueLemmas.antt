@@ -4,20 +4,8 @@ use Rattle.std.proofs.Common.{inl, inr, refl, sym, ◌∙◌, ap, subst, arith}
 use Rattle.std.specs.Prelude.{All}
 use Rattle.capnp_frame.specs.declared.error.Error.{Error}
 use Rattle.capnp_frame.specs.declared.error.ErrorKind.TheVariants.{InvalidSegmentId}
-use Rattle.capnp_layout.specs.Tree.{Form, pointers, Trees, none, tree, count, total_words}
-use Rattle.capnp_layout.specs.Object.{places, row_places, rows_from}
-use Rattle.capnp_layout.specs.Reached.{At}
-use Rattle.capnp_layout.specs.Faults.{StopsWalk, no_word, no_segment, at_pointer}
-use Rattle.capnp_wire.specs.Traversed.{WalkedAll}
-use Rattle.capnp_layout.specs.Layout.{run, output, struct_pointer, list_pointer, HasRoom, AllHaveRoom}
-use Rattle.capnp_layout.specs.Block.{put, put_rows, fill}
-use Rattle.capnp_wire.specs.Copy.{CanCopy, CopiesAll, IsCopied}
-use Rattle.capnp_layout.specs.Output.{least_size}
-use Rattle.capnp_layout.specs.Rows.{kept_places, row_slots}
-use Rattle.capnp_wire.specs.Values.{HasWords, LacksWords, HasRoomAt, HoldsPointers}
-use Rattle.capnp_layout.specs.Limits.{too_large}
-use Rattle.capnp_wire.specs.ListViews.{PointerList}
-use Rattle.capnp_wire.specs.ListValues.{IsListTree, StopsInList, pointers_along, pointers_of_structs, structs_along}
+use Rattle.capnp_layout.specs.Prelude.{Form, pointers, Trees, none, tree, count, total_words, places, row_places, rows_from, At, StopsWalk, no_word, no_segment, at_pointer, run, output, struct_pointer, list_pointer, HasRoom, AllHaveRoom, put, put_rows, fill, least_size, kept_places, row_slots, too_large}
+use Rattle.capnp_wire.specs.Prelude.{WalkedAll, CanCopy, CopiesAll, IsCopied, HasWords, LacksWords, HasRoomAt, HoldsPointers, PointerList, IsListTree, StopsInList, pointers_along, pointers_of_structs, structs_along}
 use Rattle.capnp_wire.specs.declared.layout.copy.Copied.{Copied}
 use Rattle.capnp_layout.specs.declared.place.Place.{Place}
 use Rattle.capnp_layout.specs.declared.pointer.Elements.{Elements}

@@ -2,17 +2,8 @@
 use Rattle.std.proofs.Common.{◌≡◌, ℕ, ◌+◌, ◌*◌, ◌/◌, ◌^◌, ◌<◌, ◌≤◌, List, length, refl, sym, ap, subst, arith}
 use Rattle.capnp_frame.specs.declared.error.ErrorKind.{ErrorKind}
 use Rattle.capnp_frame.specs.declared.error.ErrorKind.TheVariants.{WrongPointerKind}
-use Rattle.capnp_layout.specs.Pointer.{number_of, words_of, words_from}
-use Rattle.capnp_layout.specs.Element.{code_of, width, words_for}
-use Rattle.capnp_layout.specs.Layout.{HasRoom}
-use Rattle.capnp_layout.specs.Tree.{Form, null, struct, numbers, pointers, structs}
-use Rattle.capnp_layout.specs.Object.{places, row_places, rows_from}
-use Rattle.capnp_layout.specs.Traversed.{Within}
-use Rattle.capnp_layout.specs.Body.{shape_of, room_of, words_in}
-use Rattle.capnp_wire.specs.Views.{Pointer, at_place, Shows, Accepts, Reads, TakesNumbers}
-use Rattle.capnp_wire.specs.NumberViews.{IsNumbers}
-use Rattle.capnp_wire.specs.Readers.{IsEntered, form_of}
-use Rattle.capnp_wire.specs.ListViews.{StructList, PointerList, HasRows, IsStructList, IsPointerList, TakesStructs, TakesPointers, DeclinesStructs, DeclinesPointers, structs_in}
+use Rattle.capnp_layout.specs.Prelude.{number_of, words_of, words_from, code_of, width, words_for, HasRoom, Form, null, struct, numbers, pointers, structs, places, row_places, rows_from, Within, shape_of, room_of, words_in}
+use Rattle.capnp_wire.specs.Prelude.{Pointer, at_place, Shows, Accepts, Reads, TakesNumbers, IsNumbers, IsEntered, form_of, StructList, PointerList, HasRows, IsStructList, IsPointerList, TakesStructs, TakesPointers, DeclinesStructs, DeclinesPointers, structs_in}
 use Rattle.capnp_layout.specs.declared.place.Place.{Place}
 use Rattle.capnp_layout.specs.declared.element_size.ElementSize.{ElementSize}
 use Rattle.capnp_layout.specs.declared.object.Body.{Body}

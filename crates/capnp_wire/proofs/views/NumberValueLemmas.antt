@@ -3,13 +3,8 @@ use Rattle.std.proofs.Common.{◌≡◌, ℕ, ◌-◌, ◌<◌, ◌≤◌, ◌^�
 use Rattle.std.proofs.Common.{inl, refl, sym, ◌∙◌, ap, arith}
 use Rattle.capnp_frame.specs.declared.error.Error.{Error}
 use Rattle.capnp_frame.specs.declared.error.ErrorKind.TheVariants.{AllocationTooLarge}
-use Rattle.capnp_layout.specs.Pointer.{number_of, words_from}
-use Rattle.capnp_layout.specs.Element.{code_of, width, words_for}
-use Rattle.capnp_layout.specs.Tree.{numbers, none, tree, total_words}
-use Rattle.capnp_layout.specs.Object.{elements as numerals}
-use Rattle.capnp_layout.specs.Layout.{output}
-use Rattle.capnp_wire.specs.Values.{HasWords, LacksWords}
-use Rattle.capnp_wire.specs.ListValues.{IsNumbersTree, TooManyNumbers}
+use Rattle.capnp_layout.specs.Prelude.{number_of, words_from, code_of, width, words_for, numbers, none, tree, total_words, elements as numerals, output}
+use Rattle.capnp_wire.specs.Prelude.{HasWords, LacksWords, IsNumbersTree, TooManyNumbers}
 use Rattle.capnp_layout.specs.declared.element_size.ElementSize.{ElementSize}
 use Rattle.capnp_layout.specs.declared.element_size.ElementSize.TheVariants.{Void, Bit, Byte, TwoBytes, FourBytes, EightBytes}
 use Rattle.std.proofs.lemmas.Nat.{pow_pos}

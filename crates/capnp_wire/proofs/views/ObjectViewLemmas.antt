@@ -3,12 +3,8 @@ use Rattle.std.proofs.Common.{◌≡◌, ℕ, List, Result, Ok, Err, MatchResult
 use Rattle.capnp_frame.specs.declared.error.Error.{Error}
 use Rattle.capnp_frame.specs.declared.error.ErrorKind.{ErrorKind}
 use Rattle.capnp_frame.specs.declared.message.segments.ReaderSegments.{Ghosts}
-use Rattle.capnp_layout.specs.Pointer.{words_of}
-use Rattle.capnp_layout.specs.Tree.{Form}
-use Rattle.capnp_layout.specs.Body.{shape_of}
-use Rattle.capnp_wire.specs.Views.{Pointer, IsViewOf, Accepts, Refuses, RejectsReading}
-use Rattle.capnp_wire.specs.Readers.{IsEntered}
-use Rattle.capnp_wire.specs.ObjectViews.{IsObjectView, TakesAll}
+use Rattle.capnp_layout.specs.Prelude.{words_of, Form, shape_of}
+use Rattle.capnp_wire.specs.Prelude.{Pointer, IsViewOf, Accepts, Refuses, RejectsReading, IsEntered, IsObjectView, TakesAll}
 use Rattle.capnp_wire.specs.declared.any_object.reader.Reader.{Reader}
 use Rattle.capnp_layout.specs.declared.object.Body.{Body}
 use Rattle.capnp_layout.specs.declared.object.Object.{Object as ReadObject}

@@ -3,12 +3,8 @@ use Rattle.std.proofs.Common.{◌≡◌, ℕ, Bool, List, [], ◌∷◌, Option,
 use Rattle.std.specs.Result.{IsErrAnd}
 use Rattle.capnp_frame.specs.declared.error.Error.{Error}
 use Rattle.capnp_frame.specs.declared.error.ErrorKind.{ErrorKind}
-use Rattle.capnp_layout.specs.Tree.{null, struct, Trees, none, tree, total_words}
-use Rattle.capnp_layout.specs.Layout.{output}
-use Rattle.capnp_layout.specs.Faults.{StopsWalk}
-use Rattle.capnp_wire.specs.Views.{Pointer, Struct}
-use Rattle.capnp_wire.specs.Values.{TreeAt, HasWords, LacksWords, LeadsToTree, StopsWalkFrom, IsTreeOf, StopsInside}
-use Rattle.capnp_layout.specs.Limits.{too_large}
+use Rattle.capnp_layout.specs.Prelude.{null, struct, Trees, none, tree, total_words, output, StopsWalk, too_large}
+use Rattle.capnp_wire.specs.Prelude.{Pointer, Struct, TreeAt, HasWords, LacksWords, LeadsToTree, StopsWalkFrom, IsTreeOf, StopsInside}
 use Rattle.capnp_layout.specs.declared.place.Place.{Place}
 use Rattle.capnp_layout.proofs.objects.ObjectLemmas.{one_tree}
 use Rattle.capnp_wire.proofs.walks.StopLemmas.{stops_has_no_trees, one_stop}

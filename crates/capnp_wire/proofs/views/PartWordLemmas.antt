@@ -3,12 +3,9 @@ use Rattle.std.proofs.Common.{◌≡◌, ◌↔◌, ℕ, ◌≤◌, Bool, true, 
 use Rattle.std.specs.Prelude.{IsTrue, [], ◌∷◌, List}
 use Rattle.std.specs.Result.{result_unwrap_or}
 use Rattle.capnp_frame.specs.declared.error.Error.{Error}
-use Rattle.capnp_layout.specs.Tree.{null, Trees, none, tree, total_words, is_null}
-use Rattle.capnp_layout.specs.Object.{Shape, ShapeStands, a_struct, some_numbers, some_pointers, some_structs, PointsTo, is_null as null_there, is_object, nothing}
-use Rattle.capnp_layout.specs.Reached.{At, nowhere as nothing_more, at}
-use Rattle.capnp_layout.specs.Layout.{output, AllHaveRoom}
-use Rattle.capnp_wire.specs.Views.{Pointer, Denotes, nowhere, at_place}
-use Rattle.capnp_wire.specs.Values.{HasWords, HasPart, LeadsToTree, TreeAt, starts_with_null}
+use Rattle.capnp_layout.specs.Tree.{is_null}
+use Rattle.capnp_layout.specs.Prelude.{null, Trees, none, tree, total_words, Shape, ShapeStands, a_struct, some_numbers, some_pointers, some_structs, PointsTo, is_null as null_there, is_object, nothing, At, nowhere as nothing_more, at, output, AllHaveRoom}
+use Rattle.capnp_wire.specs.Prelude.{Pointer, Denotes, nowhere, at_place, HasWords, HasPart, LeadsToTree, TreeAt, starts_with_null}
 use Rattle.capnp_layout.specs.declared.place.Place.{Place}
 use Rattle.capnp_wire.specs.declared.traits.TreeWords.{TreeWords}
 use Rattle.capnp_layout.proofs.objects.ObjectLemmas.{one_object}

@@ -5,19 +5,11 @@ use Rattle.std.proofs.Math.Seq.{drop-append_seam}
 use Rattle.std.proofs.lemmas.List.{append-nil, drop_all}
 use Rattle.std.specs.Int.{to_le_bytes}
 use Rattle.std.proofs.Common.{w64}
-use Rattle.capnp_frame.specs.Words.{bytes_of}
+use Rattle.capnp_frame.specs.Prelude.{bytes_of}
 use Rattle.capnp_frame.specs.declared.error.Error.{Error}
 use Rattle.capnp_frame.specs.declared.words.Word.{Word}
-use Rattle.capnp_layout.specs.Pointer.{number_of, words_of}
-use Rattle.capnp_layout.specs.Tree.{Form, null, Trees, none, tree, total_words}
-use Rattle.capnp_layout.specs.Trim.{trim, trim_form, trim_children}
-use Rattle.capnp_layout.specs.Reached.{At, nowhere, at, root}
-use Rattle.capnp_layout.specs.Layout.{body, layout, canon, output, AllHaveRoom, AllReach}
-use Rattle.capnp_wire.specs.Canonical.{IsCanonical}
-use Rattle.capnp_wire.specs.Views.{Pointer}
-use Rattle.capnp_layout.specs.Block.{numbers_of}
-use Rattle.capnp_wire.specs.Copy.{IsCopied}
-use Rattle.capnp_wire.specs.Values.{TreeAt, Measured, RejectsTreeSize, HasWords, LacksWords, LeadsToTree, StopsWalkFrom, IsCanonicalForm}
+use Rattle.capnp_layout.specs.Prelude.{number_of, words_of, Form, null, Trees, none, tree, total_words, trim, trim_form, trim_children, At, nowhere, at, root, body, layout, canon, output, AllHaveRoom, AllReach, numbers_of}
+use Rattle.capnp_wire.specs.Prelude.{IsCanonical, Pointer, IsCopied, TreeAt, Measured, RejectsTreeSize, HasWords, LacksWords, LeadsToTree, StopsWalkFrom, IsCanonicalForm}
 use Rattle.capnp_wire.specs.declared.layout.copy.Copied.{Copied}
 use Rattle.capnp_layout.specs.declared.place.Place.{Place}
 use Rattle.capnp_wire.proofs.forms.CanonLemmas.{root_of_canon, canon_tells}

@@ -1,12 +1,8 @@
 -- What lists that are read as lists of numbers show.
 use Rattle.std.proofs.lemmas.List.{length-map, get_or-map, get_or-take, get_or-drop}
 use Rattle.std.proofs.Common.{◌≡◌, ℕ, zero, suc, ◌+◌, ◌*◌, ◌/◌, ◌%◌, ◌^◌, ◌<◌, ◌≤◌, List, [], length, drop, slice_index_or, sym, ◌∙◌, ap, arith}
-use Rattle.capnp_layout.specs.Pointer.{words_from}
-use Rattle.capnp_layout.specs.Element.{width}
-use Rattle.capnp_layout.specs.Tree.{Form, null, struct, numbers, pointers, structs}
-use Rattle.capnp_layout.specs.Object.{rows_from}
-use Rattle.capnp_wire.specs.Views.{Pointer, Accepts, Reads}
-use Rattle.capnp_wire.specs.UpgradedViews.{first_fields, ReadsAsNumbers, TakesFields, DeclinesFields}
+use Rattle.capnp_layout.specs.Prelude.{words_from, width, Form, null, struct, numbers, pointers, structs, rows_from}
+use Rattle.capnp_wire.specs.Prelude.{Pointer, Accepts, Reads, first_fields, ReadsAsNumbers, TakesFields, DeclinesFields}
 use Rattle.capnp_layout.proofs.objects.RowLemmas.{row_within}
 use Rattle.capnp_layout.proofs.trees.RoomLemmas.{length-rows_from}
 use Rattle.capnp_wire.proofs.views.ViewLemmas.{Decides, wrong_kind_once, wrong_kind_unlimited}

@@ -3,15 +3,8 @@ use Rattle.std.proofs.Math.Seq.{drop-append-add}
 use Rattle.std.proofs.Common.{◌≡◌, ℕ, zero, suc, ◌+◌, ◌-◌, ◌*◌, ◌<◌, ◌≤◌, List, ◌∷◌, ◌++◌, length, drop, Some, slice_get, inr, refl, sym, ◌∙◌, ap, subst, arith}
 use Rattle.capnp_frame.specs.declared.error.ErrorKind.{ErrorKind}
 use Rattle.capnp_frame.specs.declared.error.ErrorKind.TheVariants.{WrongPointerKind}
-use Rattle.capnp_layout.specs.Pointer.{words_of}
-use Rattle.capnp_layout.specs.Tree.{Form, null, struct, numbers, pointers, structs}
-use Rattle.capnp_layout.specs.Object.{places, row_places, rows_from}
-use Rattle.capnp_layout.specs.Body.{shape_of}
-use Rattle.capnp_wire.specs.Views.{Pointer, Accepts, Refuses}
-use Rattle.capnp_wire.specs.Readers.{IsEntered}
-use Rattle.capnp_wire.specs.ListViews.{PointerList}
-use Rattle.capnp_wire.specs.UpgradedViews.{first_pointers, ReadsAsPointers, TakesFirstPointers, DeclinesFirstPointers, IsUpgradedPointers}
-use Rattle.capnp_wire.specs.UpgradedReaders.{stepped_places, pointers_from}
+use Rattle.capnp_layout.specs.Prelude.{words_of, Form, null, struct, numbers, pointers, structs, places, row_places, rows_from, shape_of}
+use Rattle.capnp_wire.specs.Prelude.{Pointer, Accepts, Refuses, IsEntered, PointerList, first_pointers, ReadsAsPointers, TakesFirstPointers, DeclinesFirstPointers, IsUpgradedPointers, stepped_places, pointers_from}
 use Rattle.capnp_layout.specs.declared.place.Place.{Place}
 use Rattle.capnp_layout.specs.declared.object.Body.{Body}
 use Rattle.capnp_layout.specs.declared.object.Body.TheVariants.{Struct, Numbers, Pointers, Structs}

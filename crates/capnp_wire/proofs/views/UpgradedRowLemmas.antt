@@ -4,15 +4,8 @@ use Rattle.std.proofs.Common.{◌≡◌, ◌≢◌, ℕ, zero, suc, ◌+◌, ◌
 use Rattle.std.specs.Prelude.{replicate}
 use Rattle.capnp_frame.specs.declared.error.ErrorKind.{ErrorKind}
 use Rattle.capnp_frame.specs.declared.error.ErrorKind.TheVariants.{WrongPointerKind}
-use Rattle.capnp_layout.specs.Pointer.{words_of}
-use Rattle.capnp_layout.specs.Element.{code_of, width}
-use Rattle.capnp_layout.specs.Tree.{Form, null, struct, numbers, pointers, structs}
-use Rattle.capnp_layout.specs.Object.{elements, places, row_places, rows_from}
-use Rattle.capnp_layout.specs.Body.{shape_of}
-use Rattle.capnp_wire.specs.Views.{Pointer, Accepts, Refuses}
-use Rattle.capnp_wire.specs.Readers.{IsEntered, form_of}
-use Rattle.capnp_wire.specs.ListViews.{StructList, structs_in}
-use Rattle.capnp_wire.specs.UpgradedViews.{number_row, ReadsAsRows, TakesRows, DeclinesRows, IsUpgradedStructs, elements_without_data}
+use Rattle.capnp_layout.specs.Prelude.{words_of, code_of, width, Form, null, struct, numbers, pointers, structs, elements, places, row_places, rows_from, shape_of}
+use Rattle.capnp_wire.specs.Prelude.{Pointer, Accepts, Refuses, IsEntered, form_of, StructList, structs_in, number_row, ReadsAsRows, TakesRows, DeclinesRows, IsUpgradedStructs, elements_without_data}
 use Rattle.capnp_layout.specs.declared.place.Place.{Place}
 use Rattle.capnp_layout.specs.declared.element_size.ElementSize.{ElementSize}
 use Rattle.capnp_layout.specs.declared.element_size.ElementSize.TheVariants.{Void, Bit, Byte, TwoBytes, FourBytes, EightBytes}

@@ -2,12 +2,8 @@
 use Rattle.std.proofs.Common.{◌≡◌, List, ℕ, inl, inr, sym, ◌∙◌}
 use Rattle.capnp_frame.specs.declared.error.ErrorKind.{ErrorKind}
 use Rattle.capnp_frame.specs.declared.message.segments.ReaderSegments.{Ghosts}
-use Rattle.capnp_layout.specs.Element.{code_of}
-use Rattle.capnp_layout.specs.Tree.{Trees, pointers}
-use Rattle.capnp_wire.specs.ListViews.{struct_list_of}
-use Rattle.capnp_wire.specs.ListValues.{structs_of, pointers_in}
-use Rattle.capnp_wire.specs.UpgradedReaders.{upgraded_pointers_of}
-use Rattle.capnp_wire.specs.UpgradedValues.{IsRowsValue, RefusesRows, numbers_in_rows, IsPointerListValue, RefusesPointerList}
+use Rattle.capnp_layout.specs.Prelude.{code_of, Trees, pointers}
+use Rattle.capnp_wire.specs.Prelude.{struct_list_of, structs_of, pointers_in, upgraded_pointers_of, IsRowsValue, RefusesRows, numbers_in_rows, IsPointerListValue, RefusesPointerList}
 use Rattle.capnp_wire.specs.declared.upgraded.pointer_list.PointerList.{PointerList}
 use Rattle.capnp_wire.specs.declared.upgraded.struct_list.Rows.{Rows}
 use Rattle.capnp_wire.specs.declared.upgraded.struct_list.Rows.TheVariants.{InPlace, Numbers}

@@ -3,12 +3,8 @@ use Rattle.std.proofs.lemmas.List.{append-nil}
 use Rattle.std.proofs.Common.{◌≡◌, ℕ, zero, suc, ◌+◌, ◌<◌, ◌≤◌, ◌^◌, Result, Ok, Err, MatchResult, Bool, List, [], ◌∷◌, ◌++◌, length, drop, Option, Some, inr, refl, ◌∙◌, ap, arith}
 use Rattle.capnp_frame.specs.declared.error.ErrorKind.{ErrorKind}
 use Rattle.capnp_frame.specs.declared.error.Error.{Error}
-use Rattle.capnp_layout.specs.Tree.{total_words}
-use Rattle.capnp_layout.specs.Layout.{output}
-use Rattle.capnp_layout.specs.Block.{put}
-use Rattle.capnp_wire.specs.Traversed.{Walked}
-use Rattle.capnp_wire.specs.Values.{TreeAt, Measured, RejectsTreeSize}
-use Rattle.capnp_layout.specs.Limits.{too_large}
+use Rattle.capnp_layout.specs.Prelude.{total_words, output, put, too_large}
+use Rattle.capnp_wire.specs.Prelude.{Walked, TreeAt, Measured, RejectsTreeSize}
 use Rattle.capnp_layout.specs.declared.place.Place.{Place}
 
 pub drop_past : (n : ℕ) (xs : List ℕ) → length xs ≤ n → drop n xs ≡ []

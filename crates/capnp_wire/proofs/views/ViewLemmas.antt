@@ -4,12 +4,8 @@ use Rattle.std.specs.Result.{IsErrAnd}
 use Rattle.capnp_frame.specs.declared.error.Error.{Error}
 use Rattle.capnp_frame.specs.declared.error.ErrorKind.{ErrorKind}
 use Rattle.capnp_frame.specs.declared.error.ErrorKind.TheVariants.{ReadLimitExceeded, WrongPointerKind, TextNotTerminated}
-use Rattle.capnp_layout.specs.Tree.{Form, null, struct, numbers, pointers, structs}
-use Rattle.capnp_layout.specs.Object.{Shape, PointsTo}
-use Rattle.capnp_layout.specs.Faults.{NoWord, no_segment, past_segment, BadLandingPad, no_landing_pad, far_again, landing_pad_capability, no_tag, not_far, no_content, far_tag, capability_tag, RejectsSize}
-use Rattle.capnp_layout.specs.Faults.{struct_outside, list_outside, structs_outside, odd_tag, many_elements, Fault, no_word, capability, bad_landing_pad, too_deep, no_start, misfits}
-use Rattle.capnp_wire.specs.Views.{Pointer, Struct, IsViewOf, Denotes, nowhere, at_place, RejectsReading, IsInvalidPointer, MeetsLimit, Reads, Accepts, Declines, Refuses, IsData}
-use Rattle.capnp_wire.specs.Views.{IsText, HasData, IsStruct, TakesNumbers, TakesText, TakesStruct, DeclinesNumbers, DeclinesText, DeclinesStruct}
+use Rattle.capnp_layout.specs.Prelude.{Form, null, struct, numbers, pointers, structs, Shape, PointsTo, NoWord, no_segment, past_segment, BadLandingPad, no_landing_pad, far_again, landing_pad_capability, no_tag, not_far, no_content, far_tag, capability_tag, RejectsSize, struct_outside, list_outside, structs_outside, odd_tag, many_elements, Fault, no_word, capability, bad_landing_pad, too_deep, no_start, misfits}
+use Rattle.capnp_wire.specs.Prelude.{Pointer, Struct, IsViewOf, Denotes, nowhere, at_place, RejectsReading, IsInvalidPointer, MeetsLimit, Reads, Accepts, Declines, Refuses, IsData, IsText, HasData, IsStruct, TakesNumbers, TakesText, TakesStruct, DeclinesNumbers, DeclinesText, DeclinesStruct}
 use Rattle.capnp_layout.specs.declared.place.Place.{Place}
 use Rattle.capnp_layout.proofs.objects.ObjectLemmas.{one_object}
 use Rattle.capnp_layout.proofs.pointers.FaultLemmas.{invalid_pointer_has_no_object}

@@ -2,16 +2,8 @@
 use Rattle.std.proofs.Common.{◌≡◌, ℕ, ◌+◌, ◌-◌, ◌^◌, ◌<◌, ◌≤◌, List, [], ◌∷◌, length, Option, Some, slice_get, slice_index_or, refl, sym, ◌∙◌, ap, subst, arith}
 use Rattle.std.specs.Prelude.{All}
 use Rattle.capnp_frame.specs.declared.error.ErrorKind.{ErrorKind}
-use Rattle.capnp_layout.specs.Pointer.{pointer_kind}
-use Rattle.capnp_layout.specs.Tree.{Trees, none, tree, count, object_size, total_words}
-use Rattle.capnp_layout.specs.Trim.{trim_form, trim_children}
-use Rattle.capnp_layout.specs.Object.{Shape}
-use Rattle.capnp_layout.specs.Reached.{At, nowhere, at}
-use Rattle.capnp_layout.specs.Traversed.{less, TreesAt}
-use Rattle.capnp_layout.specs.Faults.{StopsWalk, at_pointer as stops_at, over_limit as stops_over, inside as stops_inside, later as stops_later}
-use Rattle.capnp_layout.specs.Layout.{pointer, slots, HasRoom, placed, Trimmed}
-use Rattle.capnp_wire.specs.Canonical.{Padded, IsInPreorder}
-use Rattle.capnp_wire.specs.Tested.{IsFarAt, IsLaidOut, MeetsObject, Passes, refused, not_canonical, Ends, far, at_pointer, over_limit, elsewhere, inside, later}
+use Rattle.capnp_layout.specs.Prelude.{pointer_kind, Trees, none, tree, count, object_size, total_words, trim_form, trim_children, Shape, At, nowhere, at, less, TreesAt, StopsWalk, at_pointer as stops_at, over_limit as stops_over, inside as stops_inside, later as stops_later, pointer, slots, HasRoom, placed, Trimmed}
+use Rattle.capnp_wire.specs.Prelude.{Padded, IsInPreorder, IsFarAt, IsLaidOut, MeetsObject, Passes, refused, not_canonical, Ends, far, at_pointer, over_limit, elsewhere, inside, later}
 use Rattle.capnp_layout.specs.declared.place.Place.{Place}
 use Rattle.capnp_layout.proofs.objects.ObjectLemmas.{one_object, one_tree}
 use Rattle.capnp_layout.proofs.layouts.SizeLemmas.{Before, slots_before}

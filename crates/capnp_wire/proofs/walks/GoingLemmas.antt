@@ -4,19 +4,12 @@ use Rattle.std.proofs.Common.{arith, append_assoc, ◌^◌}
 use Rattle.std.proofs.lemmas.List.{append-nil}
 use Rattle.std.specs.Prelude.{All}
 use Rattle.capnp_frame.specs.declared.error.Error.{Error}
-use Rattle.capnp_layout.specs.Tree.{Trees, none, tree, null, count, depth, object_size, total_words}
-use Rattle.capnp_layout.specs.Trim.{before}
-use Rattle.capnp_layout.specs.Object.{nothing, is_null}
-use Rattle.capnp_layout.specs.Reached.{At, nowhere, at}
-use Rattle.capnp_layout.specs.Traversed.{Within, less}
-use Rattle.capnp_wire.specs.Canonical.{IsInPreorder}
-use Rattle.capnp_layout.specs.Rows.{places_in}
-use Rattle.capnp_wire.specs.Tested.{Passes, PassesAt, MeetsPointers, Ending, refused, not_canonical, Ends, far, at_pointer, over_limit, elsewhere, inside, later}
+use Rattle.capnp_layout.specs.Prelude.{Trees, none, tree, null, count, depth, object_size, total_words, before, nothing, is_null, At, nowhere, at, Within, less, places_in, Trimmed}
+use Rattle.capnp_wire.specs.Prelude.{IsInPreorder, Passes, PassesAt, MeetsPointers, Ending, refused, not_canonical, Ends, far, at_pointer, over_limit, elsewhere, inside, later}
 use Rattle.capnp_layout.specs.declared.place.Place.{Place}
 use Rattle.capnp_layout.specs.declared.pointer_slots.PointerSlots.{PointerSlots}
 use Rattle.capnp_layout.proofs.trees.StandLemmas.{within_none, less_none, within_both, within_first, within_rest, less_both, at_both, depth_both}
 use Rattle.capnp_wire.proofs.layouts.LaidOutLemmas.{passes_over}
-use Rattle.capnp_layout.specs.Layout.{Trimmed}
 use Rattle.capnp_layout.proofs.trees.ChunkLemmas.{total-before}
 
 -- trees that pass, and others after them

@@ -5,11 +5,8 @@ use Rattle.std.specs.Result.{IsErrAnd}
 use Rattle.capnp_frame.specs.declared.error.Error.{Error}
 use Rattle.capnp_frame.specs.declared.error.ErrorKind.{ErrorKind}
 use Rattle.capnp_frame.specs.declared.error.ErrorKind.TheVariants.{AllocationTooLarge}
-use Rattle.capnp_layout.specs.Tree.{total_words}
-use Rattle.capnp_layout.specs.Traversed.{Within, TreesAt}
-use Rattle.capnp_wire.specs.Traversed.{TreesWithRoom, Walked}
-use Rattle.capnp_layout.specs.Faults.{StopsWalk}
-use Rattle.capnp_wire.specs.Views.{Pointer, Measures, RejectsMeasuring}
+use Rattle.capnp_layout.specs.Prelude.{total_words, Within, TreesAt, StopsWalk}
+use Rattle.capnp_wire.specs.Prelude.{TreesWithRoom, Walked, Pointer, Measures, RejectsMeasuring}
 use Rattle.capnp_layout.specs.declared.place.Place.{Place}
 use Rattle.capnp_wire.specs.declared.message_size.MessageSize.{MessageSize}
 use Rattle.capnp_layout.proofs.objects.ObjectLemmas.{one_tree}

@@ -4,15 +4,9 @@ use Rattle.std.proofs.Common.{refl, sym, ◌∙◌, ap, subst, arith}
 use Rattle.std.specs.Prelude.{◌↔◌}
 use Rattle.capnp_frame.specs.declared.error.ErrorKind.{ErrorKind}
 use Rattle.capnp_frame.specs.declared.error.ErrorKind.TheVariants.{ReadLimitExceeded}
-use Rattle.capnp_layout.specs.Pointer.{pointer_kind, offset, words_of}
+use Rattle.capnp_layout.specs.Prelude.{pointer_kind, offset, words_of, word_at, Within, Exceeds, less, places_in, end_of, NoWord, Fault, no_word, minus_one, IsObject, shape_of, words_in}
 use Rattle.capnp_layout.specs.Tree.{is_null}
-use Rattle.capnp_layout.specs.Object.{word_at}
-use Rattle.capnp_layout.specs.Traversed.{Within, Exceeds, less}
-use Rattle.capnp_layout.specs.Rows.{places_in, end_of}
-use Rattle.capnp_layout.specs.Faults.{NoWord, Fault, no_word}
-use Rattle.capnp_layout.specs.Layout.{minus_one}
-use Rattle.capnp_layout.specs.Body.{IsObject, shape_of, words_in}
-use Rattle.capnp_wire.specs.Tested.{IsFarAt, LeadsTo, NextOf, PaddedOf, IsTruncated, links_at, IsLaidOut, MeetsObject, MeetsPointers, Ends, refused, at_pointer, over_limit}
+use Rattle.capnp_wire.specs.Prelude.{IsFarAt, LeadsTo, NextOf, PaddedOf, IsTruncated, links_at, IsLaidOut, MeetsObject, MeetsPointers, Ends, refused, at_pointer, over_limit}
 use Rattle.capnp_layout.specs.declared.place.Place.{Place}
 use Rattle.capnp_layout.specs.declared.pointer_slots.PointerSlots.{PointerSlots}
 use Rattle.capnp_layout.specs.declared.object.Body.{Body}

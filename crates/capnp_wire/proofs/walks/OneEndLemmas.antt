@@ -2,10 +2,8 @@
 use Rattle.std.proofs.Common.{◌≡◌, ℕ, ◌+◌, ◌-◌, ◌^◌, ◌<◌, ◌≤◌, List, [], ◌∷◌, length, Option, Some, sym, ◌∙◌, ap, subst, arith}
 use Rattle.std.specs.Prelude.{All}
 use Rattle.capnp_frame.specs.declared.error.ErrorKind.{ErrorKind}
-use Rattle.capnp_layout.specs.Tree.{object_size, total_words}
-use Rattle.capnp_layout.specs.Object.{Shape}
-use Rattle.capnp_layout.specs.Traversed.{Within, less}
-use Rattle.capnp_wire.specs.Tested.{IsLaidOut, MeetsObject, Passes, refused, not_canonical, Ends, far, at_pointer, over_limit, elsewhere, inside, later}
+use Rattle.capnp_layout.specs.Prelude.{object_size, total_words, Shape, Within, less}
+use Rattle.capnp_wire.specs.Prelude.{IsLaidOut, MeetsObject, Passes, refused, not_canonical, Ends, far, at_pointer, over_limit, elsewhere, inside, later}
 use Rattle.capnp_layout.specs.declared.place.Place.{Place}
 use Rattle.capnp_layout.proofs.objects.ObjectLemmas.{one_object, one_tree}
 use Rattle.capnp_layout.proofs.pointers.FaultLemmas.{invalid_pointer_has_no_object}

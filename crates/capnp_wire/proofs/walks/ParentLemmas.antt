@@ -1,11 +1,8 @@
 -- A walk comes to an object that has a run of pointers, and then goes over these.
 use Rattle.std.proofs.Common.{◌≡◌, ◌≢◌, Bool, ℕ, ◌+◌, ◌-◌, List, [], ◌∷◌, ◌++◌, length, slice_get, Option, refl, ◌∙◌, ap, arith, length-append}
 use Rattle.capnp_frame.specs.declared.error.ErrorKind.{ErrorKind}
-use Rattle.capnp_layout.specs.Object.{places}
-use Rattle.capnp_layout.specs.Local.{local_struct_of}
-use Rattle.capnp_wire.specs.Traversed.{EntersObject, EntersRun, Walked, WalkedAll, WalkedTo}
-use Rattle.capnp_layout.specs.Faults.{StopsWalk}
-use Rattle.capnp_layout.specs.Rows.{places_in}
+use Rattle.capnp_layout.specs.Prelude.{places, local_struct_of, StopsWalk, places_in}
+use Rattle.capnp_wire.specs.Prelude.{EntersObject, EntersRun, Walked, WalkedAll, WalkedTo}
 use Rattle.capnp_layout.specs.declared.place.Place.{Place}
 use Rattle.capnp_layout.specs.declared.pointer_slots.PointerSlots.{PointerSlots}
 use Rattle.capnp_layout.specs.declared.fast_path.LocalStruct.{LocalStruct}

@@ -3,15 +3,8 @@ use Rattle.std.proofs.Common.{◌≡◌, ◌≢◌, arith, length, Bool, ℕ, �
 use Rattle.std.proofs.lemmas.List.{append-nil}
 use Rattle.capnp_frame.specs.declared.error.Error.{Error}
 use Rattle.capnp_frame.specs.declared.error.ErrorKind.{ErrorKind}
-use Rattle.capnp_layout.specs.Pointer.{words_of}
-use Rattle.capnp_layout.specs.Tree.{total_words}
-use Rattle.capnp_layout.specs.Object.{Shape, PointsTo, nothing}
-use Rattle.capnp_layout.specs.Body.{shape_of, words_in}
-use Rattle.capnp_layout.specs.Traversed.{Within, less}
-use Rattle.capnp_wire.specs.Traversed.{CountsMore, EntersObject, Walked, WalkedAll, TreesWithRoom}
-use Rattle.capnp_layout.specs.Output.{output_body_of}
-use Rattle.capnp_layout.specs.Faults.{StopsWalk, inside}
-use Rattle.capnp_layout.specs.Rows.{places_in, Takes}
+use Rattle.capnp_layout.specs.Prelude.{words_of, total_words, Shape, PointsTo, nothing, shape_of, words_in, Within, less, output_body_of, StopsWalk, inside, places_in, Takes}
+use Rattle.capnp_wire.specs.Prelude.{CountsMore, EntersObject, Walked, WalkedAll, TreesWithRoom}
 use Rattle.capnp_layout.specs.declared.place.Place.{Place}
 use Rattle.capnp_layout.specs.declared.pointer_slots.PointerSlots.{PointerSlots}
 use Rattle.capnp_layout.specs.declared.object.Object.{Object as ReadObject}

@@ -1,14 +1,11 @@
 -- One step of a walk that tests a layout.
 use Rattle.std.proofs.Common.{◌≡◌, ℕ, ◌+◌, ◌-◌, List, [], ◌∷◌, length, Some, slice_get, sym, subst, ◌^◌, ◌<◌, ◌≤◌}
-use Rattle.capnp_layout.specs.Layout.{pointer, slots, HasRoom, Reaches, placed}
-use Rattle.capnp_layout.specs.Tree.{Form, Trees, tree, count, object_size, total_words}
+use Rattle.capnp_layout.specs.Prelude.{pointer, slots, HasRoom, Reaches, placed, Form, Trees, tree, count, object_size, total_words, PointsTo, At}
 use Rattle.capnp_layout.specs.declared.place.Place.{Place}
-use Rattle.capnp_wire.specs.Canonical.{Padded, IsInPreorder}
+use Rattle.capnp_wire.specs.Prelude.{Padded, IsInPreorder}
 use Rattle.capnp_wire.proofs.forms.PreorderLemmas.{preorder_object}
 use Rattle.capnp_layout.proofs.trees.StandLemmas.{count_at}
 use Rattle.capnp_layout.proofs.trees.RoomLemmas.{object_room, one_segment}
-use Rattle.capnp_layout.specs.Object.{PointsTo}
-use Rattle.capnp_layout.specs.Reached.{At}
 use Rattle.std.specs.Prelude.{All, ◌↔◌}
 
 -- one step of the walk, which goes on at the places that it read

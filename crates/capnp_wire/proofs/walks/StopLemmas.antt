@@ -2,11 +2,8 @@
 use Rattle.std.proofs.Common.{◌≡◌, ℕ, ◌+◌, ◌-◌, ◌<◌, ◌≤◌, max, Bool, true, false, if◌then◌else◌, List, [], ◌∷◌, ◌++◌, Option, Some, refl, sym, ◌∙◌, ap, subst, arith}
 use Rattle.capnp_frame.specs.declared.error.ErrorKind.{ErrorKind}
 use Rattle.capnp_frame.specs.declared.error.ErrorKind.TheVariants.{ReadLimitExceeded}
-use Rattle.capnp_layout.specs.Tree.{Trees, none, tree, depth, is_null, total_words}
-use Rattle.capnp_layout.specs.Object.{Shape, PointsTo, places, is_null as null_there, is_object}
-use Rattle.capnp_layout.specs.Reached.{At, nowhere, at}
-use Rattle.capnp_layout.specs.Traversed.{Within, Exceeds, less, TreesAt}
-use Rattle.capnp_layout.specs.Faults.{StopsWalk, at_pointer, over_limit, inside, later}
+use Rattle.capnp_layout.specs.Tree.{is_null}
+use Rattle.capnp_layout.specs.Prelude.{Trees, none, tree, depth, total_words, Shape, PointsTo, places, is_null as null_there, is_object, At, nowhere, at, Within, Exceeds, less, TreesAt, StopsWalk, at_pointer, over_limit, inside, later}
 use Rattle.capnp_layout.specs.declared.place.Place.{Place}
 use Rattle.capnp_layout.proofs.objects.ObjectLemmas.{one_object, one_tree}
 use Rattle.capnp_layout.proofs.pointers.FaultLemmas.{invalid_pointer_has_no_object, not_null}

@@ -3,8 +3,8 @@ use Rattle.std.proofs.Math.Nat.{div-div-eq-div-mul}
 use Rattle.std.proofs.lemmas.Nat.{pow-add}
 use Rattle.std.proofs.Common.{◌≡◌, ℕ, ◌+◌, ◌*◌, ◌/◌, ◌%◌, ◌^◌, ◌<◌, ◌≤◌, List, slice_index_or, sym, ◌∙◌, ap}
 use Rattle.std.specs.Prelude.{All}
-use Rattle.capnp_layout.specs.Pointer.{digits, number_of}
-use Rattle.capnp_wire.specs.Fields.{field}
+use Rattle.capnp_layout.specs.Prelude.{digits, number_of}
+use Rattle.capnp_wire.specs.Prelude.{field}
 use Rattle.capnp_layout.proofs.words.DigitLemmas.{pow-mul}
 use Rattle.capnp_layout.proofs.words.BitLemmas.{digit_at, low_bits, word_in_number}
 

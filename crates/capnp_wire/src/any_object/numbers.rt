@@ -1,6 +1,6 @@
 //! Readers of lists of numbers of any size.
 ghost use Rattle.std.specs.Prelude.{◌≡◌, ◌*◌, length};
-ghost use Rattle.capnp_layout.specs.Element.{code_of, width, words_for};
+ghost use Rattle.capnp_layout.specs.Prelude.{code_of, width, words_for};
 
 use capnp_layout::element_size::ElementSize;
 use capnp_layout::object::words_fit;

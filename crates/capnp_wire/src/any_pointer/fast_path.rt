@@ -1,9 +1,7 @@
 //! Fast paths to what most pointers lead to.
 ghost use Rattle.std.specs.Prelude.{◌≡◌, ◌<◌, ℕ, List, IfSome, Some, slice_get};
 ghost use Rattle.std.specs.Option.{ForSome};
-ghost use Rattle.capnp_layout.specs.Pointer.{words_of};
-ghost use Rattle.capnp_layout.specs.Object.{message_of};
-ghost use Rattle.capnp_layout.specs.Body.{IsObject};
+ghost use Rattle.capnp_layout.specs.Prelude.{words_of, message_of, IsObject};
 ghost use Rattle.capnp_wire.specs.Readers.{pointer_of, IsEntered};
 ghost use Rattle.capnp_wire.specs.Views.{HasSegment};
 

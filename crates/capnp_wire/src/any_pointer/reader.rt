@@ -3,7 +3,7 @@ ghost use Rattle.std.specs.Prelude.{⊤, ◌≡◌, ◌≢◌, ◌↔◌, ◌⊎
 ghost use Rattle.std.specs.Result.{IsErrAnd};
 ghost use Rattle.capnp_frame.specs.declared.error.ErrorKind.{ErrorKind};
 ghost use Rattle.capnp_frame.specs.declared.error.ErrorKind.TheVariants.{ReadLimitExceeded};
-ghost use Rattle.capnp_layout.specs.Object.{nothing};
+ghost use Rattle.capnp_layout.specs.Prelude.{nothing};
 ghost use Rattle.capnp_wire.specs.Views.{Pointer, IsViewOf, Denotes, RejectsReading, IsInvalidPointer, MeetsLimit, Measures, RejectsMeasuring};
 ghost use Rattle.capnp_wire.specs.Readers.{pointer_of, unlimited_root, IsEntered};
 

@@ -1,8 +1,7 @@
 //! Fields of structs by their width (encoding document, "Structs").
 ghost use Rattle.std.specs.Prelude.{◌≡◌, ◌↔◌, ◌^◌, ◌<◌, length, slice_index, bit_xor, IsTrue, Ok};
-ghost use Rattle.capnp_layout.specs.Element.{code_of, width};
+ghost use Rattle.capnp_layout.specs.Prelude.{code_of, width, nothing};
 ghost use Rattle.capnp_wire.specs.Fields.{field};
-ghost use Rattle.capnp_layout.specs.Object.{nothing};
 ghost use Rattle.capnp_wire.specs.Readers.{struct_of};
 ghost use Rattle.capnp_wire.specs.Views.{Denotes, IsViewOf, pointer_in};
 

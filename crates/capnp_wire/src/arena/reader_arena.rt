@@ -1,13 +1,9 @@
 //! The segments that readers read.
 ghost use Rattle.std.specs.Prelude.{◌≡◌, ◌≢◌, ◌↔◌, ◌<◌, ◌≤◌, ◌^◌, ◌-◌, ℕ, List, [], ◌∷◌, length, min, Some, None, slice_get, IfOk, IfErr, IsOk, IsTrue, MatchResult};
 ghost use Rattle.std.specs.Result.{IsErrAnd};
-ghost use Rattle.capnp_frame.specs.Message.{size_in_words};
+ghost use Rattle.capnp_frame.specs.Prelude.{size_in_words};
 ghost use Rattle.capnp_frame.specs.declared.error.ErrorKind.{ErrorKind};
-ghost use Rattle.capnp_layout.specs.Object.{message_of, word_at};
-ghost use Rattle.capnp_layout.specs.Tree.{Form, Trees, none, tree, depth};
-ghost use Rattle.capnp_layout.specs.Reached.{root, Root};
-ghost use Rattle.capnp_layout.specs.Traversed.{Within};
-ghost use Rattle.capnp_layout.specs.Faults.{NoWord, StopsWalk};
+ghost use Rattle.capnp_layout.specs.Prelude.{message_of, word_at, Form, Trees, none, tree, depth, root, Root, Within, NoWord, StopsWalk};
 ghost use Rattle.capnp_wire.specs.Canonical.{IsCanonical};
 ghost use Rattle.capnp_wire.specs.Tested.{RejectsCanonicity};
 ghost use Rattle.capnp_wire.specs.Readers.{pointer_of, nesting_of};

@@ -1,8 +1,7 @@
 //! Readers of `Data`.
 ghost use Rattle.std.specs.Prelude.{◌+◌, ◌/◌, ◌≤◌, length, MatchResult};
 ghost use Rattle.std.specs.Option.{ForSome};
-ghost use Rattle.capnp_layout.specs.Pointer.{words_of};
-ghost use Rattle.capnp_layout.specs.Body.{room_of};
+ghost use Rattle.capnp_layout.specs.Prelude.{words_of, room_of};
 ghost use Rattle.capnp_wire.specs.Views.{HasSegment, IsViewOf, Accepts, Reads, Refuses, Declines, IsData, TakesNumbers, DeclinesNumbers};
 ghost use Rattle.capnp_wire.specs.Readers.{pointer_of, form_of};
 

@@ -1,13 +1,9 @@
 //! Walks that test whether objects are laid out in canonical form.
 ghost use Rattle.std.specs.Prelude.{◌≡◌, ◌≢◌, ◌↔◌, ◌+◌, ◌/◌, ◌^◌, ◌<◌, ◌≤◌, ℕ, [], ◌∷◌, length, slice_get, Option, Some, IfOk, IfErr, IsTrue, true, false};
-ghost use Rattle.capnp_layout.specs.Pointer.{words_of, pointer_kind};
-ghost use Rattle.capnp_layout.specs.Object.{message_of};
-ghost use Rattle.capnp_layout.specs.Body.{IsObject, shape_of, room_of, words_in};
+ghost use Rattle.capnp_layout.specs.Prelude.{words_of, pointer_kind, message_of, IsObject, shape_of, room_of, words_in, root, segment_of, places_in, end_of};
 ghost use Rattle.std.specs.Result.{IsErrAnd};
 ghost use Rattle.capnp_frame.specs.declared.error.ErrorKind.{ErrorKind};
-ghost use Rattle.capnp_layout.specs.Reached.{root};
 ghost use Rattle.capnp_wire.specs.Canonical.{IsCanonical};
-ghost use Rattle.capnp_layout.specs.Rows.{segment_of, places_in, end_of};
 ghost use Rattle.capnp_wire.specs.Tested.{NextOf, PaddedOf, IsTruncated, links_at, PassesAt, MeetsAt, FailsAt, Ends, refused, not_canonical};
 ghost use Rattle.capnp_layout.specs.declared.place.Place.{Place};
 

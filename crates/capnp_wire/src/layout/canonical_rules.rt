@@ -1,10 +1,6 @@
 //! What the canonical form requires of an object alone: its place, its padding and its sizes.
 ghost use Rattle.std.specs.Prelude.{◌≢◌, ◌↔◌, ◌+◌, ◌*◌, ◌-◌, ◌/◌, ◌^◌, ◌<◌, ◌≤◌, ℕ, length, slice_index_or, IsTrue};
-ghost use Rattle.capnp_layout.specs.Pointer.{words_of, words_from};
-ghost use Rattle.capnp_layout.specs.Element.{code_of, width, words_for};
-ghost use Rattle.capnp_layout.specs.Object.{elements, rows_from, row_places};
-ghost use Rattle.capnp_layout.specs.Tree.{numbers};
-ghost use Rattle.capnp_layout.specs.Body.{shape_of, room_of, words_in};
+ghost use Rattle.capnp_layout.specs.Prelude.{words_of, words_from, code_of, width, words_for, elements, rows_from, row_places, numbers, shape_of, room_of, words_in};
 ghost use Rattle.capnp_wire.specs.Canonical.{EndsFull, Padded};
 ghost use Rattle.capnp_wire.specs.Tested.{NextOf, PaddedOf, IsTruncated, NeedData, NeedPointers, links_at};
 

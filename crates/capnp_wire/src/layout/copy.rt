@@ -1,7 +1,6 @@
 //! Copies of objects, laid out one after the other in one block of words.
 ghost use Rattle.std.specs.Prelude.{◌≡◌, ◌-◌, ◌^◌, ◌<◌, ◌≤◌, [], ◌∷◌, length, slice_get, Some};
-ghost use Rattle.capnp_layout.specs.Pointer.{words_of};
-ghost use Rattle.capnp_layout.specs.Object.{message_of};
+ghost use Rattle.capnp_layout.specs.Prelude.{words_of, message_of};
 ghost use Rattle.capnp_wire.specs.Copy.{CanCopy, Copies};
 
 use crate::layout::copy_rows::{copy_pointers, copy_run};

@@ -1,10 +1,6 @@
 //! The pointers of an object beside those of its copy.
 ghost use Rattle.std.specs.Prelude.{◌≡◌, ◌≢◌, ◌↔◌, ◌+◌, ◌*◌, ◌/◌, ◌^◌, ◌<◌, ◌≤◌, [], length, IsTrue};
-ghost use Rattle.capnp_layout.specs.Object.{places};
-ghost use Rattle.capnp_layout.specs.Body.{room_of, words_in};
-ghost use Rattle.capnp_layout.specs.Layout.{run};
-ghost use Rattle.capnp_layout.specs.Rows.{row_size, kept_in, kept_places, row_slots, slots_of, places_in};
-ghost use Rattle.capnp_layout.specs.Output.{IsNarrower};
+ghost use Rattle.capnp_layout.specs.Prelude.{places, room_of, words_in, run, row_size, kept_in, kept_places, row_slots, slots_of, places_in, IsNarrower};
 ghost use Rattle.capnp_wire.specs.Copy.{ArePaired, TakesPair};
 
 use capnp_layout::object::{Body, Object, words_fit};

@@ -1,12 +1,7 @@
 //! Copies of what the pointers of an object lead to, row by row.
 ghost use Rattle.std.specs.Prelude.{◌≡◌, ◌≢◌, ◌+◌, ◌/◌, ◌^◌, ◌<◌, ◌≤◌, [], length, slice_get, Some};
-ghost use Rattle.capnp_layout.specs.Pointer.{words_of};
-ghost use Rattle.capnp_layout.specs.Object.{message_of, places};
-ghost use Rattle.capnp_layout.specs.Body.{room_of, words_in};
-ghost use Rattle.capnp_layout.specs.Layout.{run};
-ghost use Rattle.capnp_layout.specs.Rows.{row_size, kept_in, slots_of, places_in, slots_in};
+ghost use Rattle.capnp_layout.specs.Prelude.{words_of, message_of, places, room_of, words_in, run, row_size, kept_in, slots_of, places_in, slots_in, IsNarrower};
 ghost use Rattle.capnp_wire.specs.Copy.{CanCopy, CanCopyRows, CopiesAll};
-ghost use Rattle.capnp_layout.specs.Output.{IsNarrower};
 
 use crate::layout::copy::{CopySource, Destination, copy_target};
 use crate::layout::copy_cursor::CopyCursor;

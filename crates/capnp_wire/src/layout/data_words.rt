@@ -1,11 +1,7 @@
 //! The words of an object except for its pointers.
 ghost use Rattle.std.specs.Prelude.{◌≡◌, ◌+◌, ◌-◌, ◌*◌, ◌/◌, ◌^◌, ◌<◌, ◌≤◌, length};
-ghost use Rattle.capnp_layout.specs.Pointer.{words_of};
-ghost use Rattle.capnp_layout.specs.Object.{rows_from};
-ghost use Rattle.capnp_layout.specs.Body.{room_of, words_in};
-ghost use Rattle.capnp_layout.specs.Block.{put_rows};
+ghost use Rattle.capnp_layout.specs.Prelude.{words_of, rows_from, room_of, words_in, put_rows, IsNarrower};
 ghost use Rattle.capnp_wire.specs.Copy.{put_own, element_count};
-ghost use Rattle.capnp_layout.specs.Output.{IsNarrower};
 
 use capnp_layout::block::{BlockItem, put_elements, put_word, put_words};
 use capnp_layout::number_list::NumberList;

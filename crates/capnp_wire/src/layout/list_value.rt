@@ -1,11 +1,7 @@
 //! Lists of pointers that are read, as values: they are measured, and written into a block.
 ghost use Rattle.std.specs.Prelude.{◌≡◌, ◌+◌, ◌-◌, ◌^◌, ◌<◌, ◌≤◌, ℕ, Option, length, IfErr, MatchResult, OnOk};
-ghost use Rattle.capnp_layout.specs.Pointer.{words_of};
-ghost use Rattle.capnp_layout.specs.Tree.{pointers, Trees};
-ghost use Rattle.capnp_layout.specs.Object.{message_of, places};
+ghost use Rattle.capnp_layout.specs.Prelude.{words_of, pointers, Trees, message_of, places, StopsWalk, output};
 ghost use Rattle.capnp_wire.specs.Traversed.{counted, WalkedAll};
-ghost use Rattle.capnp_layout.specs.Faults.{StopsWalk};
-ghost use Rattle.capnp_layout.specs.Layout.{output};
 ghost use Rattle.capnp_wire.specs.Copy.{IsCopied};
 ghost use Rattle.capnp_wire.specs.Values.{HasWords, LacksWords, HasRoomAt};
 ghost use Rattle.capnp_wire.specs.ListValues.{IsListTree, StopsInList, pointers_along};

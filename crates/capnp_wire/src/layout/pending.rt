@@ -1,10 +1,7 @@
 //! Copies in progress: the words of an object are in the block, but not yet what its pointers lead
 //! to.
 ghost use Rattle.std.specs.Prelude.{◌≡◌, ◌+◌, ◌-◌, ◌^◌, ◌<◌, ◌≤◌, ◌/◌, Bool, ℕ, List, [], ◌∷◌, length, slice_get, Some, MatchOption};
-ghost use Rattle.capnp_layout.specs.Pointer.{words_of};
-ghost use Rattle.capnp_layout.specs.Object.{message_of};
-ghost use Rattle.capnp_layout.specs.Body.{IsObject};
-ghost use Rattle.capnp_layout.specs.Local.{object_of, local_struct_of, pointers_of};
+ghost use Rattle.capnp_layout.specs.Prelude.{words_of, message_of, IsObject, object_of, local_struct_of, pointers_of};
 ghost use Rattle.capnp_wire.specs.Copy.{CanCopy, Copies, IsCopyable, BeginsObject, BeginsRun, BeginsStruct};
 ghost use Rattle.capnp_wire.specs.declared.layout.copy.Copied.{Copied};
 

@@ -1,11 +1,7 @@
 //! Lists of structs that are read, as values: they are measured, and written into a block.
 ghost use Rattle.std.specs.Prelude.{◌≡◌, if◌then◌else◌, ◌+◌, ◌-◌, ◌*◌, ◌/◌, ◌^◌, ◌<◌, ◌≤◌, ℕ, Option, length, MatchResult};
-ghost use Rattle.capnp_layout.specs.Pointer.{words_of};
-ghost use Rattle.capnp_layout.specs.Tree.{Trees};
-ghost use Rattle.capnp_layout.specs.Object.{message_of};
-ghost use Rattle.capnp_layout.specs.Layout.{output};
+ghost use Rattle.capnp_layout.specs.Prelude.{words_of, Trees, message_of, output, least_size};
 ghost use Rattle.capnp_wire.specs.Copy.{IsCopied};
-ghost use Rattle.capnp_layout.specs.Output.{least_size};
 ghost use Rattle.capnp_wire.specs.Values.{HasWords, LacksWords, HasRoomAt, HoldsPointers};
 ghost use Rattle.capnp_wire.specs.ListValues.{IsListTree, StopsInList, pointers_of_structs, structs_along};
 

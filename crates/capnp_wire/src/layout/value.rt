@@ -2,13 +2,8 @@
 //! as well.
 ghost use Rattle.std.specs.Prelude.{◌≡◌, ◌<◌, ◌≤◌, ◌+◌, ◌-◌, ◌++◌, ◌*◌, ◌/◌, ◌^◌, ℕ, All, [], ◌∷◌, length, min, MatchResult};
 ghost use Rattle.capnp_frame.specs.declared.error.ErrorKind.TheVariants.{AllocationTooLarge};
-ghost use Rattle.capnp_layout.specs.Pointer.{digits, number_of, words_of};
-ghost use Rattle.capnp_layout.specs.Element.{code_of, width, words_for};
-ghost use Rattle.capnp_layout.specs.Tree.{numbers, none, tree};
-ghost use Rattle.capnp_layout.specs.Object.{elements, message_of};
+ghost use Rattle.capnp_layout.specs.Prelude.{digits, number_of, words_of, code_of, width, words_for, numbers, none, tree, elements, message_of, too_large, put};
 ghost use Rattle.capnp_wire.specs.Traversed.{Counts};
-ghost use Rattle.capnp_layout.specs.Limits.{too_large};
-ghost use Rattle.capnp_layout.specs.Block.{put};
 ghost use Rattle.capnp_wire.specs.Copy.{IsCopied};
 ghost use Rattle.capnp_wire.specs.Values.{Measured, RejectsTreeSize, ManyBytes, IsFreeFrom};
 

@@ -1,11 +1,7 @@
 //! What a walk does at one pointer, without going below.
 ghost use Rattle.std.specs.Prelude.{◌≡◌, ◌+◌, ◌/◌, ◌<◌, ◌≤◌, Bool, ℕ, List, [], ◌∷◌, length, slice_get, Some, IfErr, IfOk, OnOk, MatchOption, IsTrue};
-ghost use Rattle.capnp_layout.specs.Pointer.{words_of};
-ghost use Rattle.capnp_layout.specs.Object.{message_of};
-ghost use Rattle.capnp_layout.specs.Body.{IsObject};
-ghost use Rattle.capnp_layout.specs.Local.{object_of, local_struct_of, pointers_of};
+ghost use Rattle.capnp_layout.specs.Prelude.{words_of, message_of, IsObject, object_of, local_struct_of, pointers_of, StopsWalk};
 ghost use Rattle.capnp_wire.specs.Traversed.{counted, EntersObject, Walked};
-ghost use Rattle.capnp_layout.specs.Faults.{StopsWalk};
 
 use crate::layout::walk::Walk;
 use capnp_frame::Result;

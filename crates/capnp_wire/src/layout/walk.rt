@@ -1,14 +1,8 @@
 //! Walks over all objects that a pointer leads to.
 ghost use Rattle.std.specs.Prelude.{◌≡◌, ◌≢◌, ◌+◌, ◌-◌, ◌/◌, ◌^◌, ◌<◌, ◌≤◌, [], ◌∷◌, length, slice_get, Some, IfErr, IfOk, OnOk, MatchOption};
 ghost use Rattle.capnp_frame.specs.declared.error.ErrorKind.{ErrorKind};
-ghost use Rattle.capnp_layout.specs.Pointer.{words_of};
-ghost use Rattle.capnp_layout.specs.Object.{message_of, places};
-ghost use Rattle.capnp_layout.specs.Body.{room_of, words_in};
+ghost use Rattle.capnp_layout.specs.Prelude.{words_of, message_of, places, room_of, words_in, Within, Exceeds, less, StopsWalk, output_body_of, segment_of, places_in};
 ghost use Rattle.capnp_wire.specs.Traversed.{counted, CountsMore, Walked, WalkedAll, WalkedTo};
-ghost use Rattle.capnp_layout.specs.Traversed.{Within, Exceeds, less};
-ghost use Rattle.capnp_layout.specs.Faults.{StopsWalk};
-ghost use Rattle.capnp_layout.specs.Output.{output_body_of};
-ghost use Rattle.capnp_layout.specs.Rows.{segment_of, places_in};
 
 use capnp_frame::message::ReaderSegments;
 use capnp_frame::{Error, ErrorKind, Result};

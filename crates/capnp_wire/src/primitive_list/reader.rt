@@ -1,9 +1,7 @@
 //! Readers of lists of numbers.
 ghost use Rattle.std.specs.Prelude.{◌≡◌, ◌+◌, ◌*◌, ◌/◌, ◌<◌, ◌≤◌, length, slice_index, MatchResult};
 ghost use Rattle.std.specs.Option.{ForSome};
-ghost use Rattle.capnp_layout.specs.Pointer.{words_of};
-ghost use Rattle.capnp_layout.specs.Element.{code_of, width, words_for};
-ghost use Rattle.capnp_layout.specs.Body.{room_of};
+ghost use Rattle.capnp_layout.specs.Prelude.{words_of, code_of, width, words_for, room_of};
 
 use crate::any_pointer;
 use crate::any_pointer::ObjectKind;

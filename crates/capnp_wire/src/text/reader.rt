@@ -1,8 +1,7 @@
 //! Readers of `Text`.
 ghost use Rattle.std.specs.Prelude.{◌≡◌, ◌↔◌, ◌+◌, ◌/◌, ◌≤◌, ◌++◌, ◌∷◌, [], ℕ, List, length, IsTrue, MatchResult, MatchOption};
 ghost use Rattle.std.specs.Str.{IsUtf8, IsValidUpTo, valid_up_to};
-ghost use Rattle.capnp_layout.specs.Pointer.{words_of};
-ghost use Rattle.capnp_layout.specs.Body.{room_of};
+ghost use Rattle.capnp_layout.specs.Prelude.{words_of, room_of};
 ghost use Rattle.capnp_wire.specs.Views.{HasSegment, IsViewOf, Accepts, Reads, Refuses, Declines, IsText, TakesText, DeclinesText};
 ghost use Rattle.capnp_wire.specs.Readers.{pointer_of, form_of};
 

@@ -1,6 +1,6 @@
 //! Lists that are read as lists of an enum's values.
 ghost use Rattle.std.specs.Prelude.{◌≡◌, ◌<◌, ℕ, length, slice_index};
-ghost use Rattle.capnp_layout.specs.Pointer.{words_of};
+ghost use Rattle.capnp_layout.specs.Prelude.{words_of};
 ghost use Rattle.capnp_wire.specs.Enums.{hash_of_number};
 
 use crate::any_pointer;

@@ -1,6 +1,6 @@
 //! Lists that are read as lists of pointers to views of one type.
 ghost use Rattle.std.specs.Prelude.{◌≡◌, ◌<◌, length};
-ghost use Rattle.capnp_layout.specs.Pointer.{words_of};
+ghost use Rattle.capnp_layout.specs.Prelude.{words_of};
 
 use crate::any_pointer;
 use crate::list_list::view_iter::ViewIter;

@@ -1,9 +1,7 @@
 //! Lists that are read as lists of numbers.
 ghost use Rattle.std.specs.Prelude.{◌≡◌, ◌↔◌, ◌+◌, ◌*◌, ◌/◌, ◌<◌, ◌≤◌, length, slice_index, IsTrue, MatchResult};
 ghost use Rattle.std.specs.Option.{ForSome};
-ghost use Rattle.capnp_layout.specs.Element.{code_of, width};
-ghost use Rattle.capnp_layout.specs.Body.{room_of, words_in};
-ghost use Rattle.capnp_layout.specs.Pointer.{words_of};
+ghost use Rattle.capnp_layout.specs.Prelude.{code_of, width, room_of, words_in, words_of};
 ghost use Rattle.capnp_wire.specs.UpgradedViews.{IsFirstField};
 
 use crate::any_pointer::ObjectKind;

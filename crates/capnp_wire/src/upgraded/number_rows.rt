@@ -1,6 +1,6 @@
 //! Lists of numbers that are read as lists of structs.
 ghost use Rattle.std.specs.Prelude.{◌≡◌, ◌*◌, ◌<◌, length};
-ghost use Rattle.capnp_layout.specs.Element.{code_of, width, words_for};
+ghost use Rattle.capnp_layout.specs.Prelude.{code_of, width, words_for};
 
 use crate::any_struct::StructReader;
 use crate::any_struct::part::WordPart;

@@ -1,7 +1,7 @@
 //! Lists that are read as lists of pointers.
 ghost use Rattle.std.specs.Prelude.{◌≡◌, ◌+◌, ◌*◌, ◌^◌, ◌<◌, length, MatchOption, MatchResult};
 ghost use Rattle.std.specs.Option.{ForSome};
-ghost use Rattle.capnp_layout.specs.Pointer.{words_of};
+ghost use Rattle.capnp_layout.specs.Prelude.{words_of};
 
 use crate::any_pointer::ObjectKind;
 use crate::object_content::wrong_kind;

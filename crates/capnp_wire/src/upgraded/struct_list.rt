@@ -1,7 +1,7 @@
 //! Lists that are read as lists of structs.
 ghost use Rattle.std.specs.Prelude.{◌≡◌, ◌+◌, ◌*◌, ◌/◌, ◌^◌, ◌<◌, ◌≤◌, length, MatchResult};
 ghost use Rattle.std.specs.Option.{ForSome};
-ghost use Rattle.capnp_layout.specs.Pointer.{words_of};
+ghost use Rattle.capnp_layout.specs.Prelude.{words_of};
 ghost use Rattle.capnp_layout.specs.declared.object.Body.{Body};
 ghost use Rattle.capnp_wire.specs.UpgradedViews.{elements_without_data as elements_of};
 

@@ -1,11 +1,10 @@
 -- Either format's message.
 use Rattle.std.proofs.Common.{length}
 use Rattle.std.specs.List.{concat}
-use Rattle.capnp_frame.specs.Refusals.{Outgrows, TakesMemory}
+use Rattle.capnp_frame.specs.Prelude.{Outgrows, TakesMemory}
 use Rattle.capnp_frame.proofs.sources.ResultLemmas.{reads_with_less}
-use Rattle.capnp_pack.specs.PackedSource.{Unpacks}
-use Rattle.capnp_pack.specs.PackedStreams.{packed_rules}
-use Rattle.capnp.specs.Streams.{IsPlainSource}
+use Rattle.capnp_pack.specs.Prelude.{Unpacks, packed_rules}
+use Rattle.capnp.specs.Prelude.{IsPlainSource}
 use Rattle.capnp.proofs.FormatLemmas.{plain_reads_reusing, Outgrows-none}
 use Rattle.capnp.proofs.streams.read_next.Goals as goal
 

@@ -1,7 +1,6 @@
 -- The messages before this index are written.
-use Rattle.capnp_frame.specs.Source.{IfKnown, Advances}
-use Rattle.capnp_frame.specs.Sink.{Grows}
-use Rattle.capnp.specs.Runs.{HasWritten}
+use Rattle.capnp_frame.specs.Prelude.{IfKnown, Advances, Grows}
+use Rattle.capnp.specs.Prelude.{HasWritten}
 use Rattle.capnp.proofs.streams.write_each_message.Given as goal
 
 abbrev pub invariant-loop-message : goal.invariant-loop-message

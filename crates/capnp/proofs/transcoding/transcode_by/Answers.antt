@@ -1,5 +1,5 @@
 -- What was written is the encodings.
-use Rattle.capnp.specs.Transcoding.{input_of, Transcodes, DeclinesTranscoded, IsOtherText}
+use Rattle.capnp.specs.Prelude.{input_of, Transcodes, DeclinesTranscoded, IsOtherText}
 use Rattle.capnp.proofs.TranscodingLemmas.{WritesEach-weaker, other_text_added}
 use Rattle.capnp.proofs.transcoding.transcode_by.Goals as goal
 

@@ -2,7 +2,7 @@
 use Rattle.std.proofs.Common.{ℕ, Option, ◌∙◌, ap}
 use Rattle.std.specs.Option.{unwrap_or}
 use Rattle.std.proofs.lemmas.Option.{unwrap_or-slice_get}
-use Rattle.capnp_layout.specs.Pointer.{words_of}
+use Rattle.capnp_layout.specs.Prelude.{words_of}
 use Rattle.capnp_build.proofs.root_kind.word_at.Goals as goal
 
 pub returns : goal.returns

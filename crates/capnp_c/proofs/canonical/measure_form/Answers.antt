@@ -1,6 +1,6 @@
 -- What was measured, or why it was not.
 use Rattle.std.proofs.Common.{refl, ap, ◌∙◌, rules}
-use Rattle.capnp_frame.specs.Numbers.{kind_number}
+use Rattle.capnp_frame.specs.Prelude.{kind_number}
 use Rattle.capnp_c.specs.Fronts.{root_by}
 use Rattle.capnp_c.proofs.FrontLemmas.{has_or_lacks, one_reason}
 use Rattle.capnp_c.proofs.canonical.measure_form.Goals as goal

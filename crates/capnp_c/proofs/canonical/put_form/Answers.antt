@@ -1,6 +1,6 @@
 -- What was written, or why it was not.
 use Rattle.std.proofs.Common.{refl, ap, ◌∙◌, arith, rules}
-use Rattle.capnp_frame.specs.Numbers.{kind_number}
+use Rattle.capnp_frame.specs.Prelude.{kind_number}
 use Rattle.capnp_c.specs.Fronts.{root_by}
 use Rattle.capnp_c.proofs.FrontLemmas.{has_or_lacks, one_size, form_fits, form_is_short, form_is_lacked}
 use Rattle.capnp_c.proofs.canonical.put_form.Goals as goal

@@ -1,8 +1,8 @@
 -- What is written is the form of the message's root, at the front of the block.
 use Rattle.std.proofs.Common.{◌≡◌, ◌*◌, inl, inr, length, subst, arith, length-take}
 use Rattle.std.proofs.lemmas.Result.{err_from_is_err_and}
-use Rattle.capnp_layout.specs.Pointer.{words_of}
-use Rattle.capnp_wire.specs.Values.{IsCanonicalForm}
+use Rattle.capnp_layout.specs.Prelude.{words_of}
+use Rattle.capnp_wire.specs.Prelude.{IsCanonicalForm}
 use Rattle.capnp_c.specs.Fronts.{root_by, RootHasForm, RootLacksForm}
 use Rattle.capnp_c.proofs.FrontLemmas.{front_form}
 use Rattle.capnp_c.proofs.canonical.written.Goals as goal

@@ -1,7 +1,7 @@
 -- The segment is the one of this number, where there is one.
 use Rattle.std.proofs.Common.{sym, ap, ◌∙◌, rules}
 use Rattle.std.specs.Prelude.{option_copied}
-use Rattle.capnp_frame.specs.Numbers.{kind_number}
+use Rattle.capnp_frame.specs.Prelude.{kind_number}
 use Rattle.capnp_c.proofs.FrontLemmas.{one_front, segment_words, segment_there, no_segment_there}
 use Rattle.capnp_c.proofs.framed.count_segment.Goals as goal
 

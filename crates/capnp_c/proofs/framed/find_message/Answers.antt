@@ -1,7 +1,6 @@
 -- A message that is there is found, and one that is cut or too large fails by its line.
 use Rattle.std.proofs.Common.{length, ap, ◌∙◌, arith, rules, length-append}
-use Rattle.capnp_frame.specs.Numbers.{kind_number}
-use Rattle.capnp_frame.specs.SegmentTable.{table_size}
+use Rattle.capnp_frame.specs.Prelude.{kind_number, table_size}
 use Rattle.capnp_c.proofs.framed.find_message.Goals as goal
 
 pub returns-in-Ok : goal.returns-in-Ok

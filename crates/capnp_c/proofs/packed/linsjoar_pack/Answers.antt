@@ -1,7 +1,7 @@
 -- Where there is no room for the packed encoding, that is the error.
 use Rattle.std.proofs.Common.{rules, arith, ◌≤◌, ◌+◌, length, ap, ◌∙◌}
 use Rattle.std.proofs.lemmas.Bool.{false≢true}
-use Rattle.capnp_frame.specs.Numbers.{kind_number}
+use Rattle.capnp_frame.specs.Prelude.{kind_number}
 use Rattle.capnp_c.proofs.PackedLemmas.{packed_alone, block_refused, packed_fits}
 use Rattle.capnp_c.proofs.packed.linsjoar_pack.Goals as goal
 

@@ -1,7 +1,7 @@
 -- Bytes that begin with such an encoding are unpacked, and any others fail by their line.
 use Rattle.std.proofs.Common.{ap, ◌∙◌}
-use Rattle.capnp_frame.specs.Numbers.{kind_number}
-use Rattle.capnp_pack.specs.RefusingLaws.{unpacking}
+use Rattle.capnp_frame.specs.Prelude.{kind_number}
+use Rattle.capnp_pack.specs.Prelude.{unpacking}
 use Rattle.capnp_c.proofs.PackedLemmas.{chunk_refused}
 use Rattle.capnp_c.proofs.packed.linsjoar_unpack.Goals as goal
 

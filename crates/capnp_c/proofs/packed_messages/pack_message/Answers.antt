@@ -1,8 +1,8 @@
 -- What the chunks are packed to is the message's text, where it has room.
 use Rattle.std.proofs.Common.{◌≡◌, ◌+◌, ◌≤◌, [], length, rules, arith, sym, ap, ◌∙◌, subst}
 use Rattle.std.proofs.lemmas.Bool.{false≢true}
-use Rattle.capnp_frame.specs.Numbers.{kind_number}
-use Rattle.capnp_pack.specs.PackedFrame.{IsPackedEncoding}
+use Rattle.capnp_frame.specs.Prelude.{kind_number}
+use Rattle.capnp_pack.specs.Prelude.{IsPackedEncoding}
 use Rattle.capnp_c.proofs.FrontLemmas.{one_front}
 use Rattle.capnp_c.proofs.MessageLemmas.{one_rest, message_alone, message_fits, message_refused, text_of_parts}
 use Rattle.capnp_c.proofs.packed_messages.pack_message.Goals as goal

@@ -1,7 +1,6 @@
 -- The most words of the parts so far, and the parts that are left.
 use Rattle.std.proofs.Common.{◌≡◌, ◌≤◌, ◌+◌, ◌-◌, ◌*◌, ◌/◌, max, length}
-use Rattle.capnp_layout.specs.Pointer.{words_of}
-use Rattle.capnp_layout.specs.Block.{most_used}
+use Rattle.capnp_layout.specs.Prelude.{words_of, most_used}
 use Rattle.capnp_layout.proofs.block.most_used.Given as goal
 
 abbrev pub invariant-rows : goal.invariant-rows

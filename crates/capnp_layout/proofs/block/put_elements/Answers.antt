@@ -1,8 +1,6 @@
 -- The last word of a list is put again, without the bits after its elements.
 use Rattle.std.proofs.Common.{◌≡◌, ℕ, ◌*◌, ◌%◌, ◌<◌, sym, ◌∙◌, ap, arith}
-use Rattle.capnp_layout.specs.Pointer.{words_of}
-use Rattle.capnp_layout.specs.Element.{code_of, width, words_for}
-use Rattle.capnp_layout.specs.Block.{put}
+use Rattle.capnp_layout.specs.Prelude.{words_of, code_of, width, words_for, put}
 use Rattle.capnp_layout.proofs.words.WordLemmas.{length-words_of}
 use Rattle.capnp_layout.proofs.objects.PaddingLemmas.{whole_words, part_word, shifted, any_below}
 use Rattle.capnp_layout.proofs.block.put_elements.Goals as goal

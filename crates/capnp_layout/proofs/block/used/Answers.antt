@@ -1,6 +1,6 @@
 -- Words are left out from the end on while they are zero.
 use Rattle.std.proofs.Common.{◌≡◌, ◌∙◌, arith}
-use Rattle.capnp_layout.specs.Pointer.{words_of}
+use Rattle.capnp_layout.specs.Prelude.{words_of}
 use Rattle.capnp_layout.proofs.words.WordLemmas.{length-words_of}
 use Rattle.capnp_layout.proofs.words.UsedLemmas.{last_used, last_unused}
 use Rattle.capnp_layout.proofs.block.used.Goals as goal

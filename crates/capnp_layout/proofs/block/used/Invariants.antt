@@ -1,7 +1,6 @@
 -- The words from here on are zero.
 use Rattle.std.proofs.Common.{◌≡◌, ◌≤◌, length}
-use Rattle.capnp_layout.specs.Pointer.{words_of, words_from}
-use Rattle.capnp_layout.specs.Trim.{cut_zeros}
+use Rattle.capnp_layout.specs.Prelude.{words_of, words_from, cut_zeros}
 use Rattle.capnp_layout.proofs.block.used.Given as goal
 
 abbrev pub invariant-words : goal.invariant-words

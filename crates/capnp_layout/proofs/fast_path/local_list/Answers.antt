@@ -1,7 +1,6 @@
 -- A pointer leads to a list of numbers in its segment where there is room for the list.
 use Rattle.std.proofs.Common.{◌+◌, ◌/◌, ◌≤◌, length, refl, sym, arith}
-use Rattle.capnp_layout.specs.Pointer.{words_of}
-use Rattle.capnp_layout.specs.Element.{code_of, width, words_for}
+use Rattle.capnp_layout.specs.Prelude.{words_of, code_of, width, words_for}
 use Rattle.capnp_layout.proofs.pointers.LocalLemmas.{word_there, number_list_stands}
 use Rattle.capnp_layout.proofs.fast_path.local_list.Goals as goal
 

@@ -1,6 +1,6 @@
 -- A pointer leads to a struct in its segment where there is room for the struct.
 use Rattle.std.proofs.Common.{◌+◌, ◌/◌, ◌≤◌, length, sym, arith}
-use Rattle.capnp_layout.specs.Pointer.{words_of}
+use Rattle.capnp_layout.specs.Prelude.{words_of}
 use Rattle.capnp_layout.proofs.pointers.LocalLemmas.{word_there, struct_stands_local}
 use Rattle.capnp_layout.proofs.fast_path.local_struct.Goals as goal
 

@@ -1,6 +1,6 @@
 -- A pointer leads to a list of structs in its segment where there is room for its words, and for its elements in these.
 use Rattle.std.proofs.Common.{◌+◌, ◌*◌, ◌/◌, ◌≤◌, length, sym, arith}
-use Rattle.capnp_layout.specs.Pointer.{words_of}
+use Rattle.capnp_layout.specs.Prelude.{words_of}
 use Rattle.capnp_layout.proofs.pointers.LocalLemmas.{word_there, struct_list_stands}
 use Rattle.capnp_layout.proofs.fast_path.local_structs.Goals as goal
 

@@ -1,8 +1,6 @@
 -- The first word of a landing pad of two words says where the content is, the second what it is.
 use Rattle.std.proofs.Common.{◌≡◌, ℕ, None, slice_get, sym, ap, ◌∙◌, subst, refl}
-use Rattle.capnp_layout.specs.Pointer.{landing_pad_segment}
-use Rattle.capnp_layout.specs.Object.{message_of, landing_pad, IsFar}
-use Rattle.capnp_layout.specs.Faults.{BadLandingPad, not_far, no_content}
+use Rattle.capnp_layout.specs.Prelude.{landing_pad_segment, message_of, landing_pad, IsFar, BadLandingPad, not_far, no_content}
 use Rattle.capnp_layout.specs.declared.place.Place.{Place}
 use Rattle.capnp_frame.specs.declared.error.ErrorKind.TheVariants.{InvalidSegmentId}
 use Rattle.capnp_layout.proofs.words.MessageLemmas.{segment_stands, no_segment_stands}

@@ -1,9 +1,6 @@
 -- A far pointer leads on through a landing pad of one word, or of two.
 use Rattle.std.proofs.Common.{◌≡◌, ℕ, Some, sym, subst}
-use Rattle.capnp_layout.specs.PointerWord.{IsFarPointer}
-use Rattle.capnp_layout.specs.Landing.{HasWideLandingPad}
-use Rattle.capnp_layout.specs.Object.{message_of, word_at, landing_pad}
-use Rattle.capnp_layout.specs.Faults.{BadLandingPad, no_tag}
+use Rattle.capnp_layout.specs.Prelude.{IsFarPointer, HasWideLandingPad, message_of, word_at, landing_pad, BadLandingPad, no_tag}
 use Rattle.capnp_frame.proofs.sources.AskLemmas.{passed_on}
 use Rattle.capnp_layout.proofs.pointers.LandingPadLemmas.{not_is_true, not_is_false, narrow_landing, landing_pad_word, no_second_word, no_landing_pad_segment, no_landing_pad_word, narrow_refused, is_narrow}
 use Rattle.capnp_layout.proofs.pointers.LandingPadLemmas.{is_double_far, wide_landing_pad, wide_found, wide_declined}

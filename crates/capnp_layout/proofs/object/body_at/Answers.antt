@@ -1,8 +1,7 @@
 -- Each kind of object is there where the segment has room for it.
 use Rattle.std.proofs.Common.{◌+◌, ◌/◌, ◌<◌, ◌≤◌, length, arith}
 use Rattle.std.proofs.lemmas.Result.{err_from_is_err_and}
-use Rattle.capnp_layout.specs.Pointer.{code}
-use Rattle.capnp_layout.specs.Element.{code_of, width, words_for}
+use Rattle.capnp_layout.specs.Prelude.{code, code_of, width, words_for}
 use Rattle.capnp_layout.proofs.pointers.LandingLemmas.{struct_stands, numbers_stand, pointers_stand, struct_misfits, list_misfits, pointers_misfit}
 use Rattle.capnp_layout.proofs.object.body_at.Goals as goal
 

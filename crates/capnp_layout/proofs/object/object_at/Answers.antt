@@ -1,7 +1,6 @@
 -- The segment of the pointer is there, or the call fails.
 use Rattle.std.proofs.Common.{sym, subst}
-use Rattle.capnp_layout.specs.Object.{message_of}
-use Rattle.capnp_layout.specs.Faults.{Fault, no_word, no_segment}
+use Rattle.capnp_layout.specs.Prelude.{message_of, Fault, no_word, no_segment}
 use Rattle.capnp_layout.proofs.words.MessageLemmas.{segment_stands, no_segment_stands}
 use Rattle.capnp_frame.proofs.sources.AskLemmas.{passed_on}
 use Rattle.capnp_layout.proofs.object.object_at.Goals as goal

@@ -1,10 +1,7 @@
 -- The object that a landing leads to, and each error on the way.
 use Rattle.std.proofs.Common.{◌<◌, sym, subst, arith}
 use Rattle.std.proofs.lemmas.Result.{err_from_is_err_and}
-use Rattle.capnp_layout.specs.Object.{message_of, IsStart}
-use Rattle.capnp_layout.specs.Landing.{IsLanding}
-use Rattle.capnp_layout.specs.Faults.{Fault, too_deep, no_start, misfits}
-use Rattle.capnp_layout.specs.Pointer.{words_of}
+use Rattle.capnp_layout.specs.Prelude.{message_of, IsStart, IsLanding, Fault, too_deep, no_start, misfits, words_of}
 use Rattle.capnp_layout.proofs.pointers.LandingPadLemmas.{object_stands}
 use Rattle.capnp_layout.proofs.trees.RoomLemmas.{stands_room}
 use Rattle.capnp_layout.proofs.object.object_in.Goals as goal

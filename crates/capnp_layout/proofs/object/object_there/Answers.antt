@@ -1,5 +1,5 @@
 -- Where there is a tree, no error is met.
-use Rattle.capnp_layout.specs.Object.{message_of}
+use Rattle.capnp_layout.specs.Prelude.{message_of}
 use Rattle.capnp_layout.proofs.layouts.CopiedLemmas.{fault_no_tree}
 use Rattle.capnp_layout.proofs.object.object_there.Goals as goal
 

@@ -1,8 +1,7 @@
 -- The word at a place, or which of segment and word is missing.
 use Rattle.std.proofs.Common.{sym, subst}
 use Rattle.std.proofs.lemmas.Result.{err_from_is_err_and}
-use Rattle.capnp_layout.specs.Object.{message_of}
-use Rattle.capnp_layout.specs.Faults.{NoWord, no_segment, past_segment}
+use Rattle.capnp_layout.specs.Prelude.{message_of, NoWord, no_segment, past_segment}
 use Rattle.capnp_layout.proofs.words.MessageLemmas.{segment_stands, no_segment_stands, word_stands}
 use Rattle.capnp_layout.proofs.place.pointer_at.Goals as goal
 

@@ -1,6 +1,6 @@
 -- Each turn prints one more line, or ends the run.
 use Rattle.std.proofs.Common.{rules, refl, inl, inr, length}
-use Rattle.capnp.specs.Passed.{default_limit}
+use Rattle.capnp.specs.Prelude.{default_limit}
 use Rattle.capnp.proofs.Passed.{IfKnown-join, Advances-join, Fails-join, Grows-join}
 use Rattle.capnp.proofs.EndLemmas.{writes_each}
 use Rattle.capnp.proofs.FormatLemmas.{skipping_fault}

@@ -1,6 +1,5 @@
 -- The lines of the messages before this index are printed.
-use Rattle.capnp.specs.Passed.{IfKnown, Advances, Grows, default_limit}
-use Rattle.capnp.specs.Runs.{HasWritten}
+use Rattle.capnp.specs.Prelude.{IfKnown, Advances, Grows, default_limit, HasWritten}
 use Rattle.capnp_ls.specs.declared.command.Command.TheVariants.{Listing}
 use Rattle.capnp_ls.specs.Output.{Prints}
 use Rattle.capnp_ls.proofs.lines.list_each.Given as goal

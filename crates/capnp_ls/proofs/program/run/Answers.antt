@@ -1,7 +1,6 @@
 -- The words are those of one command.
 use Rattle.std.proofs.Common.{rules, ◌≡◌, Ok, Err, subst}
-use Rattle.capnp.specs.Runs.{WritesEach}
-use Rattle.capnp.specs.Passed.{default_limit}
+use Rattle.capnp.specs.Prelude.{WritesEach, default_limit}
 use Rattle.capnp_ls.specs.declared.command.Command.{Command}
 use Rattle.capnp_ls.specs.Commands.{command_input, padding_of}
 use Rattle.capnp_ls.specs.Output.{Prints, DeclinesPrinted}

@@ -1,7 +1,7 @@
 -- What is handed on.
 use Rattle.std.proofs.Common.{◌∙◌, ap}
 use Rattle.std.proofs.lemmas.Result.{err_from_is_err_and}
-use Rattle.capnp_layout.specs.Pointer.{words_of}
+use Rattle.capnp_layout.specs.Prelude.{words_of}
 use Rattle.capnp_message.proofs.StableLemmas.{one_form}
 use Rattle.capnp_message.proofs.laws.canonicalize_twice.Goals as goal
 

@@ -1,6 +1,6 @@
 -- The trees of the nodes.
 use Rattle.std.proofs.Common.{◌≡◌, ◌∷◌, [], ℕ, suc, ◌-◌, List, refl, sym, ap, ◌∙◌, subst, arith}
-use Rattle.capnp_layout.specs.Tree.{struct, null, Trees, none, tree}
+use Rattle.capnp_layout.specs.Prelude.{struct, null, Trees, none, tree}
 use Rattle.capnp_orphans.specs.Orphans.{IsOrphan}
 use Rattle.capnp_orphans.specs.Segments.{body_of}
 use Rattle.capnp_orphans.specs.OrphanLaws.{struct_value, keeps_on}

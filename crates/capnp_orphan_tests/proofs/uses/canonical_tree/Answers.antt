@@ -1,9 +1,6 @@
 -- The form is of the tree at the root.
 use Rattle.std.proofs.Common.{◌≡◌, ◌∷◌, [], ℕ, subst, sym, ap}
-use Rattle.capnp_layout.specs.Tree.{none}
-use Rattle.capnp_layout.specs.Object.{message_of}
-use Rattle.capnp_layout.specs.Reached.{At, root}
-use Rattle.capnp_layout.specs.Block.{numbers_of}
+use Rattle.capnp_layout.specs.Prelude.{none, message_of, At, root, numbers_of}
 use Rattle.capnp_orphans.specs.Segments.{Segment}
 use Rattle.capnp_orphan_tests.specs.Uses.{binary}
 use Rattle.capnp_orphan_tests.proofs.TreeLemmas.{form_of}

@@ -1,8 +1,6 @@
 -- The root is the tree.
 use Rattle.std.proofs.Common.{◌∷◌, [], subst}
-use Rattle.capnp_layout.specs.Tree.{Trees}
-use Rattle.capnp_layout.specs.Object.{message_of}
-use Rattle.capnp_layout.specs.Reached.{At, root}
+use Rattle.capnp_layout.specs.Prelude.{Trees, message_of, At, root}
 use Rattle.capnp_orphans.specs.OrphanLaws.{root_of_value}
 use Rattle.capnp_orphan_tests.specs.Uses.{IsBinary}
 use Rattle.capnp_orphan_tests.proofs.uses.tree_message.Goals as goal

@@ -1,5 +1,5 @@
 -- The first pointers are copied.
-use Rattle.capnp_wire.specs.Readers.{struct_of}
+use Rattle.capnp_wire.specs.Prelude.{struct_of}
 use Rattle.capnp_orphans.proofs.CopyingLemmas.{IsCopied}
 use Rattle.capnp_orphans.proofs.copied.copy_pointers.Given as goal
 

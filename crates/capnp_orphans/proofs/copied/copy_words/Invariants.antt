@@ -1,6 +1,6 @@
 -- The words so far are those of the struct.
 use Rattle.std.proofs.Common.{◌≡◌, ◌++◌, length, take, replicate}
-use Rattle.capnp_wire.specs.Readers.{struct_of}
+use Rattle.capnp_wire.specs.Prelude.{struct_of}
 use Rattle.capnp_orphans.proofs.copied.copy_words.Given as goal
 
 abbrev pub invariant-loop-index : goal.invariant-loop-index

@@ -1,6 +1,6 @@
 -- Each struct is put after those before it.
 use Rattle.std.proofs.Common.{◌≡◌, ◌+◌, ◌-◌, ◌*◌, ◌<◌, ◌≤◌, ℕ, ◌++◌, length, drop, arith, length-take, length-drop, ap, ◌∙◌}
-use Rattle.capnp_layout.specs.Pointer.{words_of}
+use Rattle.capnp_layout.specs.Prelude.{words_of}
 use Rattle.capnp_layout.proofs.words.WordLemmas.{length-words_of}
 use Rattle.capnp_layout.proofs.objects.RowLemmas.{row_ends}
 use Rattle.capnp_orphans.specs.Orphans.{links}

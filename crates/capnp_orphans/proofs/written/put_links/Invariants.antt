@@ -1,7 +1,6 @@
 -- The pointers so far are put.
 use Rattle.std.proofs.Common.{◌≡◌, take, map}
-use Rattle.capnp_layout.specs.Pointer.{words_of}
-use Rattle.capnp_layout.specs.Block.{put}
+use Rattle.capnp_layout.specs.Prelude.{words_of, put}
 use Rattle.capnp_orphans.specs.Orphans.{links}
 use Rattle.capnp_orphans.proofs.written.put_links.Given as goal
 

@@ -1,7 +1,7 @@
 -- The bytes that aren't zero are after the tag, or a zero.
 use Rattle.std.proofs.Common.{rules, arith, ◌≡◌, [], ◌∷◌, ◌++◌, ◌∙◌, ap, take, length, append_assoc}
 use lib.Count.{ones, ones-le}
-use Rattle.capnp_pack.specs.Steps.{nonzero}
+use Rattle.capnp_pack.specs.Prelude.{nonzero}
 use Rattle.capnp_pack.proofs.tables.FrontLemmas.{stored, stored_zero}
 use Rattle.capnp_pack.proofs.buffer.push_word.Goals as goal
 

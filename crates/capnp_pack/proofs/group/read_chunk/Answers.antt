@@ -1,6 +1,6 @@
 -- Each group returns a part of what the ones before it left of the request.
 use Rattle.std.proofs.Common.{rules, inr, ◌≡◌, ◌+◌, ◌-◌, ◌≤◌, arith, ◌∙◌, sym, subst, length}
-use Rattle.capnp_pack.specs.PackedSource.{Unpacks, MeetsFault}
+use Rattle.capnp_pack.specs.Prelude.{Unpacks, MeetsFault}
 use Rattle.capnp_frame.proofs.sources.SourceLemmas.{Advances-join, ReturnsPart-fill, not_empty_before, ends}
 use Rattle.capnp_frame.proofs.sources.AskLemmas.{passed_on, Asked-err}
 use Rattle.capnp_pack.proofs.faults.OverrunLemmas.{over_after}

@@ -1,9 +1,8 @@
 -- What is filled is whole groups, a front of the result to the whole request.
 use Rattle.std.proofs.Common.{length, ◌-◌, ◌≡◌, ◌<◌, ◌≤◌, ◌%◌, take, []}
 use Rattle.std.specs.Prelude.{IfSome}
-use Rattle.capnp_frame.specs.Source.{IfKnown, Advances, ReturnsPart}
-use Rattle.capnp_pack.specs.PackedSource.{Unpacks, MeetsFault}
-use Rattle.capnp_pack.specs.Steps.{HasProgress}
+use Rattle.capnp_frame.specs.Prelude.{IfKnown, Advances, ReturnsPart}
+use Rattle.capnp_pack.specs.Prelude.{Unpacks, MeetsFault, HasProgress}
 use Rattle.capnp_pack.proofs.group.read_chunk.Given as goal
 
 abbrev pub invariant-loop-filled : goal.invariant-loop-filled

@@ -1,5 +1,5 @@
 -- No group's encoding is the start of another's.
-use Rattle.capnp_pack.specs.UnpackingLaws.{unpack_once}
+use Rattle.capnp_pack.specs.Prelude.{unpack_once}
 use Rattle.capnp_pack.proofs.laws.packed_request_has_one_result.Goals as goal
 
 pub returns : goal.returns

@@ -1,7 +1,7 @@
 -- The groups so far are the front of the packed encoding, whose end is kept.
 use Rattle.std.proofs.Common.{length, ◌≡◌, ◌+◌, ◌*◌, ◌≤◌, List, [], ℕ, take}
-use Rattle.capnp_frame.specs.Sink.{Grows}
-use Rattle.capnp_pack.specs.PackedWords.{PacksWords, HandsTo, GrantsTo}
+use Rattle.capnp_frame.specs.Prelude.{Grows}
+use Rattle.capnp_pack.specs.Prelude.{PacksWords, HandsTo, GrantsTo}
 use Rattle.capnp_pack.proofs.packed_write.pack.Given as goal
 
 abbrev pub invariant-loop-left : goal.invariant-loop-left

@@ -1,6 +1,6 @@
 -- The words so far are packed after what the buffer had.
 use Rattle.std.proofs.Common.{◌-◌, length}
-use Rattle.capnp_pack.specs.PackedWords.{PacksFront}
+use Rattle.capnp_pack.specs.Prelude.{PacksFront}
 use Rattle.capnp_pack.proofs.packed_write.pack_stretch.Given as goal
 
 abbrev pub invariant-loop-end : goal.invariant-loop-end

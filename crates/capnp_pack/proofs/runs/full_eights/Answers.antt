@@ -1,8 +1,7 @@
 -- Eight more words are of that kind.
 use Rattle.std.proofs.Common.{rules, arith, ◌≡◌, ◌+◌, ◌-◌, take, drop}
 use Rattle.std.specs.List.{concat}
-use Rattle.capnp_pack.specs.Group.{zero_bytes}
-use Rattle.capnp_pack.specs.Steps.{HasFewZeros}
+use Rattle.capnp_pack.specs.Prelude.{zero_bytes, HasFewZeros}
 use Rattle.capnp_pack.proofs.words.AllLemmas.{AllByRecursion-take}
 use Rattle.capnp_pack.proofs.words.EightLemmas.{all_full, all_more}
 use Rattle.capnp_pack.proofs.runs.full_eights.Goals as goal

@@ -1,7 +1,7 @@
 -- The words so far are of that kind.
 use Rattle.std.proofs.Common.{◌-◌, ◌≤◌, length, take}
 use Rattle.std.specs.List.{AllByRecursion}
-use Rattle.capnp_pack.specs.Steps.{HasFewZeros}
+use Rattle.capnp_pack.specs.Prelude.{HasFewZeros}
 use Rattle.capnp_pack.proofs.runs.full_eights.Given as goal
 
 abbrev pub invariant-loop-count : goal.invariant-loop-count

@@ -2,7 +2,7 @@
 use Rattle.std.proofs.Common.{rules, arith, ◌+◌, ◌-◌, ℕ, zero, suc, sym, subst, max, get_or, [], List, take, drop, length-take}
 use Rattle.std.proofs.Math.Nat.{max-eq_left}
 use Rattle.std.specs.List.{AllByRecursion}
-use Rattle.capnp_pack.specs.Steps.{HasFewZeros}
+use Rattle.capnp_pack.specs.Prelude.{HasFewZeros}
 use Rattle.capnp_pack.proofs.words.EightLemmas.{all_one, all_more}
 use Rattle.capnp_pack.proofs.runs.literal_run.Goals as goal
 

@@ -1,7 +1,7 @@
 -- The words so far belong to the run.
 use Rattle.std.proofs.Common.{◌-◌, ◌≤◌, take}
 use Rattle.std.specs.List.{AllByRecursion}
-use Rattle.capnp_pack.specs.Steps.{HasFewZeros}
+use Rattle.capnp_pack.specs.Prelude.{HasFewZeros}
 use Rattle.capnp_pack.proofs.runs.literal_run.Given as goal
 
 abbrev pub invariant-loop-count : goal.invariant-loop-count

@@ -3,9 +3,7 @@ use Rattle.std.proofs.Common.{rules, arith, ◌≡◌, ◌≤◌, ◌<◌, ◌+�
 use Rattle.std.proofs.lemmas.List.{drop-drop}
 use lib.Count.{count_trailing_zeros}
 use Rattle.std.specs.List.{concat}
-use Rattle.capnp_pack.specs.Group.{IsWord}
-use Rattle.capnp_pack.specs.Packed.{IfFirst}
-use Rattle.capnp_pack.specs.Steps.{IsZero, tag_of}
+use Rattle.capnp_pack.specs.Prelude.{IsWord, IfFirst, IsZero, tag_of}
 use Rattle.capnp_pack.proofs.words.AllLemmas.{AllByRecursion-take, AllByRecursion-drop}
 use Rattle.capnp_pack.proofs.words.Chunks.{each_word}
 use Rattle.capnp_pack.proofs.words.EightLemmas.{all_one, all_zero, all_more, first_of_part, zeros_declared}

@@ -1,7 +1,7 @@
 -- The words so far belong to the run.
 use Rattle.std.proofs.Common.{◌-◌, ◌≤◌, take}
 use Rattle.std.specs.List.{AllByRecursion}
-use Rattle.capnp_pack.specs.Steps.{IsZero}
+use Rattle.capnp_pack.specs.Prelude.{IsZero}
 use Rattle.capnp_pack.proofs.runs.zero_run.Given as goal
 
 abbrev pub invariant-loop-count : goal.invariant-loop-count

@@ -1,7 +1,7 @@
 -- The other bytes are marked.
 use Rattle.std.proofs.Common.{rules, arith, ◌≡◌, ap, ◌∙◌, length}
 use lib.Count.{ones}
-use Rattle.capnp_pack.specs.Steps.{nonzero}
+use Rattle.capnp_pack.specs.Prelude.{nonzero}
 use Rattle.capnp_pack.proofs.tables.MarkLemmas.{ones_tag}
 use Rattle.capnp_pack.proofs.packing.SizeBound.{nonzero_len}
 use Rattle.capnp_pack.proofs.runs.zeros.Goals as goal

@@ -1,6 +1,6 @@
 -- What is filled is the groups so far.
 use Rattle.std.proofs.Common.{◌≡◌, ◌-◌, length}
-use Rattle.capnp_pack.specs.Steps.{Unpacked}
+use Rattle.capnp_pack.specs.Prelude.{Unpacked}
 use Rattle.capnp_pack.proofs.single_word.unpack_single_words.Given as goal
 
 abbrev pub invariant-loop-used : goal.invariant-loop-used

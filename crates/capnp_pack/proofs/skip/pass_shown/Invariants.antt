@@ -1,6 +1,6 @@
 -- What is passed over is the groups so far.
 use Rattle.std.proofs.Common.{◌-◌, length}
-use Rattle.capnp_pack.specs.Steps.{Passes}
+use Rattle.capnp_pack.specs.Prelude.{Passes}
 use Rattle.capnp_pack.proofs.skip.pass_shown.Given as goal
 
 abbrev pub invariant-loop-group : goal.invariant-loop-group

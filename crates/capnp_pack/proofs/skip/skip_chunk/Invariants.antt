@@ -1,8 +1,8 @@
 -- What is skipped is whole groups, the first ones of the chunk.
 use Rattle.std.proofs.Common.{◌-◌, ◌≡◌, ◌<◌, ◌≤◌, ◌%◌, []}
 use Rattle.std.specs.Prelude.{IfSome}
-use Rattle.capnp_frame.specs.Source.{IfKnown, Advances}
-use Rattle.capnp_pack.specs.Steps.{HasProgress}
+use Rattle.capnp_frame.specs.Prelude.{IfKnown, Advances}
+use Rattle.capnp_pack.specs.Prelude.{HasProgress}
 use Rattle.capnp_pack.proofs.skip.skip_chunk.Given as goal
 
 abbrev pub invariant-loop-skipped : goal.invariant-loop-skipped

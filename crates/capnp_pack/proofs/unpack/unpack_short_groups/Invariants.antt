@@ -1,6 +1,6 @@
 -- What is filled is the groups so far.
 use Rattle.std.proofs.Common.{◌≡◌, ◌-◌, length}
-use Rattle.capnp_pack.specs.Steps.{Unpacked}
+use Rattle.capnp_pack.specs.Prelude.{Unpacked}
 use Rattle.capnp_pack.proofs.unpack.unpack_short_groups.Given as goal
 
 abbrev pub invariant-loop-buffer : goal.invariant-loop-buffer

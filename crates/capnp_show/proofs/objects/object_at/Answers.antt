@@ -1,10 +1,7 @@
 -- What a pointer leads to, and each error on the way.
 use Rattle.std.proofs.Common.{sym, subst}
 use Rattle.capnp_frame.proofs.sources.AskLemmas.{passed_on}
-use Rattle.capnp_layout.specs.Pointer.{words_of}
-use Rattle.capnp_layout.specs.Object.{message_of, IsStart}
-use Rattle.capnp_layout.specs.Landing.{IsLanding}
-use Rattle.capnp_layout.specs.Faults.{Fault, no_word, no_segment, no_start, misfits}
+use Rattle.capnp_layout.specs.Prelude.{words_of, message_of, IsStart, IsLanding, Fault, no_word, no_segment, no_start, misfits}
 use Rattle.capnp_layout.proofs.words.MessageLemmas.{segment_stands, no_segment_stands}
 use Rattle.capnp_show.proofs.ObjectLemmas.{landing_pad_is}
 use Rattle.capnp_show.proofs.objects.object_at.Goals as goal

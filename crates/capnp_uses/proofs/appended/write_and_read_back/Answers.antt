@@ -3,7 +3,7 @@ use Rattle.std.proofs.Common.{map, [], ap, Some, inl, inr}
 use Rattle.std.proofs.lemmas.List.{length-map}
 use Rattle.std.proofs.lemmas.Result.{err_from_is_err_and}
 use Rattle.capnp_frame.specs.declared.serialize.segment_table.Padding.TheVariants.{Zero}
-use Rattle.capnp.specs.Written.{IsTextOf, AppendsEach}
+use Rattle.capnp.specs.Prelude.{IsTextOf, AppendsEach}
 use Rattle.capnp_uses.proofs.AppendedLemmas.{appended_alone, appending_memory, read_texts, read_same, none_left, memory_only}
 use Rattle.capnp_uses.proofs.appended.write_and_read_back.Goals as goal
 

@@ -1,9 +1,7 @@
 -- The numbers that are read are at the root.
 use Rattle.std.proofs.Common.{◌≡◌, ◌∙◌, ◌∷◌, [], take, arith, refl}
 use Rattle.std.proofs.lemmas.List.{take_all}
-use Rattle.capnp_wire.specs.Tree.{numbers}
-use Rattle.capnp_wire.specs.NumberViews.{IsNumbers, numbers_of}
-use Rattle.capnp_wire.specs.Views.{TakesNumbers}
+use Rattle.capnp_wire.specs.Prelude.{numbers, IsNumbers, numbers_of, TakesNumbers}
 use Rattle.capnp_uses.proofs.RootLemmas.{root_is_read, root_accepts}
 use Rattle.capnp_uses.proofs.building.numbers_are_read_back.Goals as goal
 

@@ -1,6 +1,6 @@
 -- The numbers so far are those of the list so far.
 use Rattle.std.proofs.Common.{◌≡◌, take}
-use Rattle.capnp_wire.specs.NumberViews.{numbers_of}
+use Rattle.capnp_wire.specs.Prelude.{numbers_of}
 use Rattle.capnp_uses.proofs.building.numbers_are_read_back.Given as goal
 
 abbrev pub invariant-loop-index : goal.invariant-loop-index

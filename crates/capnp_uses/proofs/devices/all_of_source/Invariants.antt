@@ -2,9 +2,8 @@
 use Rattle.std.specs.Prelude.{◌≡◌, ◌≤◌, length, map}
 use Rattle.std.specs.List.{AllByRecursion}
 use Rattle.capnp_frame.specs.declared.serialize.segment_table.Padding.TheVariants.{Zero}
-use Rattle.capnp_frame.specs.Source.{IfKnown}
-use Rattle.capnp_frame.specs.Texts.{AreEncodings}
-use Rattle.capnp.specs.Streams.{grammar_of}
+use Rattle.capnp_frame.specs.Prelude.{IfKnown, AreEncodings}
+use Rattle.capnp.specs.Prelude.{grammar_of}
 use Rattle.capnp_uses.proofs.devices.all_of_source.Given as goal
 
 abbrev pub invariant-loop-count : goal.invariant-loop-count

@@ -1,6 +1,6 @@
 -- The note is what the pointer of the element leads to.
 use Rattle.std.proofs.Common.{◌∙◌, ap, subst, MatchResult}
-use Rattle.capnp_wire.specs.Views.{IsText, Reads, Refuses, DeclinesText, pointer_in}
+use Rattle.capnp_wire.specs.Prelude.{IsText, Reads, Refuses, DeclinesText, pointer_in}
 use Rattle.capnp_uses.proofs.entries.note_of.Goals as goal
 
 pub returns : goal.returns

@@ -2,8 +2,8 @@
 use Rattle.std.proofs.Common.{◌≡◌, ◌⊎◌, subst}
 use Rattle.std.proofs.lemmas.Result.{err_from_is_err_and}
 use Rattle.capnp_frame.specs.declared.error.ErrorKind.TheVariants.{OutOfMemory}
-use Rattle.capnp_frame.specs.Writing.{IsWritable, IsWithinSegmentLimit, RefusesMany}
-use Rattle.capnp.specs.Written.{IsPackedEncodingOf}
+use Rattle.capnp_frame.specs.Prelude.{IsWritable, IsWithinSegmentLimit, RefusesMany}
+use Rattle.capnp.specs.Prelude.{IsPackedEncodingOf}
 use Rattle.capnp.proofs.ChunkLemmas.{packed_memory}
 use Rattle.capnp_uses.proofs.PackedStructLemmas.{added_text}
 use Rattle.capnp_uses.proofs.packed_struct.packed_text.Goals as goal

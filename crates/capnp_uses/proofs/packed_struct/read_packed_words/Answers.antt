@@ -4,14 +4,12 @@ use Rattle.std.proofs.lemmas.Result.{err_from_is_err_and}
 use Rattle.capnp_frame.specs.declared.error.ErrorKind.TheVariants.{DeviceFailed}
 use Rattle.capnp_frame.specs.declared.message.options.TheConstants.{DEFAULT_READER_OPTIONS}
 use Rattle.capnp_frame.specs.declared.serialize.segment_table.Padding.TheVariants.{Zero}
-use Rattle.capnp_frame.specs.Source.{Fails}
-use Rattle.capnp_wire.specs.Tree.{struct}
-use Rattle.capnp_wire.specs.Views.{DeclinesStruct}
+use Rattle.capnp_frame.specs.Prelude.{Fails, default_limit}
+use Rattle.capnp_wire.specs.Prelude.{struct, DeclinesStruct}
 use Rattle.capnp_message.specs.Seen.{root_of}
-use Rattle.capnp.specs.Headline.{packed}
+use Rattle.capnp.specs.Prelude.{packed}
 use Rattle.capnp.proofs.ReaderLemmas.{or_fails_accepted}
 use Rattle.capnp_uses.proofs.AppendedLemmas.{memory_only}
-use Rattle.capnp_frame.specs.Limits.{default_limit}
 use Rattle.capnp_uses.proofs.ReadingLemmas.{default_depth, root_is_default}
 use Rattle.capnp_uses.proofs.RootLemmas.{read_at_root, root_meets_limit, struct_is_taken}
 use Rattle.capnp_uses.proofs.PackedStructLemmas.{packed_root, begins_packed, packed_stops, lacks_struct, shows_packed}

@@ -1,6 +1,6 @@
 -- The message that is found is the one that is there.
 use Rattle.capnp.specs.declared.streams.Format.TheVariants.{Framed}
-use Rattle.capnp_frame.specs.Limits.{default_limit}
+use Rattle.capnp_frame.specs.Prelude.{default_limit}
 use Rattle.capnp_uses.proofs.ReadingLemmas.{slices_are_plain, exactly, succeeds_at_none, refuses_next}
 use Rattle.capnp_uses.proofs.reading.first_message.Goals as goal
 

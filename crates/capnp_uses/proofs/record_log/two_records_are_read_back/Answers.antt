@@ -1,6 +1,6 @@
 -- The log that is read has both records.
 use Rattle.std.proofs.Common.{inl, inr, [], ◌∷◌, sym, subst}
-use Rattle.capnp.specs.RecordLog.{IsLog}
+use Rattle.capnp.specs.Prelude.{IsLog}
 use Rattle.capnp_uses.proofs.record_log.two_records_are_read_back.Goals as goal
 
 pub returns : goal.returns

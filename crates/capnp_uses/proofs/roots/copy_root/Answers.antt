@@ -1,8 +1,7 @@
 -- The pointer that is read is the one at the reader's root.
 use Rattle.std.proofs.Common.{subst, OnOk, false}
-use Rattle.capnp_wire.specs.Values.{HasWords, LeadsToTree}
-use Rattle.capnp_wire.specs.Views.{Pointer}
-use Rattle.capnp_build.specs.Placed.{IsPut}
+use Rattle.capnp_wire.specs.Prelude.{HasWords, LeadsToTree, Pointer}
+use Rattle.capnp_build.specs.Prelude.{IsPut}
 use Rattle.capnp_uses.proofs.roots.copy_root.Goals as goal
 
 pub returns-clause-placed : goal.returns-clause-placed

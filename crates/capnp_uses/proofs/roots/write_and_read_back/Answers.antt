@@ -2,7 +2,7 @@
 use Rattle.std.proofs.Common.{inl, inr, refl, Ok, Err}
 use Rattle.std.proofs.lemmas.Result.{err_from_is_err_and}
 use Rattle.capnp_frame.specs.declared.serialize.segment_table.Padding.TheVariants.{Zero}
-use Rattle.capnp.specs.Written.{IsTextOf}
+use Rattle.capnp.specs.Prelude.{IsTextOf}
 use Rattle.capnp.proofs.ChunkLemmas.{format_memory}
 use Rattle.capnp_uses.proofs.WrittenLemmas.{added_alone, written_and_read}
 use Rattle.capnp_uses.proofs.roots.write_and_read_back.Given as given

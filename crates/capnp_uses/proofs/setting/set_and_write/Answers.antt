@@ -1,7 +1,7 @@
 -- The text is that of the used words.
 use Rattle.std.proofs.Common.{inl, inr}
 use Rattle.std.proofs.lemmas.Result.{err_from_is_err_and}
-use Rattle.capnp.specs.Written.{output_of}
+use Rattle.capnp.specs.Prelude.{output_of}
 use Rattle.capnp_uses.proofs.SetLemmas.{added_frame, not_written}
 use Rattle.capnp_uses.proofs.setting.set_and_write.Goals as goal
 

@@ -1,5 +1,5 @@
 -- The value's tree is the one that the pointer leads to.
-use Rattle.capnp_wire.specs.Readers.{pointer_of}
+use Rattle.capnp_wire.specs.Prelude.{pointer_of}
 use Rattle.capnp_uses.proofs.SetLemmas.{canonical_as}
 use Rattle.capnp_uses.proofs.setting.set_canonical.Goals as goal
 use Rattle.capnp_build.proofs.layouts.PlaceLemmas.{on_ok}

@@ -1,10 +1,8 @@
 -- The root that is gotten is the one that was set.
 use Rattle.std.proofs.Common.{rules, inl, inr, refl, sym, subst, arith}
 use Rattle.std.proofs.lemmas.Result.{err_from_is_err_and}
-use Rattle.capnp_wire.specs.Tree.{struct}
-use Rattle.capnp_wire.specs.Reached.{Root}
-use Rattle.capnp_wire.specs.Readers.{pointer_of}
-use Rattle.capnp_build.specs.Built.{Built, message}
+use Rattle.capnp_wire.specs.Prelude.{struct, Root, pointer_of}
+use Rattle.capnp_build.specs.Prelude.{Built, message}
 use Rattle.capnp_uses.proofs.SetLemmas.{root_has_segment, set_form, word_set, word_kept, declined_tree}
 use Rattle.capnp_uses.proofs.setting.set_tree_and_word.Goals as goal
 

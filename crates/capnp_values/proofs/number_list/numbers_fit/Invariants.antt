@@ -1,7 +1,7 @@
 -- The numbers from here on have no more bits than their type has.
 use Rattle.std.proofs.Common.{◌≤◌, ◌<◌, ◌^◌, length, drop, map}
 use Rattle.std.specs.Prelude.{All}
-use Rattle.capnp_layout.specs.Element.{width}
+use Rattle.capnp_layout.specs.Prelude.{width}
 use Rattle.capnp_values.proofs.number_list.numbers_fit.Given as goal
 
 abbrev pub invariant-items : goal.invariant-items

@@ -1,8 +1,6 @@
 -- The words so far are put.
 use Rattle.std.proofs.Common.{◌≡◌, ◌^◌, length, map, take}
-use Rattle.capnp_layout.specs.Pointer.{digits, number_of, words_of}
-use Rattle.capnp_layout.specs.Block.{put}
-use Rattle.capnp_layout.specs.Element.{width, words_for}
+use Rattle.capnp_layout.specs.Prelude.{digits, number_of, words_of, put, width, words_for}
 use Rattle.capnp_values.proofs.number_list.put_numbers.Given as goal
 
 abbrev pub invariant-loop-index : goal.invariant-loop-index

@@ -1,8 +1,7 @@
 -- The bits of the numbers from here on.
 use Rattle.std.proofs.Common.{◌≡◌, ◌≤◌, ◌<◌, ◌^◌, length, drop, map}
 use Rattle.std.specs.Prelude.{All}
-use Rattle.capnp_layout.specs.Pointer.{number_of}
-use Rattle.capnp_layout.specs.Element.{width}
+use Rattle.capnp_layout.specs.Prelude.{number_of, width}
 use Rattle.capnp_values.proofs.number_list.word_of_numbers.Given as goal
 
 abbrev pub invariant-items : goal.invariant-items

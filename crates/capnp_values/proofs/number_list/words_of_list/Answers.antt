@@ -1,6 +1,6 @@
 -- The elements of a list of numbers are of code 0 to 5, and take no more words than there are.
 use Rattle.std.proofs.Common.{◌<◌, ◌≤◌, ◌≡◌, ℕ, subst, arith}
-use Rattle.capnp_layout.specs.Element.{code_of, width, words_for}
+use Rattle.capnp_layout.specs.Prelude.{code_of, width, words_for}
 use Rattle.capnp_layout.specs.declared.element_size.ElementSize.{ElementSize}
 use Rattle.capnp_layout.specs.declared.element_size.ElementSize.TheVariants.{Void, Bit, Byte, TwoBytes, FourBytes, EightBytes}
 use Rattle.capnp_values.proofs.number_list.words_of_list.Goals as goal

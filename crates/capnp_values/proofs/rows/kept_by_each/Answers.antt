@@ -1,6 +1,6 @@
 -- As the structs are, all is kept; in canonical form, as much as one of them needs.
 use Rattle.std.proofs.Common.{◌∙◌, Bool, List, ℕ, length, map, ap, sym, arith}
-use Rattle.capnp_layout.specs.Trim.{cut_zeros}
+use Rattle.capnp_layout.specs.Prelude.{cut_zeros}
 use Rattle.capnp_values.specs.StructLists.{element_data, element_pointers}
 use Rattle.capnp_values.proofs.struct_lists.KeptRowLemmas.{needing_begins, needing_goes_on, needing_ends}
 use Rattle.capnp_values.proofs.rows.kept_by_each.Goals as goal

@@ -1,7 +1,6 @@
 -- Each struct is written after those before it.
 use Rattle.std.proofs.Common.{◌+◌, ◌*◌, ℕ, List, length, take, refl, sym, ap, arith, subst}
-use Rattle.capnp_layout.specs.Pointer.{words_of}
-use Rattle.capnp_layout.specs.Block.{put}
+use Rattle.capnp_layout.specs.Prelude.{words_of, put}
 use Rattle.capnp_values.specs.Fields.{IsRowWritten}
 use Rattle.capnp_layout.proofs.words.WordLemmas.{length-words_of}
 use Rattle.capnp_values.proofs.struct_lists.StructRowLemmas.{RowsWritten, writing_begins, row_room, writing_goes_on, writing_ends}

@@ -1,7 +1,6 @@
 -- The words so far are put.
 use Rattle.std.proofs.Common.{◌≡◌, take}
-use Rattle.capnp_layout.specs.Pointer.{words_of}
-use Rattle.capnp_layout.specs.Block.{put}
+use Rattle.capnp_layout.specs.Prelude.{words_of, put}
 use Rattle.capnp_values.proofs.sections.put_words.Given as goal
 
 abbrev pub invariant-loop-index : goal.invariant-loop-index

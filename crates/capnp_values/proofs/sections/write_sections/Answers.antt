@@ -1,7 +1,6 @@
 -- The data words that are kept, and then the pointers.
 use Rattle.std.proofs.Common.{◌≡◌, ◌+◌, ◌-◌, ◌*◌, ◌≤◌, ◌∙◌, ℕ, List, length, take, drop, subst, ap, arith, length-take, length-drop}
-use Rattle.capnp_layout.specs.Pointer.{words_of}
-use Rattle.capnp_layout.specs.Block.{put}
+use Rattle.capnp_layout.specs.Prelude.{words_of, put}
 use Rattle.capnp_layout.proofs.words.WordLemmas.{length-words_of}
 use Rattle.capnp_values.specs.Fields.{CanWriteRow, IsRowWritten}
 use Rattle.capnp_values.proofs.structs.SectionLemmas.{data_is_put}

@@ -1,7 +1,7 @@
 -- What is written is the list in the form that is asked for.
 use Rattle.std.proofs.Common.{ℕ, List, length, map, sym, arith}
 use Rattle.std.proofs.lemmas.List.{length-map}
-use Rattle.capnp_layout.specs.Pointer.{words_of}
+use Rattle.capnp_layout.specs.Prelude.{words_of}
 use Rattle.capnp_layout.proofs.layouts.SizeLemmas.{length-body}
 use Rattle.capnp_wire.proofs.layouts.OpenLemmas.{room_output}
 use Rattle.capnp_values.proofs.struct_lists.StructListCopyLemmas.{list_place, list_even, structs_rooms, structs_many, list_copied}

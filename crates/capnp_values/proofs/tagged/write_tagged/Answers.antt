@@ -1,8 +1,6 @@
 -- The tag, the elements, and then what these lead to.
 use Rattle.std.proofs.Common.{◌≡◌, ◌+◌, ◌-◌, ◌*◌, ◌∷◌, [], ◌∙◌, ℕ, List, length, subst, ap, arith}
-use Rattle.capnp_layout.specs.Pointer.{words_of}
-use Rattle.capnp_layout.specs.Block.{put}
-use Rattle.capnp_layout.specs.Layout.{list_pointer, struct_pointer}
+use Rattle.capnp_layout.specs.Prelude.{words_of, put, list_pointer, struct_pointer}
 use Rattle.capnp_layout.proofs.words.WordLemmas.{length-words_of}
 use Rattle.capnp_wire.proofs.layouts.FreeLemmas.{free_after}
 use Rattle.capnp_values.specs.StructLists.{HasRoomForRows, AreRowsWritten}

@@ -1,7 +1,6 @@
 -- The pointer and the body after it are the canonical form.
 use Rattle.std.proofs.Common.{◌≡◌, ◌-◌, ◌*◌, ◌∙◌, ◌+◌, ℕ, List, true, length, take, drop, arith, length-take, length-drop}
-use Rattle.capnp_wire.specs.Readers.{pointer_of}
-use Rattle.capnp_wire.specs.Values.{LeadsToTree}
+use Rattle.capnp_wire.specs.Prelude.{pointer_of, LeadsToTree}
 use Rattle.capnp_layout.proofs.words.WordLemmas.{length-words_of}
 use Rattle.capnp_wire.proofs.layouts.FreeLemmas.{free_part, zero_part, has_room}
 use Rattle.capnp_wire.proofs.views.SetterLemmas.{whole_form}

@@ -1,7 +1,6 @@
 -- The pointer and the body after it are the canonical form.
 use Rattle.std.proofs.Common.{◌-◌, true, length, take, drop, arith, length-take, length-drop}
-use Rattle.capnp_wire.specs.Readers.{pointer_of}
-use Rattle.capnp_wire.specs.Values.{LeadsToTree}
+use Rattle.capnp_wire.specs.Prelude.{pointer_of, LeadsToTree}
 use Rattle.capnp_layout.proofs.words.PutLemmas.{length-numbers_of}
 use Rattle.capnp_wire.proofs.layouts.FreeLemmas.{has_room}
 use Rattle.capnp_wire.proofs.views.SetterLemmas.{words_form}

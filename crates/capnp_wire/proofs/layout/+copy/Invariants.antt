@@ -1,8 +1,6 @@
 -- How far the copying of what an object's pointers lead to has come.
 use Rattle.std.proofs.Common.{◌+◌, ◌*◌, length}
-use Rattle.capnp_layout.specs.Pointer.{words_of}
-use Rattle.capnp_layout.specs.Object.{message_of}
-use Rattle.capnp_layout.specs.Rows.{places_in}
+use Rattle.capnp_layout.specs.Prelude.{words_of, message_of, places_in}
 use Rattle.capnp_wire.proofs.layouts.CopyLemmas.{Copying}
 use Rattle.capnp_wire.proofs.layout.+copy.Given as goal
 

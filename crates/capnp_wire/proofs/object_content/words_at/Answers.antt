@@ -1,8 +1,6 @@
 -- The elements of a list are those of its own words.
 use Rattle.std.proofs.Common.{◌≡◌, ◌+◌, ◌-◌, ◌*◌, ℕ, take, drop, ap, ◌∙◌, arith, length-take, length-drop}
-use Rattle.capnp_layout.specs.Pointer.{words_of}
-use Rattle.capnp_layout.specs.Element.{code_of, width, words_for}
-use Rattle.capnp_layout.specs.Object.{elements}
+use Rattle.capnp_layout.specs.Prelude.{words_of, code_of, width, words_for, elements}
 use Rattle.capnp_layout.proofs.objects.NumberLemmas.{elements_within}
 use Rattle.capnp_wire.proofs.object_content.words_at.Goals as goal
 

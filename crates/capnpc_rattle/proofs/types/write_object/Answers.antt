@@ -1,10 +1,6 @@
 -- What is measured has room in a block of just its words, which is zero, and with the pointer to it is its layout.
 use Rattle.std.proofs.Common.{◌≡◌, ◌∙◌, false, ap, arith}
-use Rattle.capnp_wire.specs.Pointer.{words_of}
-use Rattle.capnp_wire.specs.Readers.{pointer_of}
-use Rattle.capnp_wire.specs.Tree.{Trees, total_words}
-use Rattle.capnp_wire.specs.Views.{Pointer}
-use Rattle.capnp_wire.specs.Values.{LeadsToTree}
+use Rattle.capnp_wire.specs.Prelude.{words_of, pointer_of, Trees, total_words, Pointer, LeadsToTree}
 use Rattle.capnp_layout.proofs.words.WordLemmas.{length-words_of}
 use Rattle.capnp_wire.proofs.layouts.FreeLemmas.{free_block, has_room, whole_written}
 use Rattle.capnp_wire.proofs.views.OneValueLemmas.{one_there}

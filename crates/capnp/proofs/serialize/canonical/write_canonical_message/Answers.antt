@@ -1,10 +1,9 @@
 -- The chunks of the one segment of the form.
 use Rattle.std.proofs.Common.{◌≡◌, ◌∙◌, ℕ, List, ◌∷◌, [], Err, inr, refl, sym, ap, subst}
 use Rattle.std.proofs.lemmas.Result.{err_from_is_err_and}
-use Rattle.capnp_frame.specs.Writing.{IsWritable}
+use Rattle.capnp_frame.specs.Prelude.{IsWritable}
 use Rattle.capnp_message.specs.Seen.{root_of}
-use Rattle.capnp.specs.Written.{IsFrameEncoding}
-use Rattle.capnp.specs.Canonical.{IsForm}
+use Rattle.capnp.specs.Prelude.{IsFrameEncoding, IsForm}
 use Rattle.capnp.proofs.WriterLemmas.{frame_bytes_added, Adds-weaker}
 use Rattle.capnp.proofs.FormLemmas.{one_writable, form_lacking, form_written, form_untouched}
 use Rattle.capnp.proofs.serialize.canonical.write_canonical_message.Given as given

@@ -1,5 +1,5 @@
 -- What is read by requests, by encodings.
-use Rattle.capnp.specs.Headline.{framed_reusing}
+use Rattle.capnp.specs.Prelude.{framed_reusing}
 use Rattle.capnp.proofs.ReaderLemmas.{framed_read, reads_message}
 use Rattle.capnp.proofs.serialize.stream.try_read_message_reusing.Goals as goal
 

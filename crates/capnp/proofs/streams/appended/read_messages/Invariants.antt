@@ -1,10 +1,9 @@
 -- The messages before this index are read.
 use Rattle.std.specs.Prelude.{◌≡◌, length, map}
 use Rattle.std.specs.List.{AllByRecursion}
-use Rattle.capnp_frame.specs.Source.{IfKnown, Advances}
+use Rattle.capnp_frame.specs.Prelude.{IfKnown, Advances, AreEncodings}
 use Rattle.capnp_frame.specs.declared.serialize.segment_table.Padding.TheVariants.{Zero}
-use Rattle.capnp_frame.specs.Texts.{AreEncodings}
-use Rattle.capnp.specs.Streams.{grammar_of}
+use Rattle.capnp.specs.Prelude.{grammar_of}
 use Rattle.capnp.proofs.streams.appended.read_messages.Given as goal
 
 abbrev pub invariant-loop-index : goal.invariant-loop-index

@@ -3,7 +3,7 @@ use Rattle.std.proofs.Common.{arith}
 use Rattle.std.proofs.lemmas.List.{take_all}
 use Rattle.std.proofs.lemmas.Result.{err_from_is_err_and}
 use Rattle.capnp_frame.proofs.sources.SourceLemmas.{Grows-join}
-use Rattle.capnp.specs.Written.{IsTextOf, AppendsMessage, StopsMessage, DeclinesAs}
+use Rattle.capnp.specs.Prelude.{IsTextOf, AppendsMessage, StopsMessage, DeclinesAs}
 use Rattle.capnp.proofs.AppendedLemmas.{appended_next, writable_at, few_next}
 use Rattle.capnp.proofs.StoppedLemmas.{refused_at, stops_message, stops_at}
 use Rattle.capnp.proofs.streams.appended.write_messages.Goals as goal

@@ -1,10 +1,8 @@
 -- The messages before this index are written.
 use Rattle.std.specs.Prelude.{map, take}
 use Rattle.std.specs.List.{AllByRecursion}
-use Rattle.capnp_frame.specs.Source.{IfKnown}
-use Rattle.capnp_frame.specs.Sink.{Adds, Grows}
-use Rattle.capnp_frame.specs.Writing.{IsWithinSegmentLimit}
-use Rattle.capnp.specs.Written.{IsPlainSink, IsTextOf, AppendsMessage, AppendsEach}
+use Rattle.capnp_frame.specs.Prelude.{IfKnown, Adds, Grows, IsWithinSegmentLimit}
+use Rattle.capnp.specs.Prelude.{IsPlainSink, IsTextOf, AppendsMessage, AppendsEach}
 use Rattle.capnp.proofs.streams.appended.write_messages.Given as goal
 
 abbrev pub invariant-loop-message : goal.invariant-loop-message

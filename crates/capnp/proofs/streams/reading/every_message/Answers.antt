@@ -1,7 +1,6 @@
 -- Each turn reads one more message, and where the reading stops the stream ends, or memory does.
 use Rattle.std.proofs.Common.{◌<◌, length, refl, ap, map, inl, inr, None, Some, arith}
-use Rattle.capnp.specs.Streams.{grammar_of}
-use Rattle.capnp.specs.Reading.{LacksMemory}
+use Rattle.capnp.specs.Prelude.{grammar_of, LacksMemory}
 use Rattle.capnp.proofs.StreamLemmas.{texts_within, next_texts, refused_ends, stopped, moves_on, lacks_kind}
 use Rattle.capnp.proofs.streams.reading.every_message.Goals as goal
 

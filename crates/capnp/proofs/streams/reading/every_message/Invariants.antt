@@ -1,8 +1,8 @@
 -- The messages so far are encodings at the front, each of a byte at least, and what is left is after `end`.
 use Rattle.std.specs.Prelude.{◌≡◌, ◌+◌, ◌-◌, ◌≤◌, length, map}
 use Rattle.std.specs.List.{AllByRecursion}
-use Rattle.capnp_frame.specs.Texts.{AreEncodings}
-use Rattle.capnp.specs.Streams.{grammar_of}
+use Rattle.capnp_frame.specs.Prelude.{AreEncodings}
+use Rattle.capnp.specs.Prelude.{grammar_of}
 use Rattle.capnp.proofs.streams.reading.every_message.Given as goal
 
 abbrev pub invariant-loop-count : goal.invariant-loop-count

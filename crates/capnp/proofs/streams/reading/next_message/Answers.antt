@@ -1,5 +1,5 @@
 -- Either format's message.
-use Rattle.capnp.specs.Headline.{by_format}
+use Rattle.capnp.specs.Prelude.{by_format}
 use Rattle.capnp.proofs.ReaderLemmas.{reads_message}
 use Rattle.capnp.proofs.RunLemmas.{format_read}
 use Rattle.capnp.proofs.streams.reading.next_message.Goals as goal

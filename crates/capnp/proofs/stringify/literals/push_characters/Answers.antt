@@ -4,7 +4,7 @@ use Rattle.std.specs.Char.{encode_utf8}
 use Rattle.std.proofs.lemmas.Iterator.{YieldsList-from_chars}
 use Rattle.std.proofs.lemmas.Iterator.Consumers.{YieldsList-end}
 use Rattle.std.proofs.lemmas.Result.{on_ok_weaker}
-use Rattle.capnp.specs.Printed.{none_shown, one_shown, escaped}
+use Rattle.capnp.specs.Prelude.{none_shown, one_shown, escaped}
 use Rattle.capnp.proofs.PrintedLemmas.{added_after, all_shown, closed, opened}
 use Rattle.capnp.proofs.stringify.literals.push_characters.Goals as goal
 

@@ -1,6 +1,6 @@
 -- The characters before the next one are shown, after a quotation mark.
 use Rattle.std.proofs.Common.{◌≡◌, List, ℕ, ◌∷◌, ◌++◌, string_bytes}
-use Rattle.capnp.specs.Printed.{AreEscaped, IsEscapeOf}
+use Rattle.capnp.specs.Prelude.{AreEscaped, IsEscapeOf}
 use Rattle.capnp.proofs.stringify.literals.push_characters.Given as goal
 
 abbrev pub invariant-loop-character : goal.invariant-loop-character

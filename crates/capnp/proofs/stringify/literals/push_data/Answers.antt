@@ -1,7 +1,7 @@
 -- Each byte is shown after those before it.
 use Rattle.std.proofs.Common.{arith, [], ◌++◌}
 use Rattle.std.proofs.lemmas.List.{take_more}
-use Rattle.capnp.specs.Printed.{none_shown, one_shown, escaped}
+use Rattle.capnp.specs.Prelude.{none_shown, one_shown, escaped}
 use Rattle.capnp.proofs.PrintedLemmas.{added_after, opened}
 use Rattle.capnp.proofs.stringify.literals.push_data.Goals as goal
 

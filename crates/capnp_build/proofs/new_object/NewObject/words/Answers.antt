@@ -1,6 +1,6 @@
 -- The words of a new object.
 use Rattle.std.proofs.Common.{false, ap, ◌∙◌}
-use Rattle.capnp_build.specs.NewBody.{words_of_body}
+use Rattle.capnp_build.specs.Prelude.{words_of_body}
 use Rattle.capnp_build.proofs.layouts.NewObjectLemmas.{new_object_words}
 use Rattle.capnp_build.proofs.new_object.NewObject.words.Goals as goal
 

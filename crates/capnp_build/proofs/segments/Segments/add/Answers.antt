@@ -1,8 +1,7 @@
 -- One segment more is out.
 use Rattle.std.proofs.Common.{rules, ◌+◌, ◌^◌, ◌<◌, List, ◌∷◌, [], ◌++◌, length, MatchOption, ap, subst, sym, ◌∙◌}
 use Rattle.std.specs.Prelude.{⊤}
-use Rattle.capnp_build.specs.Bytes.{Space}
-use Rattle.capnp_build.specs.BuilderState.{BuilderState, pairs}
+use Rattle.capnp_build.specs.Prelude.{Space, BuilderState, pairs}
 use Rattle.capnp_build.proofs.states.BuilderStateLemmas.{other_added, other_keeps, same_pair}
 use Rattle.capnp_build.proofs.states.OutputLemmas.{added_words, no_words}
 use Rattle.capnp_build.proofs.segments.Segments.add.Goals as goal

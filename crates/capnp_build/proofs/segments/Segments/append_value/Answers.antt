@@ -1,10 +1,9 @@
 -- The block is the body of the value's tree.
 use Rattle.std.proofs.Common.{rules, ◌≡◌, length, w64, ap, sym, ◌∙◌, arith}
 use Rattle.std.specs.Int.{from_le_bytes}
-use Rattle.capnp_frame.specs.Words.{bytes_of}
-use Rattle.capnp_layout.specs.Tree.{count}
-use Rattle.capnp_layout.specs.Layout.{pointer}
-use Rattle.capnp_build.specs.BuilderState.{BuilderState}
+use Rattle.capnp_frame.specs.Prelude.{bytes_of}
+use Rattle.capnp_layout.specs.Prelude.{count, pointer}
+use Rattle.capnp_build.specs.Prelude.{BuilderState}
 use Rattle.capnp_layout.proofs.words.WordLemmas.{number_of_eight}
 use Rattle.capnp_build.proofs.layouts.PointLemmas.{block_there, longer_by}
 use Rattle.capnp_build.proofs.layouts.ReadyLemmas.{ready}

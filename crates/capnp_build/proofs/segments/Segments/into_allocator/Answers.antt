@@ -1,7 +1,6 @@
 -- Each segment goes back, the last one first.
 use Rattle.std.proofs.Common.{◌≡◌, List, [], refl}
-use Rattle.capnp_build.specs.Out.{Out}
-use Rattle.capnp_build.specs.BuilderState.{pair}
+use Rattle.capnp_build.specs.Prelude.{Out, pair}
 use Rattle.capnp_build.proofs.states.BuilderStateLemmas.{last_pair, last_alone, out_first, taken_first, none_left, only_first, returned_last, returned_first}
 use Rattle.capnp_build.proofs.segments.Segments.into_allocator.Goals as goal
 

@@ -1,8 +1,7 @@
 -- The segments that are left are out, and what else was; those that are back were returned.
 use Rattle.std.proofs.Common.{◌≡◌, List, [], MatchOption, vec_len}
 use Rattle.std.specs.Prelude.{⊤}
-use Rattle.capnp_build.specs.BuilderState.{spaces_of, pairs, AreOut, ReturnsEach}
-use Rattle.capnp_build.specs.Out.{Out}
+use Rattle.capnp_build.specs.Prelude.{spaces_of, pairs, AreOut, ReturnsEach, Out}
 use Rattle.capnp_build.proofs.segments.Segments.into_allocator.Given as goal
 
 abbrev pub invariant-loop-part : goal.invariant-loop-part

@@ -1,8 +1,8 @@
 -- The root's word leads to the body.
 use Rattle.std.proofs.Common.{length, w64, ap, sym, ◌∙◌, arith}
 use Rattle.std.specs.Int.{to_le_bytes}
-use Rattle.capnp_layout.specs.Tree.{count}
-use Rattle.capnp_build.specs.BuilderState.{BuilderState}
+use Rattle.capnp_layout.specs.Prelude.{count}
+use Rattle.capnp_build.specs.Prelude.{BuilderState}
 use Rattle.capnp_build.proofs.states.KeptLemmas.{kept_past}
 use Rattle.capnp_build.proofs.layouts.PointLemmas.{local_points, first_room, rewritten_by}
 use Rattle.capnp_build.proofs.segments.Segments.point_local.Goals as goal

@@ -1,8 +1,6 @@
 -- The words of one segment more.
 use Rattle.std.proofs.Common.{◌≡◌, ℕ, suc, ◌+◌, ◌/◌, ◌<◌, List, length, take, ap, ◌∙◌, arith}
-use Rattle.capnp_build.specs.Bytes.{Space}
-use Rattle.capnp_build.specs.BuilderState.{space_at}
-use Rattle.capnp_build.specs.Built.{size_in_words}
+use Rattle.capnp_build.specs.Prelude.{Space, space_at, size_in_words}
 use Rattle.capnp_build.proofs.states.SpaceLemmas.{size_more}
 use Rattle.capnp_build.proofs.segments.Segments.size_in_words.Goals as goal
 

@@ -1,6 +1,6 @@
 -- The words of the segments that were passed.
 use Rattle.std.proofs.Common.{◌≡◌, ◌*◌, ◌^◌, ◌≤◌, take}
-use Rattle.capnp_build.specs.Built.{size_in_words}
+use Rattle.capnp_build.specs.Prelude.{size_in_words}
 use Rattle.capnp_build.proofs.segments.Segments.size_in_words.Given as goal
 
 abbrev pub invariant-loop-index : goal.invariant-loop-index

@@ -1,7 +1,6 @@
 -- The block and the root's word become zero.
 use Rattle.std.proofs.Common.{Option, Some, sym, subst, arith}
-use Rattle.capnp_build.specs.Built.{HasNullRoot, IsBuilt}
-use Rattle.capnp_build.specs.Blocks.{ZeroesRoot}
+use Rattle.capnp_build.specs.Prelude.{HasNullRoot, IsBuilt, ZeroesRoot}
 use Rattle.capnp_build.specs.declared.arena.location.RootLocation.{RootLocation}
 use Rattle.capnp_build.proofs.roots.ZeroRootLemmas.{word_wiped, body_wiped}
 use Rattle.capnp_build.proofs.segments.Segments.zero_root.Goals as goal

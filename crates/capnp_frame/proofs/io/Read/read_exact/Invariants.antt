@@ -1,6 +1,6 @@
 -- What is filled is a front of the result to the whole request.
 use Rattle.std.proofs.Common.{length, ◌-◌, ◌≡◌, ◌≤◌, take}
-use Rattle.capnp_frame.specs.Source.{IfKnown, Advances, ReturnsPart}
+use Rattle.capnp_frame.specs.Prelude.{IfKnown, Advances, ReturnsPart}
 use Rattle.capnp_frame.proofs.io.Read.read_exact.Given as goal
 
 abbrev pub invariant-loop-filled : goal.invariant-loop-filled

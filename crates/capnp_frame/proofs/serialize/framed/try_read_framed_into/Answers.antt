@@ -1,9 +1,7 @@
 -- The framed encoding is in the buffer, with zero padding.
 use Rattle.std.proofs.Common.{length, rules, arith, refl, sym, subst}
 use Rattle.std.proofs.lemmas.Result.{err_from_is_err_and}
-use Rattle.capnp_frame.specs.Limits.{KeepsLimit}
-use Rattle.capnp_frame.specs.Source.{IfKnown}
-use Rattle.capnp_frame.specs.Requests.{MessageStands}
+use Rattle.capnp_frame.specs.Prelude.{KeepsLimit, IfKnown, MessageStands}
 use Rattle.capnp_frame.proofs.slices.ProvidedLemmas.{reads_into, refused_into}
 use Rattle.capnp_frame.proofs.slices.FramedIntoLemmas.{padding_zeroed, zeroed_begins}
 use Rattle.capnp_frame.proofs.serialize.framed.try_read_framed_into.Goals as goal

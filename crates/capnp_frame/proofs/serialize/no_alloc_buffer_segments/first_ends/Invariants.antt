@@ -1,7 +1,7 @@
 -- The ends before the index are kept, and the last is the sum of the lengths so far.
 use Rattle.std.proofs.Common.{◌≡◌, ℕ, ◌+◌, ◌<◌, length}
 use Rattle.std.specs.Prelude.{sum, slice_index}
-use Rattle.capnp_frame.specs.Front.{declared_lengths}
+use Rattle.capnp_frame.specs.Prelude.{declared_lengths}
 use Rattle.capnp_frame.proofs.serialize.no_alloc_buffer_segments.first_ends.Given as goal
 
 abbrev pub invariant-loop-index : goal.invariant-loop-index

@@ -1,8 +1,7 @@
 -- Each turn adds the next length.
 use Rattle.std.proofs.Common.{refl, ◌+◌, ◌∙◌, sym, ap, arith}
 use Rattle.std.specs.Prelude.{sum}
-use Rattle.capnp_frame.specs.Front.{declared_lengths}
-use Rattle.capnp_frame.specs.SegmentTable.{table_size}
+use Rattle.capnp_frame.specs.Prelude.{declared_lengths, table_size}
 use Rattle.capnp_frame.proofs.tables.PartLemmas.{lies_between, reads_on}
 use Rattle.capnp_frame.proofs.serialize.no_alloc_buffer_segments.later_start.Goals as goal
 

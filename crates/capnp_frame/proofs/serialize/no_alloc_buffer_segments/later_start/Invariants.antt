@@ -1,7 +1,7 @@
 -- The start so far is the sum of the lengths before.
 use Rattle.std.proofs.Common.{◌≡◌}
 use Rattle.std.specs.Prelude.{sum}
-use Rattle.capnp_frame.specs.Front.{declared_lengths}
+use Rattle.capnp_frame.specs.Prelude.{declared_lengths}
 use Rattle.capnp_frame.proofs.serialize.no_alloc_buffer_segments.later_start.Given as goal
 
 abbrev pub invariant-short : goal.invariant-short

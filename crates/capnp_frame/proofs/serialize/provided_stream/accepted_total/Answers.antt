@@ -1,6 +1,6 @@
 -- Which test of a complete table fails.
 use Rattle.std.proofs.Common.{◌≡◌, length, rules}
-use Rattle.capnp_frame.specs.SegmentTable.{table_size}
+use Rattle.capnp_frame.specs.Prelude.{table_size}
 use Rattle.capnp_frame.proofs.sources.AskLemmas.{passed_on}
 use Rattle.capnp_frame.proofs.errors.MetRefusals.{limit_refuses, padding_refuses}
 use Rattle.capnp_frame.proofs.tables.TableReading.{tells_complete}

@@ -1,7 +1,7 @@
 -- The lengths are those that the table declares.
 use Rattle.std.proofs.Common.{◌≡◌, ◌*◌, ◌/◌, ◌-◌, length, inr, rules, arith}
 use Rattle.std.proofs.lemmas.Result.{on_ok_weaker, IfErr-weaker}
-use Rattle.capnp_frame.specs.SegmentTable.{table_size}
+use Rattle.capnp_frame.specs.Prelude.{table_size}
 use Rattle.capnp_frame.proofs.sources.AskLemmas.{passed_on}
 use Rattle.capnp_frame.proofs.errors.MetRefusals.{others_stop, complete_stops, complete_kind, source_kind}
 use Rattle.capnp_frame.proofs.tables.TableReading.{rest_stands}

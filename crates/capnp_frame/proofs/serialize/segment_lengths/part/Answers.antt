@@ -1,6 +1,6 @@
 -- The range of this number is that of its part.
 use Rattle.std.proofs.Common.{rules, arith, refl, sym, map}
-use Rattle.capnp_frame.specs.SegmentLengths.{range_len, cut}
+use Rattle.capnp_frame.specs.Prelude.{range_len, cut}
 use Rattle.capnp_frame.proofs.tables.Ranges.{Shows, shows, shows_none}
 use Rattle.capnp_frame.proofs.serialize.segment_lengths.part.Goals as goal
 use Rattle.capnp_frame.proofs.serialize.segment_lengths.part.Goals.{In_ok-start}

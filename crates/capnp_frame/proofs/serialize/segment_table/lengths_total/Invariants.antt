@@ -1,7 +1,7 @@
 -- The lengths before the index are in the fields, and this is their sum.
 use Rattle.std.proofs.Common.{◌≡◌, ◌*◌, ◌≤◌, ◌^◌}
 use Rattle.std.specs.Prelude.{sum}
-use Rattle.capnp_frame.specs.Front.{declared_lengths, SpellsLengths}
+use Rattle.capnp_frame.specs.Prelude.{declared_lengths, SpellsLengths}
 use Rattle.capnp_frame.proofs.serialize.segment_table.lengths_total.Given as goal
 
 abbrev pub invariant-loop-index : goal.invariant-loop-index

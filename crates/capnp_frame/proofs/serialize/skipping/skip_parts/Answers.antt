@@ -1,8 +1,7 @@
 -- Each turn drops a part, and the rest is dropped at last.
 use Rattle.std.proofs.Common.{rules, ◌≡◌, ◌-◌, length, arith}
 use Rattle.std.proofs.lemmas.Result.{on_ok_weaker}
-use Rattle.capnp_frame.specs.Skipping.{Drops}
-use Rattle.capnp_frame.specs.Source.{IfKnown}
+use Rattle.capnp_frame.specs.Prelude.{Drops, IfKnown}
 use Rattle.capnp_frame.proofs.sources.AskLemmas.{passed_on, Asked-err, Asked-after}
 use Rattle.capnp_frame.proofs.sources.SourceLemmas.{Advances-join}
 use Rattle.capnp_frame.proofs.sources.SkippingLemmas.{Drops-join, read_dropped, short_after, fails_after}

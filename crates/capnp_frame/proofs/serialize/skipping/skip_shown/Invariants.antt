@@ -1,7 +1,6 @@
 -- What is not left is dropped.
 use Rattle.std.proofs.Common.{◌-◌, ◌≤◌}
-use Rattle.capnp_frame.specs.Source.{IfKnown, Advances}
-use Rattle.capnp_frame.specs.Skipping.{Drops}
+use Rattle.capnp_frame.specs.Prelude.{IfKnown, Advances, Drops}
 use Rattle.capnp_frame.proofs.serialize.skipping.skip_shown.Given as goal
 
 abbrev pub invariant-loop-left : goal.invariant-loop-left

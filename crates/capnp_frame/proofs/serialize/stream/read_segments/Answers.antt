@@ -2,7 +2,7 @@
 use Rattle.std.proofs.Common.{rules, ◌≡◌, ◌*◌, arith, ap, length, None}
 use Rattle.std.proofs.lemmas.Grind.{common_steps}
 use Rattle.std.specs.Prelude.{sum}
-use Rattle.capnp_frame.specs.SegmentLengths.{cut}
+use Rattle.capnp_frame.specs.Prelude.{cut}
 use Rattle.capnp_frame.proofs.sources.StepLemmas.{asks_found, asks_failed, asks_passed}
 use Rattle.capnp_frame.proofs.encodings.RequestLemmas.{lengths-cut, MessageStands-cut, IsWithin-cut, table_not_empty}
 use Rattle.capnp_frame.proofs.errors.MetRefusals.{reader_kind, source_kind}

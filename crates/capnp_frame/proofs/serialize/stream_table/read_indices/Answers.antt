@@ -1,7 +1,7 @@
 -- The table that is read is the only one that is there.
 use Rattle.std.proofs.Common.{rules, ◌≡◌, ◌∙◌, ◌<◌, max, length, map, sym, ap, arith}
 use Rattle.std.proofs.lemmas.Grind.{common_steps}
-use Rattle.capnp_frame.specs.SegmentLengths.{range_len}
+use Rattle.capnp_frame.specs.Prelude.{range_len}
 use Rattle.capnp_frame.proofs.tables.Ranges.{width_alone}
 use Rattle.capnp_frame.proofs.sources.StepLemmas.{first_failed, memory_failed, lengths_failed, lengths_found}
 use Rattle.capnp_frame.proofs.serialize.stream_table.read_indices.Goals as goal

@@ -2,8 +2,7 @@
 use Rattle.std.proofs.Common.{rules, ◌≡◌, ◌-◌, ℕ, List, [], Option, length, take, drop, refl, inr, arith}
 use Rattle.std.proofs.lemmas.List.{take_all, length-drop, nil_from_length}
 use Rattle.std.proofs.lemmas.Result.{on_ok_weaker, IfErr-weaker}
-use Rattle.capnp_frame.specs.SegmentTable.{table_size}
-use Rattle.capnp_frame.specs.Source.{Giving, Refusing, IsSource, IsTail, IfKnown}
+use Rattle.capnp_frame.specs.Prelude.{table_size, Giving, Refusing, IsSource, IsTail, IfKnown}
 use Rattle.capnp_frame.proofs.sources.SourceLemmas.{IfKnown-refl}
 use Rattle.capnp_frame.proofs.errors.MetRefusals.{complete_stops, complete_kind}
 use Rattle.capnp_frame.proofs.tables.TableReading.{rest_stands}

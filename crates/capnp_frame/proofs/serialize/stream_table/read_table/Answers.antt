@@ -1,7 +1,7 @@
 -- The table that is read is the only one that is there.
 use Rattle.std.proofs.Common.{rules, ◌≡◌, ◌∙◌, ◌<◌, length, map, ap, arith}
 use Rattle.std.proofs.lemmas.Grind.{common_steps}
-use Rattle.capnp_frame.specs.SegmentLengths.{range_len}
+use Rattle.capnp_frame.specs.Prelude.{range_len}
 use Rattle.capnp_frame.proofs.tables.Ranges.{length-ranges}
 use Rattle.capnp_frame.proofs.sources.StepLemmas.{first_failed, memory_failed, lengths_failed, lengths_found}
 use Rattle.capnp_frame.proofs.serialize.stream_table.read_table.Goals as goal

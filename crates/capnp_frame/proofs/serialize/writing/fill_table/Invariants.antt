@@ -1,6 +1,6 @@
 -- The lengths of the segments before the index are filled in.
 use Rattle.std.proofs.Common.{length, ◌-◌, ◌≤◌, take}
-use Rattle.capnp_frame.specs.Message.{lengths}
+use Rattle.capnp_frame.specs.Prelude.{lengths}
 use Rattle.capnp_frame.proofs.sinks.WritingLemmas.{IsFilled}
 use Rattle.capnp_frame.proofs.serialize.writing.fill_table.Given as goal
 

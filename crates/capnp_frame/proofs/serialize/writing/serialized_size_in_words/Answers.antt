@@ -1,6 +1,6 @@
 -- Each turn adds the words of the segment at the index.
 use Rattle.std.proofs.Common.{◌≡◌, ◌+◌, ◌/◌, length, ap, ◌∙◌, arith}
-use Rattle.capnp_frame.specs.Message.{size_in_words}
+use Rattle.capnp_frame.specs.Prelude.{size_in_words}
 use Rattle.std.proofs.lemmas.List.{take_all}
 use Rattle.capnp_frame.proofs.sinks.WritingLemmas.{size-next, size_take_le, le_of_not_lt}
 use Rattle.capnp_frame.proofs.serialize.writing.serialized_size_in_words.Goals as goal

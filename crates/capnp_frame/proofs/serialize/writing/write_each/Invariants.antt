@@ -1,7 +1,6 @@
 -- What is written so far is what the segments before the index add.
 use Rattle.std.proofs.Common.{length, ◌-◌, ◌≤◌, take}
-use Rattle.capnp_frame.specs.Source.{IfKnown}
-use Rattle.capnp_frame.specs.Sink.{Adds, AppendsAll, Grows}
+use Rattle.capnp_frame.specs.Prelude.{IfKnown, Adds, AppendsAll, Grows}
 use Rattle.std.specs.List.{concat}
 use Rattle.capnp_frame.proofs.sinks.GrantLemmas.{StaysGranted}
 use Rattle.capnp_frame.proofs.serialize.writing.write_each.Given as goal

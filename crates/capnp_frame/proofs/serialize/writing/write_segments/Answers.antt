@@ -1,11 +1,8 @@
 -- The table's chunks, and then the segments, where there are no more than a reader accepts.
 use Rattle.std.proofs.Common.{inr, ◌*◌, ◌≤◌, length, arith}
 use Rattle.std.proofs.lemmas.Result.{err_from_is_err_and}
-use Rattle.capnp_frame.specs.Message.{lengths}
+use Rattle.capnp_frame.specs.Prelude.{lengths, table_size, table_chunks, serialized_words, LacksTable, RefusesUnwritten}
 use Rattle.std.specs.List.{concat}
-use Rattle.capnp_frame.specs.SegmentTable.{table_size}
-use Rattle.capnp_frame.specs.Writing.{table_chunks, serialized_words}
-use Rattle.capnp_frame.specs.Writers.{LacksTable, RefusesUnwritten}
 use Rattle.capnp_frame.proofs.sinks.GrantLemmas.{granted_first, granted_after, granted_words}
 use Rattle.capnp_frame.proofs.sinks.SinkLemmas.{front_refused, writes_after, writes_chunks, few_written, many_refused}
 use Rattle.capnp_frame.proofs.serialize.writing.write_segments.Goals as goal

@@ -1,8 +1,7 @@
 -- The table is written as its chunks, once it is filled.
 use Rattle.std.proofs.Common.{rules, ◌≡◌, ◌∙◌, length}
 use Rattle.std.proofs.lemmas.List.{take_at}
-use Rattle.capnp_frame.specs.SegmentTable.{table_size}
-use Rattle.capnp_frame.specs.Writers.{LacksTable}
+use Rattle.capnp_frame.specs.Prelude.{table_size, LacksTable}
 use Rattle.capnp_frame.proofs.sinks.GrantLemmas.{granted_as}
 use Rattle.capnp_frame.proofs.sinks.SinkLemmas.{writes_chunks}
 use Rattle.capnp_frame.proofs.serialize.writing.write_table.Goals as goal

@@ -1,6 +1,6 @@
 -- Each word is a copy of the zero word.
 use Rattle.std.proofs.Common.{◌≡◌, ℕ, ◌∷◌, map, replicate, zero, suc, refl, ap, ◌∙◌}
-use Rattle.capnp_frame.specs.Words.{bytes_of}
+use Rattle.capnp_frame.specs.Prelude.{bytes_of}
 use Rattle.capnp_frame.proofs.words.Word.allocate_zeroed_vec.Goals as goal
 
 map-replicate : {X Y : Type 0} (f : X → Y) (n : ℕ) (x : X) → map f (replicate n x) ≡ replicate n (f x)

@@ -1,6 +1,6 @@
 -- Bytes of whole words are words.
 use Rattle.std.proofs.Common.{◌≡◌, ◌≤◌, ◌+◌, ◌*◌, ◌-◌, ◌/◌, length, ◌∙◌, ap, arith}
-use Rattle.capnp_layout.specs.Pointer.{words_of}
+use Rattle.capnp_layout.specs.Prelude.{words_of}
 use Rattle.capnp_layout.proofs.words.WordLemmas.{length-words_of}
 use Rattle.capnp_layout.proofs.layouts.BlockLemmas.{length-put}
 use Rattle.capnp_layout.proofs.words.PutLemmas.{put_mid_words}

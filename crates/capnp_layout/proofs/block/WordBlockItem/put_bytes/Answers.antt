@@ -1,10 +1,9 @@
 -- Each chunk is one more word.
 use Rattle.std.proofs.Common.{ℕ, ◌+◌, ◌<◌, ◌≤◌, List, [], ◌∷◌, length, map, get_or, ◌∙◌, ap, arith}
 use Rattle.std.proofs.lemmas.List.{take_all}
-use Rattle.capnp_frame.specs.Words.{bytes_of}
+use Rattle.capnp_frame.specs.Prelude.{bytes_of}
 use Rattle.capnp_frame.specs.declared.words.Word.{Word}
-use Rattle.capnp_layout.specs.Pointer.{number_of}
-use Rattle.capnp_layout.specs.Block.{put, numbers_of}
+use Rattle.capnp_layout.specs.Prelude.{number_of, put, numbers_of}
 use Rattle.capnp_layout.proofs.words.PutLemmas.{length-numbers_of, put_one, put_next}
 use Rattle.capnp_layout.proofs.block.WordBlockItem.put_bytes.Goals as goal
 

@@ -1,7 +1,6 @@
 -- The words so far are those of the chunks so far.
 use Rattle.std.proofs.Common.{◌≡◌, map, take}
-use Rattle.capnp_layout.specs.Pointer.{number_of}
-use Rattle.capnp_layout.specs.Block.{put, numbers_of}
+use Rattle.capnp_layout.specs.Prelude.{number_of, put, numbers_of}
 use Rattle.capnp_layout.proofs.block.WordBlockItem.put_bytes.Given as goal
 
 abbrev pub invariant-loop-index : goal.invariant-loop-index

@@ -1,5 +1,5 @@
 -- A struct as it is copied is what its body becomes.
-use Rattle.capnp_layout.specs.Pointer.{words_of}
+use Rattle.capnp_layout.specs.Prelude.{words_of}
 use Rattle.capnp_layout.proofs.pointers.LocalLemmas.{struct_output}
 use Rattle.capnp_layout.proofs.fast_path.LocalStruct.output.Goals as goal
 

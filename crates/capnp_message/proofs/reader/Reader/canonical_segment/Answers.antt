@@ -1,5 +1,5 @@
 -- The canonical form of the root, or the reason why there is none.
-use Rattle.capnp_layout.specs.Pointer.{words_of}
+use Rattle.capnp_layout.specs.Prelude.{words_of}
 use Rattle.capnp_message.specs.Canonical.{ReturnsForm}
 use Rattle.capnp_message.specs.Seen.{root_of}
 use Rattle.capnp_message.proofs.CanonicalLemmas.{no_form, root_form}

@@ -1,7 +1,6 @@
 -- What comes back is the region, which is made zero.
 use Rattle.std.proofs.Common.{◌≡◌, ℕ, ◌*◌, List, ◌++◌, length, drop, refl, ap, subst, ◌∙◌}
-use Rattle.capnp_build.specs.Out.{Out}
-use Rattle.capnp_build.specs.Bytes.{ZeroFrom}
+use Rattle.capnp_build.specs.Prelude.{Out, ZeroFrom}
 use Rattle.capnp_message.proofs.RegionLemmas.{comes_back, all_zero, children, filled_length}
 use Rattle.capnp_message.proofs.single_segment.SingleSegmentAllocatorAllocator.deallocate_segment.Goals as goal
 

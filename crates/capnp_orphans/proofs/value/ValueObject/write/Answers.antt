@@ -1,6 +1,6 @@
 -- A value is written at its start.
 use Rattle.std.proofs.Common.{◌/◌, length, refl, arith}
-use Rattle.capnp_layout.specs.Tree.{count}
+use Rattle.capnp_layout.specs.Prelude.{count}
 use Rattle.capnp_layout.proofs.words.WordLemmas.{length-words_of}
 use Rattle.capnp_wire.proofs.layouts.FreeLemmas.{free_block, has_room}
 use Rattle.capnp_orphans.proofs.WrittenLemmas.{value_written, value_children}

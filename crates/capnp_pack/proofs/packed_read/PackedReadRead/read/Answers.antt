@@ -1,6 +1,6 @@
 -- A request that isn't whole words fails before anything is read.
 use Rattle.std.proofs.Common.{inr, ◌≡◌}
-use Rattle.capnp_pack.specs.UnpackingLaws.{not_plain}
+use Rattle.capnp_pack.specs.Prelude.{not_plain}
 use Rattle.capnp_frame.proofs.sources.SourceLemmas.{IfErr-vacuous}
 use Rattle.capnp_pack.proofs.faults.ChunkLemmas.{part_refused}
 use Rattle.capnp_frame.specs.declared.error.Error.{Error}

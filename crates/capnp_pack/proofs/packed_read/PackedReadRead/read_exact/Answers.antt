@@ -1,7 +1,6 @@
 -- A read that returns all of a chunk gives it.
 use Rattle.capnp_frame.proofs.sources.SourceLemmas.{ReturnsPart-filled}
-use Rattle.capnp_pack.specs.PackedSource.{Unpacks, RefusesChunk}
-use Rattle.capnp_pack.specs.UnpackingLaws.{takes_no_group}
+use Rattle.capnp_pack.specs.Prelude.{Unpacks, RefusesChunk, takes_no_group}
 use Rattle.capnp_pack.proofs.packed_read.PackedReadRead.read_exact.Goals as goal
 
 pub returns-clause-given : goal.returns-clause-given

@@ -2,9 +2,7 @@
 use Rattle.std.proofs.Common.{◌==◌, length, slice_index, rules, tests}
 use Rattle.std.proofs.lemmas.Iterator.Consumers.{YieldsList-from_first}
 use Rattle.std.proofs.lemmas.Iterator.Search.{find_from_yields_List}
-use Rattle.capnp_wire.specs.Lists.{all_structs, elements_left}
-use Rattle.capnp_wire.specs.Readers.{struct_of}
-use Rattle.capnp_wire.specs.ListViews.{struct_list_of, element_of}
+use Rattle.capnp_wire.specs.Prelude.{all_structs, elements_left, struct_of, struct_list_of, element_of}
 use Rattle.capnp_uses.proofs.account.ListReader.first_with_id.Goals as goal
 
 pub returns : goal.returns

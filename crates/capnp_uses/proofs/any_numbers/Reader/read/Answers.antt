@@ -1,8 +1,7 @@
 -- What is taken is null and lists of numbers, and other objects are declined.
 use Rattle.std.proofs.Common.{inl, inr}
 use Rattle.std.proofs.lemmas.Result.{err_from_is_err_and}
-use Rattle.capnp_wire.specs.Readers.{pointer_of}
-use Rattle.capnp_wire.specs.ObjectViews.{IsObjectView}
+use Rattle.capnp_wire.specs.Prelude.{pointer_of, IsObjectView}
 use Rattle.capnp_wire.specs.declared.any_object.reader.Reader.TheVariants.{Null, Numbers}
 use Rattle.capnp_uses.proofs.AnyNumberLemmas.{no_numbers_read, any_numbers_read, others_declined}
 use Rattle.capnp_uses.proofs.any_numbers.Reader.read.Goals as goal

@@ -1,8 +1,7 @@
 -- The numbers, in just their words.
 use Rattle.std.proofs.Common.{◌≡◌, ◌+◌, ◌-◌, ◌*◌, ◌∙◌, ℕ, List, map, length, ap, sym, arith}
 use Rattle.std.proofs.lemmas.List.{length-map}
-use Rattle.capnp_layout.specs.Element.{width, words_for}
-use Rattle.capnp_layout.specs.Layout.{list_pointer}
+use Rattle.capnp_layout.specs.Prelude.{width, words_for, list_pointer}
 use Rattle.capnp_layout.proofs.words.WordLemmas.{length-words_of}
 use Rattle.capnp_wire.proofs.layouts.FreeLemmas.{numbers_copied, as_output, body_long}
 use Rattle.capnp_values.specs.NumberLists.{IsNumberList}

@@ -3,8 +3,8 @@ use Rattle.std.specs.Prelude.{MatchResult}
 use Rattle.std.proofs.Common.{rules, ◌≡◌, ℕ, Err, Result, inl, sym, subst}
 use Rattle.capnp_frame.specs.declared.error.Error.{Error}
 use Rattle.capnp_frame.specs.declared.error.ErrorKind.{ErrorKind}
-use Rattle.capnp_layout.specs.Tree.{Trees}
-use Rattle.capnp_wire.specs.Values.{HasWords, LacksWords}
+use Rattle.capnp_layout.specs.Prelude.{Trees}
+use Rattle.capnp_wire.specs.Prelude.{HasWords, LacksWords}
 use Rattle.capnp_values.specs.StructLists.{IsStructList, RefusesStructList}
 use Rattle.capnp_values.proofs.values.MeasuredLemmas.{whole_returned, whole_found, whole_exact}
 use Rattle.capnp_values.proofs.struct_list.StructListSetterInputOwned.measure.Goals as goal

@@ -3,8 +3,8 @@ use Rattle.std.specs.Prelude.{MatchResult}
 use Rattle.std.proofs.Common.{rules, ◌≡◌, Err, Result, false, inl, sym, subst}
 use Rattle.capnp_frame.specs.declared.error.Error.{Error}
 use Rattle.capnp_frame.specs.declared.error.ErrorKind.{ErrorKind}
-use Rattle.capnp_layout.specs.Tree.{Trees}
-use Rattle.capnp_wire.specs.Values.{HasPart, LacksWords}
+use Rattle.capnp_layout.specs.Prelude.{Trees}
+use Rattle.capnp_wire.specs.Prelude.{HasPart, LacksWords}
 use Rattle.capnp_wire.specs.declared.traits.TreeWords.{TreeWords}
 use Rattle.capnp_values.specs.StructLists.{IsStructList, RefusesStructList}
 use Rattle.capnp_values.proofs.values.MeasuredLemmas.{part_returned, part_found, part_exact}

@@ -1,6 +1,6 @@
 -- A struct is its own words, and what its pointers lead to.
 use Rattle.std.proofs.Common.{◌+◌, ◌-◌, arith}
-use Rattle.capnp_layout.specs.Pointer.{words_of}
+use Rattle.capnp_layout.specs.Prelude.{words_of}
 use Rattle.capnp_wire.proofs.layouts.FreeLemmas.{free_later}
 use Rattle.capnp_layout.proofs.layouts.SizeLemmas.{length-body}
 use Rattle.capnp_wire.proofs.layouts.OpenLemmas.{room_output}

@@ -1,5 +1,5 @@
 -- A pointer is null where its tree is.
-use Rattle.capnp_wire.specs.Readers.{pointer_of}
+use Rattle.capnp_wire.specs.Prelude.{pointer_of}
 use Rattle.capnp_wire.proofs.views.PartWordLemmas.{null_declared}
 use Rattle.capnp_wire.proofs.any_pointer.ReaderSetterInputOwned.is_null.Goals as goal
 

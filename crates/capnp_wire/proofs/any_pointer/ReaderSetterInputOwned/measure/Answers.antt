@@ -1,8 +1,7 @@
 -- The words of what a pointer leads to are those of its tree, as it is or in canonical form.
 use Rattle.std.proofs.Common.{ℕ, Result, Ok}
 use Rattle.capnp_frame.specs.declared.error.Error.{Error}
-use Rattle.capnp_wire.specs.Readers.{pointer_of}
-use Rattle.capnp_wire.specs.Values.{LeadsToTree, StopsWalkFrom}
+use Rattle.capnp_wire.specs.Prelude.{pointer_of, LeadsToTree, StopsWalkFrom}
 use Rattle.capnp_wire.proofs.views.SetterLemmas.{none_has_words, measured_value}
 use Rattle.capnp_wire.proofs.views.OneValueLemmas.{one_of_pointer, measured_found, measured_exactly}
 use Rattle.capnp_wire.proofs.any_pointer.ReaderSetterInputOwned.measure.Goals as goal

@@ -1,6 +1,5 @@
 -- A pointer leads to one tree.
-use Rattle.capnp_wire.specs.Readers.{pointer_of}
-use Rattle.capnp_wire.specs.Values.{LeadsToTree}
+use Rattle.capnp_wire.specs.Prelude.{pointer_of, LeadsToTree}
 use Rattle.capnp_wire.proofs.layouts.FreeLemmas.{body_long}
 use Rattle.capnp_wire.proofs.views.OneValueLemmas.{one_of_pointer}
 use Rattle.capnp_wire.proofs.any_pointer.ReaderSetterInputOwned.write.Goals as goal

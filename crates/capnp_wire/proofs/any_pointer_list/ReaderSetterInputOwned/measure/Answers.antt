@@ -1,7 +1,6 @@
 -- The words of a list of pointers that is read, with all below it, are those of its tree.
-use Rattle.capnp_layout.specs.Tree.{pointers}
-use Rattle.capnp_wire.specs.ListViews.{pointer_list_of}
-use Rattle.capnp_wire.specs.ListValues.{IsListTree, StopsInList}
+use Rattle.capnp_layout.specs.Prelude.{pointers}
+use Rattle.capnp_wire.specs.Prelude.{pointer_list_of, IsListTree, StopsInList}
 use Rattle.capnp_wire.proofs.views.OneValueLemmas.{measured_found, measured_exactly}
 use Rattle.capnp_wire.proofs.views.ListValueLemmas.{one_of_list}
 use Rattle.capnp_wire.proofs.any_pointer_list.ReaderSetterInputOwned.measure.Goals as goal

@@ -1,10 +1,7 @@
 -- The words of a struct that is read, with all below it, are those of its tree.
 use Rattle.std.proofs.Common.{◌≢◌, ◌^◌, ◌<◌, MatchResult, None, sym, ◌∙◌, subst, refl, arith}
-use Rattle.capnp_layout.specs.Pointer.{words_of}
-use Rattle.capnp_layout.specs.Object.{message_of}
-use Rattle.capnp_wire.specs.Readers.{struct_of, limit_of}
-use Rattle.capnp_wire.specs.Views.{Struct}
-use Rattle.capnp_wire.specs.Values.{HasWords, LacksWords, IsTreeOf, StopsInside}
+use Rattle.capnp_layout.specs.Prelude.{words_of, message_of}
+use Rattle.capnp_wire.specs.Prelude.{struct_of, limit_of, Struct, HasWords, LacksWords, IsTreeOf, StopsInside}
 use Rattle.capnp_layout.proofs.objects.FieldLemmas.{length-words_from}
 use Rattle.capnp_wire.proofs.objects.PartLemmas.{whole, alone}
 use Rattle.capnp_layout.proofs.objects.PartLemmas.{one_word}

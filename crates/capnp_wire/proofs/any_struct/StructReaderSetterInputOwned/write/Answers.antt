@@ -1,10 +1,7 @@
 -- What is written of a struct that is read is the body of its tree.
 use Rattle.std.proofs.Common.{◌≢◌, ◌^◌, ◌<◌, None, length, sym, ◌∙◌, subst, refl, arith}
-use Rattle.capnp_layout.specs.Pointer.{words_of}
-use Rattle.capnp_layout.specs.Object.{message_of}
-use Rattle.capnp_wire.specs.Readers.{struct_of, limit_of}
-use Rattle.capnp_wire.specs.Views.{Struct}
-use Rattle.capnp_wire.specs.Values.{HasRoomAt, IsTreeOf}
+use Rattle.capnp_layout.specs.Prelude.{words_of, message_of}
+use Rattle.capnp_wire.specs.Prelude.{struct_of, limit_of, Struct, HasRoomAt, IsTreeOf}
 use Rattle.capnp_layout.proofs.objects.FieldLemmas.{length-words_from}
 use Rattle.capnp_wire.proofs.objects.PartLemmas.{whole, alone}
 use Rattle.capnp_layout.proofs.objects.PartLemmas.{one_word}

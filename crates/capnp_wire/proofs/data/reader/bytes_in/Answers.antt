@@ -1,7 +1,7 @@
 -- The bytes are those of a list of bytes.
 use Rattle.std.proofs.Common.{refl, sym, subst}
 use Rattle.std.proofs.lemmas.Result.{err_from_is_err_and}
-use Rattle.capnp_wire.specs.Views.{IsData}
+use Rattle.capnp_wire.specs.Prelude.{IsData}
 use Rattle.capnp_wire.proofs.data.reader.bytes_in.Goals as goal
 
 pub returns-in_err-bytes : goal.returns-in_err-bytes

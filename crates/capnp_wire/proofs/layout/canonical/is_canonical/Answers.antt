@@ -1,8 +1,7 @@
 -- The walk from the root, and whether it has passed all words.
 use Rattle.std.proofs.Common.{◌≡◌, ◌≤◌, ◌/◌, [], ◌∷◌, length, refl, sym, ◌∙◌, arith, false}
 use Rattle.std.proofs.lemmas.Bool.Decides.{nat_tests}
-use Rattle.capnp_layout.specs.Pointer.{words_of}
-use Rattle.capnp_layout.specs.Reached.{root}
+use Rattle.capnp_layout.specs.Prelude.{words_of, root}
 use Rattle.capnp_layout.proofs.words.WordLemmas.{length-words_of}
 use Rattle.capnp_layout.proofs.objects.ElementLemmas.{all_words_below}
 use Rattle.capnp_frame.proofs.sources.AskLemmas.{passed_on}

@@ -1,8 +1,7 @@
 -- The bits after the elements of a list in its last word.
 use Rattle.std.proofs.Common.{◌≡◌, ◌<◌, ◌+◌, ◌*◌, ◌/◌, ◌%◌, ◌^◌, ℕ, length, slice_get, slice_index_or, None, refl, sym, ap, arith}
 use Rattle.std.proofs.lemmas.Bool.Decides.{nat_tests}
-use Rattle.capnp_layout.specs.Pointer.{words_of}
-use Rattle.capnp_layout.specs.Element.{code_of, width}
+use Rattle.capnp_layout.specs.Prelude.{words_of, code_of, width}
 use Rattle.capnp_layout.proofs.words.WordLemmas.{length-words_of}
 use Rattle.capnp_wire.proofs.forms.TruncatedLemmas.{or_there, there_or}
 use Rattle.capnp_layout.proofs.objects.ElementLemmas.{all_words_below}

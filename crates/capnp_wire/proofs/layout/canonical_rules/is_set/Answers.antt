@@ -1,5 +1,5 @@
 -- A word that is not there counts as zero.
-use Rattle.capnp_layout.specs.Pointer.{words_of}
+use Rattle.capnp_layout.specs.Prelude.{words_of}
 use Rattle.capnp_wire.proofs.forms.TruncatedLemmas.{or_zero}
 use Rattle.std.proofs.Common.{sym}
 use Rattle.capnp_wire.proofs.layout.canonical_rules.is_set.Goals as goal

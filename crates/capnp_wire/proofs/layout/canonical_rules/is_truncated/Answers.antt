@@ -1,9 +1,7 @@
 -- Each kind of object by its words.
 use Rattle.std.proofs.Common.{◌≡◌, ◌+◌, ℕ, List, length, sym, subst, arith}
-use Rattle.capnp_layout.specs.Pointer.{words_of, words_from}
-use Rattle.capnp_layout.specs.Object.{places, row_places, rows_from}
-use Rattle.capnp_wire.specs.Canonical.{EndsFull}
-use Rattle.capnp_wire.specs.Tested.{links_at}
+use Rattle.capnp_layout.specs.Prelude.{words_of, words_from, places, row_places, rows_from}
+use Rattle.capnp_wire.specs.Prelude.{EndsFull, links_at}
 use Rattle.capnp_layout.proofs.words.WordLemmas.{length-words_of}
 use Rattle.capnp_layout.proofs.trees.RoomLemmas.{length-rows_from}
 use Rattle.capnp_wire.proofs.forms.TruncatedLemmas.{links_places}

@@ -1,6 +1,6 @@
 -- A row needs its data where the last word of it is not zero.
 use Rattle.std.proofs.Common.{◌+◌, ◌-◌, arith}
-use Rattle.capnp_layout.specs.Pointer.{words_of}
+use Rattle.capnp_layout.specs.Prelude.{words_of}
 use Rattle.capnp_layout.proofs.words.WordLemmas.{length-words_of}
 use Rattle.capnp_wire.proofs.forms.TruncatedLemmas.{row_room, need_data}
 use Rattle.capnp_wire.proofs.layout.canonical_rules.need_data.Goals as goal

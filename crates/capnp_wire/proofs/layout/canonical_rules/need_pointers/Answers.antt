@@ -1,6 +1,6 @@
 -- A row needs its pointers where the last of them is not null.
 use Rattle.std.proofs.Common.{◌+◌, ◌-◌, arith}
-use Rattle.capnp_layout.specs.Pointer.{words_of}
+use Rattle.capnp_layout.specs.Prelude.{words_of}
 use Rattle.capnp_wire.proofs.forms.TruncatedLemmas.{row_room, need_pointers}
 use Rattle.capnp_wire.proofs.layout.canonical_rules.need_pointers.Goals as goal
 

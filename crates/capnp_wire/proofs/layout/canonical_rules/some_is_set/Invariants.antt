@@ -1,6 +1,6 @@
 -- The words that have been passed are zero.
 use Rattle.std.proofs.Common.{◌≡◌, ℕ, ◌+◌, ◌*◌, ◌<◌, slice_index_or}
-use Rattle.capnp_layout.specs.Pointer.{words_of}
+use Rattle.capnp_layout.specs.Prelude.{words_of}
 use Rattle.capnp_wire.proofs.layout.canonical_rules.some_is_set.Given as goal
 
 abbrev pub invariant-loop-number : goal.invariant-loop-number

@@ -1,6 +1,6 @@
 -- The pointer is in a segment, since a tree is at its place.
 use Rattle.std.proofs.Common.{sym}
-use Rattle.capnp_layout.specs.Faults.{no_word, no_segment}
+use Rattle.capnp_layout.specs.Prelude.{no_word, no_segment}
 use Rattle.capnp_layout.proofs.words.MessageLemmas.{segment_stands, no_segment_stands}
 use Rattle.capnp_layout.proofs.layouts.CopiedLemmas.{fault_no_tree}
 use Rattle.capnp_wire.proofs.layout.copy.copy.Goals as goal

@@ -1,6 +1,6 @@
 -- Each row is put after the one before, with room for its pointers.
 use Rattle.std.proofs.Common.{◌≡◌, ◌+◌, ◌-◌, ◌/◌, ◌<◌, length, sym, ◌∙◌, arith}
-use Rattle.capnp_layout.specs.Pointer.{words_of}
+use Rattle.capnp_layout.specs.Prelude.{words_of}
 use Rattle.capnp_layout.proofs.words.WordLemmas.{length-words_of}
 use Rattle.capnp_wire.proofs.layouts.RowCopyLemmas.{put_rows_next, put_no_data, fewer_rows}
 use Rattle.capnp_wire.proofs.layout.data_words.put_rows.Goals as goal

@@ -1,8 +1,6 @@
 -- How many rows are put so far.
 use Rattle.std.proofs.Common.{◌≡◌, ◌+◌, ◌-◌, ◌*◌, ◌/◌, ◌≤◌, length}
-use Rattle.capnp_layout.specs.Pointer.{words_of}
-use Rattle.capnp_layout.specs.Object.{rows_from}
-use Rattle.capnp_layout.specs.Block.{put_rows}
+use Rattle.capnp_layout.specs.Prelude.{words_of, rows_from, put_rows}
 use Rattle.capnp_wire.proofs.layout.data_words.put_rows.Given as goal
 
 abbrev pub invariant-rows : goal.invariant-rows

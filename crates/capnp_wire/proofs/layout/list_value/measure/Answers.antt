@@ -1,8 +1,7 @@
 -- The walk over a list's pointers counts the words after these.
 use Rattle.std.proofs.Common.{◌+◌, refl, arith}
-use Rattle.capnp_layout.specs.Object.{message_of, places}
-use Rattle.capnp_layout.specs.Tree.{pointers}
-use Rattle.capnp_wire.specs.Traversed.{counted as counted_by}
+use Rattle.capnp_layout.specs.Prelude.{message_of, places, pointers}
+use Rattle.capnp_wire.specs.Prelude.{counted as counted_by}
 use Rattle.capnp_wire.proofs.views.ListValueLemmas.{own_pointers, list_measured}
 use Rattle.capnp_wire.proofs.layout.list_value.measure.Goals as goal
 

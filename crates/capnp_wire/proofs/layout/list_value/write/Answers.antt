@@ -1,10 +1,7 @@
 -- A list of pointers has no other words, so what they lead to is all that is copied.
 use Rattle.std.proofs.Common.{◌-◌, ◌+◌, ℕ, sym, refl, ap, subst}
-use Rattle.capnp_layout.specs.Pointer.{words_of}
-use Rattle.capnp_layout.specs.Tree.{pointers, Trees}
-use Rattle.capnp_layout.specs.Object.{message_of, places}
-use Rattle.capnp_layout.specs.Layout.{run, output}
-use Rattle.capnp_wire.specs.Copy.{IsCopied}
+use Rattle.capnp_layout.specs.Prelude.{words_of, pointers, Trees, message_of, places, run, output}
+use Rattle.capnp_wire.specs.Prelude.{IsCopied}
 use Rattle.capnp_layout.proofs.words.MessageLemmas.{segment_stands, no_segment_stands}
 use Rattle.capnp_wire.proofs.layouts.CopyLemmas.{copies_none}
 use Rattle.capnp_wire.proofs.views.ListValueLemmas.{pointers_opened, pointers_copyable, pointers_written, no_pointers_there, same_list}

@@ -1,10 +1,8 @@
 -- The walk over the pointers of a list of structs counts the words after its own.
 use Rattle.std.proofs.Common.{◌≢◌, ◌+◌, ◌*◌, ◌≤◌, List, [], inl, ◌∙◌, ap, sym, refl, subst, length, arith}
 use Rattle.std.proofs.lemmas.Result.{err_from_is_err_and}
-use Rattle.capnp_layout.specs.Pointer.{words_of}
-use Rattle.capnp_layout.specs.Object.{message_of, row_places}
-use Rattle.capnp_wire.specs.ListValues.{structs_along}
-use Rattle.capnp_wire.specs.Traversed.{counted as counted_by}
+use Rattle.capnp_layout.specs.Prelude.{words_of, message_of, row_places}
+use Rattle.capnp_wire.specs.Prelude.{structs_along, counted as counted_by}
 use Rattle.capnp_layout.specs.declared.place.Place.{Place}
 use Rattle.capnp_layout.specs.declared.pointer.StructSize.{StructSize}
 use Rattle.capnp_layout.proofs.words.WordLemmas.{length-words_of}

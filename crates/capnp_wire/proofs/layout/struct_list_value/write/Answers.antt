@@ -1,13 +1,7 @@
 -- A list of structs is written as it is copied: its tag and the data of its elements, then what their pointers lead to.
 use Rattle.std.proofs.Common.{◌≡◌, ◌-◌, ◌+◌, ◌*◌, ◌≤◌, [], ◌∷◌, ℕ, refl, sym, ap, ◌∙◌, subst, length, arith}
-use Rattle.capnp_layout.specs.Pointer.{words_of}
-use Rattle.capnp_layout.specs.Tree.{Trees}
-use Rattle.capnp_layout.specs.Object.{message_of, row_places}
-use Rattle.capnp_layout.specs.Layout.{output, list_pointer}
-use Rattle.capnp_layout.specs.Block.{put}
-use Rattle.capnp_layout.specs.Rows.{kept_places}
-use Rattle.capnp_wire.specs.Copy.{CanCopy, IsCopied}
-use Rattle.capnp_wire.specs.ListValues.{structs_along}
+use Rattle.capnp_layout.specs.Prelude.{words_of, Trees, message_of, row_places, output, list_pointer, put, kept_places}
+use Rattle.capnp_wire.specs.Prelude.{CanCopy, IsCopied, structs_along}
 use Rattle.capnp_layout.proofs.words.WordLemmas.{length-words_of}
 use Rattle.capnp_wire.proofs.views.ListValueLemmas.{rows_opened, rows_written, rows_children, same_list}
 use Rattle.capnp_wire.proofs.layout.struct_list_value.write.Goals as goal

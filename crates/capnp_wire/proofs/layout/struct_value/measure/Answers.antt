@@ -1,13 +1,10 @@
 -- The walk over a struct's pointers counts the words after its own.
 use Rattle.std.proofs.Common.{◌≡◌, ◌+◌, ◌≤◌, ◌∙◌, ap, refl, length, arith}
-use Rattle.capnp_layout.specs.Pointer.{words_of}
-use Rattle.capnp_layout.specs.Object.{message_of}
-use Rattle.capnp_layout.specs.Body.{words_in}
-use Rattle.capnp_layout.specs.Output.{output_body_of}
+use Rattle.capnp_layout.specs.Prelude.{words_of, message_of, words_in, output_body_of}
 use Rattle.capnp_layout.specs.declared.object.Body.TheVariants.{Struct}
 use Rattle.capnp_layout.proofs.words.WordLemmas.{length-words_of}
 use Rattle.capnp_wire.proofs.objects.StructLemmas.{struct_measured}
-use Rattle.capnp_wire.specs.Traversed.{counted as counted_by}
+use Rattle.capnp_wire.specs.Prelude.{counted as counted_by}
 use Rattle.capnp_wire.proofs.layout.struct_value.measure.Goals as goal
 
 pub returns : goal.returns

@@ -1,10 +1,7 @@
 -- A struct is written as it is copied: its own words, then what its pointers lead to.
 use Rattle.std.proofs.Common.{◌-◌, refl, subst, length, arith}
-use Rattle.capnp_layout.specs.Pointer.{words_of}
-use Rattle.capnp_layout.specs.Tree.{Trees}
-use Rattle.capnp_layout.specs.Object.{message_of}
-use Rattle.capnp_layout.specs.Layout.{output}
-use Rattle.capnp_wire.specs.Copy.{IsCopied}
+use Rattle.capnp_layout.specs.Prelude.{words_of, Trees, message_of, output}
+use Rattle.capnp_wire.specs.Prelude.{IsCopied}
 use Rattle.capnp_layout.proofs.words.WordLemmas.{length-words_of}
 use Rattle.capnp_layout.specs.declared.object.Body.TheVariants.{Struct}
 use Rattle.capnp_wire.proofs.layouts.CopiedLemmas.{fewer_pointers}

@@ -1,7 +1,7 @@
 -- What a walk counts is measured.
 use Rattle.std.proofs.Common.{◌+◌, refl}
-use Rattle.capnp_layout.specs.Object.{message_of}
-use Rattle.capnp_wire.specs.Traversed.{counted as counted_by}
+use Rattle.capnp_layout.specs.Prelude.{message_of}
+use Rattle.capnp_wire.specs.Prelude.{counted as counted_by}
 use Rattle.capnp_wire.proofs.views.ValueLemmas.{result_fits}
 use Rattle.capnp_wire.proofs.layout.value.measure.Goals as goal
 

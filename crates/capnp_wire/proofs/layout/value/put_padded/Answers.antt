@@ -1,6 +1,6 @@
 -- Bytes are put into a block of zeros.
 use Rattle.std.proofs.Common.{◌≡◌, ◌+◌, ◌*◌, ◌++◌, ◌-◌, ℕ, length, take, drop, List, ap, ◌∙◌, arith}
-use Rattle.capnp_layout.specs.Pointer.{words_of}
+use Rattle.capnp_layout.specs.Prelude.{words_of}
 use Rattle.capnp_wire.proofs.layouts.FreeLemmas.{padded_put}
 use Rattle.capnp_wire.proofs.layout.value.put_padded.Goals as goal
 

@@ -1,9 +1,6 @@
 -- The bytes of a text, and zeros after them, are its words.
 use Rattle.std.proofs.Common.{◌+◌, ◌-◌, ◌++◌, ◌∷◌, [], ◌∙◌, List, ℕ, arith, ap, sym, length}
-use Rattle.capnp_layout.specs.Pointer.{words_of}
-use Rattle.capnp_layout.specs.Element.{words_for}
-use Rattle.capnp_layout.specs.Layout.{list_pointer}
-use Rattle.capnp_layout.specs.Block.{put}
+use Rattle.capnp_layout.specs.Prelude.{words_of, words_for, list_pointer, put}
 use Rattle.capnp_layout.proofs.words.WordLemmas.{length-words_of}
 use Rattle.capnp_layout.proofs.words.BytesLemmas.{text_own, long_end}
 use Rattle.capnp_wire.proofs.layouts.FreeLemmas.{numbers_copied}

@@ -1,10 +1,7 @@
 -- The count of a list of numbers determines its words.
 use Rattle.std.proofs.Common.{ℕ, MatchResult, subst}
-use Rattle.capnp_layout.specs.Pointer.{words_of}
-use Rattle.capnp_wire.specs.NumberViews.{numbers_of}
-use Rattle.capnp_layout.specs.Object.{elements}
-use Rattle.capnp_wire.specs.Values.{HasWords, LacksWords}
-use Rattle.capnp_wire.specs.ListValues.{IsNumbersTree, TooManyNumbers}
+use Rattle.capnp_layout.specs.Prelude.{words_of, elements}
+use Rattle.capnp_wire.specs.Prelude.{numbers_of, HasWords, LacksWords, IsNumbersTree, TooManyNumbers}
 use Rattle.capnp_wire.proofs.views.OneValueLemmas.{measured_found, measured_exactly}
 use Rattle.capnp_wire.proofs.views.NumberValueLemmas.{one_of_numbers, numbers_measured}
 use Rattle.capnp_wire.proofs.primitive_list.ReaderSetterInputOwned.measure.Goals as goal

@@ -1,9 +1,7 @@
 -- The numbers of a list are its copy, whatever the form.
 use Rattle.std.proofs.Common.{ℕ, ap, arith}
-use Rattle.capnp_layout.specs.Pointer.{words_of}
-use Rattle.capnp_layout.specs.Element.{width, words_for}
-use Rattle.capnp_wire.specs.NumberViews.{numbers_of}
-use Rattle.capnp_wire.specs.ListValues.{IsNumbersTree}
+use Rattle.capnp_layout.specs.Prelude.{words_of, width, words_for}
+use Rattle.capnp_wire.specs.Prelude.{numbers_of, IsNumbersTree}
 use Rattle.capnp_wire.proofs.layouts.FreeLemmas.{body_long, numbers_total}
 use Rattle.capnp_wire.proofs.views.NumberValueLemmas.{one_of_numbers, numbers_long}
 use Rattle.capnp_wire.proofs.primitive_list.ReaderSetterInputOwned.write.Goals as goal

@@ -1,6 +1,5 @@
 -- The words of a list of structs that is read, with all below it, are those of its tree.
-use Rattle.capnp_wire.specs.ListViews.{struct_list_of}
-use Rattle.capnp_wire.specs.ListValues.{IsListTree, StopsInList, pointers_in, structs_of}
+use Rattle.capnp_wire.specs.Prelude.{struct_list_of, IsListTree, StopsInList, pointers_in, structs_of}
 use Rattle.capnp_wire.proofs.views.OneValueLemmas.{measured_found, measured_exactly}
 use Rattle.capnp_wire.proofs.views.ListValueLemmas.{one_of_list}
 use Rattle.capnp_wire.proofs.struct_list.ReaderSetterInputOwned.measure.Goals as goal

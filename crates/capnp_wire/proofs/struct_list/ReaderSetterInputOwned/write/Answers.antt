@@ -1,7 +1,5 @@
 -- What is written of a list of structs is the body of its tree.
-use Rattle.capnp_wire.specs.Readers.{limit_of}
-use Rattle.capnp_wire.specs.ListViews.{struct_list_of}
-use Rattle.capnp_wire.specs.ListValues.{IsListTree, pointers_in, structs_of}
+use Rattle.capnp_wire.specs.Prelude.{limit_of, struct_list_of, IsListTree, pointers_in, structs_of}
 use Rattle.capnp_wire.proofs.layouts.FreeLemmas.{body_long}
 use Rattle.capnp_wire.proofs.views.ListValueLemmas.{one_of_list}
 use Rattle.capnp_wire.proofs.struct_list.ReaderSetterInputOwned.write.Goals as goal

@@ -1,6 +1,6 @@
 -- The bytes are one tree.
 use Rattle.std.proofs.Common.{sym, ◌∙◌}
-use Rattle.capnp_wire.specs.Values.{IsTextTree}
+use Rattle.capnp_wire.specs.Prelude.{IsTextTree}
 use Rattle.capnp_wire.proofs.layouts.FreeLemmas.{body_long}
 use Rattle.capnp_wire.proofs.text.ReaderSetterInputOwned.write.Goals as goal
 

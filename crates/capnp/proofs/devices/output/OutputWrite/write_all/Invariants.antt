@@ -1,7 +1,7 @@
 -- What is done of the chunk follows what was written before.
 use Rattle.std.proofs.Common.{◌≡◌, ◌-◌, ◌≤◌, length, take}
 use Rattle.std.specs.Io.KnownBytes.{Appends}
-use Rattle.capnp.specs.Devices.{taken_so_far}
+use Rattle.capnp.specs.Prelude.{taken_so_far}
 use Rattle.capnp.proofs.devices.output.OutputWrite.write_all.Given as goal
 
 abbrev pub invariant-loop-done : goal.invariant-loop-done

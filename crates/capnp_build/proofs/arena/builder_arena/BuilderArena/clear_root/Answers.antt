@@ -1,10 +1,7 @@
 -- The root's word and its block become zero, and no room is lost.
 use Rattle.std.proofs.Common.{rules, ◌≡◌, List, [], ap, sym, subst, ◌∙◌}
 use Rattle.std.proofs.lemmas.Result.{err_from_is_err_and}
-use Rattle.capnp_build.specs.Bytes.{Space}
-use Rattle.capnp_build.specs.Out.{HasLarge}
-use Rattle.capnp_build.specs.BuilderState.{pairs}
-use Rattle.capnp_build.specs.Built.{Built}
+use Rattle.capnp_build.specs.Prelude.{Space, HasLarge, pairs, Built}
 use Rattle.capnp_build.proofs.arena.builder_arena.BuilderArena.clear_root.Goals as goal
 
 pub returns-in_err-add : goal.returns-in_err-add

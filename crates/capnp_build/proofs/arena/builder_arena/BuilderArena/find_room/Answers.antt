@@ -1,9 +1,7 @@
 -- A new segment keeps the null root.
 use Rattle.std.proofs.Common.{◌≡◌, inr, inl, ◌<◌, List, [], ◌∷◌, ◌++◌, length, Option, None, ap, sym, subst, ◌∙◌, arith}
-use Rattle.capnp_build.specs.Bytes.{Space}
-use Rattle.capnp_build.specs.Built.{HasNullRoot, message, Built, IsBuilt}
-use Rattle.capnp_layout.specs.Object.{word_at}
-use Rattle.capnp_layout.specs.Reached.{root}
+use Rattle.capnp_build.specs.Prelude.{Space, HasNullRoot, message, Built, IsBuilt}
+use Rattle.capnp_layout.specs.Prelude.{word_at, root}
 use Rattle.capnp_build.specs.declared.arena.location.RootLocation.{RootLocation}
 use Rattle.capnp_build.proofs.states.SpaceLemmas.{root_appended}
 use Rattle.capnp_build.proofs.arena.builder_arena.BuilderArena.find_room.Goals as goal

@@ -1,6 +1,6 @@
 -- No segment that was passed has room.
 use Rattle.std.proofs.Common.{ℕ, ◌<◌}
-use Rattle.capnp_build.specs.BuilderState.{space_at, free_words_of}
+use Rattle.capnp_build.specs.Prelude.{space_at, free_words_of}
 use Rattle.capnp_build.proofs.arena.builder_arena.BuilderArena.find_room.Given as goal
 
 abbrev pub invariant-loop-segment : goal.invariant-loop-segment

@@ -1,6 +1,6 @@
 -- The root is cleared first, and then the object is placed.
 use Rattle.std.proofs.Common.{Option, subst}
-use Rattle.capnp_build.specs.NewBody.{new_form, zero_form}
+use Rattle.capnp_build.specs.Prelude.{new_form, zero_form}
 use Rattle.capnp_build.specs.declared.object.NewBody.{NewBody}
 use Rattle.capnp_build.proofs.outcomes.InitLemmas.{inits_root, inits_null}
 use Rattle.capnp_build.proofs.arena.builder_arena.BuilderArena.init_object.Goals as goal

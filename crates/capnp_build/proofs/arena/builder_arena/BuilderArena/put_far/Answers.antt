@@ -1,8 +1,7 @@
 -- A tree is after its landing pad, and the root leads to it.
 use Rattle.std.proofs.Common.{ℕ, ◌≡◌, ◌+◌, ◌*◌, ◌<◌, ◌≤◌, length, replicate, ap, sym, subst, ◌∙◌, arith}
 use Rattle.std.proofs.lemmas.List.{length-replicate}
-use Rattle.capnp_build.specs.BuilderState.{space_at, KeepsOthers}
-use Rattle.capnp_build.specs.Built.{size_in_words, Built, state_of, KeepsBytes}
+use Rattle.capnp_build.specs.Prelude.{space_at, KeepsOthers, size_in_words, Built, state_of, KeepsBytes}
 use Rattle.capnp_build.specs.declared.arena.location.RootLocation.{RootLocation}
 use Rattle.capnp_build.proofs.layouts.PointLemmas.{longer_by, keeps_of}
 use Rattle.capnp_build.proofs.layouts.ReadyLemmas.{value_set}

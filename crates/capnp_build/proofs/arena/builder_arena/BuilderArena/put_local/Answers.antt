@@ -1,8 +1,6 @@
 -- A tree is after the used words of the first segment, and the root leads to it.
 use Rattle.std.proofs.Common.{◌≡◌, ◌<◌, length, Option, Some, None, ap, sym, subst, ◌∙◌, arith}
-use Rattle.capnp_build.specs.BuilderState.{space_at, KeepsOthers}
-use Rattle.capnp_build.specs.Built.{size_in_words, Built, state_of, IsBuilt, KeepsBytes}
-use Rattle.capnp_build.specs.Placed.{IsAtEnd}
+use Rattle.capnp_build.specs.Prelude.{space_at, KeepsOthers, size_in_words, Built, state_of, IsBuilt, KeepsBytes, IsAtEnd}
 use Rattle.capnp_build.specs.declared.arena.location.RootLocation.{RootLocation}
 use Rattle.capnp_build.proofs.roots.NullLemmas.{root_room}
 use Rattle.capnp_build.proofs.layouts.PointLemmas.{keeps_of}

@@ -1,13 +1,8 @@
 -- The bytes of the block are those of the root's tree.
 use Rattle.std.proofs.Common.{◌≡◌, ℕ, ◌*◌, ◌<◌, List, [], take, drop, Option, Some, slice_index_or, ap, sym, subst, ◌∙◌}
 use Rattle.std.specs.Option.{option_copied}
-use Rattle.capnp_layout.specs.Tree.{Form, null}
-use Rattle.capnp_layout.specs.Reached.{Root}
-use Rattle.capnp_build.specs.Bytes.{Space}
-use Rattle.capnp_build.specs.BuilderState.{space_at}
-use Rattle.capnp_build.specs.Built.{Built, message, HasNullRoot, IsBuilt}
-use Rattle.capnp_build.specs.RootKind.{HoldsForm}
-use Rattle.capnp_build.specs.RootViews.{HoldsTree}
+use Rattle.capnp_layout.specs.Prelude.{Form, null, Root}
+use Rattle.capnp_build.specs.Prelude.{Space, space_at, Built, message, HasNullRoot, IsBuilt, HoldsForm, HoldsTree}
 use Rattle.capnp_build.specs.declared.arena.location.RootLocation.{RootLocation}
 use Rattle.capnp_build.proofs.states.SpaceLemmas.{got_used}
 use Rattle.capnp_build.proofs.roots.NullLemmas.{null_only}

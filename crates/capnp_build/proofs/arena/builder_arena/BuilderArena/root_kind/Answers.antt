@@ -1,11 +1,7 @@
 -- The pointer that is kept shows the root's object.
 use Rattle.std.proofs.Common.{◌≡◌, ℕ, List, Option, Some, subst, sym}
-use Rattle.capnp_build.specs.Bytes.{Space}
-use Rattle.capnp_build.specs.Built.{IsRootKind, message, HasNullRoot, Built, IsBuilt}
-use Rattle.capnp_build.specs.RootKind.{ShowsRoot}
-use Rattle.capnp_layout.specs.Tree.{Form, Trees, count}
-use Rattle.capnp_layout.specs.Reached.{Root}
-use Rattle.capnp_layout.specs.Layout.{pointer, HasRoom}
+use Rattle.capnp_build.specs.Prelude.{Space, IsRootKind, message, HasNullRoot, Built, IsBuilt, ShowsRoot}
+use Rattle.capnp_layout.specs.Prelude.{Form, Trees, count, Root, pointer, HasRoom}
 use Rattle.capnp_build.specs.declared.root_kind.RootKind.{RootKind}
 use Rattle.capnp_build.specs.declared.arena.location.RootLocation.{RootLocation}
 use Rattle.capnp_build.proofs.layouts.LaidLemmas.{laid_as}

@@ -1,9 +1,7 @@
 -- Where there is a segment, a tree is at the root.
 use Rattle.std.proofs.Common.{ℕ, ◌<◌, List, [], ◌∷◌, length, Option, Some, None, subst}
-use Rattle.capnp_build.specs.Bytes.{Space}
-use Rattle.capnp_build.specs.Built.{message, Built, IsBuilt}
-use Rattle.capnp_layout.specs.Tree.{Form, null, Trees, none, tree}
-use Rattle.capnp_layout.specs.Reached.{At, root}
+use Rattle.capnp_build.specs.Prelude.{Space, message, Built, IsBuilt}
+use Rattle.capnp_layout.specs.Prelude.{Form, null, Trees, none, tree, At, root}
 use Rattle.capnp_build.specs.declared.arena.location.RootLocation.{RootLocation}
 use Rattle.capnp_build.proofs.layouts.LaidLemmas.{laid_root}
 use Rattle.capnp_build.proofs.roots.NullLemmas.{null_root}

@@ -1,10 +1,7 @@
 -- A number of the list at the root is another one, and all else stays.
 use Rattle.std.proofs.Common.{◌+◌, ◌*◌, List, length, Option, Some, slice_set, ap, sym, subst, arith}
-use Rattle.capnp_layout.specs.Tree.{numbers, none}
-use Rattle.capnp_build.specs.Bytes.{Space}
-use Rattle.capnp_build.specs.BuilderState.{BuilderState}
-use Rattle.capnp_build.specs.Built.{Built, HasNullRoot, IsBuilt}
-use Rattle.capnp_build.specs.Written.{IsWritten, HasNumber, IsNumberSet}
+use Rattle.capnp_layout.specs.Prelude.{numbers, none}
+use Rattle.capnp_build.specs.Prelude.{Space, BuilderState, Built, HasNullRoot, IsBuilt, IsWritten, HasNumber, IsNumberSet}
 use Rattle.capnp_build.specs.declared.arena.location.RootLocation.{RootLocation}
 use Rattle.capnp_build.proofs.writes.WriteLemmas.{written_at, number_known, number_inside, number_room, number_set, no_list}
 use Rattle.capnp_build.proofs.roots.NullLemmas.{null_only}

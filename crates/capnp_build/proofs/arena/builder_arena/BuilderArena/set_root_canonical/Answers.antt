@@ -1,8 +1,7 @@
 -- The root is cleared first, and then the canonical form is placed.
 use Rattle.std.proofs.Common.{rules, length, ap, arith, refl}
 use Rattle.std.proofs.lemmas.Result.{err_from_is_err_and}
-use Rattle.capnp_build.specs.BuilderState.{space_at, free_words_of}
-use Rattle.capnp_build.specs.Built.{Built}
+use Rattle.capnp_build.specs.Prelude.{space_at, free_words_of, Built}
 use Rattle.capnp_build.proofs.outcomes.OutcomeLemmas.{cleared_root, still_granted}
 use Rattle.capnp_build.proofs.outcomes.CanonicalLemmas.{canonical_unmeasured, canonical_full, none_refused}
 use Rattle.capnp_build.proofs.outcomes.FirstLemmas.{first_put}

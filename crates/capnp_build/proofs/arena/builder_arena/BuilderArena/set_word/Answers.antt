@@ -1,10 +1,7 @@
 -- A data word of the struct at the root is another one, and all else stays.
 use Rattle.std.proofs.Common.{◌≡◌, ◌+◌, ◌*◌, List, length, Option, Some, slice_set, ap, sym, subst, arith}
-use Rattle.capnp_build.specs.Bytes.{Space}
-use Rattle.capnp_build.specs.BuilderState.{BuilderState}
-use Rattle.capnp_build.specs.Built.{Built, HasNullRoot, IsBuilt}
-use Rattle.capnp_build.specs.Written.{IsWritten, HasField, IsFieldSet}
-use Rattle.capnp_layout.specs.Tree.{null, struct}
+use Rattle.capnp_build.specs.Prelude.{Space, BuilderState, Built, HasNullRoot, IsBuilt, IsWritten, HasField, IsFieldSet}
+use Rattle.capnp_layout.specs.Prelude.{null, struct}
 use Rattle.capnp_build.specs.declared.arena.location.RootLocation.{RootLocation}
 use Rattle.capnp_build.proofs.writes.FieldLemmas.{field_laid}
 use Rattle.capnp_build.proofs.roots.NullLemmas.{null_only}

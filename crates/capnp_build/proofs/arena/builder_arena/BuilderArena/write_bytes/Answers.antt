@@ -1,11 +1,8 @@
 -- Some bytes of the list at the root are others, and all else stays.
 use Rattle.std.proofs.Common.{ℕ, ◌+◌, ◌*◌, List, length, Option, Some, ap, sym, subst, arith}
 use Rattle.std.specs.Option.{option_copied}
-use Rattle.capnp_layout.specs.Tree.{numbers, none}
-use Rattle.capnp_build.specs.Bytes.{Space}
-use Rattle.capnp_build.specs.BuilderState.{BuilderState}
-use Rattle.capnp_build.specs.Built.{Built, HasNullRoot, IsBuilt}
-use Rattle.capnp_build.specs.Written.{IsWritten, HasBytes, IsBytesSet}
+use Rattle.capnp_layout.specs.Prelude.{numbers, none}
+use Rattle.capnp_build.specs.Prelude.{Space, BuilderState, Built, HasNullRoot, IsBuilt, IsWritten, HasBytes, IsBytesSet}
 use Rattle.capnp_build.specs.declared.arena.location.RootLocation.{RootLocation}
 use Rattle.capnp_build.proofs.states.SpaceLemmas.{got_low, got_none}
 use Rattle.capnp_build.proofs.roots.NullLemmas.{null_only}

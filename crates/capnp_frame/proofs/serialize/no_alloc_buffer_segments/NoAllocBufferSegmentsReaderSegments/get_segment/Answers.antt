@@ -2,7 +2,7 @@
 use Rattle.std.proofs.Common.{◌≡◌, ◌+◌, ◌*◌, ◌∙◌, length, arith, sym, ap}
 use Rattle.std.specs.Prelude.{slice_get}
 use Rattle.std.proofs.lemmas.Option.{slice_get_past}
-use Rattle.capnp_frame.specs.Front.{declared_segments, HoldsMessage}
+use Rattle.capnp_frame.specs.Prelude.{declared_segments, HoldsMessage}
 use Rattle.capnp_frame.proofs.encodings.FrontMessages.{length-declared_segments}
 use Rattle.capnp_frame.proofs.tables.PartLemmas.{Lies, lies_between}
 use Rattle.capnp_frame.proofs.serialize.no_alloc_buffer_segments.NoAllocBufferSegmentsReaderSegments.get_segment.Given as given

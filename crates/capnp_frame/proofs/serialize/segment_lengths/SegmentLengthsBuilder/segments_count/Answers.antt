@@ -1,7 +1,7 @@
 -- There is a range for each length.
 use Rattle.std.proofs.Common.{rules, ◌≡◌, ◌∙◌, length, sym, ap}
 use Rattle.std.proofs.lemmas.List.{length-map}
-use Rattle.capnp_frame.specs.SegmentLengths.{range_len}
+use Rattle.capnp_frame.specs.Prelude.{range_len}
 use Rattle.capnp_frame.proofs.serialize.segment_lengths.SegmentLengthsBuilder.segments_count.Goals as goal
 
 pub returns : goal.returns

@@ -1,6 +1,6 @@
 -- The words of a row are those of its first value and of what is after it.
 use Rattle.std.proofs.Common.{rules, ◌≡◌, ap, Ok, Err, ℕ, false}
-use Rattle.capnp_layout.specs.Tree.{tree, none, total_words}
+use Rattle.capnp_layout.specs.Prelude.{tree, none, total_words}
 use Rattle.capnp_wire.proofs.views.PartWordLemmas.{as_is_words}
 use Rattle.capnp_values.proofs.values.PartLemmas.{words_of_part, has_part}
 use Rattle.capnp_values.proofs.values.ResultLemmas.{ok_not_err, err_kind, refused_first, refused_rest}

@@ -1,6 +1,6 @@
 -- No pointers lead to nothing.
 use Rattle.std.proofs.Common.{ap, arith}
-use Rattle.capnp_layout.specs.Tree.{count}
+use Rattle.capnp_layout.specs.Prelude.{count}
 use Rattle.capnp_values.proofs.structs.RowLemmas.{none_row_written}
 use Rattle.capnp_values.proofs.fields.no_fields.NoFieldsFields.write.Goals as goal
 

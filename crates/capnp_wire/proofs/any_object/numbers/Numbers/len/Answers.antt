@@ -1,7 +1,6 @@
 -- A list has as many elements as its count says.
 use Rattle.std.proofs.Common.{◌^◌, sym}
-use Rattle.capnp_layout.specs.Pointer.{number_of, words_of, words_from}
-use Rattle.capnp_layout.specs.Element.{code_of, width, words_for}
+use Rattle.capnp_layout.specs.Prelude.{number_of, words_of, words_from, code_of, width, words_for}
 use Rattle.capnp_layout.proofs.words.DigitLemmas.{length-digits}
 use Rattle.capnp_wire.proofs.any_object.numbers.Numbers.len.Goals as goal
 

@@ -1,12 +1,7 @@
 -- The view of each kind of object shows what it shows where one asks for this kind alone.
 use Rattle.std.proofs.Common.{◌≡◌, ℕ, List, refl, sym, subst}
-use Rattle.capnp_layout.specs.Pointer.{words_of}
-use Rattle.capnp_layout.specs.Element.{code_of}
-use Rattle.capnp_layout.specs.Tree.{numbers, structs}
-use Rattle.capnp_layout.specs.Object.{elements}
-use Rattle.capnp_wire.specs.Views.{Accepts}
-use Rattle.capnp_wire.specs.Readers.{pointer_of}
-use Rattle.capnp_wire.specs.ListViews.{StructList, IsStructList, structs_in}
+use Rattle.capnp_layout.specs.Prelude.{words_of, code_of, numbers, structs, elements}
+use Rattle.capnp_wire.specs.Prelude.{Accepts, pointer_of, StructList, IsStructList, structs_in}
 use Rattle.capnp_wire.proofs.views.FormLemmas.{struct_shows, entered_shows, entered_reads, numbers_form}
 use Rattle.capnp_wire.proofs.views.ListViewLemmas.{structs_entered, pointers_show, pointers_within, few_structs, few_pointers}
 use Rattle.capnp_wire.proofs.views.ObjectViewLemmas.{entered_kind, entered_form}

@@ -2,9 +2,8 @@
 -- where no object is there or the limit is met.
 use Rattle.std.proofs.Common.{inl, inr}
 use Rattle.std.proofs.lemmas.Result.{err_from_is_err_and}
-use Rattle.capnp_layout.specs.Object.{is_null as null_there}
-use Rattle.capnp_wire.specs.Views.{nowhere, at_place}
-use Rattle.capnp_wire.specs.Readers.{pointer_of}
+use Rattle.capnp_layout.specs.Prelude.{is_null as null_there}
+use Rattle.capnp_wire.specs.Prelude.{nowhere, at_place, pointer_of}
 use Rattle.capnp_wire.proofs.any_pointer.reader.Reader.enter.Goals as goal
 
 pub returns-in_default-clause-found : goal.returns-in_default-clause-found

@@ -1,7 +1,7 @@
 -- The words that a walk from the pointer counts are those of its tree.
 use Rattle.std.proofs.Common.{Some, None, refl, sym, ◌∙◌}
 use Rattle.std.proofs.lemmas.Result.{err_from_is_err_and}
-use Rattle.capnp_wire.specs.Readers.{pointer_of}
+use Rattle.capnp_wire.specs.Prelude.{pointer_of}
 use Rattle.capnp_wire.proofs.walks.MeasureLemmas.{walked_as, measures_nothing, walk_measures, walk_overflows, walk_stops}
 use Rattle.capnp_wire.proofs.any_pointer.reader.Reader.measure.Goals as goal
 

@@ -1,8 +1,7 @@
 -- A size is returned exactly where the tree has one in 64 bits, and the call fails exactly where
 -- the walk does.
 use Rattle.std.proofs.Common.{◌≡◌}
-use Rattle.capnp_wire.specs.Views.{Measures}
-use Rattle.capnp_wire.specs.Readers.{pointer_of}
+use Rattle.capnp_wire.specs.Prelude.{Measures, pointer_of}
 use Rattle.capnp_wire.proofs.walks.MeasureLemmas.{measured_is_ok, unmeasured_is_err}
 use Rattle.capnp_wire.proofs.any_pointer.reader.Reader.target_size.Goals as goal
 

@@ -1,8 +1,7 @@
 -- A pointer of a list is as many words after the first as its index.
 use Rattle.std.proofs.Common.{◌<◌, Option, sym, ap, arith, length}
-use Rattle.capnp_layout.specs.Object.{message_of, places}
-use Rattle.capnp_wire.specs.Readers.{limit_of}
-use Rattle.capnp_wire.specs.Views.{Pointer}
+use Rattle.capnp_layout.specs.Prelude.{message_of, places}
+use Rattle.capnp_wire.specs.Prelude.{limit_of, Pointer}
 use Rattle.capnp_layout.specs.declared.place.Place.{Place}
 use Rattle.capnp_layout.proofs.objects.FieldLemmas.{length-places, place_within}
 use Rattle.capnp_wire.proofs.any_pointer_list.reader.Reader.get.Goals as goal

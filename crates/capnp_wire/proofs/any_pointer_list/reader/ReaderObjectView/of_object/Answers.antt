@@ -1,7 +1,6 @@
 -- The pointers of a list are those of the object, with one less of nesting depth left.
 use Rattle.std.proofs.Common.{inr, refl}
-use Rattle.capnp_wire.specs.Readers.{pointer_of}
-use Rattle.capnp_wire.specs.ListViews.{DeclinesPointers}
+use Rattle.capnp_wire.specs.Prelude.{pointer_of, DeclinesPointers}
 use Rattle.capnp_wire.proofs.views.FormLemmas.{entered_shows}
 use Rattle.capnp_wire.proofs.views.ListViewLemmas.{other_than_pointers, pointers_show, pointers_within, few_pointers}
 use Rattle.capnp_wire.proofs.any_pointer_list.reader.ReaderObjectView.of_object.Goals as goal

@@ -1,8 +1,7 @@
 -- A field is some of the bits of the data word that it is in.
 use Rattle.std.proofs.Common.{◌*◌, ◌/◌, ◌%◌, ◌^◌, ℕ, slice_index_or, sym, ap, ◌∙◌, arith}
-use Rattle.capnp_layout.specs.Element.{code_of, width}
-use Rattle.capnp_layout.specs.Pointer.{words_of, words_from}
-use Rattle.capnp_wire.specs.Parts.{own_data}
+use Rattle.capnp_layout.specs.Prelude.{code_of, width, words_of, words_from}
+use Rattle.capnp_wire.specs.Prelude.{own_data}
 use Rattle.capnp_layout.proofs.trees.RoomLemmas.{words_below}
 use Rattle.capnp_layout.proofs.objects.NumberLemmas.{within_word}
 use Rattle.capnp_wire.proofs.objects.PartLemmas.{own_data_below}

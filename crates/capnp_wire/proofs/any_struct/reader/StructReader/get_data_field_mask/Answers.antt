@@ -1,7 +1,7 @@
 -- Where two values have no more bits than an element, they differ in no others.
 use Rattle.std.proofs.Common.{◌^◌, ◌<◌, ℕ, subst}
 use Rattle.std.proofs.lemmas.Nat.{xor_lt}
-use Rattle.capnp_layout.specs.Element.{width}
+use Rattle.capnp_layout.specs.Prelude.{width}
 use Rattle.capnp_wire.proofs.any_struct.reader.StructReader.get_data_field_mask.Goals as goal
 
 pub from_bits-requires : goal.from_bits-requires

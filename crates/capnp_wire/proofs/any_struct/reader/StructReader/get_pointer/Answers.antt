@@ -1,8 +1,7 @@
 -- A pointer of a struct is after the data words; past the last one it has no place.
 use Rattle.std.proofs.Common.{◌+◌, ◌<◌, ◌≤◌, Option, sym, ap, ◌∙◌, arith}
-use Rattle.capnp_layout.specs.Object.{message_of}
-use Rattle.capnp_wire.specs.Readers.{limit_of}
-use Rattle.capnp_wire.specs.Views.{Pointer}
+use Rattle.capnp_layout.specs.Prelude.{message_of}
+use Rattle.capnp_wire.specs.Prelude.{limit_of, Pointer}
 use Rattle.capnp_layout.specs.declared.place.Place.{Place}
 use Rattle.capnp_layout.proofs.objects.FieldLemmas.{place_within, no_place_past}
 use Rattle.capnp_wire.proofs.any_struct.reader.StructReader.get_pointer.Goals as goal

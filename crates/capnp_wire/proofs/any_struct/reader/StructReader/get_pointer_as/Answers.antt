@@ -1,8 +1,7 @@
 -- The segment of a struct is that of its pointers.
 use Rattle.std.proofs.Common.{◌+◌, refl, sym, subst}
-use Rattle.capnp_layout.specs.Pointer.{words_of}
-use Rattle.capnp_layout.specs.Object.{message_of}
-use Rattle.capnp_wire.specs.Views.{Pointer, HasSegment}
+use Rattle.capnp_layout.specs.Prelude.{words_of, message_of}
+use Rattle.capnp_wire.specs.Prelude.{Pointer, HasSegment}
 use Rattle.capnp_wire.proofs.pointers.OwnSegmentLemmas.{pointers_within}
 use Rattle.capnp_wire.proofs.any_struct.reader.StructReader.get_pointer_as.Goals as goal
 

@@ -1,7 +1,7 @@
 -- A data word is the struct's own part of the segment's word, and 0 past the last one.
 use Rattle.std.proofs.Common.{sym, ◌∙◌, ap}
-use Rattle.capnp_layout.specs.Pointer.{words_of, words_from}
-use Rattle.capnp_wire.specs.Parts.{own_part}
+use Rattle.capnp_layout.specs.Prelude.{words_of, words_from}
+use Rattle.capnp_wire.specs.Prelude.{own_part}
 use Rattle.capnp_layout.proofs.objects.FieldLemmas.{word_within, no_word_within}
 use Rattle.capnp_wire.proofs.objects.PartLemmas.{own_part_zero, own_data_at}
 use Rattle.capnp_wire.proofs.any_struct.reader.StructReader.get_word.Goals as goal

@@ -1,9 +1,7 @@
 -- What the walk over the one segment says of it holds of the message.
 use Rattle.std.proofs.Common.{ℕ, sym, ◌∙◌, subst}
-use Rattle.capnp_layout.specs.Object.{message_of}
-use Rattle.capnp_layout.specs.Pointer.{words_of}
-use Rattle.capnp_wire.specs.Tested.{RejectsCanonicity, no_first_segment}
-use Rattle.capnp_wire.specs.Readers.{nesting_of}
+use Rattle.capnp_layout.specs.Prelude.{message_of, words_of}
+use Rattle.capnp_wire.specs.Prelude.{RejectsCanonicity, no_first_segment, nesting_of}
 use Rattle.capnp_wire.proofs.forms.CanonicalLemmas.{no_segment_there, one_segment_there, more_is_not, said_of_more, unsaid_of_none, unsaid_stops, said_at}
 use Rattle.capnp_wire.proofs.forms.CanonicalLemmas.{said_exactly, said_where_found, said_stops, second_shown, no_second, none_has_no_root}
 use Rattle.capnp_wire.proofs.arena.reader_arena.ReaderArena.is_canonical.Goals as goal

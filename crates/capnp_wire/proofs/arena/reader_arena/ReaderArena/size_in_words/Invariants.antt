@@ -1,6 +1,6 @@
 -- So far the sum is that of the segments gone over.
 use Rattle.std.proofs.Common.{◌≡◌, ◌-◌, ◌^◌, min, take}
-use Rattle.capnp_frame.specs.Message.{size_in_words}
+use Rattle.capnp_frame.specs.Prelude.{size_in_words}
 use Rattle.capnp_wire.proofs.arena.reader_arena.ReaderArena.size_in_words.Given as goal
 
 abbrev pub invariant-loop-id : goal.invariant-loop-id

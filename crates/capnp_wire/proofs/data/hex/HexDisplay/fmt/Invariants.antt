@@ -1,7 +1,7 @@
 -- The digits of the bytes so far are written.
 use Rattle.std.proofs.Common.{take}
 use Rattle.std.specs.Fmt.{HasWritten, IsPlainFormatter}
-use Rattle.capnp_wire.specs.Hex.{hex_digits}
+use Rattle.capnp_wire.specs.Prelude.{hex_digits}
 use Rattle.capnp_wire.proofs.data.hex.HexDisplay.fmt.Given as goal
 
 abbrev pub invariant-loop-byte : goal.invariant-loop-byte

@@ -1,7 +1,6 @@
 -- Data is a view that decides which objects it accepts.
 use Rattle.std.proofs.Common.{refl}
-use Rattle.capnp_wire.specs.Views.{DeclinesNumbers, TakesNumbers}
-use Rattle.capnp_wire.specs.Readers.{pointer_of}
+use Rattle.capnp_wire.specs.Prelude.{DeclinesNumbers, TakesNumbers, pointer_of}
 use Rattle.capnp_wire.proofs.pointers.OwnSegmentLemmas.{known_segment}
 use Rattle.capnp_wire.proofs.views.ViewLemmas.{is_view_of, numbers_decide, data_accepted}
 use Rattle.capnp_wire.proofs.data.reader.RefSliceU8FromPointerInSegment.get_from_segment.Goals as goal

@@ -1,6 +1,5 @@
 -- The bytes of a list of bytes in the pointer's segment are those of the pointer.
-use Rattle.capnp_wire.specs.Views.{IsData, DeclinesNumbers}
-use Rattle.capnp_wire.specs.Readers.{pointer_of}
+use Rattle.capnp_wire.specs.Prelude.{IsData, DeclinesNumbers, pointer_of}
 use Rattle.capnp_wire.proofs.views.FormLemmas.{entered_view}
 use Rattle.capnp_wire.proofs.data.reader.RefSliceU8ObjectView.of_object.Goals as goal
 

@@ -1,7 +1,6 @@
 -- A walk tests an object, and then what its pointers lead to.
 use Rattle.std.proofs.Common.{◌≤◌, ◌-◌, ◌∙◌, length, arith}
-use Rattle.capnp_layout.specs.Pointer.{words_of}
-use Rattle.capnp_layout.specs.Rows.{places_in}
+use Rattle.capnp_layout.specs.Prelude.{words_of, places_in}
 use Rattle.capnp_layout.proofs.words.WordLemmas.{length-words_of}
 use Rattle.capnp_layout.proofs.objects.ElementLemmas.{all_words_below}
 use Rattle.capnp_frame.proofs.sources.AskLemmas.{passed_on}

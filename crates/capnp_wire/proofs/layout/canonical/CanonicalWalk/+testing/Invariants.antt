@@ -1,8 +1,7 @@
 -- How far a walk over the pointers of an object has come; all of them are before the next free
 -- word.
 use Rattle.std.proofs.Common.{◌≡◌, ◌+◌, ◌*◌, ◌≤◌, length}
-use Rattle.capnp_layout.specs.Pointer.{words_of}
-use Rattle.capnp_layout.specs.Rows.{places_in, end_of}
+use Rattle.capnp_layout.specs.Prelude.{words_of, places_in, end_of}
 use Rattle.capnp_wire.proofs.walks.GoingLemmas.{Going}
 use Rattle.capnp_wire.proofs.layout.canonical.CanonicalWalk.+testing.Given as goal
 

@@ -1,7 +1,7 @@
 -- What a walk finds at an object that it enters, for each way out of the function.
 use Rattle.std.proofs.Common.{◌≡◌, refl, arith, true, false}
-use Rattle.capnp_layout.specs.Pointer.{words_of}
-use Rattle.capnp_wire.specs.Tested.{elsewhere}
+use Rattle.capnp_layout.specs.Prelude.{words_of}
+use Rattle.capnp_wire.specs.Prelude.{elsewhere}
 use Rattle.capnp_layout.proofs.words.WordLemmas.{length-words_of}
 use Rattle.capnp_frame.proofs.sources.AskLemmas.{passed_on}
 use Rattle.capnp_wire.proofs.walks.MetLemmas.{met, met_pointers, tests_say, limit_ends}

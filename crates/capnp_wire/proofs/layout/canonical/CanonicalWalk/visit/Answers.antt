@@ -1,8 +1,7 @@
 -- What a walk meets at a pointer: the fast paths first.
 use Rattle.std.proofs.Common.{◌∷◌, [], ◌∙◌, Some, refl, ap}
-use Rattle.capnp_layout.specs.Pointer.{words_of}
-use Rattle.capnp_wire.specs.Tested.{far}
-use Rattle.capnp_layout.specs.Faults.{past_segment}
+use Rattle.capnp_layout.specs.Prelude.{words_of, past_segment}
+use Rattle.capnp_wire.specs.Prelude.{far}
 use Rattle.capnp_frame.proofs.sources.AskLemmas.{passed_on}
 use Rattle.capnp_wire.proofs.walks.MetLemmas.{no_word_ends}
 use Rattle.capnp_wire.proofs.layout.canonical.CanonicalWalk.visit.Goals as goal

@@ -1,8 +1,6 @@
 -- What a walk meets at a pointer that is no far pointer.
 use Rattle.std.proofs.Common.{◌≡◌, ◌<◌, List, [], ◌∷◌, Some, ℕ, refl, sym, subst}
-use Rattle.capnp_layout.specs.Pointer.{words_of}
-use Rattle.capnp_layout.specs.Body.{IsObject}
-use Rattle.capnp_layout.specs.Object.{word_at}
+use Rattle.capnp_layout.specs.Prelude.{words_of, IsObject, word_at}
 use Rattle.capnp_frame.proofs.sources.AskLemmas.{passed_on}
 use Rattle.capnp_wire.proofs.walks.MetLemmas.{fault_ends}
 use Rattle.capnp_wire.proofs.layout.canonical.CanonicalWalk.visit_object.Given as given

@@ -1,7 +1,7 @@
 -- A walk meets an object, and then goes over its pointers.
 use Rattle.std.proofs.Common.{◌∙◌, refl, arith}
-use Rattle.capnp_layout.specs.Rows.{places_in}
-use Rattle.capnp_wire.specs.Traversed.{counted}
+use Rattle.capnp_layout.specs.Prelude.{places_in}
+use Rattle.capnp_wire.specs.Prelude.{counted}
 use Rattle.capnp_wire.proofs.pointers.EmptyStructLemmas.{null_or_empty_walked}
 use Rattle.capnp_frame.proofs.sources.AskLemmas.{passed_on}
 use Rattle.capnp_wire.proofs.walks.ParentLemmas.{parent_met, parent_stops, struct_holds, going_below}

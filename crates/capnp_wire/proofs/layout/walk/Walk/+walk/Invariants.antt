@@ -1,9 +1,7 @@
 -- How far a walk over the pointers of an object has come.
 use Rattle.std.proofs.Common.{◌+◌, ◌-◌, ◌*◌, length}
-use Rattle.capnp_layout.specs.Pointer.{words_of}
-use Rattle.capnp_layout.specs.Object.{message_of}
-use Rattle.capnp_layout.specs.Rows.{places_in}
-use Rattle.capnp_wire.specs.Traversed.{counted}
+use Rattle.capnp_layout.specs.Prelude.{words_of, message_of, places_in}
+use Rattle.capnp_wire.specs.Prelude.{counted}
 use Rattle.capnp_wire.proofs.walks.ProgressLemmas.{Going}
 use Rattle.capnp_wire.proofs.layout.walk.Walk.+walk.Given as goal
 

@@ -1,6 +1,5 @@
 -- An object counts against the traversal limit and its words are counted, or the walk stops there.
-use Rattle.capnp_layout.specs.Object.{is_null as null_there}
-use Rattle.capnp_layout.specs.Faults.{at_pointer}
+use Rattle.capnp_layout.specs.Prelude.{is_null as null_there, at_pointer}
 use Rattle.capnp_frame.proofs.sources.AskLemmas.{passed_on}
 use Rattle.capnp_wire.proofs.walks.StopLemmas.{exceeds_stops}
 use Rattle.capnp_wire.proofs.walks.ProgressLemmas.{walked_null}

@@ -1,7 +1,7 @@
 -- A struct counts against the traversal limit and its words are counted; where its pointers are
 -- null, nothing is below it.
 use Rattle.std.proofs.Common.{◌+◌, ◌∙◌, refl, arith}
-use Rattle.capnp_layout.specs.Pointer.{words_of}
+use Rattle.capnp_layout.specs.Prelude.{words_of}
 use Rattle.capnp_layout.proofs.words.WordLemmas.{length-words_of}
 use Rattle.capnp_wire.proofs.pointers.LocalLemmas.{struct_enters}
 use Rattle.capnp_wire.proofs.pointers.NullRunLemmas.{nulls_walked}

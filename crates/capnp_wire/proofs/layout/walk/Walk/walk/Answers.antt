@@ -1,7 +1,7 @@
 -- The first pointer is null, or leads to a list of pointers, and these are walked, or to anything else.
 use Rattle.std.proofs.Common.{refl, arith}
-use Rattle.capnp_layout.specs.Faults.{at_pointer, no_word, no_segment}
-use Rattle.capnp_wire.specs.Traversed.{counted}
+use Rattle.capnp_layout.specs.Prelude.{at_pointer, no_word, no_segment}
+use Rattle.capnp_wire.specs.Prelude.{counted}
 use Rattle.capnp_frame.proofs.sources.AskLemmas.{passed_on}
 use Rattle.capnp_layout.proofs.words.MessageLemmas.{segment_stands, no_segment_stands}
 use Rattle.capnp_wire.proofs.pointers.EmptyStructLemmas.{null_or_empty_walked}

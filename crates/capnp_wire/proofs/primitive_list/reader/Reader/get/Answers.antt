@@ -3,9 +3,7 @@ use Rattle.std.proofs.Common.{◌≡◌, ◌*◌, ◌^◌, ◌<◌, ℕ, Option,
 use Rattle.std.proofs.lemmas.Nat.{pow_pos}
 use Rattle.std.proofs.lemmas.Option.{unwrap_or-slice_get}
 use Rattle.std.specs.Option.{unwrap_or}
-use Rattle.capnp_layout.specs.Pointer.{number_of, words_of, words_from}
-use Rattle.capnp_layout.specs.Element.{code_of, width, words_for}
-use Rattle.capnp_layout.specs.Object.{elements}
+use Rattle.capnp_layout.specs.Prelude.{number_of, words_of, words_from, code_of, width, words_for, elements}
 use Rattle.capnp_layout.proofs.words.DigitLemmas.{length-digits}
 use Rattle.capnp_wire.proofs.objects.NumberLemmas.{element_read}
 use Rattle.capnp_wire.proofs.primitive_list.reader.Reader.get.Goals as goal

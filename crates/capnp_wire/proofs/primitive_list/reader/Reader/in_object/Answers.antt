@@ -1,12 +1,8 @@
 -- The numbers are those of a list of numbers of this size.
 use Rattle.std.proofs.Common.{◌≡◌, ℕ, refl, sym, subst}
 use Rattle.std.proofs.lemmas.Result.{err_from_is_err_and}
-use Rattle.capnp_layout.specs.Pointer.{words_of}
-use Rattle.capnp_layout.specs.Tree.{numbers}
-use Rattle.capnp_layout.specs.Object.{elements}
-use Rattle.capnp_wire.specs.Views.{DeclinesNumbers}
-use Rattle.capnp_wire.specs.NumberViews.{IsNumbers}
-use Rattle.capnp_wire.specs.Readers.{form_of}
+use Rattle.capnp_layout.specs.Prelude.{words_of, numbers, elements}
+use Rattle.capnp_wire.specs.Prelude.{DeclinesNumbers, IsNumbers, form_of}
 use Rattle.capnp_wire.proofs.primitive_list.reader.Reader.in_object.Goals as goal
 
 pub returns-in_err-list : goal.returns-in_err-list

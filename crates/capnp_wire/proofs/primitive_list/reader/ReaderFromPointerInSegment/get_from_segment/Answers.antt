@@ -1,9 +1,7 @@
 -- A list of numbers is a view that decides which objects it accepts.
-use Rattle.capnp_wire.specs.Views.{DeclinesNumbers, TakesNumbers}
+use Rattle.capnp_wire.specs.Prelude.{DeclinesNumbers, TakesNumbers, pointer_of, numbers_of}
 use Rattle.std.proofs.Common.{refl}
-use Rattle.capnp_wire.specs.Readers.{pointer_of}
 use Rattle.capnp_wire.proofs.pointers.OwnSegmentLemmas.{known_segment}
-use Rattle.capnp_wire.specs.NumberViews.{numbers_of}
 use Rattle.capnp_wire.proofs.views.ViewLemmas.{is_view_of, numbers_decide}
 use Rattle.capnp_wire.proofs.views.ListViewLemmas.{numbers_accepted}
 use Rattle.capnp_wire.proofs.primitive_list.reader.ReaderFromPointerInSegment.get_from_segment.Goals as goal

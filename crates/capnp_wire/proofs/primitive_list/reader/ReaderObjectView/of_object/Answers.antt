@@ -1,7 +1,5 @@
 -- The numbers of a list are those of the pointer.
-use Rattle.capnp_wire.specs.Views.{DeclinesNumbers}
-use Rattle.capnp_wire.specs.NumberViews.{numbers_of, IsNumbers}
-use Rattle.capnp_wire.specs.Readers.{pointer_of}
+use Rattle.capnp_wire.specs.Prelude.{DeclinesNumbers, numbers_of, IsNumbers, pointer_of}
 use Rattle.capnp_wire.proofs.views.FormLemmas.{entered_view}
 use Rattle.capnp_wire.proofs.primitive_list.reader.ReaderObjectView.of_object.Goals as goal
 

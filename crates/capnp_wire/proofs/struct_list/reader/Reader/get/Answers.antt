@@ -1,9 +1,7 @@
 -- An element of a list of structs is after those before it, and within the list.
 use Rattle.std.proofs.Common.{◌+◌, ◌*◌, ℕ, List, [], slice_index_or, refl, ap, ◌∙◌, arith}
-use Rattle.capnp_layout.specs.Pointer.{words_of}
-use Rattle.capnp_layout.specs.Object.{message_of, places, rows_from}
-use Rattle.capnp_wire.specs.Readers.{limit_of}
-use Rattle.capnp_wire.specs.Views.{Struct}
+use Rattle.capnp_layout.specs.Prelude.{words_of, message_of, places, rows_from}
+use Rattle.capnp_wire.specs.Prelude.{limit_of, Struct}
 use Rattle.capnp_layout.specs.declared.place.Place.{Place}
 use Rattle.capnp_layout.proofs.objects.RowLemmas.{element_within, element_words, element_pointers}
 use Rattle.capnp_wire.proofs.struct_list.reader.Reader.get.Goals as goal

@@ -1,6 +1,6 @@
 -- A list of structs has as many elements as its tag says.
 use Rattle.std.proofs.Common.{sym}
-use Rattle.capnp_layout.specs.Pointer.{words_of}
+use Rattle.capnp_layout.specs.Prelude.{words_of}
 use Rattle.capnp_layout.proofs.trees.RoomLemmas.{length-rows_from}
 use Rattle.capnp_wire.proofs.struct_list.reader.Reader.len.Goals as goal
 

@@ -1,7 +1,6 @@
 -- A list of structs is a view that decides which objects it accepts.
 use Rattle.std.proofs.Common.{refl}
-use Rattle.capnp_wire.specs.Readers.{pointer_of}
-use Rattle.capnp_wire.specs.ListViews.{TakesStructs, DeclinesStructs, struct_list_of}
+use Rattle.capnp_wire.specs.Prelude.{pointer_of, TakesStructs, DeclinesStructs, struct_list_of}
 use Rattle.capnp_wire.proofs.pointers.OwnSegmentLemmas.{known_segment}
 use Rattle.capnp_wire.proofs.views.ViewLemmas.{is_view_of}
 use Rattle.capnp_wire.proofs.views.ListViewLemmas.{structs_decide, structs_accepted}

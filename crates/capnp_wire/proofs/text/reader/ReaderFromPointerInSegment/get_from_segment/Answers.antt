@@ -1,7 +1,6 @@
 -- `Text` is a view that decides which objects it accepts.
-use Rattle.capnp_wire.specs.Views.{DeclinesText, TakesText}
+use Rattle.capnp_wire.specs.Prelude.{DeclinesText, TakesText, pointer_of}
 use Rattle.std.proofs.Common.{refl}
-use Rattle.capnp_wire.specs.Readers.{pointer_of}
 use Rattle.capnp_wire.proofs.pointers.OwnSegmentLemmas.{known_segment}
 use Rattle.capnp_wire.proofs.views.ViewLemmas.{is_view_of, text_decides, text_accepted}
 use Rattle.capnp_wire.proofs.text.reader.ReaderFromPointerInSegment.get_from_segment.Goals as goal

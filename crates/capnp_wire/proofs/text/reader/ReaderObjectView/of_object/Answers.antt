@@ -1,6 +1,5 @@
 -- The text of a list of bytes is that of the pointer.
-use Rattle.capnp_wire.specs.Views.{IsText, DeclinesText}
-use Rattle.capnp_wire.specs.Readers.{pointer_of}
+use Rattle.capnp_wire.specs.Prelude.{IsText, DeclinesText, pointer_of}
 use Rattle.capnp_wire.proofs.views.FormLemmas.{entered_view}
 use Rattle.capnp_wire.proofs.text.reader.ReaderObjectView.of_object.Goals as goal
 

@@ -3,10 +3,8 @@ use Rattle.std.proofs.lemmas.List.{length-map}
 use Rattle.std.proofs.Common.{◌≡◌, ◌+◌, ◌*◌, ◌/◌, ◌%◌, ◌^◌, ◌<◌, ℕ, List, Option, length, slice_index_or, ap, ◌∙◌, subst, arith}
 use Rattle.std.proofs.lemmas.Option.{unwrap_or-slice_get}
 use Rattle.std.specs.Option.{unwrap_or}
-use Rattle.capnp_layout.specs.Pointer.{words_of}
-use Rattle.capnp_layout.specs.Element.{width}
-use Rattle.capnp_layout.specs.Object.{rows_from}
-use Rattle.capnp_wire.specs.UpgradedViews.{first_fields}
+use Rattle.capnp_layout.specs.Prelude.{words_of, width, rows_from}
+use Rattle.capnp_wire.specs.Prelude.{first_fields}
 use Rattle.capnp_layout.proofs.objects.RowLemmas.{element_within}
 use Rattle.capnp_wire.proofs.views.UpgradedNumberLemmas.{first_field_read}
 use Rattle.capnp_wire.proofs.upgraded.number_list.FirstFields.get.Goals as goal

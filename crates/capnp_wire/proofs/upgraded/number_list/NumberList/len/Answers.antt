@@ -1,10 +1,8 @@
 -- A list of structs has as many first fields.
 use Rattle.std.proofs.lemmas.List.{length-map}
 use Rattle.std.proofs.Common.{◌%◌, ◌^◌, ℕ, List, length, slice_index_or, sym, ap, ◌∙◌}
-use Rattle.capnp_layout.specs.Pointer.{words_of}
-use Rattle.capnp_layout.specs.Element.{width}
-use Rattle.capnp_layout.specs.Object.{rows_from}
-use Rattle.capnp_wire.specs.UpgradedReaders.{values_of}
+use Rattle.capnp_layout.specs.Prelude.{words_of, width, rows_from}
+use Rattle.capnp_wire.specs.Prelude.{values_of}
 use Rattle.capnp_layout.proofs.trees.RoomLemmas.{length-rows_from}
 use Rattle.capnp_wire.proofs.upgraded.number_list.NumberList.len.Goals as goal
 

@@ -1,7 +1,5 @@
 -- The numbers of a list are those of the pointer.
-use Rattle.capnp_wire.specs.Readers.{pointer_of}
-use Rattle.capnp_wire.specs.UpgradedViews.{ReadsAsNumbers, DeclinesFields}
-use Rattle.capnp_wire.specs.UpgradedReaders.{upgraded_numbers_of}
+use Rattle.capnp_wire.specs.Prelude.{pointer_of, ReadsAsNumbers, DeclinesFields, upgraded_numbers_of}
 use Rattle.capnp_wire.proofs.views.FormLemmas.{entered_view}
 use Rattle.capnp_wire.proofs.upgraded.number_list.NumberListObjectView.of_object.Goals as goal
 

@@ -1,13 +1,8 @@
 -- A number is the one data word of its struct: its part of the word that it is in.
 use Rattle.std.proofs.lemmas.List.{length-map}
 use Rattle.std.proofs.Common.{◌≡◌, ◌^◌, ◌<◌, ℕ, List, [], ◌∷◌, Some, length, slice_index_or, refl, ap, ◌∙◌, arith}
-use Rattle.capnp_layout.specs.Pointer.{number_of, words_of, words_from}
-use Rattle.capnp_layout.specs.Element.{code_of, width, words_for}
-use Rattle.capnp_layout.specs.Object.{message_of, elements}
-use Rattle.capnp_wire.specs.Parts.{own_part, own_data}
-use Rattle.capnp_wire.specs.Readers.{limit_of}
-use Rattle.capnp_wire.specs.UpgradedViews.{number_row}
-use Rattle.capnp_wire.specs.Views.{Struct}
+use Rattle.capnp_layout.specs.Prelude.{number_of, words_of, words_from, code_of, width, words_for, message_of, elements}
+use Rattle.capnp_wire.specs.Prelude.{own_part, own_data, limit_of, number_row, Struct}
 use Rattle.capnp_wire.specs.declared.any_struct.part.WordPart.{WordPart}
 use Rattle.capnp_layout.proofs.words.DigitLemmas.{length-digits}
 use Rattle.capnp_layout.proofs.words.WordLemmas.{length-words_of}

@@ -1,9 +1,7 @@
 -- Pointers at a distance of one word follow one another.
 use Rattle.std.proofs.Common.{◌≡◌, ℕ, List, inr, sym, ◌∙◌, ap, arith}
-use Rattle.capnp_layout.specs.Object.{message_of}
-use Rattle.capnp_wire.specs.Readers.{limit_of}
-use Rattle.capnp_wire.specs.ListViews.{PointerList}
-use Rattle.capnp_wire.specs.UpgradedReaders.{stepped_places}
+use Rattle.capnp_layout.specs.Prelude.{message_of}
+use Rattle.capnp_wire.specs.Prelude.{limit_of, PointerList, stepped_places}
 use Rattle.capnp_layout.specs.declared.place.Place.{Place}
 use Rattle.capnp_wire.proofs.views.UpgradedPointerLemmas.{stepped_by_one}
 use Rattle.capnp_wire.proofs.upgraded.pointer_list.PointerList.consecutive.Goals as goal

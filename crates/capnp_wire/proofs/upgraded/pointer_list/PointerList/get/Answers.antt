@@ -1,9 +1,7 @@
 -- A pointer of a list is as many steps after the first as its index.
 use Rattle.std.proofs.Common.{◌<◌, Option, sym, ap, arith, length}
-use Rattle.capnp_layout.specs.Object.{message_of}
-use Rattle.capnp_wire.specs.Readers.{limit_of}
-use Rattle.capnp_wire.specs.Views.{Pointer}
-use Rattle.capnp_wire.specs.UpgradedReaders.{stepped_places}
+use Rattle.capnp_layout.specs.Prelude.{message_of}
+use Rattle.capnp_wire.specs.Prelude.{limit_of, Pointer, stepped_places}
 use Rattle.capnp_layout.specs.declared.place.Place.{Place}
 use Rattle.capnp_wire.proofs.views.UpgradedPointerLemmas.{length-stepped_places, stepped_within, step_ends}
 use Rattle.capnp_wire.proofs.upgraded.pointer_list.PointerList.get.Goals as goal

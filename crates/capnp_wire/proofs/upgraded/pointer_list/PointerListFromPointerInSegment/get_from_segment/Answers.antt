@@ -1,8 +1,6 @@
 -- A list of pointers is a view that decides which objects it accepts.
 use Rattle.std.proofs.Common.{refl}
-use Rattle.capnp_wire.specs.Readers.{pointer_of}
-use Rattle.capnp_wire.specs.UpgradedViews.{TakesFirstPointers, DeclinesFirstPointers}
-use Rattle.capnp_wire.specs.UpgradedReaders.{upgraded_pointers_of}
+use Rattle.capnp_wire.specs.Prelude.{pointer_of, TakesFirstPointers, DeclinesFirstPointers, upgraded_pointers_of}
 use Rattle.capnp_wire.proofs.pointers.OwnSegmentLemmas.{known_segment}
 use Rattle.capnp_wire.proofs.views.ViewLemmas.{is_view_of}
 use Rattle.capnp_wire.proofs.views.UpgradedPointerLemmas.{first_pointers_decide, first_pointers_accepted}

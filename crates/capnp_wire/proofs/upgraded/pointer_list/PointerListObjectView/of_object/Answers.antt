@@ -1,7 +1,7 @@
 -- The pointers are those of the object, or the first ones of its structs.
 use Rattle.std.proofs.Common.{◌≡◌, ◌<◌, ◌≤◌, ◌+◌, ◌*◌, ℕ, refl, sym, ◌∙◌, ap, arith}
 use Rattle.std.proofs.Math.Nat.{mul-le-mul_left}
-use Rattle.capnp_wire.specs.Readers.{pointer_of}
+use Rattle.capnp_wire.specs.Prelude.{pointer_of}
 use Rattle.capnp_layout.specs.declared.pointer.Elements.{Elements}
 use Rattle.capnp_wire.proofs.views.ListViewLemmas.{few_pointers, few_structs}
 use Rattle.capnp_wire.proofs.views.UpgradedPointerLemmas.{pointers_read, first_pointers_read, no_first_pointers}

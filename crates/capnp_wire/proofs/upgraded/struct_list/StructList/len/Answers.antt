@@ -1,11 +1,8 @@
 -- A list of numbers has as many structs.
 use Rattle.std.proofs.lemmas.List.{length-map}
 use Rattle.std.proofs.Common.{◌^◌, length, sym, ap, ◌∙◌}
-use Rattle.capnp_layout.specs.Pointer.{number_of, words_of, words_from}
-use Rattle.capnp_layout.specs.Element.{code_of, width, words_for}
-use Rattle.capnp_layout.specs.Object.{elements}
-use Rattle.capnp_wire.specs.UpgradedViews.{number_row}
-use Rattle.capnp_wire.specs.UpgradedReaders.{rows_of}
+use Rattle.capnp_layout.specs.Prelude.{number_of, words_of, words_from, code_of, width, words_for, elements}
+use Rattle.capnp_wire.specs.Prelude.{number_row, rows_of}
 use Rattle.capnp_layout.proofs.words.DigitLemmas.{length-digits}
 use Rattle.capnp_wire.proofs.upgraded.struct_list.StructList.len.Goals as goal
 

@@ -1,11 +1,7 @@
 -- Numbers are read as structs, unless they are bits.
 use Rattle.std.proofs.Common.{◌≡◌, ℕ, [], map, ap, ◌∙◌, sym, arith}
-use Rattle.capnp_layout.specs.Element.{code_of, width}
-use Rattle.capnp_layout.specs.Pointer.{words_of}
-use Rattle.capnp_layout.specs.Object.{elements}
-use Rattle.capnp_wire.specs.Readers.{pointer_of}
-use Rattle.capnp_wire.specs.ListViews.{StructList}
-use Rattle.capnp_wire.specs.UpgradedViews.{number_row}
+use Rattle.capnp_layout.specs.Prelude.{code_of, width, words_of, elements}
+use Rattle.capnp_wire.specs.Prelude.{pointer_of, StructList, number_row}
 use Rattle.capnp_layout.specs.declared.element_size.ElementSize.{ElementSize}
 use Rattle.capnp_layout.specs.declared.object.Body.TheVariants.{Numbers}
 use Rattle.capnp_wire.proofs.views.UpgradedRowLemmas.{nothings_upgraded, numbers_upgraded, bits_declined, one_bit, no_bit, other_than_bits}

@@ -1,7 +1,5 @@
 -- A list of structs is a view that decides which objects it accepts.
-use Rattle.capnp_wire.specs.Readers.{pointer_of}
-use Rattle.capnp_wire.specs.UpgradedViews.{TakesRows, DeclinesRows}
-use Rattle.capnp_wire.specs.UpgradedReaders.{upgraded_structs_of}
+use Rattle.capnp_wire.specs.Prelude.{pointer_of, TakesRows, DeclinesRows, upgraded_structs_of}
 use Rattle.capnp_wire.proofs.views.ViewLemmas.{is_view_of}
 use Rattle.capnp_wire.proofs.views.UpgradedRowLemmas.{rows_decide, rows_accepted}
 use Rattle.capnp_wire.proofs.upgraded.struct_list.StructListFromPointerReader.get_from_pointer.Goals as goal

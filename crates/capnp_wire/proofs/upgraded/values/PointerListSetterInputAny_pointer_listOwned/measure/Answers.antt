@@ -1,6 +1,6 @@
 -- The words of a list that is read as a list of pointers are those of its tree.
 use Rattle.std.proofs.Common.{rules}
-use Rattle.capnp_wire.specs.UpgradedValues.{IsPointerListValue, RefusesPointerList}
+use Rattle.capnp_wire.specs.Prelude.{IsPointerListValue, RefusesPointerList}
 use Rattle.capnp_wire.proofs.views.OneValueLemmas.{measured_found, measured_exactly}
 use Rattle.capnp_wire.proofs.views.UpgradedValueLemmas.{one_of_pointers}
 use Rattle.capnp_wire.proofs.upgraded.values.PointerListSetterInputAny_pointer_listOwned.measure.Goals as goal

@@ -1,6 +1,6 @@
 -- The words of a list that is read as a list of structs are those of its tree.
-use Rattle.capnp_layout.specs.Pointer.{words_of}
-use Rattle.capnp_wire.specs.UpgradedValues.{IsRowsValue, RefusesRows}
+use Rattle.capnp_layout.specs.Prelude.{words_of}
+use Rattle.capnp_wire.specs.Prelude.{IsRowsValue, RefusesRows}
 use Rattle.capnp_wire.proofs.views.OneValueLemmas.{measured_found, measured_exactly}
 use Rattle.capnp_wire.proofs.views.NumberValueLemmas.{numbers_measured}
 use Rattle.capnp_wire.proofs.views.UpgradedValueLemmas.{one_of_rows}

@@ -1,8 +1,7 @@
 -- What is written of numbers that are read as structs is the body of their list.
 use Rattle.std.proofs.Common.{ℕ, ap, arith}
-use Rattle.capnp_layout.specs.Pointer.{words_of}
-use Rattle.capnp_layout.specs.Element.{code_of, width, words_for}
-use Rattle.capnp_wire.specs.UpgradedValues.{IsRowsValue, numbers_in_rows}
+use Rattle.capnp_layout.specs.Prelude.{words_of, code_of, width, words_for}
+use Rattle.capnp_wire.specs.Prelude.{IsRowsValue, numbers_in_rows}
 use Rattle.capnp_wire.proofs.layouts.FreeLemmas.{body_long, numbers_total}
 use Rattle.capnp_wire.proofs.views.NumberValueLemmas.{numbers_long}
 use Rattle.capnp_wire.proofs.views.UpgradedValueLemmas.{one_of_rows}
