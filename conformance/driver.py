@@ -1,225 +1,105 @@
 #!/usr/bin/env python3
-"""A driver over bytes alone, as an example: framing, packing, bytes in memory and writers, by README.md beside it.
-
-    cat framed.txt packed.txt | ./driver.py      copies the files, with what it finds in the place of each result
-"""
+"""A driver of the calls of framing and packing over bytes alone: `driver.py [FILE ..]` copies a file, with results."""
+import fileinput
+import math
 import re
-import sys
 
+ASKED = {"framed": ["strict", "lenient"], "packed": ["strict", "lenient"], "write": ["framed", "packed"],
+         "flat": ["words", "fields", "lenient words", "lenient fields"], "pack": ["packed"], "unpack": ["unpacked"]}
+DEFAULTS = {"limit": 8388608, "calls": math.inf, "buffer": math.inf}
+CUT, NO_ROOM, PACKED_CUT = "1 FailedToFillTheWholeBuffer", "2 BufferNotLargeEnough", "10 PrematureEndOfPackedInput"
 
-class Failed(Exception):
-    pass
+def require(condition, error):
+    if not condition:
+        raise ValueError(f"error {error}" if error != "end" else error)
 
+def take(source, size, error=CUT):
+    found, source[:size] = source[:size], b""
+    require(len(found) == size, error)
+    return found
 
-def segments_of(written):
-    segments, segment = [], b""
-    if written == "none":
-        return segments
-    for text, token in re.findall(r'"([^"]*)"|([^\s"]+)', written):
-        if token == "|":
-            segments.append(segment)
-            segment = b""
-        elif token.startswith("-*"):
-            segments += [b""] * (int(token[2:]) - 1)
-        elif token != "-":
-            digits, _, times = token.partition("*")
-            segment += bytes.fromhex(digits) * int(times or 1) + text.encode()
-    return segments + [segment]
+def take_field(source):
+    return int.from_bytes(take(source, 4, f"6 MessageEndsPrematurely(4, {len(source)})"), "little")
 
-
-def runs(things):
-    line, at = "", 0
-    while at < len(things):
-        times = next((n for n, other in enumerate(things[at:]) if other != things[at]), len(things) - at)
-        line += " " + things[at] + ("*%d" % times if times > 1 else "")
-        at += times
-    return line
-
-
-def shown(data):
-    return runs([data[at:at + 8].hex() for at in range(0, len(data), 8)]) or " -"
-
-
-def message(segments):
-    parts = [shown(segment) for segment in segments]
-    return re.sub(r" -( \| -)+(?= \||$)", lambda run: " -*%d" % run[0].count("-"), "message" + " |".join(parts))
-
-
-class Source:
-    """A stream. A part is taken at once, and where it is packed, unpacked."""
-
-    def __init__(self, data, packed):
-        self.data, self.packed = data, packed
-
-    def raw(self, count, error):
-        if len(self.data) < count:
-            self.data = b""
-            raise Failed(error)
-        taken, self.data = self.data[:count], self.data[count:]
-        return taken
-
-    def take(self, count):
-        if not self.packed:
-            return self.raw(count, "1 FailedToFillTheWholeBuffer")
-        part = b""
-        while len(part) < count:
-            early = "10 PrematureEndOfPackedInput" if part else "1 FailedToFillTheWholeBuffer"
-            tag = self.raw(1, early)[0]
-            for bit in range(8):
-                part += self.raw(1, "10 PrematureEndOfPackedInput") if tag >> bit & 1 else b"\0"
-            if tag in (0, 255):
-                words = self.raw(1, "10 PrematureEndOfPackedInput")[0]
-                if len(part) + 8 * words > count:
-                    raise Failed("11 PackedInputDidNotEndCleanlyOnASegmentBoundary")
-                part += self.raw(8 * words, "1 FailedToFillTheWholeBuffer") if tag else b"\0" * 8 * words
-        return part
-
-
-def number(data):
-    return int.from_bytes(data, "little")
-
-
-def read(source, case, strict):
-    room = case.get("buffer", 1 << 62)
-    if room < 8:
-        raise Failed("2 BufferNotLargeEnough")
-    if not source.data:
-        return None
-    table = source.take(8)
-    count = (number(table[:4]) + 1) % 2**32
-    if not 1 <= count < 512:
-        raise Failed("5 InvalidNumberOfSegments(%d)" % count)
-    if room < 8 * (count // 2 + 1):
-        raise Failed("2 BufferNotLargeEnough")
-    table += source.take(8 * (count // 2))
-    lengths = [number(table[4 * n + 4:4 * n + 8]) for n in range(count)]
-    if sum(lengths) > case["limit"]:
-        raise Failed("8 MessageTooLarge(%d)" % sum(lengths))
-    if strict and any(table[4 * count + 4:]):
-        raise Failed("26 NonZeroPadding")
-    if room < len(table) + 8 * sum(lengths):
-        raise Failed("2 BufferNotLargeEnough")
-    data = source.take(8 * sum(lengths))
-    return [data[8 * sum(lengths[:n]):8 * sum(lengths[:n + 1])] for n in range(count)]
-
-
-def unread(line, left):
-    return line + ("; %d unread" % left if left else "")
-
-
-def stream(source, case, strict):
-    lines = []
-    while "calls" not in case or len(lines) < case["calls"]:
-        try:
-            segments = read(source, case, strict)
-            line = "end" if segments is None else message(segments)
-        except Failed as failed:
-            line = "error %s" % failed
-        is_open = source.packed and re.match("error (1|10|11) ", line)
-        lines.append(line if is_open else unread(line, len(source.data)))
-        if "calls" not in case and not line.startswith("message"):
-            break
-    return lines
-
-
-def flat(data, case, strict, fields):
-    def field(at):
-        if len(data) < at + 4:
-            raise Failed("6 MessageEndsPrematurely(4, %d)" % (len(data) - at) if fields else "1 FailedToFillTheWholeBuffer")
-        return number(data[at:at + 4])
-
-    if not data and not fields:
-        raise Failed("4 EmptySlice")
-    count = field(0) + 1
-    if not fields:
-        field(4)
-        count %= 2**32
-    if not 1 <= count < 512:
-        raise Failed("5 InvalidNumberOfSegments(%d)" % count)
-    lengths = [field(4 * n + 4) for n in range(count)]
-    padding = 0 if count % 2 or fields else field(4 * count + 4)
-    if sum(lengths) > case["limit"]:
-        raise Failed("8 MessageTooLarge(%d)" % sum(lengths))
-    if strict and (padding or count % 2 == 0 and field(4 * count + 4)):
-        raise Failed("26 NonZeroPadding")
-    at = 8 * (count // 2 + 1)
-    if count % 2 == 0:
-        field(at - 4)
-    if len(data) < at + 8 * sum(lengths):
-        raise Failed("6 MessageEndsPrematurely(%d, %d)" % (sum(lengths), (len(data) - at) // 8))
-    starts = [at + 8 * sum(lengths[:n]) for n in range(count + 1)]
-    return unread(message([data[a:b] for a, b in zip(starts, starts[1:])]), len(data) - starts[-1])
-
+def unpack(source, size):
+    part = bytearray()
+    while len(part) < size:
+        tag = take(source, 1, PACKED_CUT if part else CUT)[0]
+        part += b"".join(take(source, 1, PACKED_CUT) if tag >> bit & 1 else b"\0" for bit in range(8))
+        if tag in (0, 255):
+            run = 8 * take(source, 1, PACKED_CUT)[0]
+            require(run <= size - len(part), "11 PackedInputDidNotEndCleanlyOnASegmentBoundary")
+            part += take(source, run) if tag else bytes(run)
+    return part
 
 def pack(chunk):
-    words, packed, at = [chunk[n:n + 8] for n in range(0, len(chunk), 8)], b"", 0
-    while at < len(words):
-        word, end = words[at], at + 1
-        tag = sum(1 << n for n, byte in enumerate(word) if byte)
-        packed += bytes([tag]) + word.replace(b"\0", b"")
-        if tag in (0, 255):
-            most = min(len(words), end + 255)
-            while end < most and (any(words[end]) == (tag > 0) if tag == 0 else words[end].count(0) < 2):
-                end += 1
-            packed += bytes([end - at - 1]) + (b"".join(words[at + 1:end]) if tag else b"")
-        at = end
+    words, packed = [chunk[at:at + 8] for at in range(0, len(chunk), 8)], b""
+    for run in re.finditer("8{1,256}|0[01]{0,255}|.", "".join(str(word.count(0)) for word in words)):
+        word, *others = words[run.start():run.end()]
+        packed += bytes([sum(1 << bit for bit in range(8) if word[bit]), *filter(None, word)])
+        packed += bytes([len(others)]) + b"".join(filter(any, others)) if word.count(0) in (0, 8) else b""
     return packed
 
+def framed(segments):
+    require(0 < len(segments) < 512, f"5 InvalidNumberOfSegments({len(segments)})")
+    fields = [len(segments) - 1, *(len(segment) // 8 for segment in segments), 0][:len(segments) // 2 * 2 + 2]
+    return [b"".join(field.to_bytes(4, "little") for field in fields), *segments]
 
-def write(segments, pack):
-    if not 1 <= len(segments) < 512:
-        return "error 5 InvalidNumberOfSegments(%d)" % len(segments)
-    table = b"".join(n.to_bytes(4, "little") for n in [len(segments) - 1] + [len(segment) // 8 for segment in segments])
-    table += b"\0" * (-len(table) % 8)
-    return "bytes" + shown(b"".join(pack(chunk) for chunk in [table[:8], table[8:]] + segments))
+def read_message(source, call, who, limit, buffer):
+    flat, fields, read = call == "flat", who.endswith("fields"), unpack if call == "packed" else take
+    require(flat or buffer >= 8, NO_ROOM)
+    require(source or fields, "4 EmptySlice" if flat else "end")
+    table = source if fields else read(source, 8)
+    count = (take_field(table) + 1) % (2**33 if fields else 2**32)
+    require(0 < count < 512, f"5 InvalidNumberOfSegments({count})")
+    require(flat or buffer >= 8 * (count // 2 + 1), NO_ROOM)
+    table += b"" if fields else read(source, 8 * (count // 2))
+    sizes = [take_field(table) for _ in range(count)]
+    require(sum(sizes) <= limit, f"8 MessageTooLarge({sum(sizes)})")
+    require(count % 2 or take_field(table) == 0 or "lenient" in who, "26 NonZeroPadding")
+    require(flat or buffer >= 8 * (count // 2 + 1 + sum(sizes)), NO_ROOM)
+    require(not flat or len(source) >= 8 * sum(sizes), f"6 MessageEndsPrematurely({sum(sizes)}, {len(source) // 8})")
+    segments = read(source, 8 * sum(sizes))
+    return "message " + show([take(segments, 8 * size) for size in sizes])
 
+def parse(text):
+    text = re.sub('"([^"]*)"', lambda quoted: quoted[1].encode().hex(), text)
+    text = re.sub(r"(\w+|-)\*(\d+)", lambda run: ("|" if run[1] == "-" else "").join([run[1]] * int(run[2])), text)
+    return [] if text == "none" else [bytes.fromhex(segment.replace("-", "")) for segment in text.split("|")]
 
-def tried(call, left):
-    try:
-        return call()
-    except Failed as failed:
-        return unread("error %s" % failed, left)
+def show(segments):
+    text = " | ".join(segment.hex(" ", -8) or "-" for segment in segments)
+    return re.sub(r"(\w{16})( \1)+|-( \| -)+", lambda run: f"{run[1] or '-'}*{run[0].count(run[1] or '-')}", text)
 
+def results(call, who, text, options):
+    size, text = text.split(" ", 1) if call == "unpack" else (0, text)
+    segments, given = parse(text), []
+    whole = b"" if call in ("pack", "write") else b"".join(segments)
+    source, calls = bytearray(whole), options["calls"] if call in ("framed", "packed") else 1
+    while len(given) < calls:
+        try:
+            if call in ("pack", "write"):
+                chunks = framed(segments) if call == "write" else segments
+                result = "bytes " + show([b"".join(map(pack, chunks) if who == "packed" else chunks)])
+            elif call == "unpack":
+                result = "bytes " + show([unpack(source, int(size))])
+            else:
+                result = read_message(source, call, who, options["limit"], options["buffer"])
+        except ValueError as error:
+            result, source = str(error), whole if call == "flat" else source
+            calls = 0 if calls == math.inf else calls
+        given.append(result + f"; {len(source)} unread" if source and "error 11" not in result else result)
+    return given
 
-def results(word, rest, case):
-    """What is found, with who finds it."""
-    if word in ("framed", "packed"):
-        data = segments_of(rest)[0]
-        return [(who, stream(Source(data, word == "packed"), case, who == "strict")) for who in ("strict", "lenient")]
-    if word == "flat":
-        data = segments_of(rest)[0]
-        return [(who, [tried(lambda: flat(data, case, "lenient" not in who, "fields" in who), len(data))])
-                for who in ("words", "fields", "lenient words", "lenient fields")]
-    if word == "pack":
-        return [("", ["bytes" + shown(b"".join(pack(chunk) for chunk in segments_of(rest)))])]
-    if word == "unpack":
-        length, _, rest = rest.partition(" ")
-        source = Source(segments_of(rest)[0], True)
-        return [("", [tried(lambda: unread("bytes" + shown(source.take(int(length))), len(source.data)), 0)])]
-    if word == "write":
-        segments = segments_of(rest)
-        return [("framed", [write(segments, bytes)]), ("packed", [write(segments, pack)])]
-    return []
-
-
-def main():
-    case = {}
-    for line in sys.stdin.read().split("\n")[:-1]:
-        if line.startswith(">"):
-            continue
-        print(line)
-        word, _, rest = line.partition(" ")
-        if word == "case":
-            case = {"limit": 8388608}
-        elif word in ("limit", "calls", "buffer"):
-            case[word] = 1 << 62 if rest == "none" else int(rest)
-        found = results(word, rest, case)
-        for at, (who, lines) in enumerate(found):
-            others = [other for other, theirs in found if theirs == lines]
-            if others[0] == who:
-                names = "" if len(others) == len(found) else ", ".join(others) + ": "
-                print("".join("> %s%s\n" % (names, one) for one in lines), end="")
-
-
-if __name__ == "__main__":
-    main()
+options = dict(DEFAULTS)
+for line in fileinput.input():
+    word, _, text = line.rstrip("\n").partition(" ")
+    print("" if word == ">" else line, end="")
+    options = dict(DEFAULTS) if word == "case" else options
+    if word in DEFAULTS:
+        options[word] = math.inf if text == "none" else max(0, int(text))
+    given = {who: tuple(results(word, who, text, options)) for who in ASKED.get(word, [])}
+    for results_of_some in dict.fromkeys(given.values()):
+        names = [who for who in given if given[who] == results_of_some]
+        for result in results_of_some:
+            print(f"> {result}" if len(names) == len(given) else f"> {', '.join(names)}: {result}")
