@@ -9,7 +9,7 @@ mod writing;
 pub use canonical::write_canonical_message;
 pub use capnp_frame::serialize::{
     BufferSegments, NoAllocBufferSegments, NoAllocSegmentTableInfo, NoAllocSliceSegments,
-    OwnedSegments, Padding, SEGMENTS_COUNT_LIMIT, SegmentLengthsBuilder, is_writable,
+    OwnedSegments, Padding, SEGMENTS_COUNT_LIMIT, SegmentLengthsBuilder, TableRules, is_writable,
 };
 pub use flat::{
     read_message_from_flat_slice, read_message_from_flat_slice_lenient,

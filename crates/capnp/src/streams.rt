@@ -13,8 +13,7 @@ mod reading;
 
 pub use appended::{read_messages, write_message, write_messages};
 use capnp_frame::io::{BufRead, Write};
-use capnp_frame::message::ReaderOptions;
-use capnp_frame::serialize::{OwnedSegments, Padding, TableRules, try_read_segments_reusing};
+use capnp_frame::serialize::{OwnedSegments, TableRules, try_read_segments_reusing};
 use capnp_frame::{Error, Result};
 use capnp_pack::stream::try_read_packed_segments;
 pub use message_stream::{MessageStream, open_file};
@@ -79,8 +78,8 @@ pub trait MessageWriter {
         ensures grows { Grows W.written W.failures W.same sink.old sink.new };
 }
 
-/// Reads each message of `source` by this rule of padding, and writes what `writer` writes for it,
-/// until no message is left.
+/// Reads each message of `source` by these rules, and writes what `writer` writes for it, until no
+/// message is left.
 ///
 /// It takes at most 2^64 - 1 messages, and leaves the rest unread. The memory of a message is
 /// reused for the next one.
@@ -92,18 +91,17 @@ pub fn write_each_message<R: BufRead, W: Write, M: MessageWriter>(
     source: &mut R,
     sink: &mut W,
     format: Format,
-    padding: Padding,
-    options: ReaderOptions,
+    rules: TableRules,
     writer: &M,
 ) -> std::result::Result<(), StoppedAt>
-    ensures { WritesEach R.Read source.old source.new W.Write sink.old sink.new padding format
-        options.traversal_limit_in_words (M.writes writer.now W.appends)
+    ensures { WritesEach R.Read source.old source.new W.Write sink.old sink.new rules.padding format
+        rules.limit_in_words (M.writes writer.now W.appends)
         (M.declines writer.now W.appends W.leaves W.refuses) result }
 {
     let mut spare = OwnedSegments::empty(alloc);
     let mut memory = Vec::new(alloc);
     for message in 0..u64::MAX {
-        let segments = match read_next(source, format, padding, options, spare) {
+        let segments = match read_next(source, format, rules, spare) {
             Ok(Some(segments)) => segments,
             Ok(None) => return Ok(()),
             Err(error) => return Err(StoppedAt { message, error }),
@@ -116,19 +114,17 @@ pub fn write_each_message<R: BufRead, W: Write, M: MessageWriter>(
     Ok(())
 }
 
-// Reads the next message of a stream in this format, by this rule of padding, into the memory of
-// the message before it.
+// Reads the next message of a stream in this format, by these rules, into the memory of the message
+// before it.
 fn read_next<R: BufRead>(
     source: &mut R,
     format: Format,
-    padding: Padding,
-    options: ReaderOptions,
+    rules: TableRules,
     spare: OwnedSegments,
 ) -> Result<Option<OwnedSegments>>
-    ensures { ReadsStream R.Read source.old source.new (rules_of padding format)
-        options.traversal_limit_in_words result }
+    ensures { ReadsStream R.Read source.old source.new (rules_of rules.padding format)
+        rules.limit_in_words result }
 {
-    let rules = TableRules::new(padding, options);
     match format {
         Format::Framed => try_read_segments_reusing(source, rules, spare),
         Format::Packed => try_read_packed_segments(source, rules, spare),

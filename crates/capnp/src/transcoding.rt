@@ -7,7 +7,7 @@ use crate::{serialize, serialize_packed};
 use capnp_frame::Result;
 use capnp_frame::io::{BufRead, Write};
 use capnp_frame::message::ReaderOptions;
-use capnp_frame::serialize::{OwnedSegments, Padding};
+use capnp_frame::serialize::{OwnedSegments, Padding, TableRules};
 use std::alloc::Global;
 
 /// Which format is read, and which is written.
@@ -105,7 +105,8 @@ fn transcode_by<R: BufRead, W: Write>(
     ensures { TranscodesEach R.Read source.old source.new W.Write sink.old sink.new
         padding way options.traversal_limit_in_words result }
 {
-    match write_each_message(alloc, source, sink, way.input(), padding, options, &way) {
+    let rules = TableRules::new(padding, options);
+    match write_each_message(alloc, source, sink, way.input(), rules, &way) {
         Ok(()) => Ok(()),
         Err(stop) => Err(stop.error),
     }

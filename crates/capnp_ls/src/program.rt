@@ -12,7 +12,7 @@ use crate::lines::list_each;
 use crate::stop::Stop;
 use capnp::io::{BufRead, Write};
 use capnp::message::DEFAULT_READER_OPTIONS;
-use capnp::serialize::Padding;
+use capnp::serialize::{Padding, TableRules};
 use capnp::streams::{StoppedAt, write_each_message};
 use std::alloc::Global;
 
@@ -67,11 +67,12 @@ fn print_each<R: BufRead, W: Write>(
     match command {
         Command::Listing(format, padding) => list_each(alloc, source, sink, format, padding),
         Command::Transcoding(way, padding) => {
-            write_each_message(alloc, source, sink, way.input(), padding, options, &way)
+            let rules = TableRules::new(padding, options);
+            write_each_message(alloc, source, sink, way.input(), rules, &way)
         }
         Command::Canonical(format) => {
-            let writer = CanonicalForm;
-            write_each_message(alloc, source, sink, format, Padding::Zero, options, &writer)
+            let rules = TableRules::new(Padding::Zero, options);
+            write_each_message(alloc, source, sink, format, rules, &CanonicalForm)
         }
     }
 }

@@ -5,7 +5,7 @@ use crate::transcodings::transcoded;
 use capnp::message::DEFAULT_READER_OPTIONS;
 use capnp::streams::{StoppedAt, write_each_message};
 use capnp::{Way, transcode_lenient};
-use capnp_frame::serialize::Padding;
+use capnp_frame::serialize::{Padding, TableRules};
 use capnp_frame::{ErrorKind, Result};
 use capnp_frame_tests::refusals::kind_of;
 use capnp_frame_tests::retried;
@@ -165,8 +165,7 @@ fn write_each(
         &mut source,
         &mut sink,
         row.way.input(),
-        padding,
-        DEFAULT_READER_OPTIONS,
+        TableRules::new(padding, DEFAULT_READER_OPTIONS),
         &row.way,
     ))?;
     let at = at(row, padding);

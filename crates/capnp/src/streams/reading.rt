@@ -9,7 +9,7 @@ ghost use Rattle.capnp.specs.Reading.{IsCutKind, TellsCut, TakesForListed, Reads
 use crate::streams::{Format, read_next};
 use capnp_frame::io::BufRead;
 use capnp_frame::message::{ReaderOptions, ReaderSegments};
-use capnp_frame::serialize::{OwnedSegments, Padding};
+use capnp_frame::serialize::{OwnedSegments, Padding, TableRules};
 use capnp_frame::{Error, ErrorKind, Result};
 use capnp_message::Reader;
 use std::alloc::Global;
@@ -27,8 +27,9 @@ pub fn next_message<R: BufRead>(
 ) -> Result<Option<Reader<OwnedSegments>>>
     ensures { ReadsMessage R.Read source.old source.new (by_format padding format) options result }
 {
+    let rules = TableRules::new(padding, options);
     let spare = OwnedSegments::empty(alloc);
-    reader_of(read_next(source, format, padding, options, spare), options)
+    reader_of(read_next(source, format, rules, spare), options)
 }
 
 /// A reader of the segments that were read, with these options. Fails as reading them did.

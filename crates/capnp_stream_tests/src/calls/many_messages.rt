@@ -259,8 +259,7 @@ fn transcode(
         &mut source,
         &mut sink,
         format,
-        padding,
-        options,
+        TableRules::new(padding, options),
         &way,
     );
     assert_holds(rt, stopped.is_ok(), At::row("transcoded"));

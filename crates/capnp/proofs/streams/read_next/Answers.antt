@@ -11,11 +11,11 @@ use Rattle.capnp.proofs.streams.read_next.Goals as goal
 pub returns-in-Framed : goal.returns-in-Framed
 returns-in-Framed g c =
     let plain : IsPlainSource g.R.Read.gives g.R.Read.refuses = record { given = g.met.R.BufRead.plain; refused = g.met.R.BufRead.plain_refusals } in
-    rw c.in-Framed.is (plain_reads_reusing c.args.padding g.R.Read plain c.args.options.traversal_limit_in_words c.args.spare _ _ _ (rw c.new-rules.ensures at c.try_read_segments_reusing.ensures))
+    rw c.in-Framed.is (plain_reads_reusing c.args.rules.padding g.R.Read plain c.args.rules.limit_in_words c.args.spare _ _ _ c.try_read_segments_reusing.ensures)
 
 pub returns-in-Packed : goal.returns-in-Packed
 returns-in-Packed g c =
     let kept = c.args.spare in
-    rw c.in-Packed.is (reads_with_less g.R.Read _ _ (packed_rules c.args.padding) (Outgrows (length kept) (length (concat kept)) c.args.padding Unpacks)
-    (TakesMemory c.args.padding Unpacks) c.args.options.traversal_limit_in_words _ (Outgrows-none _ _ c.args.padding Unpacks c.args.options.traversal_limit_in_words)
-    (rw c.new-rules.ensures at c.try_read_packed_segments.ensures))
+    rw c.in-Packed.is (reads_with_less g.R.Read _ _ (packed_rules c.args.rules.padding) (Outgrows (length kept) (length (concat kept)) c.args.rules.padding Unpacks)
+    (TakesMemory c.args.rules.padding Unpacks) c.args.rules.limit_in_words _ (Outgrows-none _ _ c.args.rules.padding Unpacks c.args.rules.limit_in_words)
+    c.try_read_packed_segments.ensures)

@@ -8,18 +8,18 @@ use Rattle.capnp.proofs.streams.write_each_message.Goals as goal
 
 pub returns-in-Ok-None : goal.returns-in-Ok-None
 returns-in-Ok-None g c = writes_each
-    (all_written c.args.padding c.args.format c.args.options.traversal_limit_in_words
+    (all_written c.args.rules.padding c.args.format c.args.rules.limit_in_words
     (g.M.MessageWriter.writes c.args.writer.now g.W.Write.appends) (g.M.MessageWriter.declines c.args.writer.now g.W.Write.appends g.W.Write.leaves g.W.Write.refuses) c.loop-message.message _ _ _ _ _ _
     c.loop-message.invariant.written (rw c.in-Ok-None.field-0-is at c.in-Ok-None.ensures.none) c.read_next.ensures.advances.tail refl)
     tt tt (Advances-join _ _ _ (g.met.R.Read.keeps.transitive _ _ _) c.loop-message.invariant.advances c.read_next.ensures.advances) c.loop-message.invariant.grows
 
 pub returns-in-Err : goal.returns-in-Err
 returns-in-Err g c = writes_each
-    (stopped_reading c.args.padding c.args.format c.args.options.traversal_limit_in_words
+    (stopped_reading c.args.rules.padding c.args.format c.args.rules.limit_in_words
     (g.M.MessageWriter.writes c.args.writer.now g.W.Write.appends) (g.M.MessageWriter.declines c.args.writer.now g.W.Write.appends g.W.Write.leaves g.W.Write.refuses)
     (record { message = c.loop-message.message; error = c.in-Err.error }) _ _ _ _ _ _
     c.loop-message.invariant.written
-    (reading_fault c.args.padding c.args.format c.args.options.traversal_limit_in_words c.in-Err.error.kind _ _ c.in-Err.ensures.refused) refl)
+    (reading_fault c.args.rules.padding c.args.format c.args.rules.limit_in_words c.in-Err.error.kind _ _ c.in-Err.ensures.refused) refl)
     (inl c.in-Err.ensures.kinds)
     (λ device. inl (Fails-join _ _ _ c.loop-message.invariant.advances.counted (c.in-Err.ensures.failed device)))
     (Advances-join _ _ _ (g.met.R.Read.keeps.transitive _ _ _) c.loop-message.invariant.advances c.read_next.ensures.advances) c.loop-message.invariant.grows
@@ -31,21 +31,21 @@ returns-in-Err-write_message g c =
     let within = rw c.in-Ok-Some.field-0-is at c.in-Ok-Some.ensures.within in
     let whole = rw c.in-Ok-Some.field-0-is at c.in-Ok-Some.ensures.whole in
     writes_each
-    (stopped_at_message c.args.padding c.args.format c.args.options.traversal_limit_in_words (g.M.MessageWriter.writes c.args.writer.now g.W.Write.appends) declines
+    (stopped_at_message c.args.rules.padding c.args.format c.args.rules.limit_in_words (g.M.MessageWriter.writes c.args.writer.now g.W.Write.appends) declines
     (record { message = c.loop-message.message; error = c.in-Err-write_message.error }) c.in-Ok-Some.segments _ _ _ _ _ _ within whole
     c.loop-message.invariant.written (rw c.in-Ok-Some.field-0-is at c.in-Ok-Some.ensures.found) declared.refused declared.left
     (left_as_written g.W.Write.written declines c.loop-message.message c.in-Ok-Some.segments c.in-Err-write_message.error.kind _ _ declared.untouched))
-    (inr (message_faulted c.args.options.traversal_limit_in_words declines c.loop-message.message c.in-Ok-Some.segments _ within whole declared.refused))
+    (inr (message_faulted c.args.rules.limit_in_words declines c.loop-message.message c.in-Ok-Some.segments _ within whole declared.refused))
     (λ device. inr (Fails-join _ _ _ c.loop-message.invariant.grows.counted (declared.failed device)))
     (Advances-join _ _ _ (g.met.R.Read.keeps.transitive _ _ _) c.loop-message.invariant.advances c.read_next.ensures.advances)
     (Grows-join _ _ _ (g.met.W.Write.keeps.transitive _ _ _) c.loop-message.invariant.grows c.write_message.ensures.grows)
 
 pub loop-message-preserved : goal.loop-message-preserved
 loop-message-preserved g c = record {
-  written = IfKnown-join _ _ _ (HasWritten-next c.args.padding c.args.format c.args.options.traversal_limit_in_words
+  written = IfKnown-join _ _ _ (HasWritten-next c.args.rules.padding c.args.format c.args.rules.limit_in_words
       (g.M.MessageWriter.writes c.args.writer.now g.W.Write.appends) c.loop-message.message _ _ _)
       c.loop-message.invariant.written
-      (written_next c.args.padding c.args.format c.args.options.traversal_limit_in_words
+      (written_next c.args.rules.padding c.args.format c.args.rules.limit_in_words
       (g.M.MessageWriter.writes c.args.writer.now g.W.Write.appends) c.loop-message.message c.in-Ok-Some.segments _ _ _ _
       (rw c.in-Ok-Some.field-0-is at c.in-Ok-Some.ensures.within) (rw c.in-Ok-Some.field-0-is at c.in-Ok-Some.ensures.found) c.in-Ok.ensures.written);
   advances = Advances-join _ _ _ (g.met.R.Read.keeps.transitive _ _ _) c.loop-message.invariant.advances c.read_next.ensures.advances;
@@ -54,6 +54,6 @@ loop-message-preserved g c = record {
 
 pub returns : goal.returns
 returns g c = writes_each
-    (most_written c.args.padding c.args.format c.args.options.traversal_limit_in_words
+    (most_written c.args.rules.padding c.args.format c.args.rules.limit_in_words
     (g.M.MessageWriter.writes c.args.writer.now g.W.Write.appends) (g.M.MessageWriter.declines c.args.writer.now g.W.Write.appends g.W.Write.leaves g.W.Write.refuses) _ _ _ _ _ c.loop-message.invariant.written (search rules))
     tt tt c.loop-message.invariant.advances c.loop-message.invariant.grows

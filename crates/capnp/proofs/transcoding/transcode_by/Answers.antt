@@ -5,7 +5,7 @@ use Rattle.capnp.proofs.transcoding.transcode_by.Goals as goal
 
 pub returns-in-Ok : goal.returns-in-Ok
 returns-in-Ok g c =
-    let runs = rw c.input.ensures at c.in-Ok.ensures in
+    let runs = rw c.new-rules.ensures at (rw c.input.ensures at c.in-Ok.ensures) in
     record {
       texts = λ plain. WritesEach-weaker g.R.Read _ _ g.W.Write _ _ c.args.padding (input_of c.args.way)
           c.args.options.traversal_limit_in_words (Transcodes c.args.way g.W.Write.appends) (IsOtherText c.args.way)
@@ -15,7 +15,7 @@ returns-in-Ok g c =
 
 pub returns-in-Err : goal.returns-in-Err
 returns-in-Err g c =
-    let runs = rw c.input.ensures at c.in-Err.ensures in
+    let runs = rw c.new-rules.ensures at (rw c.input.ensures at c.in-Err.ensures) in
     record {
       texts = λ plain. (
         c.in-Err.stop.message,

@@ -6,4 +6,4 @@ use Rattle.capnp.proofs.streams.reading.next_message.Goals as goal
 
 pub returns : goal.returns
 returns g c = rw c.reader_of.ensures (reads_message g.R.Read _ _ (by_format c.args.padding c.args.format) c.args.options _
-    (format_read c.args.padding c.args.format) c.read_next.ensures)
+    (format_read c.args.padding c.args.format) (rw c.new-rules.ensures at c.read_next.ensures))
