@@ -1,12 +1,14 @@
 //! The arena that a message is built in.
-ghost use Rattle.std.specs.Prelude.{◌≡◌, ℕ, ◌+◌, ◌-◌, ◌*◌, ◌/◌, ◌<◌, ◌≤◌, [], ◌∷◌, length, map, slice_index_or, take, drop, Some, None};
-ghost use Rattle.capnp_build.specs.BuilderState.{used_of};
-ghost use Rattle.capnp_build.specs.Built.{state_of, ForRoot, IsRootKind, size_in_words, message, Built};
+ghost use Rattle.std.specs.Prelude.{⊤, MatchOption, ◌≡◌, ℕ, ◌+◌, ◌-◌, ◌*◌, ◌/◌, ◌<◌, ◌≤◌, [], ◌∷◌, length, map, max, slice_index_or, take, drop, Some, None, IfErr, IsOk, OnOk, OnErr};
+ghost use Rattle.capnp_build.specs.BuilderState.{used_of, space_at};
+ghost use Rattle.capnp_build.specs.Built.{state_of, ForRoot, IsRootKind, size_in_words, message, HasNullRoot, KeepsOutside, Built};
+ghost use Rattle.capnp_build.specs.Placed.{HasRootAlone, IsZeroAt, KeepsRooms};
 ghost use Rattle.capnp_build.specs.RootKind.{ShowsRoot, HoldsForm};
 ghost use Rattle.capnp_build.specs.Output.{CanBeWritten};
 ghost use Rattle.capnp_layout.specs.Prelude.{Form, Trees, none, tree, count, At, root, pointer};
 ghost use Rattle.capnp_wire.specs.Prelude.{pointer_of, unlimited_root};
-ghost use Rattle.capnp_build.specs.Outcomes.{ClearsRoot, EnsuresRoot, IsNewMessage, GivesBack};
+ghost use Rattle.capnp_build.specs.Outcomes.{ClearsRoot, EnsuresRoot, LacksFirst, NotExhaustedWhileAvailable, IsNewMessage, GivesBack};
+ghost use Rattle.capnp_build.specs.Blocks.{LeavesNull};
 ghost use Rattle.capnp_build.specs.RootViews.{HoldsTree};
 
 use crate::allocator::Allocator;
@@ -56,6 +58,28 @@ impl<A: Allocator> BuilderArena<A> {
     /// Fails as `ensure_root` does.
     pub fn clear_root(&mut self) -> Result<()>
         ensures { ClearsRoot A.Allocator self.old self.new result }
+    {
+        self.zero_root()
+    }
+
+    // What `clear_root` does. For the prover: it finds each of these clauses by itself, and makes
+    // the record of them.
+    fn zero_root(&mut self) -> Result<()>
+        ensures leaves { LeavesNull A.Allocator self.old self.new }
+        ensures null_word { HasNullRoot self.new.spaces }
+        ensures zero { MatchOption self.old.location ⊤ (IsZeroAt self.new.spaces) }
+        ensures following { MatchOption self.old.location ⊤ (λ location. 0 < location.start) }
+        ensures outside { KeepsOutside self.old.location self.old.spaces self.new.spaces }
+        ensures there { OnOk result (0 < length self.new.spaces) }
+        ensures none { OnErr result (self.new.spaces ≡ []) }
+        ensures kind { IfErr result (λ error. LacksFirst A.Allocator self.old error.kind) }
+        ensures stays { 0 < length self.old.spaces → self.new.allocator ≡ self.old.allocator }
+        ensures size { OnOk result (size_in_words self.new.spaces ≡ max 1 (size_in_words self.old.spaces)) }
+        ensures rooms { KeepsRooms self.old.spaces self.new.spaces }
+        ensures new_object { self.old.spaces ≡ [] → OnOk result (HasRootAlone self.new.spaces) }
+        ensures granted { self.old.spaces ≡ [] → (most : ℕ) → A.grants self.old.allocator 1 most →
+            IsOk result × ((space_at self.new.spaces 0).size / 8 ≡ most) }
+        ensures available { NotExhaustedWhileAvailable A.Allocator (λ kind. ⊥) self.old result }
     {
         if self.segments.len() == 0 {
             self.location = None;
