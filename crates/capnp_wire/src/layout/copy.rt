@@ -102,7 +102,7 @@ pub(crate) fn copy_target<S: ReaderSegments, T: BlockItem>(
             next: to.next,
         };
     }
-    let (owner, left) = if let Some(found) = local_struct(segment, place, nesting) {
+    let pending = if let Some(found) = local_struct(segment, place, nesting) {
         match begin_struct(&found, source.canonical, block, to) {
             StructCopy::Whole(copied) => return copied,
             StructCopy::Pending(left) => (found.segment, left),
@@ -114,6 +114,7 @@ pub(crate) fn copy_target<S: ReaderSegments, T: BlockItem>(
     } else {
         return copy_object(source, segment, place, nesting, block, to);
     };
+    let (owner, left) = pending;
     let free = copy_run(
         source,
         owner,

@@ -43,11 +43,11 @@ copy::copy_target-copy_run-free-requires g t c κs within = elim c.match-local_s
   | copy::copy_target-in-Some-local_struct+in-Pending w ↦
       let local = w.in-Some-local_struct.ensures _ c.requires.content in
       let b = w.in-Pending.ensures.begun _ _ _ c.requires.there local.0 in
-      rw w.t-21-is (rw w.block-is (omega (arith, local.1), (within.0, (within.1, (b.bound, (b.begins.there, (λ _. b.content, (b.before, omega (arith, w.begin_struct.ensures.len, c.requires.small)))))))))
+      rw w.pending-is (rw w.block-is (omega (arith, local.1), (within.0, (within.1, (b.bound, (b.begins.there, (λ _. b.content, (b.before, omega (arith, w.begin_struct.ensures.len, c.requires.small)))))))))
   | copy::copy_target-in_default-local_struct+in_default-local_list+in-Some-local_pointers w ↦
       let local = w.in-Some-local_pointers.ensures _ c.requires.content in
       let b = w.begin_list.ensures _ _ _ c.args.source.now.canonical _ c.requires.there local.0 in
-      rw w.t-21-is (rw w.block-is (omega (arith, local.1), (within.0, (within.1, (b.bound, (b.begins.there, (λ _. b.content, (b.before, c.requires.small))))))))
+      rw w.pending-is (rw w.block-is (omega (arith, local.1), (within.0, (within.1, (b.bound, (b.begins.there, (λ _. b.content, (b.before, c.requires.small))))))))
 ]
 
 pub copy::copy_target-returns-in-Some-local_list-clause-copied : goal.copy::copy_target-returns-in-Some-local_list-clause-copied
@@ -56,9 +56,9 @@ copy::copy_target-returns-in-Some-local_list-clause-copied g t c = c.copy_list.e
 pub copy::copy_target-returns-clause-copied : goal.copy::copy_target-returns-clause-copied
 copy::copy_target-returns-clause-copied g t c = elim c.match-local_struct.branch [
   | copy::copy_target-in-Some-local_struct+in-Pending w ↦
-      rw w.t-21-is ((w.in-Pending.ensures.begun _ _ _ c.requires.there (w.in-Some-local_struct.ensures _ c.requires.content).0).begins.ends _ _
-      (rw w.t-21-is at (rw w.block-is at c.copy_run-free.ensures.copied)))
+      rw w.pending-is ((w.in-Pending.ensures.begun _ _ _ c.requires.there (w.in-Some-local_struct.ensures _ c.requires.content).0).begins.ends _ _
+      (rw w.pending-is at (rw w.block-is at c.copy_run-free.ensures.copied)))
   | copy::copy_target-in_default-local_struct+in_default-local_list+in-Some-local_pointers w ↦
-      rw w.t-21-is ((w.begin_list.ensures _ _ _ c.args.source.now.canonical _ c.requires.there (w.in-Some-local_pointers.ensures _ c.requires.content).0).begins.ends _ _
-      (rw w.t-21-is at (rw w.block-is at c.copy_run-free.ensures.copied)))
+      rw w.pending-is ((w.begin_list.ensures _ _ _ c.args.source.now.canonical _ c.requires.there (w.in-Some-local_pointers.ensures _ c.requires.content).0).begins.ends _ _
+      (rw w.pending-is at (rw w.block-is at c.copy_run-free.ensures.copied)))
 ]

@@ -1,11 +1,25 @@
 -- The walk over a struct's pointers counts the words after its own.
-use Rattle.std.proofs.Common.{◌≡◌, ◌+◌, ◌≤◌, ◌∙◌, ap, refl, length, arith}
+use Rattle.std.proofs.Common.{◌≡◌, ◌≢◌, ◌+◌, ◌≤◌, ◌∙◌, List, [], ap, refl, sym, subst, length, arith}
 use Rattle.capnp_layout.specs.Prelude.{words_of, message_of, words_in, output_body_of}
 use Rattle.capnp_layout.specs.declared.object.Body.TheVariants.{Struct}
+use Rattle.capnp_layout.specs.declared.place.Place.{Place}
 use Rattle.capnp_layout.proofs.words.WordLemmas.{length-words_of}
-use Rattle.capnp_wire.proofs.objects.StructLemmas.{struct_measured}
+use Rattle.capnp_layout.proofs.pointers.PointerSlotLemmas.{kept_children}
+use Rattle.capnp_wire.proofs.objects.StructLemmas.{struct_measured, struct_children}
 use Rattle.capnp_wire.specs.Prelude.{counted as counted_by}
 use Rattle.capnp_wire.proofs.layout.struct_value.measure.Goals as goal
+
+pub walk_pointers-requires : goal.walk_pointers-requires
+walk_pointers-requires g c =
+    let fields = c.args.fields in
+    let m = message_of (g.S.ReaderSegments.segments c.args.segments.now) in
+    let words = words_of fields.segment.now in
+    let all : fields.size.pointers ≤ fields.size.pointers = omega arith in
+    let places_are = c.pointers.ensures.places ∙ sym (kept_children words fields.start (Struct fields.size)) in
+    record {
+      content = λ some. rw c.pointers.ensures.segment (struct_children m words fields.start fields.size fields.size.pointers c.requires.content all
+          (subst (λ (l : List Place). l ≢ []) places_are some));
+    }
 
 pub returns : goal.returns
 returns g c =
