@@ -16,6 +16,21 @@ const LEFT_OUT: &str = "// The constant `@name@` is left out.";
 // The most bytes of words that a law names: the time of its proof grows with their square.
 const MAX_BYTES: usize = 4096;
 
+/// A value that a pointer leads to, of a constant or of a default, as it is written: a `static` of
+/// its words, and a getter that returns a view of them.
+#[derive(Drop)]
+pub struct StaticValue<'v> {
+    /// The docstring of the getter.
+    pub title: String,
+    /// The name of the `static`.
+    pub name: String,
+    /// The name of the getter, without its `get_`.
+    pub getter: String,
+    /// What the getter returns.
+    pub view: View,
+    pub value: &'v Value,
+}
+
 /// Adds the constants that are declared in a node.
 pub fn push_constants(
     alloc: Global,
@@ -63,7 +78,7 @@ fn push_constant(
             let value = byte_string(alloc, bytes.as_slice())?;
             push_line(alloc, code, name, "&[u8]", value.as_str())
         }
-        Value::Object(_) => push_object(alloc, code, request, node, name, of, value),
+        Value::Object(_) => push_object(alloc, code, request, node, of, value),
         _ => code.add_with(LEFT_OUT, "name", name),
     }
 }
@@ -74,58 +89,60 @@ fn push_object(
     code: &mut Code,
     request: &Request,
     node: &Node,
-    name: &str,
     of: Type,
     value: &Value,
 ) -> Result<(), AllocError> {
+    let name = constant(alloc, node.name.as_str())?;
     let Some(view) = view_of(alloc, request, node.scope, of, CONSTANT)? else {
-        return code.add_with(LEFT_OUT, "name", name);
+        return code.add_with(LEFT_OUT, "name", name.as_str());
     };
-    let title = format!(in alloc; "The constant `{}`.", node.name);
-    let getter = snake(alloc, node.name.as_str());
-    push_view(alloc, code, title, name, getter, &view, value)
+    let static_value = StaticValue {
+        title: format!(in alloc; "The constant `{}`.", node.name)?,
+        name,
+        getter: snake(alloc, node.name.as_str())?,
+        view,
+        value,
+    };
+    push_view(alloc, code, &static_value)
 }
 
-/// Adds the words of a value as a `static` of this name, the law that they are its layout, and the
-/// getter that returns a view of them.
+/// Adds the words of a value as a `static`, the law that they are its layout, and the getter that
+/// returns a view of them.
 pub fn push_view(
     alloc: Global,
     code: &mut Code,
-    title: Result<String, AllocError>,
-    name: &str,
-    getter: Result<String, AllocError>,
-    view: &View,
-    value: &Value,
+    static_value: &StaticValue<'_>,
 ) -> Result<(), AllocError> {
-    let words = words_of(alloc, value)?;
+    let words = words_of(alloc, static_value.value)?;
+    let name = static_value.name.as_str();
     let holes = Holes::new(alloc)
-        .holding("signature", head_of(alloc, getter, view, words.len()))
-        .holding("title", title)
+        .holding("signature", head_of(alloc, static_value, words.len()))
+        .with("title", static_value.title.as_str())
         .with("name", name)
-        .holding("fact", view.fact(alloc, "result"));
+        .holding("fact", static_value.view.fact(alloc, "result"));
     push_words(alloc, code, name, words.as_slice())?;
-    push_layout(alloc, code, name, value, words.len())?;
+    push_layout(alloc, code, static_value, words.len())?;
     code.add(GET_WORDS, &holes)
 }
 
-// Adds the law that the words of this name, of a given number of bytes, are the layout of a value's
-// tree, where they are few and that is known.
+// Adds the law that the words of a value, of a given number of bytes, are the layout of its tree,
+// where they are few and that is known.
 fn push_layout(
     alloc: Global,
     code: &mut Code,
-    name: &str,
-    value: &Value,
+    static_value: &StaticValue<'_>,
     bytes: usize,
 ) -> Result<(), AllocError> {
     let tree = if bytes > MAX_BYTES {
         None
     } else {
-        tree_of(alloc, value)?
+        tree_of(alloc, static_value.value)?
     };
     let Some(tree) = tree else {
         return code.add_lines(NO_LAYOUT);
     };
     let tree = wrapped(alloc, code.depth, tree.as_str());
+    let name = static_value.name.as_str();
     let holes = Holes::new(alloc)
         .with("name", name)
         .holding("law", name.to_ascii_lowercase(alloc))
@@ -133,15 +150,14 @@ fn push_layout(
     code.add(LAYOUT, &holes)
 }
 
-// The head of the getter of this name, of a view of a given number of bytes.
+// The head of the getter that returns a view of a given number of bytes.
 fn head_of(
     alloc: Global,
-    getter: Result<String, AllocError>,
-    view: &View,
+    static_value: &StaticValue<'_>,
     bytes: usize,
 ) -> Result<String, AllocError> {
-    let getter = getter?;
-    let type_name = view_type(alloc, view, bytes)?;
+    let getter = static_value.getter.as_str();
+    let type_name = view_type(alloc, &static_value.view, bytes)?;
     format!(in alloc; "pub fn get_{getter}() -> {type_name}")
 }
 

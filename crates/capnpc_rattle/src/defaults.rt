@@ -1,6 +1,6 @@
 //! Defaults of pointers.
 use crate::code::{Code, Holes, fill, fill_with};
-use crate::constants::push_view;
+use crate::constants::{StaticValue, push_view};
 use crate::getters::{Shown, Site};
 use crate::names::{default_name, snake};
 use crate::paths::path_to;
@@ -12,6 +12,15 @@ use crate::templates::{
 use crate::views::{CONSTANT, MESSAGE, View, is_plain, view_of};
 use crate::words::{sets_no_pointers, words_of};
 use std::alloc::{AllocError, Global};
+
+/// The views of which the getter of a pointer that has a default returns one.
+#[derive(Drop)]
+struct Views {
+    /// Of what the message has, if the pointer is not null there.
+    stored: View,
+    /// Of the default.
+    default: View,
+}
 
 /// Whether a pointer has a default other than what null reads as.
 pub fn has_default(place: &Place) -> bool {
@@ -40,14 +49,15 @@ pub fn shown_default(
     ) else {
         return Ok(None);
     };
+    let views = Views { stored, default };
     if is_plain(place.of) {
-        return shown_plain(alloc, field, place, &stored, &default);
+        return shown_plain(alloc, field, place, &views);
     }
     match place.of.base {
         Base::Struct(of) if place.of.lists == 0 && sets_no_pointers(&place.default) => {
-            shown_data(alloc, site, field, place, of, &stored, &default)
+            shown_data(alloc, site, field, place, of, &views)
         }
-        _ => shown_either(alloc, field, place, &stored, &default),
+        _ => shown_either(alloc, field, place, &views),
     }
 }
 
@@ -56,12 +66,16 @@ fn shown_plain(
     alloc: Global,
     field: &Field,
     place: &Place,
-    stored: &View,
-    default: &View,
+    views: &Views,
 ) -> Result<Option<Shown>, AllocError> {
-    let holes = holes_of(alloc, field, place, "@value@", stored, default);
+    let holes = holes_of(alloc, field, place, "@value@", views);
     Shown::new(
-        fill_with(alloc, "Result<@view@>", "view", stored.type_name.as_str()),
+        fill_with(
+            alloc,
+            "Result<@view@>",
+            "view",
+            views.stored.type_name.as_str(),
+        ),
         fill(alloc, DEFAULT_FACT, &holes),
         fill(alloc, DEFAULT_BODY, &holes),
     )
@@ -74,15 +88,19 @@ fn shown_data(
     field: &Field,
     place: &Place,
     of: u64,
-    stored: &View,
-    default: &View,
+    views: &Views,
 ) -> Result<Option<Shown>, AllocError> {
-    let holes = holes_of(alloc, field, place, "@value@", stored, default).holding(
+    let holes = holes_of(alloc, field, place, "@value@", views).holding(
         "path",
         path_to(alloc, site.request, site.node.id, of),
     );
     Shown::new(
-        fill_with(alloc, "Result<@view@>", "view", stored.type_name.as_str()),
+        fill_with(
+            alloc,
+            "Result<@view@>",
+            "view",
+            views.stored.type_name.as_str(),
+        ),
         fill(alloc, DEFAULT_DATA_FACT, &holes),
         fill(alloc, DEFAULT_DATA_BODY, &holes),
     )
@@ -93,43 +111,30 @@ fn shown_either(
     alloc: Global,
     field: &Field,
     place: &Place,
-    stored: &View,
-    default: &View,
+    views: &Views,
 ) -> Result<Option<Shown>, AllocError> {
-    let holes = holes_of(alloc, field, place, "view", stored, default);
+    let holes = holes_of(alloc, field, place, "view", views);
     Shown::new(
-        either_type(alloc, place, stored, default),
+        either_type(alloc, place, views),
         fill(alloc, OR_DEFAULT_FACT, &holes),
         fill(alloc, OR_DEFAULT_BODY, &holes),
     )
 }
 
 // The text in the clause and the code of the getter, which returns a view by this name.
-fn holes_of(
-    alloc: Global,
-    field: &Field,
-    place: &Place,
-    view: &str,
-    stored: &View,
-    default: &View,
-) -> Holes {
+fn holes_of(alloc: Global, field: &Field, place: &Place, view: &str, views: &Views) -> Holes {
     Holes::new(alloc)
         .holding("offset", format!(in alloc; "{}", place.offset))
         .holding("default", default_name(alloc, field.name.as_str()))
         .holding("name", snake(alloc, field.name.as_str()))
-        .holding("stored", stored.fact(alloc, view))
-        .holding("fact", default.fact(alloc, view))
+        .holding("stored", views.stored.fact(alloc, view))
+        .holding("fact", views.default.fact(alloc, view))
 }
 
 // The type of a view of the message, or of the default.
-fn either_type(
-    alloc: Global,
-    place: &Place,
-    stored: &View,
-    default: &View,
-) -> Result<String, AllocError> {
-    let default = sized_type(alloc, default, place)?;
-    let (stored, default) = (stored.type_name.as_str(), default.as_str());
+fn either_type(alloc: Global, place: &Place, views: &Views) -> Result<String, AllocError> {
+    let default = sized_type(alloc, &views.default, place)?;
+    let (stored, default) = (views.stored.type_name.as_str(), default.as_str());
     format!(in alloc; "OrDefault<{stored}, {default}>")
 }
 
@@ -168,17 +173,15 @@ fn push_default(
     let Some(view) = view_of(alloc, site.request, site.node.id, place.of, CONSTANT)? else {
         return Ok(());
     };
-    let name = default_name(alloc, field.name.as_str())?;
+    let static_value = StaticValue {
+        title: format!(in alloc; "The default of the field `{}`.", field.name)?,
+        name: default_name(alloc, field.name.as_str())?,
+        getter: getter_name(alloc, field)?,
+        view,
+        value: &place.default,
+    };
     code.add_gap()?;
-    push_view(
-        alloc,
-        code,
-        format!(in alloc; "The default of the field `{}`.", field.name),
-        name.as_str(),
-        getter_name(alloc, field),
-        &view,
-        &place.default,
-    )
+    push_view(alloc, code, &static_value)
 }
 
 // The name of the getter of a field's default, without its `get_`.

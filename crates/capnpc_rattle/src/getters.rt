@@ -3,7 +3,7 @@ use crate::code::{Holes, fill, fill_with};
 use crate::defaults::{has_default, shown_default};
 use crate::enums::{cases_of, enum_name};
 use crate::names::module;
-use crate::numbers::{Stored, default_bits, number_of};
+use crate::numbers::Stored;
 use crate::paths::path_to;
 use crate::schema::{Base, Body, Field, Node, Place, Request, Slot};
 use crate::templates::{
@@ -84,16 +84,9 @@ pub fn shown_of(alloc: Global, site: Site<'_>, field: &Field) -> Result<Option<S
             Some(group) => shown_group(alloc, site, group),
             None => Ok(None),
         },
-        Slot::At(place) => match number_of(place.of.base) {
-            Some(number) if place.of.lists == 0 => {
-                let stored = Stored {
-                    number,
-                    offset: place.offset,
-                    default: default_bits(&place.default),
-                };
-                shown_number(alloc, site, &stored, place.of.base)
-            }
-            _ => shown_pointer(alloc, site, field, place),
+        Slot::At(place) => match Stored::at_place(place) {
+            Some(stored) => shown_number(alloc, site, &stored),
+            None => shown_pointer(alloc, site, field, place),
         },
         Slot::Unknown => Ok(None),
     }
@@ -121,10 +114,9 @@ fn shown_number(
     alloc: Global,
     site: Site<'_>,
     stored: &Stored,
-    base: Base,
 ) -> Result<Option<Shown>, AllocError> {
     let value = stored.clause(alloc)?;
-    if let Base::Enum(id) = base {
+    if let Base::Enum(id) = stored.base {
         return shown_enum(alloc, site, stored, id, value);
     }
     Shown::new(

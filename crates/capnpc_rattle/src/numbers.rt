@@ -1,6 +1,6 @@
 //! Numbers, bools and enums of the data section.
 use crate::code::{Holes, fill};
-use crate::schema::{Base, Value};
+use crate::schema::{Base, Place, Value};
 use crate::templates::FLOAT_BODY;
 use std::alloc::{AllocError, Global};
 use std::num::{f32_from_bits_with_nan, f64_from_bits_with_nan};
@@ -50,16 +50,32 @@ pub fn number_of(base: Base) -> Option<Number> {
     })
 }
 
-/// A number of the data section: at an offset in units of its own width, with the bits of its
-/// default.
+/// A number, a bool or an enum of the data section: at an offset in units of its own width, with
+/// the bits of its default.
 #[derive(Clone, Copy)]
 pub struct Stored {
+    /// Its type in the schema.
+    pub base: Base,
     pub number: Number,
     pub offset: u32,
     pub default: u64,
 }
 
 impl Stored {
+    /// What is at a place, if its type is a number, a bool or an enum.
+    pub fn at_place(place: &Place) -> Option<Stored> {
+        let base = place.of.base;
+        match number_of(base) {
+            Some(number) if place.of.lists == 0 => Some(Stored {
+                base,
+                number,
+                offset: place.offset,
+                default: default_bits(&place.default),
+            }),
+            _ => None,
+        }
+    }
+
     /// What a clause says of its value: the value of its bits, XORed with those of the default.
     pub fn clause(&self, alloc: Global) -> Result<String, AllocError> {
         let width = self.number.width;
@@ -112,8 +128,8 @@ impl Stored {
     }
 }
 
-/// The bits of a default that is a number; 0 for any other.
-pub fn default_bits(default: &Value) -> u64 {
+// The bits of a default that is a number; 0 for any other.
+fn default_bits(default: &Value) -> u64 {
     match default {
         Value::Bits(bits) => *bits,
         _ => 0,

@@ -3,8 +3,8 @@ use crate::builder_templates::{ENUM_CLAUSE, OLD_WORDS, WORDS_CLAUSE, WORDS_STAY}
 use crate::code::{Holes, fill, fill_with};
 use crate::enums::{enum_name, enumerants_of, rows_of};
 use crate::getters::Site;
-use crate::numbers::{Number, NumberKind, default_bits};
-use crate::schema::{Base, Place};
+use crate::numbers::{NumberKind, Stored};
+use crate::schema::Base;
 use std::alloc::{AllocError, Global};
 
 /// The words in which these numbers of unions are set, as a clause names them.
@@ -29,27 +29,27 @@ pub fn words_clause(alloc: Global, words: &str) -> Result<String, AllocError> {
 pub fn number_clause(
     alloc: Global,
     site: Site<'_>,
-    number: Number,
-    place: &Place,
+    stored: &Stored,
     words: &str,
 ) -> Result<String, AllocError> {
-    if let Base::Enum(id) = place.of.base {
+    if let Base::Enum(id) = stored.base {
         let holes = Holes::new(alloc)
             .with("words", words)
-            .holding("cases", enum_cases(alloc, site, id, number, place));
+            .holding("cases", enum_cases(alloc, site, id, stored));
         return fill(alloc, ENUM_CLAUSE, &holes);
     }
-    let (width, offset) = (number.width, place.offset);
-    let bits = bits_of(alloc, number, "value", default_bits(&place.default))?;
+    let (width, offset) = (stored.number.width, stored.offset);
+    let bits = bits_of(alloc, stored, "value")?;
     let bits = bits.as_str();
     let words = format!(in alloc; "with_field {words} {width} {offset} {bits}")?;
     words_clause(alloc, words.as_str())
 }
 
-// The bits of a number, as a clause names them.
-fn bits_of(alloc: Global, number: Number, value: &str, default: u64) -> Result<String, AllocError> {
-    let width = number.width;
-    let bits = match number.kind {
+// The bits of a number, as a clause names them: those of a value, XORed with those of the default.
+fn bits_of(alloc: Global, stored: &Stored, value: &str) -> Result<String, AllocError> {
+    let width = stored.number.width;
+    let default = stored.default;
+    let bits = match stored.number.kind {
         NumberKind::Bool => format!(in alloc; "(if {value} then 1 else 0)")?,
         NumberKind::Unsigned => String::from_str(alloc, value)?,
         NumberKind::Signed => format!(in alloc; "(cast_unsigned w{width} {value})")?,
@@ -67,12 +67,11 @@ fn enum_cases(
     alloc: Global,
     site: Site<'_>,
     id: u64,
-    number: Number,
-    place: &Place,
+    stored: &Stored,
 ) -> Result<String, AllocError> {
     let name = enum_name(alloc, site, id)?;
-    let row = enum_case(alloc, number, place, "@variant@", "@count@")?;
-    let last = enum_case(alloc, number, place, "NotInSchema unknown", "unknown")?;
+    let row = enum_case(alloc, stored, "@variant@", "@count@")?;
+    let last = enum_case(alloc, stored, "NotInSchema unknown", "unknown")?;
     let names = enumerants_of(site.request, id);
     rows_of(alloc, name.as_str(), names, row.as_str(), last.as_str())
 }
@@ -81,13 +80,12 @@ fn enum_cases(
 // unions.
 fn enum_case(
     alloc: Global,
-    number: Number,
-    place: &Place,
+    stored: &Stored,
     variant: &str,
     value: &str,
 ) -> Result<String, AllocError> {
-    let offset = place.offset;
-    let bits = bits_of(alloc, number, value, default_bits(&place.default))?;
+    let offset = stored.offset;
+    let bits = bits_of(alloc, stored, value)?;
     let bits = bits.as_str();
     format!(in alloc;
         "  | @type@.{variant} ↦ self.new.draft.words ≡ with_field words 16 {offset} {bits}"

@@ -4,9 +4,9 @@ use crate::code::{Code, Holes};
 use crate::enums::enum_name;
 use crate::getters::Site;
 use crate::names::snake;
-use crate::numbers::{Number, NumberKind, default_bits, literal, number_of};
+use crate::numbers::{NumberKind, Stored, literal, number_of};
 use crate::owners::Owner;
-use crate::schema::{Base, Field, Place, Slot};
+use crate::schema::{Base, Field, Slot};
 use crate::set_words::{number_clause, words_clause, words_with};
 use std::alloc::{AllocError, Global};
 use std::fmt::Write;
@@ -107,13 +107,12 @@ pub fn push_data_setter(
     push_comment(code, field, comment)?;
     let tags = tags_of(alloc, owner, site, field)?;
     let name = field_name(alloc, owner, field)?;
-    match number_of(place.of.base) {
-        Some(number) => push_number_setter(
+    match Stored::at_place(place) {
+        Some(stored) => push_number_setter(
             alloc,
             code,
             site,
-            number,
-            place,
+            &stored,
             name.as_str(),
             tags.as_slice(),
         ),
@@ -141,64 +140,50 @@ fn push_number_setter(
     alloc: Global,
     code: &mut Code,
     site: Site<'_>,
-    number: Number,
-    place: &Place,
+    stored: &Stored,
     name: &str,
     tags: &[(u32, u16)],
 ) -> Result<(), AllocError> {
     let words = words_with(alloc, tags)?;
-    let call = call_of(alloc, number, place)?;
+    let call = call_of(alloc, stored)?;
     let holes = Holes::new(alloc)
         .with("name", name)
-        .holding("type", type_of(alloc, site, number, place))
-        .holding(
-            "clause",
-            number_clause(alloc, site, number, place, words.as_str()),
-        )
+        .holding("type", type_of(alloc, site, stored))
+        .holding("clause", number_clause(alloc, site, stored, words.as_str()))
         .holding("code", code_of(alloc, tags, call.as_str()));
     code.add(NUMBER_SETTER, &holes)
 }
 
 // The type of a number, a bool or an enum.
-fn type_of(
-    alloc: Global,
-    site: Site<'_>,
-    number: Number,
-    place: &Place,
-) -> Result<String, AllocError> {
-    match place.of.base {
+fn type_of(alloc: Global, site: Site<'_>, stored: &Stored) -> Result<String, AllocError> {
+    match stored.base {
         Base::Enum(id) => enum_name(alloc, site, id),
-        _ => String::from_str(alloc, number.type_name),
+        _ => String::from_str(alloc, stored.number.type_name),
     }
 }
 
 // The call that sets a number.
-fn call_of(alloc: Global, number: Number, place: &Place) -> Result<String, AllocError> {
-    let offset = place.offset;
-    let value = match place.of.base {
+fn call_of(alloc: Global, stored: &Stored) -> Result<String, AllocError> {
+    let offset = stored.offset;
+    let value = match stored.base {
         Base::Enum(_) => "value.to_number()",
         _ => "value",
     };
-    let default = default_bits(&place.default);
-    if default == 0 {
+    if stored.default == 0 {
         return format!(in alloc; "self.draft.set_data_field({offset}, {value});");
     }
-    if number.kind == NumberKind::Float {
-        return float_call(alloc, number, offset, default);
+    if stored.number.kind == NumberKind::Float {
+        return float_call(alloc, stored);
     }
-    let default = literal(alloc, number, default)?;
+    let default = literal(alloc, stored.number, stored.default)?;
     let default = default.as_str();
     format!(in alloc; "self.draft.set_data_field_mask({offset}, {value}, {default});")
 }
 
 // The call that sets a float that has a default, by its bits, since a default may be a NaN.
-fn float_call(
-    alloc: Global,
-    number: Number,
-    offset: u32,
-    default: u64,
-) -> Result<String, AllocError> {
-    let (bits, all) = if number.width == 32 {
+fn float_call(alloc: Global, stored: &Stored) -> Result<String, AllocError> {
+    let (offset, default) = (stored.offset, stored.default);
+    let (bits, all) = if stored.number.width == 32 {
         ("u32", " as u32")
     } else {
         ("u64", "")

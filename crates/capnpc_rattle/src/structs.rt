@@ -5,7 +5,7 @@ use crate::constants::push_constants;
 use crate::defaults::push_defaults;
 use crate::enums::enum_paths;
 use crate::fields::push_field;
-use crate::getters::{Shown, Site, shown_of};
+use crate::getters::{Site, shown_of};
 use crate::imports::push_imports;
 use crate::list_templates::LIST_READER;
 use crate::names::module;
@@ -119,22 +119,9 @@ fn push_getter(
     members: &mut Members,
 ) -> Result<(), AllocError> {
     let shown = shown_of(alloc, site, field)?;
-    push_shown(alloc, code, site, field, comment, shown.as_ref(), members)
-}
-
-// Adds the getter of a field that returns this, and the field to the members where it is one.
-fn push_shown(
-    alloc: Global,
-    code: &mut Code,
-    site: Site<'_>,
-    field: &Field,
-    comment: &str,
-    shown: Option<&Shown>,
-    members: &mut Members,
-) -> Result<(), AllocError> {
-    push_field(alloc, code, site, field, comment, shown)?;
+    push_field(alloc, code, site, field, comment, shown.as_ref())?;
     match field.member {
-        Some(number) => members.push(alloc, field, number, shown),
+        Some(number) => members.push(alloc, field, number, shown.as_ref()),
         None => Ok(()),
     }
 }
