@@ -1,9 +1,9 @@
 //! Messages that are written one after the other and read back.
 use crate::assertions::{At, assert_bytes, assert_calls, assert_count, assert_holds, assert_kind};
 use crate::faults::FORMATS;
-use crate::framed_rows::{FLATTEN, THREE};
-use crate::packed_rows::PACKED_THREE;
 use crate::readers::with_limit;
+use crate::samples::{ONE_AND_TWO, TWO};
+use crate::streams::{PACKED_THREE, THREE};
 use capnp::message::Reader;
 use capnp::streams::{Format, read_messages, write_messages};
 use capnp_frame::io::Write;
@@ -16,8 +16,6 @@ use capnp_frame_tests::refusals::kind_of;
 use capnp_frame_tests::retried;
 use capnp_frame_tests::sinks::FaultySink;
 use std::process::Abort;
-
-const TWO: &[&[u8]] = &[&[], &[1, 2, 3, 4, 5, 6, 7, 8]];
 
 const EMPTY: &[&[u8]] = &[&[]];
 
@@ -43,7 +41,7 @@ fn write_three<W: Write>(
     sink: &mut W,
 ) -> Result<()> {
     let messages = [
-        SegmentArray::new(FLATTEN),
+        SegmentArray::new(ONE_AND_TWO),
         SegmentArray::new(TWO),
         SegmentArray::new(EMPTY),
     ];
@@ -108,7 +106,7 @@ fn write_and_read(rt: &(impl Abort + AllocGlobal), format: Format) -> Result<()>
     assert_bytes(rt, text.as_slice(), text_of(format), at);
     let mut source = text_of(format);
     let two = read(rt, format, &mut source, 2, DEFAULT_LIMIT)?;
-    assert_holds(rt, are_read(&two, &[FLATTEN, TWO]), at);
+    assert_holds(rt, are_read(&two, &[ONE_AND_TWO, TWO]), at);
     let one = read(rt, format, &mut source, 1, DEFAULT_LIMIT)?;
     assert_holds(rt, are_read(&one, &[EMPTY]) && source.is_empty(), at);
     Ok(())

@@ -1,6 +1,6 @@
 //! Messages that are built, and written in both formats.
 use crate::assertions::{At, assert_bytes, assert_calls, assert_count, assert_holds, assert_kind};
-use crate::framed_rows::{HELLO, HELLO_FAR};
+use crate::samples::{FAR_FRAMED, FAR_PACKED, TEXT_FRAMED, TEXT_PACKED};
 use capnp::message::{Builder, HeapAllocator, ReaderSegments};
 use capnp::streams::Format;
 use capnp::{serialize, serialize_packed, text};
@@ -26,11 +26,8 @@ struct Built {
 const FAR: Built = Built {
     text: "hello world!",
     is_far: true,
-    framed: HELLO_FAR,
-    packed: &[
-        0x11, 1, 1, 1, 3, 0x11, 2, 1, 0x11, 1, 0x6a, 0xff, 0x68, 0x65, 0x6c, 0x6c, 0x6f, 0x20,
-        0x77, 0x6f, 0, 0x0f, 0x72, 0x6c, 0x64, 0x21,
-    ],
+    framed: FAR_FRAMED,
+    packed: FAR_PACKED,
     words: 4,
 };
 
@@ -39,11 +36,8 @@ const BUILT: [Built; 2] = [
     Built {
         text: "Hello, World!",
         is_far: false,
-        framed: HELLO,
-        packed: &[
-            0x10, 3, 0x11, 1, 0x72, 0xff, 0x48, 0x65, 0x6c, 0x6c, 0x6f, 0x2c, 0x20, 0x57, 0, 0x1f,
-            0x6f, 0x72, 0x6c, 0x64, 0x21,
-        ],
+        framed: TEXT_FRAMED,
+        packed: TEXT_PACKED,
         words: 3,
     },
     FAR,

@@ -5,13 +5,6 @@ use crate::readers::Call;
 use capnp_frame::serialize::Padding;
 use std::process::Abort;
 
-/// Two numbers that a test counts through, in one: the second in its last two digits.
-pub fn both(first: usize, second: usize) -> u64 {
-    (first as u64)
-        .saturating_mul(100)
-        .saturating_add(second as u64)
-}
-
 /// A call returned what is wanted.
 pub fn assert_call(rt: &impl Abort, holds: bool, call: Call, at: At<'_>) {
     let (format, padding, reader) = call;

@@ -1,6 +1,7 @@
 //! Canonical forms as they are written.
 use crate::assertions::{At, assert_bytes, assert_count, assert_kind};
 use crate::roots::assert_text;
+use crate::samples::{TEXT, TEXT_FRAMED, TEXT_PACKED};
 use capnp::message::{DEFAULT_READER_OPTIONS, Reader, SegmentArray};
 use capnp::serialize::write_canonical_message;
 use capnp::serialize_packed;
@@ -15,20 +16,15 @@ type Expected = std::result::Result<&'static [u8], ErrorKind>;
 
 // Segments, and their canonical form, framed; or the error.
 #[rattlefmt::skip]
-const EXPECTED: [(&[&[u8]], Expected); 8] = [
-    (&[b"\x01\0\0\0\x72\0\0\0Hello, World!\0\0\0"],
-        Ok(b"\0\0\0\0\x03\0\0\0\x01\0\0\0\x72\0\0\0Hello, World!\0\0\0")),
+const EXPECTED: [(&[&[u8]], Expected); 4] = [
+    (TEXT, Ok(TEXT_FRAMED)),
     // "hello world!" after a far pointer
     (&[b"\x02\0\0\0\x01\0\0\0", b"\x01\0\0\0\x6a\0\0\0hello world!\0\0\0\0"],
         Ok(b"\0\0\0\0\x03\0\0\0\x01\0\0\0\x6a\0\0\0hello world!\0\0\0\0")),
     // a struct of two words and a null pointer
     (&[b"\0\0\0\0\x02\0\x01\0\x05\0\0\0\0\0\0\0\0\0\0\0\0\0\0\0\0\0\0\0\0\0\0\0"],
         Ok(b"\0\0\0\0\x02\0\0\0\0\0\0\0\x01\0\0\0\x05\0\0\0\0\0\0\0")),
-    // an empty struct, one past the end, a far pointer to no segment, no word, no segment
-    (&[b"\xfc\xff\xff\xff\0\0\0\0"], Ok(b"\0\0\0\0\x01\0\0\0\xfc\xff\xff\xff\0\0\0\0")),
-    (&[b"\x04\0\0\0\0\0\0\0"], Err(ErrorKind::PointerOutOfBounds)),
-    (&[b"\x02\0\0\0\x07\0\0\0"], Err(ErrorKind::InvalidSegmentId(7))),
-    (&[b""], Err(ErrorKind::PointerOutOfBounds)),
+    // no segment
     (&[], Err(ErrorKind::InvalidSegmentId(0))),
 ];
 
@@ -73,10 +69,6 @@ fn write_form(
     Ok(())
 }
 
-const PACKED_HELLO: &[u8] = b"\x10\x03\x11\x01\x72\xffHello, W\0\x1forld!";
-
-const HELLO: &[u8] = b"\0\0\0\0\x03\0\0\0\x01\0\0\0\x72\0\0\0Hello, World!\0\0\0";
-
 #[test]
 fn a_form_of_a_packed_message(rt: HostRuntime) -> Result<()> {
     retried!(write_packed(&rt))
@@ -85,13 +77,13 @@ fn a_form_of_a_packed_message(rt: HostRuntime) -> Result<()> {
 // What a reader of packed messages returns has a form, too; a sink that is too short fails.
 fn write_packed(rt: &(impl Abort + AllocGlobal)) -> Result<()> {
     let at = At::row("a form of a packed message");
-    let mut source = PACKED_HELLO;
+    let mut source = TEXT_PACKED;
     let options = DEFAULT_READER_OPTIONS;
     let reader = serialize_packed::read_message(rt.alloc(), &mut source, options)?;
     assert_text(rt, &reader, b"Hello, World!")?;
     let mut sink: Vec<u8> = Vec::new(rt.alloc());
     assert_kind(rt, write(rt, &mut sink, &reader)?, None, at);
-    assert_bytes(rt, sink.as_slice(), HELLO, at);
+    assert_bytes(rt, sink.as_slice(), TEXT_FRAMED, at);
     let mut room = [0; 31];
     let mut sink = room.as_mut_slice();
     let short = write(rt, &mut sink, &reader)?;

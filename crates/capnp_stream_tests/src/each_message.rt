@@ -1,6 +1,5 @@
 //! What is written of each message of a stream in the other format, by both rules of padding.
 use crate::assertions::{At, assert_bytes, assert_count, assert_kind};
-use crate::padding_rows::{PACKED_TWO, TWO};
 use crate::transcodings::transcoded;
 use capnp::message::DEFAULT_READER_OPTIONS;
 use capnp::streams::{StoppedAt, write_each_message};
@@ -9,7 +8,6 @@ use capnp_frame::serialize::{Padding, TableRules};
 use capnp_frame::{ErrorKind, Result};
 use capnp_frame_tests::refusals::kind_of;
 use capnp_frame_tests::retried;
-use std::alloc::Global;
 use std::process::Abort;
 
 // What stops a run, if anything does, with the index of the message, how much is unread then, and
@@ -21,99 +19,74 @@ struct Ended {
     written: &'static [u8],
 }
 
-// A way, the encodings that are read after one another, and how runs over them end by both rules.
+// A way, the encodings that are read, one after the other, and how runs over them end by both rules.
 #[derive(Drop)]
 struct Row {
     name: &'static str,
     way: Way,
-    texts: [&'static [u8]; 3],
+    text: &'static [u8],
     strict: Ended,
     lenient: Ended,
 }
 
-// A framed message of an empty segment, and its packed encoding.
-const EMPTY: &[u8] = &[0; 8];
-
-const PACKED_EMPTY: &[u8] = &[0, 0];
-
-// Segments [] and [1, 2, 3, 4, 5, 6, 7, 8], as a writer writes them: zeros are its padding.
-const FRAMED: &[u8] = &[
-    1, 0, 0, 0, 0, 0, 0, 0, 1, 0, 0, 0, 0, 0, 0, 0, 1, 2, 3, 4, 5, 6, 7, 8,
+// Segments [] and [1, 2, 3, 4, 5, 6, 7, 8] twice, and a part of a table.
+const CUT_AFTER_TWO: &[u8] = &[
+    1, 0, 0, 0, 0, 0, 0, 0, 1, 0, 0, 0, 0, 0, 0, 0, 1, 2, 3, 4, 5, 6, 7, 8, 1, 0, 0, 0, 0, 0, 0, 0,
+    1, 0, 0, 0, 0, 0, 0, 0, 1, 2, 3, 4, 5, 6, 7, 8, 0, 0, 0,
 ];
 
-const PACKED: &[u8] = &[1, 1, 1, 1, 0xff, 1, 2, 3, 4, 5, 6, 7, 8, 0];
-
-// The encodings of an empty segment and of these after one another.
-const FRAMED_TEXTS: &[u8] = &[
-    0, 0, 0, 0, 0, 0, 0, 0, 1, 0, 0, 0, 0, 0, 0, 0, 1, 0, 0, 0, 0, 0, 0, 0, 1, 2, 3, 4, 5, 6, 7, 8,
-];
-
-const PACKED_TEXTS: &[u8] = &[0, 0, 1, 1, 1, 1, 0xff, 1, 2, 3, 4, 5, 6, 7, 8, 0];
-
-// The packed encoding twice.
+// What is written of the two.
 const PACKED_TWICE: &[u8] = &[
     1, 1, 1, 1, 0xff, 1, 2, 3, 4, 5, 6, 7, 8, 0, 1, 1, 1, 1, 0xff, 1, 2, 3, 4, 5, 6, 7, 8, 0,
 ];
 
-const CUT_AFTER_TWO: Ended = Ended {
+// An empty segment, and then these segments with a padding of nines, in each format.
+const PADDED: &[u8] = &[
+    0, 0, 0, 0, 0, 0, 0, 0, 1, 0, 0, 0, 0, 0, 0, 0, 1, 0, 0, 0, 9, 9, 9, 9, 1, 2, 3, 4, 5, 6, 7, 8,
+];
+
+const PACKED_PADDED: &[u8] = &[
+    0, 0, 1, 1, 0xf1, 1, 9, 9, 9, 9, 0xff, 1, 2, 3, 4, 5, 6, 7, 8, 0,
+];
+
+// The same as a writer writes them: zeros are its padding.
+const FRAMED: &[u8] = &[
+    0, 0, 0, 0, 0, 0, 0, 0, 1, 0, 0, 0, 0, 0, 0, 0, 1, 0, 0, 0, 0, 0, 0, 0, 1, 2, 3, 4, 5, 6, 7, 8,
+];
+
+const PACKED: &[u8] = &[0, 0, 1, 1, 1, 1, 0xff, 1, 2, 3, 4, 5, 6, 7, 8, 0];
+
+const AFTER_TWO: Ended = Ended {
     stop: Some((2, ErrorKind::FailedToFillTheWholeBuffer)),
     unread: 0,
     written: PACKED_TWICE,
 };
 
+// The encodings of the messages before the place where a run stops are written. Both ways fail for a
+// padding that isn't zero, and nothing is written of its message; their lenient forms write the
+// encoding of zero padding.
 #[rattlefmt::skip]
-const ROWS: [Row; 7] = [
-    Row {
-        name: "packed",
-        way: Way::Pack,
-        texts: [FRAMED, &[], &[]],
-        strict: Ended { stop: None, unread: 0, written: PACKED },
-        lenient: Ended { stop: None, unread: 0, written: PACKED },
-    },
-    Row {
-        name: "unpacked",
-        way: Way::Unpack,
-        texts: [PACKED, &[], &[]],
-        strict: Ended { stop: None, unread: 0, written: FRAMED },
-        lenient: Ended { stop: None, unread: 0, written: FRAMED },
-    },
-    // The encodings of the messages before the place where a run stops are written.
+const ROWS: [Row; 3] = [
     Row {
         name: "packed up to a cut word",
         way: Way::Pack,
-        texts: [FRAMED, FRAMED, &[0, 0, 0]],
-        strict: CUT_AFTER_TWO,
-        lenient: CUT_AFTER_TWO,
-    },
-    // Both ways fail for a padding that isn't zero, and nothing is written of its message. Their
-    // lenient forms write the encoding of zero padding.
-    Row {
-        name: "another padding, packed",
-        way: Way::Pack,
-        texts: [TWO, &[], &[]],
-        strict: Ended { stop: Some((0, ErrorKind::NonZeroPadding)), unread: 8, written: &[] },
-        lenient: Ended { stop: None, unread: 0, written: PACKED },
-    },
-    Row {
-        name: "another padding, unpacked",
-        way: Way::Unpack,
-        texts: [PACKED_TWO, &[], &[]],
-        strict: Ended { stop: Some((0, ErrorKind::NonZeroPadding)), unread: 10, written: &[] },
-        lenient: Ended { stop: None, unread: 0, written: FRAMED },
+        text: CUT_AFTER_TWO,
+        strict: AFTER_TWO,
+        lenient: AFTER_TWO,
     },
     Row {
         name: "another padding after a message, packed",
         way: Way::Pack,
-        texts: [EMPTY, TWO, &[]],
-        strict: Ended { stop: Some((1, ErrorKind::NonZeroPadding)), unread: 8, written: PACKED_EMPTY },
-        lenient: Ended { stop: None, unread: 0, written: PACKED_TEXTS },
+        text: PADDED,
+        strict: Ended { stop: Some((1, ErrorKind::NonZeroPadding)), unread: 8, written: &[0, 0] },
+        lenient: Ended { stop: None, unread: 0, written: PACKED },
     },
     Row {
         name: "another padding after a message, unpacked",
         way: Way::Unpack,
-        texts: [PACKED_EMPTY, PACKED_TWO, &[]],
-        strict: Ended { stop: Some((1, ErrorKind::NonZeroPadding)), unread: 10, written: EMPTY },
-        lenient: Ended { stop: None, unread: 0, written: FRAMED_TEXTS },
+        text: PACKED_PADDED,
+        strict: Ended { stop: Some((1, ErrorKind::NonZeroPadding)), unread: 10, written: &[0; 8] },
+        lenient: Ended { stop: None, unread: 0, written: FRAMED },
     },
 ];
 
@@ -126,15 +99,6 @@ fn both_rules(rt: HostRuntime) -> Result<()> {
         retried!(transcode_row(&rt, row, Padding::Any, &row.lenient))?;
     }
     Ok(())
-}
-
-// The encodings, one after the other.
-fn joined(alloc: Global, texts: &[&[u8]]) -> Result<Vec<u8>> {
-    let mut bytes: Vec<u8> = Vec::new(alloc);
-    for text in texts {
-        bytes.extend_from_slice(*text)?;
-    }
-    Ok(bytes)
 }
 
 // A row, and 1 where any padding is accepted.
@@ -157,8 +121,7 @@ fn write_each(
     padding: Padding,
     ended: &Ended,
 ) -> Result<()> {
-    let input = joined(rt.alloc(), &row.texts)?;
-    let mut source = input.as_slice();
+    let mut source = row.text;
     let mut sink: Vec<u8> = Vec::new(rt.alloc());
     let stop = stop_of(write_each_message(
         rt.alloc(),
@@ -181,8 +144,7 @@ fn transcode_row(
     padding: Padding,
     ended: &Ended,
 ) -> Result<()> {
-    let input = joined(rt.alloc(), &row.texts)?;
-    let mut source = input.as_slice();
+    let mut source = row.text;
     let mut sink: Vec<u8> = Vec::new(rt.alloc());
     let returned = if padding == Padding::Any {
         transcoded_leniently(rt, row.way, &mut source, &mut sink)?

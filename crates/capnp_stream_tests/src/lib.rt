@@ -25,23 +25,7 @@ mod faults;
 #[cfg(test)]
 mod flat;
 #[cfg(test)]
-mod flat_paddings;
-#[cfg(test)]
-mod flat_rows;
-#[cfg(test)]
-mod framed_rows;
-#[cfg(test)]
 mod kept_memory;
-#[cfg(test)]
-mod packed_rows;
-#[cfg(test)]
-mod padding;
-#[cfg(test)]
-mod padding_rows;
-#[cfg(test)]
-mod prefixes;
-#[cfg(test)]
-mod provided;
 #[cfg(test)]
 mod readers;
 #[cfg(test)]
@@ -52,8 +36,6 @@ mod roots;
 mod samples;
 #[cfg(test)]
 mod segment_counts;
-#[cfg(test)]
-mod segment_ends;
 #[cfg(test)]
 mod skipping;
 #[cfg(test)]

@@ -1,10 +1,8 @@
 //! Roots of messages that are read in place.
 use crate::assertions::{At, assert_refused};
-use crate::framed_rows::{HELLO, HELLO_FAR};
-use capnp::message::{DEFAULT_READER_OPTIONS, Reader, ReaderOptions, ReaderSegments};
+use crate::samples::TEXT_FRAMED;
+use capnp::message::{Reader, ReaderOptions, ReaderSegments};
 use capnp::{ErrorKind, Result, data, serialize, text};
-use capnp_frame_tests::retried;
-use capnp_frame_tests::sources::Trickle;
 use std::process::Abort;
 
 /// The root is this text.
@@ -18,35 +16,10 @@ pub fn assert_text<S: ReaderSegments>(
     Ok(())
 }
 
-// A text after a far pointer, of a source that returns at most 2 bytes a read.
-#[test]
-fn a_text_after_a_far_pointer(rt: HostRuntime) -> Result<()> {
-    let mut source = Trickle::new(HELLO_FAR, 2);
-    let mut buffer = [0xaa; 512];
-    let options = DEFAULT_READER_OPTIONS;
-    let reader = serialize::read_message_no_alloc(&mut source, &mut buffer, options)?;
-    assert_text(&rt, &reader, b"hello world!")?;
-    assert!(rt; source.bytes.is_empty());
-    Ok(())
-}
-
-#[test]
-fn the_root_of_a_slice(rt: HostRuntime) -> Result<()> {
-    retried!(read_root(&rt))
-}
-
-fn read_root(rt: &(impl Abort + AllocGlobal)) -> Result<()> {
-    let mut slice = HELLO;
-    let options = DEFAULT_READER_OPTIONS;
-    let reader = serialize::read_message_from_flat_slice(rt.alloc(), &mut slice, options)?;
-    assert!(rt; slice.is_empty());
-    assert_text(rt, &reader, b"Hello, World!")
-}
-
 // What is read of a message counts against its limit.
 #[test]
 fn a_root_past_the_limit(rt: HostRuntime) -> Result<()> {
-    let mut slice = HELLO;
+    let mut slice = TEXT_FRAMED;
     let mut limited = ReaderOptions::new();
     let _ = limited.traversal_limit_in_words(Some(3));
     let reader = serialize::read_message_from_flat_slice_no_alloc(&mut slice, limited)?;

@@ -1,11 +1,8 @@
-//! The number of segments that writers take: as many as a reader accepts, and none more.
+//! Lists of messages of as many segments as a reader accepts, and of more.
 use crate::appended::{are_read, read_back};
-use crate::assertions::{At, assert_bytes, assert_holds, assert_kind};
+use crate::assertions::{At, assert_holds, assert_kind};
 use crate::faults::FORMATS;
-use crate::writers::{WRITERS, Writer, write};
 use capnp::streams::Format;
-use capnp_frame::message::SegmentArray;
-use capnp_frame::serialize::{is_writable, serialized_size_in_words};
 use capnp_frame::{ErrorKind, Result};
 use capnp_frame_tests::refusals::kind_of;
 use capnp_frame_tests::retried;
@@ -15,38 +12,11 @@ const WORD: &[u8] = &[1, 2, 3, 4, 5, 6, 7, 8];
 
 const EMPTY: &[u8] = &[];
 
-// One segment more than a reader accepts, and many more.
-const MORE: [&[u8]; 512] = [EMPTY; 512];
-
+// Many more than a reader accepts.
 const MANY: [&[u8]; 600] = [EMPTY; 600];
 
 // As many as it accepts.
 const WORDS: [&[u8]; 511] = [WORD; 511];
-
-// Each writer tells their number, and its sink stays as it was.
-#[test]
-fn one_segment_more_than_a_reader_accepts(rt: HostRuntime) -> Result<()> {
-    for (number, writer) in (0..).zip(&WRITERS) {
-        retried!(refuse(&rt, *writer, At::new("512 segments", number)))?;
-    }
-    let array = SegmentArray::new(&MORE);
-    assert!(rt; is_writable(&array));
-    assert!(rt; serialized_size_in_words(&array).is_ok_and(|size| size == 257));
-    Ok(())
-}
-
-fn refuse(rt: &(impl Abort + AllocGlobal), writer: Writer, at: At<'_>) -> Result<()> {
-    let mut sink = [9].to_vec(rt.alloc())?;
-    let returned = kind_of(write(rt, writer, &mut sink, &SegmentArray::new(&MORE)))?;
-    assert_kind(
-        rt,
-        returned,
-        Some(ErrorKind::InvalidNumberOfSegments(512)),
-        at,
-    );
-    assert_bytes(rt, sink.as_slice(), &[9], at);
-    Ok(())
-}
 
 // A list with as many segments as a reader accepts is read back as it was written, to its end; one
 // with more in its second message is not written.

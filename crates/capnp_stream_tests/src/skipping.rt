@@ -1,13 +1,8 @@
-//! Messages that are skipped, by the rows of the readers: the lengths of the segments are returned,
-//! and a call fails and consumes as a reader does.
+//! Messages that are skipped: the lengths of the segments are returned, and a call fails and consumes
+//! as a reader does.
 use crate::assertions::{At, assert_count, assert_holds};
-use crate::flat::RULES;
-use crate::framed_rows::FRAMED;
-use crate::packed_rows::PACKED;
-use crate::padding::by_rule;
-use crate::padding_rows::{FRAMED_PADDINGS, PACKED_PADDINGS, PaddedStream};
-use crate::readers::{Reader, is_returned, with_limit};
-use crate::streams::{Stream, Wanted};
+use crate::streams::{Expected, STREAMS, Wanted};
+use capnp::message::DEFAULT_READER_OPTIONS;
 use capnp::streams::Format;
 use capnp::{serialize, serialize_packed};
 use capnp_frame::io::BufRead;
@@ -39,11 +34,10 @@ fn is_skipped<R: BufRead>(
     alloc: Global,
     (format, padding): (Format, Padding),
     source: &mut R,
-    limit: Option<usize>,
     wanted: Wanted<'_>,
 ) -> Result<bool> {
     let spare = SegmentLengthsBuilder::empty(alloc);
-    let options = with_limit(limit);
+    let options = DEFAULT_READER_OPTIONS;
     let skipped = match format {
         Format::Framed => serialize::try_skip_message(source, padding, options, spare),
         Format::Packed => serialize_packed::try_skip_message(source, padding, options, spare),
@@ -62,71 +56,53 @@ fn is_skipped<R: BufRead>(
     })
 }
 
-#[test]
-fn framed_streams_are_skipped(rt: HostRuntime) -> Result<()> {
-    for most in 1..=24 {
-        skip_streams(&rt, (Format::Framed, Padding::Zero), &FRAMED, most)?;
-    }
-    skip_streams(&rt, (Format::Framed, Padding::Any), &FRAMED, 7)?;
-    skip_paddings(&rt, Format::Framed, &FRAMED_PADDINGS)
-}
+// Framed messages that fail: for their number of segments, for their words, for their padding, and
+// where a segment is cut. Packed ones are in `capnp_frame_tests`.
+#[rattlefmt::skip]
+const REFUSED: [(&[u8], Expected); 4] = [
+    (&[255, 1, 0, 0, 0, 0, 0, 0, 1, 2, 3, 4, 5],
+        (Wanted::Refused(ErrorKind::InvalidNumberOfSegments(512)), 5)),
+    (&[1, 0, 0, 0, 255, 255, 255, 255, 2, 0, 0, 0, 0, 0, 0, 0],
+        (Wanted::Refused(ErrorKind::MessageTooLarge(4294967297)), 0)),
+    (&[1, 0, 0, 0, 0, 0, 0, 0, 1, 0, 0, 0, 9, 9, 9, 9, 1, 2, 3, 4, 5, 6, 7, 8],
+        (Wanted::Refused(ErrorKind::NonZeroPadding), 8)),
+    (&[0, 0, 0, 0, 2, 0, 0, 0, 1, 2, 3, 4, 5, 6, 7, 8, 9, 10, 11],
+        (Wanted::Refused(ErrorKind::FailedToFillTheWholeBuffer), 0)),
+];
 
 #[test]
-fn packed_streams_are_skipped(rt: HostRuntime) -> Result<()> {
+fn messages_are_skipped(rt: HostRuntime) -> Result<()> {
     for most in 1..=24 {
-        skip_streams(&rt, (Format::Packed, Padding::Zero), &PACKED, most)?;
-    }
-    skip_streams(&rt, (Format::Packed, Padding::Any), &PACKED, 7)?;
-    skip_paddings(&rt, Format::Packed, &PACKED_PADDINGS)
-}
-
-fn skip_streams(
-    rt: &(impl Abort + AllocGlobal),
-    call: (Format, Padding),
-    streams: &[Stream],
-    most: usize,
-) -> Result<()> {
-    for stream in streams {
-        retried!(skip_stream(rt, call, stream, most))?;
-    }
-    Ok(())
-}
-
-fn skip_paddings(
-    rt: &(impl Abort + AllocGlobal),
-    format: Format,
-    streams: &[PaddedStream],
-) -> Result<()> {
-    for most in [1, 3, 8, 24] {
-        for rule in &RULES {
-            for stream in streams {
-                let stream = by_rule(stream, *rule);
-                retried!(skip_stream(rt, (format, *rule), &stream, most))?;
-            }
+        for stream in &STREAMS {
+            let call = (stream.format, Padding::Zero);
+            retried!(skip_each(&rt, call, (stream.name, stream.bytes), stream.returns, most))?;
+        }
+        for (bytes, returned) in &REFUSED {
+            let call = (Format::Framed, Padding::Zero);
+            retried!(skip_each(&rt, call, ("a refusal", *bytes), &[*returned], most))?;
         }
     }
+    for stream in &STREAMS {
+        let call = (stream.format, Padding::Any);
+        retried!(skip_each(&rt, call, (stream.name, stream.bytes), stream.returns, 7))?;
+    }
     Ok(())
 }
 
-// One message after another is skipped, and read from a source of the same bytes.
-fn skip_stream(
+// One message after another is skipped.
+fn skip_each(
     rt: &(impl Abort + AllocGlobal),
-    (format, padding): (Format, Padding),
-    stream: &Stream,
+    call: (Format, Padding),
+    (name, bytes): (&str, &[u8]),
+    returns: &[Expected],
     most: usize,
 ) -> Result<()> {
-    let at = At::new(stream.name, most as u64);
-    let call = (format, padding, Reader::Copying);
-    let mut source = Trickle::new(stream.bytes, most);
-    let mut read = Trickle::new(stream.bytes, most);
-    for (wanted, unread) in stream.returns {
-        let alloc = rt.alloc();
-        let skipped = is_skipped(alloc, (format, padding), &mut source, stream.limit, *wanted)?;
+    let at = At::new(name, most as u64);
+    let mut source = Trickle::new(bytes, most);
+    for (wanted, unread) in returns {
+        let skipped = is_skipped(rt.alloc(), call, &mut source, *wanted)?;
         assert_holds(rt, skipped, at);
-        let returned = is_returned(alloc, call, &mut read, stream.limit, *wanted)?;
-        assert_holds(rt, returned, at);
-        let left = unread.unwrap_or(read.bytes.len());
-        assert_count(rt, source.bytes.len(), left, at);
+        assert_count(rt, source.bytes.len(), *unread, at);
     }
     Ok(())
 }

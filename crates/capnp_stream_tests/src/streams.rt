@@ -1,12 +1,13 @@
-//! Messages after one another, by each call that reads the next one of a stream.
+//! Messages after one another, by each call that reads the next one of a stream: they are read where
+//! memory is there. What else the bytes of a stream may be is in `conformance/`.
 use crate::assertions::At;
 use crate::calls_declared::{assert_call, assert_unread};
-use crate::framed_rows::FRAMED;
-use crate::packed_rows::PACKED;
+use crate::flat::RULES;
 use crate::readers::{Call, READERS, is_returned};
+use crate::samples::{ONE_AND_TWO, TEXT, TEXT_FRAMED, TEXT_PACKED, TWO};
 use capnp::streams::Format;
-use capnp_frame::serialize::Padding;
 use capnp_frame::{ErrorKind, Result};
+use capnp_frame_tests::limits::DEFAULT_LIMIT;
 use capnp_frame_tests::retried;
 use capnp_frame_tests::sources::Trickle;
 use std::process::Abort;
@@ -21,60 +22,93 @@ pub enum Wanted<'a> {
     Refused(ErrorKind),
 }
 
-/// What a call returns, and how many bytes stay unread; where a packed chunk fails, that is open.
-pub type Expected = (Wanted<'static>, Option<usize>);
+/// What a call returns, and how many bytes stay unread.
+pub type Expected = (Wanted<'static>, usize);
 
 /// What the calls return one after another where these bytes are unread.
 #[derive(Clone, Copy)]
 pub struct Stream {
     pub name: &'static str,
+    pub format: Format,
     pub bytes: &'static [u8],
-    pub limit: Option<usize>,
     pub returns: &'static [Expected],
 }
 
-pub const END: Expected = (Wanted::End, Some(0));
+pub const END: Expected = (Wanted::End, 0);
 
-#[test]
-fn framed_streams(rt: HostRuntime) -> Result<()> {
-    read_rows(&rt, Format::Framed, &FRAMED)
-}
+/// The encodings of three messages after one another: of segments of one and of two words, of an
+/// empty one and one of a word, and of an empty one.
+pub const THREE: &[u8] = &[
+    1, 0, 0, 0, 1, 0, 0, 0, 2, 0, 0, 0, 0, 0, 0, 0, 123, 0, 0, 0, 0, 0, 0, 0, 4, 0, 0, 0, 0, 0, 0,
+    0, 5, 0, 0, 0, 0, 0, 0, 0, 1, 0, 0, 0, 0, 0, 0, 0, 1, 0, 0, 0, 0, 0, 0, 0, 1, 2, 3, 4, 5, 6, 7,
+    8, 0, 0, 0, 0, 0, 0, 0, 0,
+];
 
-#[test]
-fn packed_streams(rt: HostRuntime) -> Result<()> {
-    read_rows(&rt, Format::Packed, &PACKED)
-}
+/// The packed encodings of the same messages.
+pub const PACKED_THREE: &[u8] = &[
+    0x11, 1, 1, 1, 2, 1, 123, 1, 4, 1, 5, 1, 1, 1, 1, 0xff, 1, 2, 3, 4, 5, 6, 7, 8, 0, 0, 0,
+];
+
+const EMPTY: Wanted<'static> = Wanted::Segments(&[&[]]);
+
+#[rattlefmt::skip]
+pub const STREAMS: [Stream; 4] = [
+    Stream {
+        name: "hello",
+        format: Format::Framed,
+        bytes: TEXT_FRAMED,
+        returns: &[(Wanted::Segments(TEXT), 0), END],
+    },
+    Stream {
+        name: "hello, packed",
+        format: Format::Packed,
+        bytes: TEXT_PACKED,
+        returns: &[(Wanted::Segments(TEXT), 0), END],
+    },
+    Stream {
+        name: "flatten, two-segments and an empty segment",
+        format: Format::Framed,
+        bytes: THREE,
+        returns: &[
+            (Wanted::Segments(ONE_AND_TWO), 32),
+            (Wanted::Segments(TWO), 8),
+            (EMPTY, 0),
+            END,
+        ],
+    },
+    Stream {
+        name: "flatten, two-segments and an empty segment, packed",
+        format: Format::Packed,
+        bytes: PACKED_THREE,
+        returns: &[
+            (Wanted::Segments(ONE_AND_TWO), 16),
+            (Wanted::Segments(TWO), 2),
+            (EMPTY, 0),
+            END,
+        ],
+    },
+];
 
 // However little a source shows or returns, each call returns the same. No row has a padding that
 // isn't zero, so the lenient calls return the same, too.
-fn read_rows(rt: &(impl Abort + AllocGlobal), format: Format, streams: &[Stream]) -> Result<()> {
-    for most in 1..=24 {
-        read_each(rt, (format, Padding::Zero), streams, most)?;
-    }
+#[test]
+fn messages_after_one_another(rt: HostRuntime) -> Result<()> {
     for most in [1, 7, 24] {
-        read_each(rt, (format, Padding::Any), streams, most)?;
-    }
-    Ok(())
-}
-
-fn read_each(
-    rt: &(impl Abort + AllocGlobal),
-    (format, padding): (Format, Padding),
-    streams: &[Stream],
-    most: usize,
-) -> Result<()> {
-    for reader in &READERS {
-        for stream in streams {
-            let call = (format, padding, *reader);
-            retried!(read_stream(rt, call, stream, most))?;
+        for reader in &READERS {
+            for padding in &RULES {
+                for stream in &STREAMS {
+                    let call = (stream.format, *padding, *reader);
+                    retried!(read_stream(&rt, call, stream, most))?;
+                }
+            }
         }
     }
     Ok(())
 }
 
-/// Asks for one message after another, of a source that shows or returns at most a given number of
-/// bytes.
-pub fn read_stream(
+// Asks for one message after another, of a source that shows or returns at most a given number of
+// bytes.
+fn read_stream(
     rt: &(impl Abort + AllocGlobal),
     call: Call,
     stream: &Stream,
@@ -83,10 +117,9 @@ pub fn read_stream(
     let at = At::new(stream.name, most as u64);
     let mut source = Trickle::new(stream.bytes, most);
     for (wanted, unread) in stream.returns {
-        let returned = is_returned(rt.alloc(), call, &mut source, stream.limit, *wanted)?;
+        let returned = is_returned(rt.alloc(), call, &mut source, DEFAULT_LIMIT, *wanted)?;
         assert_call(rt, returned, call, at);
-        let left = source.bytes.len();
-        assert_unread(rt, left, unread.unwrap_or(left), call, at);
+        assert_unread(rt, source.bytes.len(), *unread, call, at);
     }
     Ok(())
 }

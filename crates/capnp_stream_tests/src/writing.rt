@@ -1,10 +1,5 @@
 //! What is written of messages, by the calls over a sink and by those into memory.
 use crate::assertions::{At, assert_holds};
-use crate::calls_declared::assert_call;
-use crate::faults::FORMATS;
-use crate::packed_rows::NO_WORDS;
-use crate::readers::{Reader, is_returned};
-use crate::streams::Wanted;
 use crate::writers::{WRITERS, Writer, write};
 use capnp::streams::Format;
 use capnp_frame::message::{DEFAULT_READER_OPTIONS, ReaderSegments, SegmentArray};
@@ -12,7 +7,6 @@ use capnp_frame::serialize::{
     BufferSegments, OwnedSegments, Padding, TableRules, is_writable, serialized_size_in_words,
 };
 use capnp_frame::{Error, ErrorKind, Result};
-use capnp_frame_tests::limits::DEFAULT_LIMIT;
 use capnp_frame_tests::messages::{MESSAGES, Message, has_segments, is_framed};
 use capnp_frame_tests::retried;
 use capnp_pack::stream::try_read_packed_segments;
@@ -131,87 +125,5 @@ fn messages_in_each_form(rt: HostRuntime) -> Result<()> {
             }
         }
     }
-    Ok(())
-}
-
-#[test]
-fn as_many_segments_as_a_reader_accepts(rt: HostRuntime) -> Result<()> {
-    for writer in &WRITERS {
-        retried!(write_empty_segments(&rt, *writer))?;
-    }
-    Ok(())
-}
-
-// 511 empty segments: a table of 256 words, of which only the first isn't zero. Readers' rows have
-// these encodings, too.
-fn write_empty_segments(rt: &(impl Abort + AllocGlobal), writer: Writer) -> Result<()> {
-    let mut text: Vec<u8> = Vec::new(rt.alloc());
-    write(rt, writer, &mut text, &SegmentArray::new(&NO_WORDS))?;
-    let is_written = match writer.format() {
-        Format::Framed => {
-            text.len() == 2048
-                && text.as_slice().starts_with(&[254, 1, 0, 0])
-                && text.as_slice().ends_with(&[0; 2044])
-        }
-        Format::Packed => text.as_slice() == [3, 254, 1, 0, 254].as_slice(),
-    };
-    assert!(rt; is_written, "{writer:?}");
-    Ok(())
-}
-
-// A table has a word of its own even where there are no segments.
-#[test]
-fn the_sizes_of_empty_segments(rt: HostRuntime) {
-    assert!(rt; has_size(&SegmentArray::new(&NO_WORDS), 256));
-    assert!(rt; serialized_size_in_words(&SegmentArray::new(&[])).is_ok_and(|size| size == 1));
-}
-
-// What is written is read back as it was, and then there is no message.
-#[test]
-fn messages_after_one_another(rt: HostRuntime) -> Result<()> {
-    for format in &FORMATS {
-        retried!(append_and_read(&rt, *format))?;
-    }
-    Ok(())
-}
-
-fn append_and_read(rt: &(impl Abort + AllocGlobal), format: Format) -> Result<()> {
-    let mut text: Vec<u8> = Vec::new(rt.alloc());
-    append_each(rt, format, &MESSAGES, &mut text)?;
-    read_each(rt, format, &MESSAGES, &text)
-}
-
-// Appends all messages to one sink.
-fn append_each(
-    rt: &(impl Abort + AllocGlobal),
-    format: Format,
-    messages: &[Message],
-    text: &mut Vec<u8>,
-) -> Result<()> {
-    let writer = match format {
-        Format::Framed => Writer::Framed,
-        Format::Packed => Writer::Packed,
-    };
-    for message in messages {
-        write(rt, writer, text, &SegmentArray::new(message.segments))?;
-    }
-    Ok(())
-}
-
-fn read_each(
-    rt: &(impl Abort + AllocGlobal),
-    format: Format,
-    messages: &[Message],
-    text: &[u8],
-) -> Result<()> {
-    let call = (format, Padding::Zero, Reader::Copying);
-    let mut source = text;
-    for message in messages {
-        let wanted = Wanted::Segments(message.segments);
-        let returned = is_returned(rt.alloc(), call, &mut source, DEFAULT_LIMIT, wanted)?;
-        assert_call(rt, returned, call, At::row(message.name));
-    }
-    let ended = is_returned(rt.alloc(), call, &mut source, DEFAULT_LIMIT, Wanted::End)?;
-    assert_call(rt, ended, call, At::row("the end"));
     Ok(())
 }
