@@ -1,4 +1,5 @@
-//! The worked rows of chunks that are packed by themselves.
+//! Rows of chunks that are packed by themselves, for what no contract says: in how many chunks an
+//! encoding is handed on, and what a source is asked for. Encodings are in `conformance/packing.txt`.
 
 /// Chunks, and their packed encodings after one another.
 #[derive(Drop)]
@@ -21,10 +22,9 @@ const NONE: Packed = Packed {
 };
 
 #[rattlefmt::skip]
-pub const PACKED: [Packed; 22] = [
+pub const PACKED: [Packed; 10] = [
     NONE,
     Packed { name: "packer, no word", chunks: &[&[]], handed: Some(0), ..NONE },
-    Packed { name: "packer, a zero word", chunks: &[&[0; 8]], text: &[0, 0], ..NONE },
     // The packer hands on what it collected at the end of a chunk: few bytes in one call.
     Packed {
         name: "packer, 258 zero words",
@@ -34,57 +34,10 @@ pub const PACKED: [Packed; 22] = [
         ..NONE
     },
     Packed {
-        name: "packer, two bytes of a word",
-        chunks: &[&[0, 0, 12, 0, 0, 34, 0, 0]],
-        text: &[0x24, 12, 34],
-        ..NONE
-    },
-    Packed {
-        name: "packer, two whole words",
-        chunks: &[&[1, 3, 2, 4, 5, 7, 6, 8, 8, 6, 7, 4, 5, 2, 3, 1]],
-        text: &[0xff, 1, 3, 2, 4, 5, 7, 6, 8, 1, 8, 6, 7, 4, 5, 2, 3, 1],
-        ..NONE
-    },
-    Packed {
-        name: "packer, zero words between others",
-        chunks: &[&[8, 0, 100, 6, 0, 1, 1, 2, 0, 0, 0, 0, 0, 0, 0, 0, 0, 0, 0, 0, 0, 0, 0, 0,
-                    0, 0, 0, 0, 0, 0, 0, 0, 0, 0, 1, 0, 2, 0, 3, 1]],
-        text: &[0xed, 8, 100, 6, 1, 1, 2, 0, 2, 0xd4, 1, 2, 3, 1],
-        ..NONE
-    },
-    Packed {
-        name: "literal-runs",
-        chunks: &[&[1, 2, 3, 4, 5, 6, 7, 8, 1, 2, 3, 4, 5, 6, 7, 8, 6, 2, 4, 3, 9, 0, 5, 1,
-                    1, 2, 3, 4, 5, 6, 7, 8, 0, 2, 4, 0, 9, 0, 5, 1]],
-        text: &[0xff, 1, 2, 3, 4, 5, 6, 7, 8, 3, 1, 2, 3, 4, 5, 6, 7, 8, 6, 2, 4, 3, 9, 0, 5, 1,
-                1, 2, 3, 4, 5, 6, 7, 8, 0xd6, 2, 4, 9, 5, 1],
-        ..NONE
-    },
-    Packed {
-        name: "literal-runs, one word thrice",
-        chunks: &[&[1, 2, 3, 4, 5, 6, 7, 8, 1, 2, 3, 4, 5, 6, 7, 8, 1, 2, 3, 4, 5, 6, 7, 8,
-                    1, 2, 3, 4, 5, 6, 7, 8, 0, 2, 4, 0, 9, 0, 5, 1]],
-        text: &[0xff, 1, 2, 3, 4, 5, 6, 7, 8, 3, 1, 2, 3, 4, 5, 6, 7, 8, 1, 2, 3, 4, 5, 6, 7, 8,
-                1, 2, 3, 4, 5, 6, 7, 8, 0xd6, 2, 4, 9, 5, 1],
-        ..NONE
-    },
-    Packed {
         name: "literal-runs, one word",
         chunks: &[&[1, 3, 2, 4, 5, 7, 6, 8]],
         text: &[0xff, 1, 3, 2, 4, 5, 7, 6, 8, 0],
         handed: Some(1),
-        ..NONE
-    },
-    Packed {
-        name: "literal-runs, after a zero word",
-        chunks: &[&[0, 0, 0, 0, 0, 0, 0, 0, 1, 3, 2, 4, 5, 7, 6, 8]],
-        text: &[0, 0, 0xff, 1, 3, 2, 4, 5, 7, 6, 8, 0],
-        ..NONE
-    },
-    Packed {
-        name: "literal-runs, after another word",
-        chunks: &[&[0, 0, 12, 0, 0, 34, 0, 0, 1, 3, 2, 4, 5, 7, 6, 8]],
-        text: &[0x24, 12, 34, 0xff, 1, 3, 2, 4, 5, 7, 6, 8, 0],
         ..NONE
     },
     // A literal run that fits is collected with what is about it.
@@ -109,30 +62,10 @@ pub const PACKED: [Packed; 22] = [
         handed: Some(3),
         ..NONE
     },
-    // No run goes from a chunk into the next.
-    Packed { name: "two chunks of zeros", chunks: &[&[0; 8], &[0; 8]], text: &[0, 0, 0, 0], ..NONE },
     Packed {
         name: "three chunks of zeros, one of no word",
         chunks: &[&[0; 16], &[], &[0; 2064]],
         text: &[0, 1, 0, 255, 0, 1],
-        ..NONE
-    },
-    Packed {
-        name: "two chunks of a literal run",
-        chunks: &[&[1, 2, 3, 4, 5, 6, 7, 8], &[1, 2, 3, 4, 5, 6, 7, 8]],
-        text: &[0xff, 1, 2, 3, 4, 5, 6, 7, 8, 0, 0xff, 1, 2, 3, 4, 5, 6, 7, 8, 0],
-        ..NONE
-    },
-    Packed {
-        name: "a word, and a chunk of zeros",
-        chunks: &[&[0, 0, 12, 0, 0, 34, 0, 0], &[0; 24]],
-        text: &[0x24, 12, 34, 0, 2],
-        ..NONE
-    },
-    Packed {
-        name: "zeros, and a chunk of a word",
-        chunks: &[&[0; 24], &[0, 0, 12, 0, 0, 34, 0, 0]],
-        text: &[0, 2, 0x24, 12, 34],
         ..NONE
     },
     // A literal run ends before a word with two zero bytes: three words of 27 bytes.

@@ -80,49 +80,38 @@ fn unpack_chunk(
     Ok(())
 }
 
-// Encodings, how many bytes are asked for, and the kind.
+// Encodings of which no whole words are asked for, and how many bytes are.
 #[rattlefmt::skip]
-const REFUSED: [(&str, &[u8], usize, ErrorKind); 11] = [
-    ("chunk-refusals, a cut literal run", &[0xff, 1, 2, 3, 4, 5, 6, 7, 8, 1, 1, 2], 16,
-     ErrorKind::FailedToFillTheWholeBuffer),
-    ("chunk-refusals, a run past the end", &[0xff, 1, 2, 3, 4, 5, 6, 7, 8, 37, 1, 2], 200,
-     ErrorKind::PackedInputDidNotEndCleanlyOnASegmentBoundary),
-    ("chunk-refusals, a cut word", &[0xf0, 1, 2], 200, ErrorKind::PrematureEndOfPackedInput),
-    ("chunk-refusals, no count of zeros", &[0], 200, ErrorKind::PrematureEndOfPackedInput),
-    ("chunk-refusals, no count of words", &[0xff, 1, 2, 3, 4, 5, 6, 7, 8], 200,
-     ErrorKind::PrematureEndOfPackedInput),
-    ("chunk-refusals, one word", &[1, 1], 200, ErrorKind::PrematureEndOfPackedInput),
-    ("chunk-refusals, nothing", &[], 8, ErrorKind::FailedToFillTheWholeBuffer),
-    ("chunk-refusals, a part of a word of nothing", &[], 12, ErrorKind::NotWholeWords),
-    ("parts of a word, 12 bytes", &[1, 7, 0, 0], 12, ErrorKind::NotWholeWords),
-    ("parts of a word, 7 bytes", &[1, 7, 0, 0], 7, ErrorKind::NotWholeWords),
-    ("parts of a word, 12 bytes of a word", &[1, 1], 12, ErrorKind::NotWholeWords),
+const PARTS_OF_WORDS: [(&str, &[u8], usize); 4] = [
+    ("a part of a word of nothing", &[], 12),
+    ("parts of a word, 12 bytes", &[1, 7, 0, 0], 12),
+    ("parts of a word, 7 bytes", &[1, 7, 0, 0], 7),
+    ("parts of a word, 12 bytes of a word", &[1, 1], 12),
 ];
 
 #[test]
-fn chunks_are_refused(rt: HostRuntime) {
-    for &(name, text, length, kind) in &REFUSED {
-        for most in 1..=24 {
-            refuse(&rt, text, length.min(200), kind, At::new(name, most));
+fn parts_of_words_are_refused(rt: HostRuntime) {
+    for &(name, text, length) in &PARTS_OF_WORDS {
+        for most in [1, 24] {
+            refuse(&rt, text, length, At::new(name, most));
         }
     }
 }
 
 // For a part of a word nothing is asked, and nothing is written.
-fn refuse(rt: &impl Abort, text: &[u8], length: usize, kind: ErrorKind, at: At<'_>) {
+fn refuse(rt: &impl Abort, text: &[u8], length: usize, at: At<'_>) {
+    let kind = ErrorKind::NotWholeWords;
     let mut source = Trickle::new(text, at.number as usize);
-    let mut space = [0xaa; 200];
-    let room = &mut space[..length.min(200)];
+    let mut space = [0xaa; 12];
+    let room = &mut space[..length.min(12)];
     assert_refused(rt, unpack(&mut source, room), kind, at);
-    if kind == ErrorKind::NotWholeWords {
-        assert_refused(rt, unpack_some(&mut source, room), kind, at);
-        assert_holds(
-            rt,
-            source.bytes == text && source.fills == 0 && source.reads == 0,
-            at,
-        );
-        assert_bytes(rt, &space, &[0xaa; 200], at);
-    }
+    assert_refused(rt, unpack_some(&mut source, room), kind, at);
+    assert_holds(
+        rt,
+        source.bytes == text && source.fills == 0 && source.reads == 0,
+        at,
+    );
+    assert_bytes(rt, &space, &[0xaa; 12], at);
 }
 
 // Of no more words a `read` returns none, and asks for nothing where there is no room.
