@@ -2,7 +2,6 @@
 //! Where a growth fails, these tests may fail.
 mod any_objects;
 mod canonical_messages;
-mod canonical_words;
 mod counts;
 mod empty_structs;
 mod enum_lists;

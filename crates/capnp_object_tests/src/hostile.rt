@@ -1,83 +1,16 @@
-//! Objects of messages, by each view and walk, from segments that anyone may have written.
+//! What views and walks count, and walks that are led far by few words. What else hostile words lead
+//! to is in `conformance/`.
 use crate::fixtures::{
-    Walked, arena_of, expect, is_canonical, kind_of, refusals_of, root_as_any, root_as_data,
-    root_as_text, size_of,
+    Walked, arena_of, expect, is_canonical, kind_of, root_as_any, root_as_text, size_of,
 };
-use crate::roots::{REFUSED, ROOTS, Refused, Root};
 use crate::trees::{chain, doublings, shared_lists};
 use capnp_frame::{ErrorKind, Result};
 use capnp_frame_tests::limits::{DEFAULT_LIMIT, NO_LIMIT};
 use capnp_frame_tests::retried;
 use std::process::Abort;
 
-#[test]
-fn roots(rt: HostRuntime) {
-    for row in &ROOTS {
-        expect_root(&rt, row);
-        expect_walks(&rt, row);
-    }
-}
-
-// What there is of a view where there is one.
-fn bytes_of<'a>(view: Result<&'a [u8]>) -> Option<&'a [u8]> {
-    match view {
-        Ok(bytes) => Some(bytes),
-        Err(_) => None,
-    }
-}
-
-fn expect_root(rt: &impl Abort, row: &Root) {
-    let (segments, limit, refusals, text, data, _, _) = *row;
-    let found = refusals_of(segments, limit, 64);
-    expect(rt, (segments, limit), found, refusals);
-    let arena = arena_of(segments, limit, 64);
-    let wanted = if refusals[0].is_none() {
-        Some(text)
-    } else {
-        None
-    };
-    expect(rt, segments, bytes_of(root_as_text(&arena)), wanted);
-    let arena = arena_of(segments, limit, 64);
-    let wanted = if refusals[1].is_none() {
-        Some(data)
-    } else {
-        None
-    };
-    expect(rt, segments, bytes_of(root_as_data(&arena)), wanted);
-}
-
-// Each walk counts by itself what it enters, whatever was read before.
-fn expect_walks(rt: &impl Abort, row: &Root) {
-    let (segments, limit, _, _, _, size, canonical) = *row;
-    let arena = arena_of(segments, limit, 64);
-    let _ = root_as_data(&arena);
-    assert!(rt; root_as_any(&arena).is_ok());
-    for _ in 0..2 {
-        let found = (size_of(&arena), is_canonical(&arena));
-        expect(rt, (segments, limit), found, (size, canonical));
-    }
-}
-
-#[test]
-fn refused_roots(rt: HostRuntime) {
-    for row in &REFUSED {
-        expect_refused(&rt, row);
-    }
-}
-
-fn expect_refused(rt: &impl Abort, row: &Refused) {
-    let (segments, nesting, kind, canonical) = *row;
-    let found = refusals_of(segments, DEFAULT_LIMIT, nesting);
-    expect(rt, (segments, nesting), found, [Some(kind); 4]);
-    let arena = arena_of(segments, DEFAULT_LIMIT, nesting);
-    assert!(rt; root_as_any(&arena).is_ok() == arena.get_root().is_ok());
-    let found = (size_of(&arena), is_canonical(&arena));
-    expect(rt, (segments, nesting), found, (Err(kind), canonical));
-}
-
-// Row read-limit: each read is counted against the traversal limit, and one that fails counts
-// nothing; a pointer that is only looked at, and a walk, are not counted against the traversal
-// limit.
+// Each read is counted against the traversal limit, and one that fails counts nothing; a pointer that
+// is only looked at, and a walk, are not counted.
 #[test]
 fn what_is_read_is_counted(rt: HostRuntime) -> Result<()> {
     let segments: [&[u8]; 1] = [b"\x01\0\0\0\x72\0\0\0Hello, World!\0\0\0"];

@@ -10,6 +10,4 @@ mod fixtures;
 #[cfg(test)]
 mod hostile;
 pub mod messages;
-#[cfg(test)]
-mod roots;
 pub mod trees;

@@ -1,4 +1,5 @@
-//! Fields of structs by their width, with defaults (encoding document, "Structs").
+//! Fields of structs that have a sign or are fractions, with defaults (encoding document, "Structs").
+//! Bits and numbers without a sign are in `conformance/fields.txt`.
 use crate::fixtures::{expect, plain_arena, root_as_struct};
 use capnp_frame::Result;
 use capnp_frame_tests::refusals::numbered;
@@ -47,18 +48,6 @@ fn expect_masked_fields<T: PrimitiveElement + PartialEq + Debug + Copy>(
 }
 
 #[test]
-fn numbers_without_a_sign(rt: HostRuntime) -> Result<()> {
-    expect_fields::<u8>(&rt, "u8", &[(0, 1), (1, 0x82), (15, 0x80), (16, 0)])?;
-    expect_fields::<u16>(&rt, "u16", &[(0, 0x8201), (1, 0x403)])?;
-    expect_fields::<u32>(
-        &rt,
-        "u32",
-        &[(1, 0x8070605), (3, 0x8000_0000), (4, 0), (u32::MAX, 0)],
-    )?;
-    expect_fields::<u64>(&rt, "u64", &[(0, 0x807_0605_0403_8201), (2, 0)])
-}
-
-#[test]
 fn numbers_with_a_sign(rt: HostRuntime) -> Result<()> {
     expect_fields::<i8>(&rt, "i8", &[(0, 1), (1, -126)])?;
     expect_fields::<i16>(&rt, "i16", &[(0, -32255), (1, 0x403)])?;
@@ -67,29 +56,14 @@ fn numbers_with_a_sign(rt: HostRuntime) -> Result<()> {
 }
 
 #[test]
-fn bits_and_fractions(rt: HostRuntime) -> Result<()> {
-    expect_fields::<bool>(
-        &rt,
-        "bool",
-        &[
-            (0, true),
-            (1, false),
-            (8, false),
-            (9, true),
-            (127, true),
-            (128, false),
-        ],
-    )?;
+fn fractions(rt: HostRuntime) -> Result<()> {
     expect_fields::<f32>(&rt, "f32", &[(2, 1.0)])?;
     expect_fields::<f64>(&rt, "f64", &[(2, 0.0)])
 }
 
 #[test]
 fn fields_with_defaults(rt: HostRuntime) -> Result<()> {
-    expect_masked_fields::<u16>(&rt, "u16", &[(0, 0xffff, 0x7dfe)])?;
-    expect_masked_fields::<u32>(&rt, "u32", &[(4, 7, 7)])?;
     expect_masked_fields::<i8>(&rt, "i8", &[(1, -1, 125), (16, -5, -5)])?;
-    expect_masked_fields::<bool>(&rt, "bool", &[(0, true, false), (128, true, true)])?;
     expect_masked_fields::<f32>(&rt, "f32", &[(2, 1.0, 0.0)])?;
     expect_masked_fields::<f64>(&rt, "f64", &[(2, 2.5, 2.5)])
 }

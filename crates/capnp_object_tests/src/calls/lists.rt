@@ -1,15 +1,10 @@
-//! Lists of structs, of pointers, of text, of data and of lists, by their elements (encoding
-//! document, "Lists").
-use crate::calls::objects::HELLO;
-use crate::fixtures::{Arena, Numbered, arena_of, expect, has_text, root_as, root_refusal};
+//! Lists of text, of data and of lists by their elements, and elements of each list one by one
+//! (encoding document, "Lists"). Which pointer leads to which list is in `conformance/lists.txt`.
+use crate::fixtures::{Arena, Numbered, arena_of, expect, root_as};
 use capnp_frame::Result;
 use capnp_frame::message::SegmentArray;
-use capnp_frame_tests::refusals::refusal;
-use capnp_wire::traits::{FromPointerReader, ListIter, Owned};
-use capnp_wire::{
-    any_pointer, any_pointer_list, any_struct, data_list, list_list, primitive_list, struct_list,
-    text_list,
-};
+use capnp_wire::traits::{ListIter, Owned};
+use capnp_wire::{any_pointer_list, data_list, list_list, primitive_list, struct_list, text_list};
 
 // Two structs of a data word and a pointer: 10 with the text "hi", and 20 with null.
 const CONTACTS: &[u8] = b"\x01\0\0\0\x27\0\0\0\x08\0\0\0\x01\0\x01\0\
@@ -22,20 +17,6 @@ const POINTERS: &[u8] = b"\x01\0\0\0\x1e\0\0\0\0\0\0\0\0\0\0\0\
 // One pointer, to the list of the number 7.
 const NUMBERS: &[u8] = b"\x01\0\0\0\x0e\0\0\0\x01\0\0\0\x0d\0\0\0\x07\0\0\0\0\0\0\0";
 
-const NULL: &[u8] = b"\0\0\0\0\0\0\0\0";
-
-// Segments, and the errors of their roots as a list of structs, and as one of pointers.
-#[rattlefmt::skip]
-const ROOTS: [(&[u8], [u8; 2]); 6] = [
-    (CONTACTS,                                      [0, 22]),
-    (POINTERS,                                      [22, 0]),
-    (HELLO,                                         [22, 22]),
-    (NULL,                                          [0, 0]),
-    (b"\xfc\xff\xff\xff\0\0\0\0",                   [22, 22]),
-    // an element more than there are words
-    (b"\x01\0\0\0\x0f\0\0\0\x08\0\0\0\x01\0\0\0\0\0\0\0\0\0\0\0", [17, 17]),
-];
-
 // The root as a type of a schema says.
 fn typed_root<'a, T: Owned<'a, SegmentArray<'a>>>(arena: &'a Arena<'a>) -> Result<T::Reader> {
     root_as::<SegmentArray<'a>, T::Reader>(arena)
@@ -45,111 +26,12 @@ type Structs<'a> = struct_list::Reader<'a, SegmentArray<'a>>;
 
 type Pointers<'a> = any_pointer_list::Reader<'a, SegmentArray<'a>>;
 
-#[test]
-fn roots_that_are_lists(rt: HostRuntime) {
-    for (segment, wanted) in &ROOTS {
-        let segments = [*segment];
-        let arena = arena_of(&segments, Some(100), 64);
-        let refusals = [
-            root_refusal::<SegmentArray<'_>, Structs<'_>>(&arena),
-            root_refusal::<SegmentArray<'_>, Pointers<'_>>(&arena),
-        ];
-        expect(&rt, *segment, refusals, *wanted);
-    }
-}
-
-// Of an element its data words, its pointers, its first data word, and whether its pointer is null.
-fn outline(list: &Structs<'_>, index: u32) -> Option<(u16, u16, u64, bool)> {
-    if index >= list.len() {
-        return None;
-    }
-    let element = list.get(index);
-    Some((
-        element.data_words(),
-        element.pointers(),
-        element.get_word(0),
-        element.get_pointer(0).is_null(),
-    ))
-}
-
-// Whether this is the text of an element.
-fn has_text_at(list: &Structs<'_>, index: u32, wanted: &[u8]) -> Option<Numbered<bool>> {
-    if index >= list.len() {
-        return None;
-    }
-    Some(has_text(&list.get(index).get_pointer(0), wanted))
-}
-
-// The tag and four words are counted, and then the text's word.
-#[test]
-fn structs_of_a_list(rt: HostRuntime) -> Result<()> {
-    let segments = [CONTACTS];
-    let arena = arena_of(&segments, Some(6), 2);
-    let list: Structs<'_> = typed_root::<struct_list::Owned>(&arena)?;
-    expect(
-        &rt,
-        CONTACTS,
-        [outline(&list, 0), outline(&list, 1), outline(&list, 2)],
-        [Some((1, 1, 10, false)), Some((1, 1, 20, true)), None],
-    );
-    let once = has_text_at(&list, 0, b"hi");
-    expect(&rt, "once", once, Some(Ok(true)));
-    let twice = has_text_at(&list, 0, b"hi");
-    expect(&rt, "twice", twice, Some(Err(20)));
-    Ok(())
-}
-
-#[test]
-fn no_structs(rt: HostRuntime) -> Result<()> {
-    let segments = [NULL];
-    let arena = arena_of(&segments, Some(0), 64);
-    let structs: Structs<'_> = typed_root::<struct_list::Owned>(&arena)?;
-    let pointers: Pointers<'_> = typed_root::<any_pointer_list::Owned>(&arena)?;
-    expect(&rt, NULL, (structs.len(), pointers.len()), (0, 0));
-    Ok(())
-}
-
-// Whether a pointer of a list leads to these bytes, as data.
-fn has_data_at(list: &Pointers<'_>, index: u32, wanted: &[u8]) -> Option<Numbered<bool>> {
-    if index >= list.len() {
-        return None;
-    }
-    Some(has_bytes(list.get(index).get_as::<&[u8]>(), wanted))
-}
-
+// Whether these bytes are there.
 fn has_bytes(data: Result<&[u8]>, wanted: &[u8]) -> Numbered<bool> {
     match data {
         Ok(bytes) => Ok(bytes == wanted),
         Err(error) => Err(error.kind.number()),
     }
-}
-
-// What one leads to as a struct, by its data words.
-fn data_words_at(list: &Pointers<'_>, index: u32) -> Option<Numbered<u16>> {
-    if index >= list.len() {
-        return None;
-    }
-    Some(data_words(&list.get(index)))
-}
-
-fn data_words<'a>(pointer: &any_pointer::Reader<'a, SegmentArray<'a>>) -> Numbered<u16> {
-    match pointer.get_as::<any_struct::StructReader<'a, SegmentArray<'a>>>() {
-        Ok(fields) => Ok(fields.data_words()),
-        Err(error) => Err(error.kind.number()),
-    }
-}
-
-#[test]
-fn pointers_of_a_list(rt: HostRuntime) -> Result<()> {
-    let segments = [POINTERS];
-    let arena = arena_of(&segments, Some(100), 2);
-    let list: Pointers<'_> = typed_root::<any_pointer_list::Owned>(&arena)?;
-    assert!(rt; list.len() == 3);
-    assert!(rt; list.get(0).is_null());
-    let found = has_data_at(&list, 1, b"a\0");
-    expect(&rt, "the text", found, Some(Ok(true)));
-    expect(&rt, "the struct", data_words_at(&list, 2), Some(Ok(0)));
-    Ok(())
 }
 
 // Whether this is a text of a list.
@@ -228,19 +110,6 @@ fn lists_of_a_list(rt: HostRuntime) -> Result<()> {
     expect(&rt, "how many", lists.len(), 1);
     expect(&rt, "once", first_numbers(&lists), Some(Ok((1, 7))));
     expect(&rt, "twice", first_numbers(&lists), Some(Err(20)));
-    Ok(())
-}
-
-// The nesting depth that is left below a list is one less than at its pointer.
-#[test]
-fn structs_below_the_nesting_limit(rt: HostRuntime) -> Result<()> {
-    let segments = [CONTACTS];
-    let arena = arena_of(&segments, Some(100), 1);
-    let list: Structs<'_> = typed_root::<struct_list::Owned>(&arena)?;
-    assert!(rt; list.len() == 2);
-    expect(&rt, CONTACTS, list.get(0).get_word(0), 10);
-    let refused = refusal(list.get(0).get_pointer(0).get_as::<&[u8]>());
-    expect(&rt, "below", refused, 19);
     Ok(())
 }
 

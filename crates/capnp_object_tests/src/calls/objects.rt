@@ -1,8 +1,6 @@
-//! Texts, fields and elements at roots, by worked bytes; the roots of each shape, whole and broken,
-//! are those of `roots`.
-use crate::fixtures::{
-    Arena, expect, plain_arena, root_as, root_as_data, root_as_struct, root_as_words,
-};
+//! A text of a stream, and a null root as types of schemas say. The roots of each shape, whole and
+//! broken, are in `conformance/objects.txt`.
+use crate::fixtures::{Arena, expect, root_as, root_as_data};
 use capnp_frame::Result;
 use capnp_frame::message::{ReaderOptions, ReaderSegments, SegmentArray};
 use capnp_frame::serialize::try_read_segments;
@@ -10,8 +8,6 @@ use capnp_wire::arena::ReaderArena;
 use capnp_wire::traits::{FromPointerReader, Owned};
 use capnp_wire::{any_pointer, any_struct, data, primitive_list, text};
 use std::test::Fail;
-
-pub const HELLO: &[u8] = b"\x01\0\0\0\x72\0\0\0Hello, World!\0\0\0";
 
 #[test]
 fn a_text_from_a_stream(rt: HostRuntime) -> std::result::Result<(), Fail> {
@@ -32,36 +28,6 @@ fn a_text_from_a_stream(rt: HostRuntime) -> std::result::Result<(), Fail> {
 fn text_of<S: ReaderSegments>(arena: &ReaderArena<S>) -> Result<(&[u8], usize)> {
     let text: text::Reader<'_> = root_as(arena)?;
     Ok((text.as_bytes(), text.len()))
-}
-
-// A struct of two data words and a pointer.
-const FIELDS: &[u8] = b"\0\0\0\0\x02\0\x01\0\x05\0\0\0\0\0\0\0\0\0\0\0\0\0\0\x80\0\0\0\0\0\0\0\0";
-
-#[test]
-fn fields_of_a_struct(rt: HostRuntime) -> Result<()> {
-    let segments = [FIELDS];
-    let arena = plain_arena(&segments);
-    let fields = root_as_struct(&arena)?;
-    let sizes = (fields.data_words(), fields.pointers());
-    expect(&rt, "sizes", sizes, (2, 1));
-    let words = [fields.get_word(0), fields.get_word(1), fields.get_word(2)];
-    expect(&rt, "words", words, [5, 1 << 63, 0]);
-    let past = fields.get_pointer(1);
-    let null = [fields.get_pointer(0).is_null(), past.is_null()];
-    expect(&rt, "null pointers", null, [true, true]);
-    expect(&rt, "past the last", past.target_size()?.word_count, 0);
-    Ok(())
-}
-
-#[test]
-fn elements_of_a_list(rt: HostRuntime) -> Result<()> {
-    let segment: &[u8] = b"\x01\0\0\0\x15\0\0\0\x07\0\0\0\0\0\0\0\0\0\0\0\0\0\0\x80";
-    let segments = [segment];
-    let arena = plain_arena(&segments);
-    let list = root_as_words(&arena)?;
-    assert!(rt; list.len() == 2);
-    expect(&rt, segment, (list.get(0), list.get(1)), (7, 1 << 63));
-    Ok(())
 }
 
 // A null root as a type of a schema says.

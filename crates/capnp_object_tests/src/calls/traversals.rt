@@ -1,5 +1,5 @@
-//! What views count against the traversal limit one after another; what each counts by itself is
-//! told by the rows of `roots`.
+//! What views count against the traversal limit one after another; what each counts by itself is in
+//! `counts`, and in `conformance/limits.txt`.
 use crate::fixtures::{
     Arena, arena_of, expect, root_as_any, root_as_struct, root_as_text, text_at,
 };

@@ -1,6 +1,5 @@
-//! Values that are measured and written, and the canonical form of a deep tree.
+//! Values that are measured and written.
 use crate::fixtures::{Arena, expect, plain_arena, root_as_struct};
-use crate::trees::{chain, trimmed_chain};
 use capnp_frame::Result;
 use capnp_frame::message::SegmentArray;
 use capnp_wire::canonical::canonical_bytes;
@@ -11,18 +10,6 @@ use std::alloc::Global;
 /// The bytes of the canonical form of an arena's root.
 pub fn form_of(alloc: Global, arena: &Arena<'_>) -> Result<Vec<u8>> {
     canonical_bytes(alloc, &arena.get_root()?)
-}
-
-// 64 structs of one pointer, each held by the one before; the last pointer is null, and is left
-// out.
-#[test]
-fn a_chain_of_structs(rt: HostRuntime) -> Result<()> {
-    let words = chain(rt.alloc(), 64)?;
-    let least = trimmed_chain(rt.alloc())?;
-    let segments = [words.as_slice()];
-    let form = form_of(rt.alloc(), &plain_arena(&segments))?;
-    expect(&rt, "64 structs", form.as_slice(), least.as_slice());
-    Ok(())
 }
 
 #[test]
