@@ -5,10 +5,13 @@ use std::marker::PhantomData;
 
 /// An object of an orphanage, of a type of a schema; or null.
 ///
-/// It may be adopted more than once, and become the root as well: then several pointers lead to it,
-/// and a reader counts its words once for each of them. An orphan of another orphanage, or of
-/// before the last `clear`, does no harm: its pointer leads to whatever is there, or to nothing,
-/// and a reader shows that or fails.
+/// It may be adopted more than once, and become the root as well: then several pointers point to
+/// it, and a reader counts its words once for each of them. One that is not adopted stays in the
+/// message. In the C++ library an `Orphan` is adopted once at most, and one that is dropped is made
+/// zero.
+///
+/// An orphan of another orphanage, or of before the last `clear`, does no harm: its pointer points
+/// to whatever is there, or to nothing, and a reader shows that or fails.
 #[derive_where(Clone, Copy)]
 pub struct Orphan<T> {
     /// The pointer to it, with the index of the word at which it begins in place of the offset. A

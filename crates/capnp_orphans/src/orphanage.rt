@@ -31,7 +31,8 @@ use std::alloc::Global;
 use std::marker::Model;
 
 /// A message of one segment, whose objects are written one after the other, each once. Its first
-/// word is the root's, which is null until it is set.
+/// word is the root's, which is null until it is set. So an orphanage is the whole message here; in
+/// the C++ library `Orphanage` allocates in a message that its `MessageBuilder` holds.
 ///
 /// A call that writes an object returns its orphan, or fails and changes nothing. All orphans keep
 /// their trees, whatever is written later.
@@ -160,6 +161,8 @@ impl<S: GrowingSegment> Orphanage<S> {
     /// (`capnp_values`), or it is what a view of another message shows: a text, data, a struct, a
     /// list of any kind. What a pointer leads to there is copied, as it is, when it is given as the
     /// view `any_pointer::Reader`.
+    ///
+    /// It is what `newOrphanCopy` is in the C++ library, where `set` sets a field of a builder.
     ///
     /// Fails for 2^29 words and more with `AllocationTooLarge` of the value's words, at most
     /// 2^32 - 1; as its view does for what can't be read; and for want of room as `Orphanage` says.
