@@ -1,9 +1,9 @@
 /* Framed and packed messages of Cap'n Proto over caller-provided buffers. No call takes memory.
  *
- * Each call returns 0, or the number of a refusal, an `enum linsjoar_error`; then each number that it has
+ * Each call returns 0, or the number of a error, an `enum linsjoar_error`; then each number that it has
  * to write is 0. A pointer and the length after it are one block; what is written overlaps nothing else
  * that is passed. A call puts its result at the front of the block that it writes; the bytes after that
- * may have changed, and beside a refusal all bytes of the block. Messages have 1 to 511 segments, zeros as
+ * may have changed, and beside a error all bytes of the block. Messages have 1 to 511 segments, zeros as
  * the padding of their table, and no more words than a limit, which is 8,388,608 (64 MiB) but in the calls
  * that take a `struct linsjoar_options`. */
 #ifndef CAPNP_C_H
@@ -16,7 +16,7 @@
 extern "C" {
 #endif
 
-/* The refusals by their numbers, whatever part of the library has them. */
+/* The errors by their numbers, whatever part of the library has them. */
 enum linsjoar_error {
     /* The bytes end within a part that is read at once. */
     LINSJOAR_FAILED_TO_FILL_THE_WHOLE_BUFFER = 1,
@@ -43,7 +43,7 @@ enum linsjoar_error {
     LINSJOAR_PREMATURE_END_OF_PACKED_INPUT = 10,
     /* A packed run goes past the end of its part. */
     LINSJOAR_PACKED_INPUT_DID_NOT_END_CLEANLY_ON_A_SEGMENT_BOUNDARY = 11,
-    /* Memory was refused. */
+    /* Memory was errors. */
     LINSJOAR_OUT_OF_MEMORY = 12,
     /* A source or a sink failed. */
     LINSJOAR_DEVICE_FAILED = 13,
@@ -75,7 +75,7 @@ enum linsjoar_error {
     LINSJOAR_NON_ZERO_PADDING = 26
 };
 
-/* The name of a refusal, as InvalidSegmentId; "" for a number that none has, as 0. */
+/* The name of a error, as InvalidSegmentId; "" for a number that none has, as 0. */
 static inline const char *linsjoar_error_name(int number) {
     switch (number) {
     case LINSJOAR_FAILED_TO_FILL_THE_WHOLE_BUFFER:
@@ -158,7 +158,7 @@ struct linsjoar_options {
 
 /* Tells how many bytes the framed message at the front of a buffer takes, so that a caller steps from one
  * message to the next. It returns 0 wherever one stands there. Where there are no bytes it returns 0
- * and tells 0; else 0 bytes are declared only beside a refusal. */
+ * and tells 0; else 0 bytes are declared only beside a error. */
 uint8_t linsjoar_next_message(const uint8_t *bytes, size_t len, size_t *message_len);
 uint8_t linsjoar_next_message_with_options(const uint8_t *bytes, size_t len,
                                            const struct linsjoar_options *options, size_t *message_len);

@@ -56,7 +56,7 @@ def literal(kind, default):
 
 GHOSTS = """    ghost has_tree = { λ value trees. ⊥ };
 
-    ghost refuses = { λ value kind. ⊥ };
+    ghost fails = { λ value kind. ⊥ };
 
     ghost one = { λ value trees is. is };
 """
@@ -192,7 +192,7 @@ class Struct:
 
     ghost has_trees = { λ value trees. ⊥ };
 
-    ghost refuses = { λ value kind. ⊥ };
+    ghost fails = { λ value kind. ⊥ };
 
     ghost settled = { λ value trees is. is };
 

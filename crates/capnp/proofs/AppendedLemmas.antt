@@ -21,7 +21,7 @@ use Rattle.capnp_pack.proofs.words.AllLemmas.{AllByRecursion-append}
 use Rattle.capnp_pack.proofs.encodings.PackedFrameLemmas.{packed_text_is}
 use Rattle.capnp.specs.declared.streams.Format.{Format}
 use Rattle.capnp.specs.declared.streams.Format.TheVariants.{Framed, Packed}
-use Rattle.capnp.specs.Prelude.{ReadsMessages, grammar_of, rules_of, StandsNext, IsStream, IsFault, by_format, ReadsMessage, OrFailsAtEnd, HasRootTree, IsTextOf, AppendsEach}
+use Rattle.capnp.specs.Prelude.{ReadsMessages, grammar_of, rules_of, StandsNext, IsStream, ExternalError, by_format, ReadsMessage, OrFailsAtEnd, HasRootTree, IsTextOf, AppendsEach}
 use Rattle.capnp.proofs.FormatLemmas.{or_fails_advances, or_fails_failed}
 use Rattle.capnp.proofs.ReaderLemmas.{or_fails_accepted, or_fails_reads}
 use Rattle.capnp.proofs.RunLemmas.{format_parts}
@@ -54,7 +54,7 @@ texts_further {IsText} {limit = limit} parts (n ∷ ns) (m ∷ ms) raw mid rest 
     let same = parts.begins_once n m raw had.0 texts.0 had.1 texts.1 in
     texts_further parts ns ms texts.0 mid rest (subst (λ l. AreEncodings IsText limit ns l mid) same.1 had.2) texts.2 (omega arith)
 
--- so where there are as many as are asked for, an error is a fault
+-- so where there are as many as are asked for, an error is an external one
 accepted_later : (rule : Padding) (format : Format) (limit : Option ℕ) (F : Type 0) (ns : List (List (List ℕ))) (count : ℕ)
     (old mid : Option (List ℕ)) → length ns < count → IfKnown old mid (AreEncodings (grammar_of rule format) limit ns)
     → IfSome mid (λ raw. (m : List (List ℕ)) (rest : List ℕ) → StandsNext rule format limit m raw rest → F)
@@ -67,29 +67,29 @@ accepted_later rule format limit F ns count (Some raw) (Some left) few had accep
     accepted next.0 next.1 next.2
 
 -- so a list ends where the reader of the next message fails
-pub stops_reading : {S V X : Type 0} (source : Ghosts S) (old mid new : S) (format : Format) (options : ReaderOptions) (count : ℕ)
+pub fails_reading : {S V X : Type 0} (source : Ghosts S) (old mid new : S) (format : Format) (options : ReaderOptions) (count : ℕ)
     (readers : V → List X) (segments : X → List (List ℕ)) (options_of : X → ReaderOptions) (ms : List (List (List ℕ))) (e : Error)
     → (source.same old mid → source.same mid new → source.same old new) → length ms < count
     → IfKnown (source.unread old) (source.unread mid) (AreEncodings (grammar_of Zero format) options.traversal_limit_in_words ms)
     → Advances source.unread source.failures source.same old mid
     → OrFailsAtEnd (ReadsMessage source mid new (by_format Zero format) options) (Err e)
     → ReadsMessages source old new format options count readers segments options_of (Err e)
-stops_reading source old mid new format options count readers segments options_of ms e join fewer texts advances next =
+fails_reading source old mid new format options count readers segments options_of ms e join fewer texts advances next =
     let limit = options.traversal_limit_in_words in
     let reads = or_fails_reads source mid new (by_format Zero format) options e next in record {
       counted = tt;
       found = tt;
       options_are = tt;
-      accepted = accepted_later Zero format limit (IsFault e.kind) ms count (source.unread old) (source.unread mid) fewer texts
+      accepted = accepted_later Zero format limit (ExternalError e.kind) ms count (source.unread old) (source.unread mid) fewer texts
           (or_fails_accepted source mid new (by_format Zero format) options e tt next);
-      stops = inr (record { between = mid; messages = ms; fewer = fewer; texts = texts; next = reads });
+      fails = inr (record { between = mid; messages = ms; fewer = fewer; texts = texts; next = reads });
       failed = λ device. Fails-join _ _ _ advances.counted (or_fails_failed source mid new (rules_of Zero format) limit e reads device);
       advances = Advances-join old mid new join advances (or_fails_advances source mid new (rules_of Zero format) limit e reads);
     }
 
--- and want of memory is a fault
+-- and want of memory is an external error
 pub accepted_at_memory : (rule : Padding) (format : Format) (limit : Option ℕ) (count : ℕ) (kind : ErrorKind) (old : Option (List ℕ)) → kind ≡ OutOfMemory
-    → IfSome old (λ raw. (ms : List (List (List ℕ))) (rest : List ℕ) → AreEncodings (grammar_of rule format) limit ms raw rest → length ms ≡ count → IsFault kind)
+    → IfSome old (λ raw. (ms : List (List (List ℕ))) (rest : List ℕ) → AreEncodings (grammar_of rule format) limit ms raw rest → length ms ≡ count → ExternalError kind)
 accepted_at_memory rule format limit count kind None memory = tt
 accepted_at_memory rule format limit count kind (Some raw) memory = λ ms rest texts counted. inr memory
 

@@ -8,8 +8,8 @@ use Rattle.capnp_frame.specs.declared.io.Write.{Ghosts as SinkGhosts}
 use Rattle.capnp_frame.specs.Prelude.{IsReaderKind, IfKnown, Advances, Fails, Grows, AreEncodings}
 use Rattle.capnp_frame.proofs.encodings.TextLemmas.{AreEncodings-once, AreEncodings-most, EndsEncodings-once}
 use Rattle.capnp.specs.declared.streams.Format.{Format}
-use Rattle.capnp.specs.declared.streams.StoppedAt.{StoppedAt}
-use Rattle.capnp.specs.Prelude.{grammar_of, refuses_of, StandsNext, RefusesNext, EndsBy, IsStream, Writing, DecliningWriting, most_messages, RanOut, HasWritten, StoppedReading, StoppedWriting, HasStopped, HasRun, IsResultOf, FaultsAt, StopsByFault, IsFaulted, IsRunFault, WritesEach}
+use Rattle.capnp.specs.declared.streams.FailedAt.{FailedAt}
+use Rattle.capnp.specs.Prelude.{grammar_of, refuses_of, StandsNext, NextError, EndsBy, IsStream, Writing, WritingErrors, most_messages, RanOut, HasWritten, FailedReading, FailedWriting, HasFailed, HasRun, IsResultOf, WritingErrorAt, RunErrorOf, FailsByRun, RunError, WritesEach}
 use Rattle.capnp.proofs.RunLemmas.{format_lawful, format_parts}
 
 pub ran_out_ends : (rule : Padding) (format : Format) (limit : Option ℕ) (Writes : Writing) (left before after : Option (List ℕ))
@@ -29,19 +29,19 @@ ran_out_ends rule format limit Writes left before after raw ran messages ending 
     ]
 
 -- the reader's error is the right one
-refused_ends : (rule : Padding) (format : Format) (limit : Option ℕ) (kind : ErrorKind) (rest : List ℕ) (left : Option (List ℕ)) → IfKnown (Some rest) left (RefusesNext rule format limit kind) → EndsBy rule format limit (Some kind) rest
-refused_ends rule format limit kind rest None line = absurd line
-refused_ends rule format limit kind rest (Some left) line = (left, line)
+error_ends : (rule : Padding) (format : Format) (limit : Option ℕ) (kind : ErrorKind) (rest : List ℕ) (left : Option (List ℕ)) → IfKnown (Some rest) left (NextError rule format limit kind) → EndsBy rule format limit (Some kind) rest
+error_ends rule format limit kind rest None line = absurd line
+error_ends rule format limit kind rest (Some left) line = (left, line)
 
 -- how a stream ends that stopped there, and after how many messages
-stopped_ends : (rule : Padding) (format : Format) (limit : Option ℕ) (Writes : Writing) (count : ℕ) (kind : ErrorKind)
+failed_ends : (rule : Padding) (format : Format) (limit : Option ℕ) (Writes : Writing) (count : ℕ) (kind : ErrorKind)
     (left before after : Option (List ℕ)) (raw : List ℕ)
-    (stopped : StoppedReading rule format limit Writes count kind left before after raw)
-    → EndsBy rule format limit (Some kind) stopped.rest → (messages : List (List (List ℕ))) (ending : Option ErrorKind)
+    (failed : FailedReading rule format limit Writes count kind left before after raw)
+    → EndsBy rule format limit (Some kind) failed.rest → (messages : List (List (List ℕ))) (ending : Option ErrorKind)
     → IsStream rule format limit messages ending raw → (ending ≡ Some kind) × (count ≡ length messages)
-stopped_ends rule format limit Writes count kind left before after raw stopped ends messages ending stream =
-    let written = stopped.written in
-    let one = AreEncodings-once (format_parts rule format limit) (Some kind) ending written.messages messages raw stopped.rest stream.rest written.texts ends stream.texts stream.ends in
+failed_ends rule format limit Writes count kind left before after raw failed ends messages ending stream =
+    let written = failed.written in
+    let one = AreEncodings-once (format_parts rule format limit) (Some kind) ending written.messages messages raw failed.rest stream.rest written.texts ends stream.texts stream.ends in
     let moved : EndsBy rule format limit (Some kind) stream.rest = subst (λ l. EndsBy rule format limit (Some kind) l) one.1 ends in
     (sym (EndsEncodings-once rule (format_lawful format) limit (Some kind) ending stream.rest moved stream.ends), sym written.counted ∙ ap length one.0)
 
@@ -74,55 +74,55 @@ next_listed rule format limit ending (m ∷ ms) (n ∷ ns) message raw between l
     (inner.0, ap (λ x. x ∷ ns) (sym same.0) ∙ ap (λ l. m ∷ l) inner.1)
 
 -- a message at which a run stopped is the stream's of that index
-faults_at : (rule : Padding) (format : Format) (limit : Option ℕ) (Writes : Writing) (Declines : DecliningWriting) (count : ℕ) (kind : ErrorKind)
-    (left before after : Option (List ℕ)) (raw : List ℕ) (stopped : StoppedWriting rule format limit Writes Declines count kind left before after raw)
-    → IfKnown (Some stopped.rest) left (StandsNext rule format limit stopped.message) → (messages : List (List (List ℕ))) (ending : Option ErrorKind)
-    → IsStream rule format limit messages ending raw → FaultsAt Declines messages count kind
-faults_at rule format limit Writes Declines count kind None before after raw stopped stands messages ending stream = absurd stands
-faults_at rule format limit Writes Declines count kind (Some left) before after raw stopped stands messages ending stream =
-    let written = stopped.written in
-    let next = next_listed rule format limit ending written.messages messages stopped.message raw stopped.rest left stream.rest written.texts stands stream.texts stream.ends in
+writing_error_at : (rule : Padding) (format : Format) (limit : Option ℕ) (Writes : Writing) (Errors : WritingErrors) (count : ℕ) (kind : ErrorKind)
+    (left before after : Option (List ℕ)) (raw : List ℕ) (failed : FailedWriting rule format limit Writes Errors count kind left before after raw)
+    → IfKnown (Some failed.rest) left (StandsNext rule format limit failed.message) → (messages : List (List (List ℕ))) (ending : Option ErrorKind)
+    → IsStream rule format limit messages ending raw → WritingErrorAt Errors messages count kind
+writing_error_at rule format limit Writes Errors count kind None before after raw failed stands messages ending stream = absurd stands
+writing_error_at rule format limit Writes Errors count kind (Some left) before after raw failed stands messages ending stream =
+    let written = failed.written in
+    let next = next_listed rule format limit ending written.messages messages failed.message raw failed.rest left stream.rest written.texts stands stream.texts stream.ends in
     record {
       before = written.messages;
-      message = stopped.message;
+      message = failed.message;
       others = next.0;
       listed = next.1;
       counted = written.counted;
-      fault = stopped.fault;
+      error = failed.error;
     }
 
-pub stopped_returns : (rule : Padding) (format : Format) (limit : Option ℕ) (Writes : Writing) (Declines : DecliningWriting) (count : ℕ)
+pub failed_returns : (rule : Padding) (format : Format) (limit : Option ℕ) (Writes : Writing) (Errors : WritingErrors) (count : ℕ)
     (kind : ErrorKind) (left before after : Option (List ℕ)) (raw : List ℕ)
-    → HasStopped rule format limit Writes Declines count kind left before after raw
+    → HasFailed rule format limit Writes Errors count kind left before after raw
     → (messages : List (List (List ℕ))) (ending : Option ErrorKind) → IsStream rule format limit messages ending raw
-    → ((ending ≡ Some kind) × (count ≡ length messages)) ⊎ StopsByFault Declines messages count kind
-stopped_returns rule format limit Writes Declines count kind left before after raw (inl stopped) messages ending stream =
-    let few = few_written rule format limit Writes count before after raw stopped.rest stopped.written messages ending stream in
-    elim (stopped.fault) [
+    → ((ending ≡ Some kind) × (count ≡ length messages)) ⊎ RunErrorOf Errors messages count kind
+failed_returns rule format limit Writes Errors count kind left before after raw (inl failed) messages ending stream =
+    let few = few_written rule format limit Writes count before after raw failed.rest failed.written messages ending stream in
+    elim (failed.error) [
       | inl device ↦ inr (inl (inl device, few))
       | inr (inl memory) ↦ inr (inl (inr memory.0, few))
-      | inr (inr line) ↦ inl (stopped_ends rule format limit Writes count kind left before after raw stopped (refused_ends rule format limit kind stopped.rest left line) messages ending stream)
+      | inr (inr line) ↦ inl (failed_ends rule format limit Writes count kind left before after raw failed (error_ends rule format limit kind failed.rest left line) messages ending stream)
     ]
-stopped_returns rule format limit Writes Declines count kind left before after raw (inr stopped) messages ending stream =
-    inr (inr (faults_at rule format limit Writes Declines count kind left before after raw stopped stopped.stands messages ending stream))
+failed_returns rule format limit Writes Errors count kind left before after raw (inr failed) messages ending stream =
+    inr (inr (writing_error_at rule format limit Writes Errors count kind left before after raw failed failed.stands messages ending stream))
 
-returned : (rule : Padding) (format : Format) (limit : Option ℕ) (Writes : Writing) (Declines : DecliningWriting)
-    (result : Result (Unit {0}) StoppedAt) (left before after : Option (List ℕ)) (raw : List ℕ)
-    → HasRun rule format limit Writes Declines result left before after raw
+returned : (rule : Padding) (format : Format) (limit : Option ℕ) (Writes : Writing) (Errors : WritingErrors)
+    (result : Result (Unit {0}) FailedAt) (left before after : Option (List ℕ)) (raw : List ℕ)
+    → HasRun rule format limit Writes Errors result left before after raw
     → (messages : List (List (List ℕ))) (ending : Option ErrorKind) → IsStream rule format limit messages ending raw
-    → length messages < most_messages → IsResultOf result messages ending ⊎ IsFaulted Declines result messages
-returned rule format limit Writes Declines (Ok done) left before after raw ran messages ending stream few = inl (ran_out_ends rule format limit Writes left before after raw ran messages ending stream few)
-returned rule format limit Writes Declines (Err stop) left before after raw ran messages ending stream few =
-    stopped_returns rule format limit Writes Declines stop.message stop.error.kind left before after raw ran messages ending stream
+    → length messages < most_messages → IsResultOf result messages ending ⊎ FailsByRun Errors result messages
+returned rule format limit Writes Errors (Ok done) left before after raw ran messages ending stream few = inl (ran_out_ends rule format limit Writes left before after raw ran messages ending stream few)
+returned rule format limit Writes Errors (Err failure) left before after raw ran messages ending stream few =
+    failed_returns rule format limit Writes Errors failure.message failure.error.kind left before after raw ran messages ending stream
 
-returned_known : (rule : Padding) (format : Format) (limit : Option ℕ) (Writes : Writing) (Declines : DecliningWriting)
-    (result : Result (Unit {0}) StoppedAt) (old left before after : Option (List ℕ))
-    → IfSome old (HasRun rule format limit Writes Declines result left before after)
+returned_known : (rule : Padding) (format : Format) (limit : Option ℕ) (Writes : Writing) (Errors : WritingErrors)
+    (result : Result (Unit {0}) FailedAt) (old left before after : Option (List ℕ))
+    → IfSome old (HasRun rule format limit Writes Errors result left before after)
     → IfSome old (λ raw. (messages : List (List (List ℕ))) (ending : Option ErrorKind)
     → IsStream rule format limit messages ending raw → length messages < most_messages
-    → IsResultOf result messages ending ⊎ IsFaulted Declines result messages)
-returned_known rule format limit Writes Declines result None left before after ran = tt
-returned_known rule format limit Writes Declines result (Some raw) left before after ran = returned rule format limit Writes Declines result left before after raw ran
+    → IsResultOf result messages ending ⊎ FailsByRun Errors result messages)
+returned_known rule format limit Writes Errors result None left before after ran = tt
+returned_known rule format limit Writes Errors result (Some raw) left before after ran = returned rule format limit Writes Errors result left before after raw ran
 
 -- a stream is one list of messages, and ends in one way
 pub stream_once : (rule : Padding) (format : Format) (limit : Option ℕ) (messages others : List (List (List ℕ)))
@@ -134,16 +134,16 @@ stream_once rule format limit messages others ending other raw stream also =
 
 -- what a run does, by what it writes and by how it fails
 pub writes_each : {S T : Type 0} {source : Ghosts S} {old new : S} {sink : SinkGhosts T} {before after : T} {rule : Padding} {format : Format}
-    {limit : Option ℕ} {Writes : Writing} {Declines : DecliningWriting} {result : Result (Unit {0}) StoppedAt}
-    → IfSome (source.unread old) (HasRun rule format limit Writes Declines result (source.unread new) (sink.written before) (sink.written after))
-    → IfErr result (λ stop. IsReaderKind rule (refuses_of format) stop.error.kind ⊎ IsRunFault Declines stop.message stop.error.kind)
-    → IfErr result (λ stop. stop.error.kind ≡ DeviceFailed
+    {limit : Option ℕ} {Writes : Writing} {Errors : WritingErrors} {result : Result (Unit {0}) FailedAt}
+    → IfSome (source.unread old) (HasRun rule format limit Writes Errors result (source.unread new) (sink.written before) (sink.written after))
+    → IfErr result (λ failure. IsReaderKind rule (refuses_of format) failure.error.kind ⊎ RunError Errors failure.message failure.error.kind)
+    → IfErr result (λ failure. failure.error.kind ≡ DeviceFailed
     → Fails (source.failures old) (source.failures new) ⊎ Fails (sink.failures before) (sink.failures after))
     → Advances source.unread source.failures source.same old new → Grows sink.written sink.failures sink.same before after
-    → WritesEach source old new sink before after rule format limit Writes Declines result
-writes_each {source = source} {old} {new} {sink} {before} {after} {rule} {format} {limit} {Writes} {Declines} {result} written kinds failed advances grows = record {
+    → WritesEach source old new sink before after rule format limit Writes Errors result
+writes_each {source = source} {old} {new} {sink} {before} {after} {rule} {format} {limit} {Writes} {Errors} {result} written kinds failed advances grows = record {
   written = written;
-  exact = returned_known rule format limit Writes Declines result (source.unread old) (source.unread new) (sink.written before) (sink.written after) written;
+  exact = returned_known rule format limit Writes Errors result (source.unread old) (source.unread new) (sink.written before) (sink.written after) written;
   kinds = kinds;
   failed = failed;
   advances = advances;

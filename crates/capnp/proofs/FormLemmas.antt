@@ -5,7 +5,7 @@ use Rattle.capnp_frame.specs.declared.error.Error.{Error}
 use Rattle.capnp_frame.specs.declared.error.ErrorKind.{ErrorKind}
 use Rattle.capnp_frame.specs.declared.error.ErrorKind.TheVariants.{DeviceFailed, OutOfMemory}
 use Rattle.capnp_frame.specs.declared.io.Write.{Ghosts}
-use Rattle.capnp_frame.specs.Prelude.{Declining, Adds, AppendsAll, LeavesSome, DeclinesSome, FailsOr, IsPreorder, Fails, WritesTo, WritesSegments, IsWritable, chunks}
+use Rattle.capnp_frame.specs.Prelude.{Declining, Adds, AppendsAll, LeavesSome, ChunksError, FailsOr, IsPreorder, Fails, WritesTo, WritesSegments, IsWritable, chunks}
 use Rattle.capnp_frame.proofs.sources.AskLemmas.{passed_on}
 use Rattle.capnp_frame.proofs.sources.SourceLemmas.{Grows-refl, IfKnown-refl, IfKnown-weaker}
 use Rattle.std.proofs.lemmas.List.{append-nil}
@@ -14,8 +14,8 @@ use Rattle.capnp_wire.specs.Prelude.{Pointer, IsCanonicalForm}
 use Rattle.capnp_layout.proofs.layouts.SizeLemmas.{length-body}
 use Rattle.capnp_wire.proofs.layouts.OpenLemmas.{room_output}
 use Rattle.capnp_layout.proofs.words.WordLemmas.{length-words_of}
-use Rattle.capnp_message.specs.Canonical.{LacksForm}
-use Rattle.capnp.specs.Prelude.{IsForm, AppendsForm, LeavesForm, BreaksForm, DeclinesForm, RefusesWriter}
+use Rattle.capnp_message.specs.Canonical.{CanonicalFormError}
+use Rattle.capnp.specs.Prelude.{IsForm, AppendsForm, LeavesForm, FormSinkError, WrittenFormError, WriterError}
 use Rattle.capnp.proofs.BlameLemmas.{result_blames_none}
 
 -- a form has fewer words than a segment may
@@ -34,67 +34,67 @@ one_writable pointer form is = record {
 }
 
 -- an error of the reader's is one of the form's
-declines_reading : (pointer : Pointer) (refuses : Declining) (kind : ErrorKind) → LacksForm pointer kind ⊎ (kind ≡ OutOfMemory)
-    → (kind ≡ DeviceFailed) ⊎ (kind ≡ OutOfMemory) ⊎ DeclinesForm pointer refuses kind
-declines_reading pointer refuses kind (inl lacks) = inr (inr (inl lacks))
-declines_reading pointer refuses kind (inr memory) = inr (inl memory)
+form_reading_error : (pointer : Pointer) (refuses : Declining) (kind : ErrorKind) → CanonicalFormError pointer kind ⊎ (kind ≡ OutOfMemory)
+    → (kind ≡ DeviceFailed) ⊎ (kind ≡ OutOfMemory) ⊎ WrittenFormError pointer refuses kind
+form_reading_error pointer refuses kind (inl form_error) = inr (inr (inl form_error))
+form_reading_error pointer refuses kind (inr memory) = inr (inl memory)
 
 -- a failure after a call is a failure of both
-pub refused_on : {Y : Type 0} {error : Error} (P : Error → Type 0) (result : Result Y Error) → IsErrAnd result (λ y. y ≡ error) → P error → IsErrAnd result P
-refused_on P (Ok y) is p = is
-refused_on P (Err e) is p = subst P (sym is) p
+pub error_on : {Y : Type 0} {error : Error} (P : Error → Type 0) (result : Result Y Error) → IsErrAnd result (λ y. y ≡ error) → P error → IsErrAnd result P
+error_on P (Ok y) is p = is
+error_on P (Err e) is p = subst P (sym is) p
 
 -- the engine's error is one of the form's
-declines_writing : (pointer : Pointer) (refuses : Declining) (form : List ℕ) (segments : List (List ℕ)) (kind : ErrorKind) → IsForm pointer form → segments ≡ form ∷ []
-    → RefusesWriter refuses segments kind → (kind ≡ DeviceFailed) ⊎ (kind ≡ OutOfMemory) ⊎ DeclinesForm pointer refuses kind
-declines_writing pointer refuses form segments kind stands is (inl failed) = inl failed
-declines_writing pointer refuses form segments kind stands is (inr (inl declined)) =
-    inr (inr (inr (form, stands, subst (λ (s : List (List ℕ)). DeclinesSome refuses (chunks s) kind) is declined)))
-declines_writing pointer refuses form segments kind stands is (inr (inr (inl many))) = absurd (omega (arith, many.0, ap length is))
-declines_writing pointer refuses form segments kind stands is (inr (inr (inr memory))) = inr (inl memory.1)
+form_writing_error : (pointer : Pointer) (refuses : Declining) (form : List ℕ) (segments : List (List ℕ)) (kind : ErrorKind) → IsForm pointer form → segments ≡ form ∷ []
+    → WriterError refuses segments kind → (kind ≡ DeviceFailed) ⊎ (kind ≡ OutOfMemory) ⊎ WrittenFormError pointer refuses kind
+form_writing_error pointer refuses form segments kind stands is (inl failed) = inl failed
+form_writing_error pointer refuses form segments kind stands is (inr (inl chunk_errors)) =
+    inr (inr (inr (form, stands, subst (λ (s : List (List ℕ)). ChunksError refuses (chunks s) kind) is chunk_errors)))
+form_writing_error pointer refuses form segments kind stands is (inr (inr (inl many))) = absurd (omega (arith, many.0, ap length is))
+form_writing_error pointer refuses form segments kind stands is (inr (inr (inr memory))) = inr (inl memory.1)
 
 -- so where there is no form, nothing is written
-pub form_lacking : {S X : Type 0} (sink : Ghosts S) (keeps : IsPreorder sink.same) (s : S) (pointer : Pointer) (e : Error) (r : Result X Error)
-    → IsErrAnd r (λ y. y ≡ e) → LacksForm pointer e.kind ⊎ (e.kind ≡ OutOfMemory)
-    → WritesTo sink s s (AppendsForm pointer sink.appends) (LeavesForm pointer sink.appends sink.leaves) (λ kind. (kind ≡ OutOfMemory) ⊎ DeclinesForm pointer sink.refuses kind) r
-form_lacking sink keeps s pointer e (Ok y) is lacks = absurd is
-form_lacking {X = X} sink keeps s pointer e (Err o) is lacks = record {
+pub without_form : {S X : Type 0} (sink : Ghosts S) (keeps : IsPreorder sink.same) (s : S) (pointer : Pointer) (e : Error) (r : Result X Error)
+    → IsErrAnd r (λ y. y ≡ e) → CanonicalFormError pointer e.kind ⊎ (e.kind ≡ OutOfMemory)
+    → WritesTo sink s s (AppendsForm pointer sink.appends) (LeavesForm pointer sink.appends sink.leaves) (λ kind. (kind ≡ OutOfMemory) ⊎ WrittenFormError pointer sink.refuses kind) r
+without_form sink keeps s pointer e (Ok y) is form_error = absurd is
+without_form {X = X} sink keeps s pointer e (Err o) is form_error = record {
   written = tt;
   left = IfKnown-refl (Adds (LeavesForm pointer sink.appends sink.leaves)) (sink.written s) (λ x. ([], inl refl, sym (append-nil x)));
-  refused = passed_on {Y = X} {error = e} (λ (y : Error). (y.kind ≡ DeviceFailed) ⊎ (y.kind ≡ OutOfMemory) ⊎ DeclinesForm pointer sink.refuses y.kind)
-      (Err o) is (declines_reading pointer sink.refuses e.kind lacks);
+  errors = passed_on {Y = X} {error = e} (λ (y : Error). (y.kind ≡ DeviceFailed) ⊎ (y.kind ≡ OutOfMemory) ⊎ WrittenFormError pointer sink.refuses y.kind)
+      (Err o) is (form_reading_error pointer sink.refuses e.kind form_error);
   failed = passed_on {Y = X} {error = e} (λ (y : Error). y.kind ≡ DeviceFailed → Fails (sink.failures s) (sink.failures s)) (Err o) is
-      (λ device. absurd (result_blames_none pointer e.kind lacks device));
+      (λ device. absurd (result_blames_none pointer e.kind form_error device));
   grows = Grows-refl s (keeps.reflexive s);
 }
 
 -- and the form is written as the message of one segment
 pub form_written : {S X : Type 0} (sink : Ghosts S) (old new : S) (pointer : Pointer) (form : List ℕ) (segments : List (List ℕ)) (r : Result X Error)
     → IsForm pointer form → segments ≡ form ∷ [] → WritesSegments sink old new segments r
-    → WritesTo sink old new (AppendsForm pointer sink.appends) (LeavesForm pointer sink.appends sink.leaves) (λ kind. (kind ≡ OutOfMemory) ⊎ DeclinesForm pointer sink.refuses kind) r
-form_written sink old new pointer form segments (Ok x) stands is declared = record {
+    → WritesTo sink old new (AppendsForm pointer sink.appends) (LeavesForm pointer sink.appends sink.leaves) (λ kind. (kind ≡ OutOfMemory) ⊎ WrittenFormError pointer sink.refuses kind) r
+form_written sink old new pointer form segments (Ok x) stands is reported = record {
   written = IfKnown-weaker (sink.written old) (sink.written new) (λ before after (text, p, e).
-      (text, (form, stands, subst (λ (s : List (List ℕ)). AppendsAll sink.appends (chunks s) text) is p), e)) declared.parts.written;
+      (text, (form, stands, subst (λ (s : List (List ℕ)). AppendsAll sink.appends (chunks s) text) is p), e)) reported.parts.written;
   left = tt;
-  refused = tt;
+  errors = tt;
   failed = tt;
-  grows = declared.parts.grows;
+  grows = reported.parts.grows;
 }
-form_written sink old new pointer form segments (Err e) stands is declared = record {
+form_written sink old new pointer form segments (Err e) stands is reported = record {
   written = tt;
   left = IfKnown-weaker (sink.written old) (sink.written new) (λ before after (text, p, e).
-      (text, inr (form, stands, subst (λ (s : List (List ℕ)). LeavesSome sink.appends sink.leaves (chunks s) text) is p), e)) declared.parts.left;
-  refused = declines_writing pointer sink.refuses form segments e.kind stands is declared.parts.refused;
-  failed = declared.parts.failed;
-  grows = declared.parts.grows;
+      (text, inr (form, stands, subst (λ (s : List (List ℕ)). LeavesSome sink.appends sink.leaves (chunks s) text) is p), e)) reported.parts.left;
+  errors = form_writing_error pointer sink.refuses form segments e.kind stands is reported.parts.errors;
+  failed = reported.parts.failed;
+  grows = reported.parts.grows;
 }
 
 -- nothing of it is written unless the sink fails for a chunk
 pub form_untouched : {S X : Type 0} (sink : Ghosts S) (old new : S) (pointer : Pointer) (form : List ℕ) (segments : List (List ℕ)) (r : Result X Error)
-    → IsForm pointer form → segments ≡ form ∷ [] → WritesSegments sink old new segments r → FailsOr r (λ kind. BreaksForm pointer sink.refuses kind ⊎ (new ≡ old))
-form_untouched sink old new pointer form segments (Ok x) stands is declared = tt
-form_untouched sink old new pointer form segments (Err e) stands is declared = elim declared.parts.untouched [
+    → IsForm pointer form → segments ≡ form ∷ [] → WritesSegments sink old new segments r → FailsOr r (λ kind. FormSinkError pointer sink.refuses kind ⊎ (new ≡ old))
+form_untouched sink old new pointer form segments (Ok x) stands is reported = tt
+form_untouched sink old new pointer form segments (Err e) stands is reported = elim reported.parts.untouched [
   | inl failed ↦ inl failed
-  | inr (inl declined) ↦ inr (inl (form, stands, subst (λ (s : List (List ℕ)). DeclinesSome sink.refuses (chunks s) e.kind) is declined))
+  | inr (inl chunk_errors) ↦ inr (inl (form, stands, subst (λ (s : List (List ℕ)). ChunksError sink.refuses (chunks s) e.kind) is chunk_errors))
   | inr (inr same) ↦ inr (inr same)
 ]

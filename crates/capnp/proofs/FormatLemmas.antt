@@ -6,12 +6,12 @@ use Rattle.capnp_frame.specs.declared.error.Error.{Error}
 use Rattle.capnp_frame.specs.declared.error.ErrorKind.{ErrorKind}
 use Rattle.capnp_frame.specs.declared.error.ErrorKind.TheVariants.{DeviceFailed, OutOfMemory}
 use Rattle.capnp_frame.specs.declared.io.Read.{Ghosts}
-use Rattle.capnp_frame.specs.Prelude.{IsWithin, Giving, Refusing, Splits, RunsShort, IfKnown, Advances, Fails, CountStands, RefusesStream, Outgrows, TakesMemory, TakesForLengths, IsReaderKind, MessageStands, SkipsMessage, StreamRules, framed_rules, reusing_rules, skipping_rules, ReadsStream}
+use Rattle.capnp_frame.specs.Prelude.{IsWithin, Giving, Refusing, Splits, RunsShort, IfKnown, Advances, Fails, CountStands, StreamError, Outgrows, TakesMemory, TakesForLengths, IsReaderKind, MessageStands, SkipsMessage, StreamRules, framed_rules, reusing_rules, skipping_rules, ReadsStream}
 use Rattle.capnp_frame.proofs.sources.SourceLemmas.{IfKnown-weaker}
-use Rattle.capnp_frame.proofs.errors.RefusalLemmas.{RefusesStream-map}
+use Rattle.capnp_frame.proofs.errors.StreamErrorLemmas.{StreamError-map}
 use Rattle.capnp.specs.declared.streams.Format.{Format}
 use Rattle.capnp.specs.declared.streams.Format.TheVariants.{Framed}
-use Rattle.capnp.specs.Prelude.{OrFailsAtEnd, IsPlainSource, rules_of, skipping_rules_of, StandsNext, IsReadingFault}
+use Rattle.capnp.specs.Prelude.{OrFailsAtEnd, IsPlainSource, rules_of, skipping_rules_of, StandsNext, ReadingError}
 use Rattle.capnp.proofs.ReaderLemmas.{frames_requested}
 
 CountStands-map : {gives others : Giving} (given : (raw : List ℕ) (n : ℕ) (bytes rest : List ℕ) → gives raw n bytes rest → others raw n bytes rest)
@@ -53,14 +53,14 @@ pub Outgrows-none : (segments bytes : ℕ) (rule : Padding) (gives : Giving) (li
 Outgrows-none segments bytes rule gives limit raw left (inl (stands, more)) = inl (stands, omega arith)
 Outgrows-none segments bytes rule gives limit raw left (inr (lengths, table, within, more)) = inr (lengths, table, within, omega arith)
 
-kinds_of : (rule : Padding) {refuses also : Refusing} (refused : (raw : List ℕ) (n : ℕ) (kind : ErrorKind) → refuses raw n kind → also raw n kind)
+kinds_of : (rule : Padding) {refuses also : Refusing} (errors : (raw : List ℕ) (n : ℕ) (kind : ErrorKind) → refuses raw n kind → also raw n kind)
     (kind : ErrorKind) → IsReaderKind rule refuses kind → IsReaderKind rule also kind
-kinds_of rule refused kind (inl device) = inl device
-kinds_of rule refused kind (inr (inl memory)) = inr (inl memory)
-kinds_of rule refused kind (inr (inr (inl count))) = inr (inr (inl count))
-kinds_of rule refused kind (inr (inr (inr (inl total)))) = inr (inr (inr (inl total)))
-kinds_of rule refused kind (inr (inr (inr (inr (inl padding))))) = inr (inr (inr (inr (inl padding))))
-kinds_of rule refused kind (inr (inr (inr (inr (inr (raw, n, line)))))) = inr (inr (inr (inr (inr (raw, n, refused raw n kind line)))))
+kinds_of rule errors kind (inl device) = inl device
+kinds_of rule errors kind (inr (inl memory)) = inr (inl memory)
+kinds_of rule errors kind (inr (inr (inl count))) = inr (inr (inl count))
+kinds_of rule errors kind (inr (inr (inr (inl total)))) = inr (inr (inr (inl total)))
+kinds_of rule errors kind (inr (inr (inr (inr (inl padding))))) = inr (inr (inr (inr (inl padding))))
+kinds_of rule errors kind (inr (inr (inr (inr (inr (raw, n, line)))))) = inr (inr (inr (inr (inr (raw, n, errors raw n kind line)))))
 
 -- Over a source of plain bytes what is read by its requests is read by the framed format's rules.
 module _ {S : Type 0} (rule : Padding) (source : Ghosts S) (plain : IsPlainSource source.gives source.refuses) (limit : Option ℕ) where
@@ -77,31 +77,31 @@ module _ {S : Type 0} (rule : Padding) (source : Ghosts S) (plain : IsPlainSourc
   texts_accepted F None accepted = tt
   texts_accepted F (Some raw) accepted = λ m rest stands within. accepted m rest ((frames_requested rule _ _ plain m raw rest).1 stands) within
 
-  texts_refused : (takes also : List ℕ → List ℕ → Type 0) → ((raw left : List ℕ) → takes raw left → also raw left)
+  texts_error : (takes also : List ℕ → List ℕ → Type 0) → ((raw left : List ℕ) → takes raw left → also raw left)
       → (old new : Option (List ℕ)) (r : Result (Option (List (List ℕ))) Error)
       → IfErr r (λ error. (error.kind ≡ DeviceFailed)
       ⊎ ((error.kind ≡ OutOfMemory) × IfKnown old new takes)
-      ⊎ IfKnown old new (RefusesStream rule source.gives source.refuses limit None error.kind))
+      ⊎ IfKnown old new (StreamError rule source.gives source.refuses limit None error.kind))
       → IfErr r (λ error. (error.kind ≡ DeviceFailed)
       ⊎ ((error.kind ≡ OutOfMemory) × IfKnown old new also)
-      ⊎ IfKnown old new (RefusesStream rule Splits RunsShort limit None error.kind))
-  texts_refused takes also wider old new (Ok found) refused = tt
-  texts_refused takes also wider old new (Err e) (inl device) = inl device
-  texts_refused takes also wider old new (Err e) (inr (inl (memory, taken))) = inr (inl (memory, IfKnown-weaker old new wider taken))
-  texts_refused takes also wider old new (Err e) (inr (inr line)) = inr (inr (IfKnown-weaker old new
-      (RefusesStream-map rule (λ w n b t. (plain.given w n b t).1) (λ w n k. (plain.refused w n k).1) limit None e.kind) line))
+      ⊎ IfKnown old new (StreamError rule Splits RunsShort limit None error.kind))
+  texts_error takes also wider old new (Ok found) errors = tt
+  texts_error takes also wider old new (Err e) (inl device) = inl device
+  texts_error takes also wider old new (Err e) (inr (inl (memory, taken))) = inr (inl (memory, IfKnown-weaker old new wider taken))
+  texts_error takes also wider old new (Err e) (inr (inr line)) = inr (inr (IfKnown-weaker old new
+      (StreamError-map rule (λ w n b t. (plain.given w n b t).1) (λ w n k. (plain.errors w n k).1) limit None e.kind) line))
 
   texts_exact : (F : ErrorKind → Type 0) (old : Option (List ℕ))
-      → IfSome old (λ raw. (kind : ErrorKind) (left : List ℕ) → RefusesStream rule source.gives source.refuses limit None kind raw left → F kind)
-      → IfSome old (λ raw. (kind : ErrorKind) (left : List ℕ) → RefusesStream rule Splits RunsShort limit None kind raw left → F kind)
+      → IfSome old (λ raw. (kind : ErrorKind) (left : List ℕ) → StreamError rule source.gives source.refuses limit None kind raw left → F kind)
+      → IfSome old (λ raw. (kind : ErrorKind) (left : List ℕ) → StreamError rule Splits RunsShort limit None kind raw left → F kind)
   texts_exact F None exact = tt
   texts_exact F (Some raw) exact = λ kind left line. exact kind left
-      (RefusesStream-map rule (λ w n b t. (plain.given w n b t).0) (λ w n k. (plain.refused w n k).0) limit None kind raw left line)
+      (StreamError-map rule (λ w n b t. (plain.given w n b t).0) (λ w n k. (plain.errors w n k).0) limit None kind raw left line)
 
   texts_kinds : (r : Result (Option (List (List ℕ))) Error) → IfErr r (λ error. IsReaderKind rule source.refuses error.kind)
       → IfErr r (λ error. IsReaderKind rule RunsShort error.kind)
   texts_kinds (Ok found) kinds = tt
-  texts_kinds (Err e) kinds = kinds_of rule (λ w n k. (plain.refused w n k).1) e.kind kinds
+  texts_kinds (Err e) kinds = kinds_of rule (λ w n k. (plain.errors w n k).1) e.kind kinds
 
   plain_reads_taking : (takes also : Option ℕ → List ℕ → List ℕ → Type 0) → ((raw left : List ℕ) → takes limit raw left → also limit raw left)
       → (old new : S) (r : Result (Option (List (List ℕ))) Error)
@@ -114,7 +114,7 @@ module _ {S : Type 0} (rule : Padding) (source : Ghosts S) (plain : IsPlainSourc
     none = reads.none;
     accepted = texts_accepted _ _ reads.accepted;
     end = reads.end;
-    refused = texts_refused (takes limit) (also limit) wider _ _ r reads.refused;
+    errors = texts_error (takes limit) (also limit) wider _ _ r reads.errors;
     exact = texts_exact _ _ reads.exact;
     kinds = texts_kinds r reads.kinds;
     failed = reads.failed;
@@ -160,17 +160,17 @@ stands_next rule format limit segments old new within stands = IfKnown-weaker ol
     record { text = text; is_text = is_text; within = within; spelled = spelled }) stands
 
 -- and a reader's failure is a cause that the run knows
-pub reading_fault : (rule : Padding) (format : Format) (limit : Option ℕ) (kind : ErrorKind) (old new : Option (List ℕ))
+pub reading_error : (rule : Padding) (format : Format) (limit : Option ℕ) (kind : ErrorKind) (old new : Option (List ℕ))
     → (kind ≡ DeviceFailed) ⊎ ((kind ≡ OutOfMemory) × IfKnown old new ((rules_of rule format).takes_memory limit))
-    ⊎ IfKnown old new ((rules_of rule format).refuses limit None kind) → IsReadingFault rule format limit kind old new
-reading_fault rule format limit kind old new (inl device) = inl device
-reading_fault rule format limit kind old new (inr (inl memory)) = inr (inl (memory.0, IfKnown-weaker old new (λ raw left takes. inr takes) memory.1))
-reading_fault rule format limit kind old new (inr (inr line)) = inr (inr line)
+    ⊎ IfKnown old new ((rules_of rule format).refuses limit None kind) → ReadingError rule format limit kind old new
+reading_error rule format limit kind old new (inl device) = inl device
+reading_error rule format limit kind old new (inr (inl memory)) = inr (inl (memory.0, IfKnown-weaker old new (λ raw left takes. inr takes) memory.1))
+reading_error rule format limit kind old new (inr (inr line)) = inr (inr line)
 
 -- as is a failure of a call that skips a message, which takes memory for the lengths alone
-pub skipping_fault : (rule : Padding) (format : Format) (kept : ℕ) (limit : Option ℕ) (kind : ErrorKind) (old new : Option (List ℕ))
+pub skipping_error : (rule : Padding) (format : Format) (kept : ℕ) (limit : Option ℕ) (kind : ErrorKind) (old new : Option (List ℕ))
     → (kind ≡ DeviceFailed) ⊎ ((kind ≡ OutOfMemory) × IfKnown old new ((skipping_rules_of rule format kept).takes_memory limit))
-    ⊎ IfKnown old new ((skipping_rules_of rule format kept).refuses limit None kind) → IsReadingFault rule format limit kind old new
-skipping_fault rule format kept limit kind old new (inl device) = inl device
-skipping_fault rule format kept limit kind old new (inr (inl memory)) = inr (inl (memory.0, IfKnown-weaker old new (λ raw left takes. inl takes.0) memory.1))
-skipping_fault rule format kept limit kind old new (inr (inr line)) = inr (inr line)
+    ⊎ IfKnown old new ((skipping_rules_of rule format kept).refuses limit None kind) → ReadingError rule format limit kind old new
+skipping_error rule format kept limit kind old new (inl device) = inl device
+skipping_error rule format kept limit kind old new (inr (inl memory)) = inr (inl (memory.0, IfKnown-weaker old new (λ raw left takes. inl takes.0) memory.1))
+skipping_error rule format kept limit kind old new (inr (inr line)) = inr (inr line)

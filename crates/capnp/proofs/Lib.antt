@@ -7,7 +7,7 @@ pub mod EndLemmas
 pub mod TranscodingLemmas
 pub mod ChunkLemmas
 pub mod AppendedLemmas
-pub mod StoppedLemmas
+pub mod FailedRunLemmas
 pub mod Passed
 pub mod BlameLemmas
 pub mod FormLemmas

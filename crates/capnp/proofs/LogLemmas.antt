@@ -12,7 +12,7 @@ use Rattle.capnp_pack.specs.Prelude.{IsPackedFrame, unpacking}
 use Rattle.capnp_pack.proofs.words.AllLemmas.{AllByRecursion-append}
 use Rattle.capnp_pack.proofs.encodings.PackedFrameLemmas.{packed_requests, packed_text_is}
 use Rattle.capnp.specs.declared.streams.Format.TheVariants.{Packed}
-use Rattle.capnp.specs.Prelude.{EndsBy, IsStream, IsTextOf, IsPackedEncodingOf, AppendsEach, kind_of, LacksMemory, IsCut, IsCutLog, IsLog}
+use Rattle.capnp.specs.Prelude.{EndsBy, IsStream, IsTextOf, IsPackedEncodingOf, AppendsEach, kind_of, IsMemoryError, IsCut, IsCutLog, IsLog}
 use Rattle.capnp.proofs.AppendedLemmas.{AppendsEach-push, appended_stream}
 use Rattle.capnp.proofs.RunLemmas.{format_parts}
 use Rattle.capnp.proofs.CutLemmas.{front_is_cut}
@@ -34,24 +34,24 @@ kept_back old new kept end (tail, spelled) at is = is ∙ ap (λ k. take k new) 
 
 -- Reading
 
-none_of : (refusal : Option Error) → kind_of refusal ≡ None → refusal ≡ None
+none_of : (reason : Option Error) → kind_of reason ≡ None → reason ≡ None
 none_of None none = refl
 none_of (Some error) none = cc
 
-whole_end : (limit : Option ℕ) (refusal : Option Error) (log : List ℕ) (end : ℕ) → end ≤ length log → kind_of refusal ≡ None → EndsBy Zero Packed limit (kind_of refusal) (drop end log) → end ≡ length log
-whole_end limit refusal log end within none ends =
+whole_end : (limit : Option ℕ) (reason : Option Error) (log : List ℕ) (end : ℕ) → end ≤ length log → kind_of reason ≡ None → EndsBy Zero Packed limit (kind_of reason) (drop end log) → end ≡ length log
+whole_end limit reason log end within none ends =
     let nothing : drop end log ≡ [] = subst (λ ending. EndsBy Zero Packed limit ending (drop end log)) none ends in
     omega (arith, ap length nothing, length-drop end log)
 
-pub log_is_read : (limit : Option ℕ) (ms : List (List (List ℕ))) (refusal : Option Error) (log : List ℕ) (end : ℕ) → end ≤ length log
-    → LacksMemory refusal ⊎ EndsBy Zero Packed limit (kind_of refusal) (drop end log)
-    → ((messages : List (List (List ℕ))) (ending : Option ErrorKind) → IsStream Zero Packed limit messages ending log → LacksMemory refusal ⊎ (ms ≡ messages) × (kind_of refusal ≡ ending))
-    → (records : List (List (List ℕ))) → IsLog limit records log → LacksMemory refusal ⊎ (ms ≡ records) × (refusal ≡ None) × (end ≡ length log)
-log_is_read limit ms refusal log end within (inl memory) exact records is = inl memory
-log_is_read limit ms refusal log end within (inr ends) exact records is =
+pub log_is_read : (limit : Option ℕ) (ms : List (List (List ℕ))) (reason : Option Error) (log : List ℕ) (end : ℕ) → end ≤ length log
+    → IsMemoryError reason ⊎ EndsBy Zero Packed limit (kind_of reason) (drop end log)
+    → ((messages : List (List (List ℕ))) (ending : Option ErrorKind) → IsStream Zero Packed limit messages ending log → IsMemoryError reason ⊎ (ms ≡ messages) × (kind_of reason ≡ ending))
+    → (records : List (List (List ℕ))) → IsLog limit records log → IsMemoryError reason ⊎ (ms ≡ records) × (reason ≡ None) × (end ≡ length log)
+log_is_read limit ms reason log end within (inl memory) exact records is = inl memory
+log_is_read limit ms reason log end within (inr ends) exact records is =
     elim (exact records None (appended_stream Zero Packed limit records log is.writable is.few is.size is.appended)) [
       | inl memory ↦ inl memory
-      | inr same ↦ inr (same.0, none_of refusal same.1, whole_end limit refusal log end within same.1 ends)
+      | inr same ↦ inr (same.0, none_of reason same.1, whole_end limit reason log end within same.1 ends)
     ]
 
 -- A log that is cut
@@ -92,34 +92,34 @@ cut_once limit ending (m ∷ ms) (n ∷ ns) raw rest part texts ends others none
 cut_end : (log whole part : List ℕ) (end : ℕ) → end ≤ length log → log ≡ whole ++ part → drop end log ≡ part → end ≡ length whole
 cut_end log whole part end within is left = omega (arith, ap length is, length-append whole part, ap length left, length-drop end log)
 
-pub cut_is_declared : (limit : Option ℕ) (ms : List (List (List ℕ))) (refusal : Option Error) (log : List ℕ) (end : ℕ) → end ≤ length log
-    → AreEncodings (IsPackedFrame Zero) limit ms log (drop end log) → LacksMemory refusal ⊎ EndsBy Zero Packed limit (kind_of refusal) (drop end log)
+pub cut_is_reported : (limit : Option ℕ) (ms : List (List (List ℕ))) (reason : Option Error) (log : List ℕ) (end : ℕ) → end ≤ length log
+    → AreEncodings (IsPackedFrame Zero) limit ms log (drop end log) → IsMemoryError reason ⊎ EndsBy Zero Packed limit (kind_of reason) (drop end log)
     → (records : List (List (List ℕ))) (whole part missing : List ℕ) (next : List (List ℕ)) → IsLog limit records whole → IsWritable next → IsPackedEncodingOf next (part ++ missing)
-    → 0 < length missing → log ≡ whole ++ part → LacksMemory refusal ⊎ (ms ≡ records) × (end ≡ length whole)
-cut_is_declared limit ms refusal log end within texts (inl memory) records whole part missing next is writable packed some spelled = inl memory
-cut_is_declared limit ms refusal log end within texts (inr ends) records whole part missing next is writable packed some spelled =
+    → 0 < length missing → log ≡ whole ++ part → IsMemoryError reason ⊎ (ms ≡ records) × (end ≡ length whole)
+cut_is_reported limit ms reason log end within texts (inl memory) records whole part missing next is writable packed some spelled = inl memory
+cut_is_reported limit ms reason log end within texts (inr ends) records whole part missing next is writable packed some spelled =
     let stream = appended_stream Zero Packed limit records whole is.writable is.few is.size is.appended in
     let nothing : stream.rest ≡ [] = stream.ends in
     let following = texts_after (IsPackedFrame Zero) limit records whole stream.rest part stream.texts in
     let there : AreEncodings (IsPackedFrame Zero) limit records log part =
     subst (λ l. AreEncodings (IsPackedFrame Zero) limit records l part) (sym spelled) (subst (λ l. AreEncodings (IsPackedFrame Zero) limit records (whole ++ part) (l ++ part)) nothing following) in
-    let same = cut_once limit (kind_of refusal) ms records log (drop end log) part texts ends there (λ other left. part_is_none limit next other part missing left writable packed some) in
+    let same = cut_once limit (kind_of reason) ms records log (drop end log) part texts ends there (λ other left. part_is_none limit next other part missing left writable packed some) in
     inr (same.0, cut_end log whole part end within spelled same.1)
 
 -- why it is read no further
-cut_by : (limit : Option ℕ) (refusal : Option Error) (next : List (List ℕ)) (part missing : List ℕ) → IsWritable next → IsWithinSegmentLimit next → KeepsLimit (lengths next) limit
-    → IsPackedEncodingOf next (part ++ missing) → 0 < length part → EndsBy Zero Packed limit (kind_of refusal) part → IsCut refusal
+cut_by : (limit : Option ℕ) (reason : Option Error) (next : List (List ℕ)) (part missing : List ℕ) → IsWritable next → IsWithinSegmentLimit next → KeepsLimit (lengths next) limit
+    → IsPackedEncodingOf next (part ++ missing) → 0 < length part → EndsBy Zero Packed limit (kind_of reason) part → IsCut reason
 cut_by limit None next part missing writable few size packed begun none = absurd (omega (arith, begun, ap length none))
-cut_by limit (Some error) next part missing writable few size packed begun (left, refused) = front_is_cut limit next part missing left error.kind writable few size packed refused
+cut_by limit (Some error) next part missing writable few size packed begun (left, errors) = front_is_cut limit next part missing left error.kind writable few size packed errors
 
-pub cut_declared : (limit : Option ℕ) (ms : List (List (List ℕ))) (refusal : Option Error) (log : List ℕ) (end : ℕ) → end ≤ length log
-    → AreEncodings (IsPackedFrame Zero) limit ms log (drop end log) → LacksMemory refusal ⊎ EndsBy Zero Packed limit (kind_of refusal) (drop end log)
-    → (records : List (List (List ℕ))) (whole : List ℕ) → IsCutLog limit records whole log → LacksMemory refusal ⊎ IsCut refusal
-cut_declared limit ms refusal log end within texts (inl memory) records whole cut = inl memory
-cut_declared limit ms refusal log end within texts (inr ends) records whole cut =
-    elim (cut_is_declared limit ms refusal log end within texts (inr ends) records whole cut.part cut.missing cut.next cut.before cut.writable cut.packed cut.some cut.spelled) [
+pub cut_reported : (limit : Option ℕ) (ms : List (List (List ℕ))) (reason : Option Error) (log : List ℕ) (end : ℕ) → end ≤ length log
+    → AreEncodings (IsPackedFrame Zero) limit ms log (drop end log) → IsMemoryError reason ⊎ EndsBy Zero Packed limit (kind_of reason) (drop end log)
+    → (records : List (List (List ℕ))) (whole : List ℕ) → IsCutLog limit records whole log → IsMemoryError reason ⊎ IsCut reason
+cut_reported limit ms reason log end within texts (inl memory) records whole cut = inl memory
+cut_reported limit ms reason log end within texts (inr ends) records whole cut =
+    elim (cut_is_reported limit ms reason log end within texts (inr ends) records whole cut.part cut.missing cut.next cut.before cut.writable cut.packed cut.some cut.spelled) [
       | inl memory ↦ inl memory
       | inr same ↦
           let left : drop end log ≡ cut.part = ap (drop end) cut.spelled ∙ drop_at whole cut.part end (sym same.1) in
-          inr (cut_by limit refusal cut.next cut.part cut.missing cut.writable cut.few cut.size cut.packed cut.begun (subst (λ l. EndsBy Zero Packed limit (kind_of refusal) l) left ends))
+          inr (cut_by limit reason cut.next cut.part cut.missing cut.writable cut.few cut.size cut.packed cut.begun (subst (λ l. EndsBy Zero Packed limit (kind_of reason) l) left ends))
     ]

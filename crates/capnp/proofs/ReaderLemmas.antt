@@ -6,14 +6,14 @@ use Rattle.capnp_frame.specs.declared.serialize.segment_table.Padding.{Padding}
 use Rattle.capnp_frame.specs.declared.io.Read.{Ghosts}
 use Rattle.capnp_frame.specs.declared.message.options.ReaderOptions.{ReaderOptions}
 use Rattle.capnp_frame.specs.Prelude.{IsWithin, IsFrame, Giving, Refusing, IsSource, IfKnown, MessageStands, StreamRules, next_in, ReadsStream, ReadsStreamInto, Grammar, BeginsWith, SeenBuffer}
-use Rattle.capnp_frame.proofs.errors.RefusalLemmas.{given_some}
+use Rattle.capnp_frame.proofs.errors.StreamErrorLemmas.{given_some}
 use Rattle.capnp_frame.proofs.sources.SourceLemmas.{IfKnown-weaker}
 use Rattle.capnp_frame.proofs.encodings.RequestLemmas.{MessageStands-map}
 use Rattle.capnp_frame.proofs.encodings.FrameLemmas.{plain_requests}
 use Rattle.capnp_frame.proofs.encodings.TextLemmas.{AreRequested}
 use Rattle.capnp_pack.specs.Prelude.{unpacking}
 use Rattle.capnp_pack.proofs.encodings.PackedFrameLemmas.{packed_requests}
-use Rattle.capnp.specs.Prelude.{IsPlainSource, IsFault, MessageRules, framed, packed, reader_of, ReadsMessage, ReadsMessageInto, OrFailsAtEnd}
+use Rattle.capnp.specs.Prelude.{IsPlainSource, ExternalError, MessageRules, framed, packed, reader_of, ReadsMessage, ReadsMessageInto, OrFailsAtEnd}
 
 -- the requests of a plain source take just the frames
 pub frames_requested : (rule : Padding) (gives : Giving) (refuses : Refusing) → IsPlainSource gives refuses → AreRequested (IsFrame rule) rule gives
@@ -148,7 +148,7 @@ module _ {S : Type 0} (source : Ghosts S) (old new : S) (rules : MessageRules) (
     options_are = tt;
   }
 
--- Also the form that has to return a message fails only by a fault where an encoding is there.
+-- Also the form that has to return a message fails only by an external error where an encoding is there.
 nothing_accepted : (P : List (List ℕ) → List ℕ → List ℕ → Type 0) (F : Type 0) (Q : Error → Type 0) (old : Option (List ℕ))
     → IfSome old (λ raw. (m : List (List ℕ)) (rest : List ℕ) → P m raw rest → MatchResult (Ok None) (IsSome {T = List (List ℕ)}) Q)
     → IfSome old (λ raw. (m : List (List ℕ)) (rest : List ℕ) → P m raw rest → F)
@@ -157,10 +157,10 @@ nothing_accepted P F Q (Some raw) accepted = λ m rest begins. let none : false 
 
 pub or_fails_accepted : {S : Type 0} (source : Ghosts S) (old new : S) (rules : MessageRules) (options : ReaderOptions) (e : Error) → rules.plain
     → OrFailsAtEnd (ReadsMessage source old new rules options) (Err e)
-    → IfSome (source.unread old) (λ raw. (m : List (List ℕ)) (rest : List ℕ) → BeginsWith rules.is_text options.traversal_limit_in_words m raw rest → IsFault e.kind)
+    → IfSome (source.unread old) (λ raw. (m : List (List ℕ)) (rest : List ℕ) → BeginsWith rules.is_text options.traversal_limit_in_words m raw rest → ExternalError e.kind)
 or_fails_accepted source old new rules options e plain (inl reads) = (reads.texts plain).accepted
 or_fails_accepted source old new rules options e plain (inr (end, reads)) =
-    nothing_accepted (λ m raw rest. BeginsWith rules.is_text options.traversal_limit_in_words m raw rest) (IsFault e.kind) (λ error. IsFault error.kind) (source.unread old) (reads.texts plain).accepted
+    nothing_accepted (λ m raw rest. BeginsWith rules.is_text options.traversal_limit_in_words m raw rest) (ExternalError e.kind) (λ error. ExternalError error.kind) (source.unread old) (reads.texts plain).accepted
 
 pub or_fails_reads : {S : Type 0} (source : Ghosts S) (old new : S) (rules : MessageRules) (options : ReaderOptions) (e : Error)
     → OrFailsAtEnd (ReadsMessage source old new rules options) (Err e)

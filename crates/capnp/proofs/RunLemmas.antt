@@ -12,8 +12,8 @@ use Rattle.capnp_pack.specs.Prelude.{unpacking}
 use Rattle.capnp_pack.proofs.encodings.PackedFrameLemmas.{packed_requests}
 use Rattle.capnp.specs.declared.streams.Format.{Format}
 use Rattle.capnp.specs.declared.streams.Format.TheVariants.{Framed, Packed}
-use Rattle.capnp.specs.declared.streams.StoppedAt.{StoppedAt}
-use Rattle.capnp.specs.Prelude.{grammar_of, gives_of, refuses_of, rules_of, Writing, DecliningWriting, WritesFrom, WritesAll, HasWrittenNext, HasWritten, IsReadingFault, IsWritingFault, BreaksOffOr, IsRunFault, most_messages, HasRun, by_format}
+use Rattle.capnp.specs.declared.streams.FailedAt.{FailedAt}
+use Rattle.capnp.specs.Prelude.{grammar_of, gives_of, refuses_of, rules_of, Writing, WritingErrors, WritesFrom, WritesAll, HasWrittenNext, HasWritten, ReadingError, WritingError, FailsWithinOr, RunError, most_messages, HasRun, by_format}
 use Rattle.capnp.proofs.FormatLemmas.{stands_next}
 use Rattle.capnp.proofs.ReaderLemmas.{AreRead, are_read}
 use Rattle.capnp.proofs.WriterLemmas.{IsWritable-within}
@@ -89,23 +89,23 @@ written_next rule format limit Writes index message old new before after within 
     IfKnown-weaker old new (λ raw rest begins. record { message = message; stands = begins; written = written })
     (stands_next rule format limit message old new within stands)
 
--- a run stops by a fault of writing also where a reader accepts the message
-pub message_faulted : (limit : Option ℕ) (Declines : DecliningWriting) (index : ℕ) (message : List (List ℕ))
+-- a run stops by an error of writing also where a reader accepts the message
+pub message_run_error : (limit : Option ℕ) (Errors : WritingErrors) (index : ℕ) (message : List (List ℕ))
     (kind : ErrorKind) → IsWithin message limit → AllByRecursion IsWholeWords message
-    → IsWritingFault Declines index message kind → IsRunFault Declines index kind
-message_faulted limit Declines index message kind within whole fault = inr (message, IsWritable-within message limit within whole, fault)
+    → WritingError Errors index message kind → RunError Errors index kind
+message_run_error limit Errors index message kind within whole error = inr (message, IsWritable-within message limit within whole, error)
 
 -- What a run comes to, by what its source had and has.
 
-pub all_written : (rule : Padding) (format : Format) (limit : Option ℕ) (Writes : Writing) (Declines : DecliningWriting) (count : ℕ)
+pub all_written : (rule : Padding) (format : Format) (limit : Option ℕ) (Writes : Writing) (Errors : WritingErrors) (count : ℕ)
     (old mid left before between after : Option (List ℕ))
     → IfKnown old mid (HasWritten rule format limit Writes count before between) → IfSome mid (λ raw. raw ≡ [])
     → IfKnown mid left IsTail → after ≡ between
-    → IfSome old (HasRun rule format limit Writes Declines (Ok tt) left before after)
-all_written rule format limit Writes Declines count None mid left before between after written end tail same = tt
-all_written rule format limit Writes Declines count (Some raw) None left before between after written end tail same = absurd written
-all_written rule format limit Writes Declines count (Some raw) (Some rest) None before between after written end tail same = absurd tail
-all_written rule format limit Writes Declines count (Some raw) (Some rest) (Some left) before between after written end tail same =
+    → IfSome old (HasRun rule format limit Writes Errors (Ok tt) left before after)
+all_written rule format limit Writes Errors count None mid left before between after written end tail same = tt
+all_written rule format limit Writes Errors count (Some raw) None left before between after written end tail same = absurd written
+all_written rule format limit Writes Errors count (Some raw) (Some rest) None before between after written end tail same = absurd tail
+all_written rule format limit Writes Errors count (Some raw) (Some rest) (Some left) before between after written end tail same =
     let none : left ≡ [] = nil_from_length left (omega (arith, ap length end, ap length tail.1, length-append tail.0 left)) in
     record {
       count = count;
@@ -116,42 +116,42 @@ all_written rule format limit Writes Declines count (Some raw) (Some rest) (Some
       done = inl none;
     }
 
-pub most_written : (rule : Padding) (format : Format) (limit : Option ℕ) (Writes : Writing) (Declines : DecliningWriting) (count : ℕ)
+pub most_written : (rule : Padding) (format : Format) (limit : Option ℕ) (Writes : Writing) (Errors : WritingErrors) (count : ℕ)
     (old left before after : Option (List ℕ)) → IfKnown old left (HasWritten rule format limit Writes count before after)
-    → count ≡ most_messages → IfSome old (HasRun rule format limit Writes Declines (Ok tt) left before after)
-most_written rule format limit Writes Declines count None left before after written most = tt
-most_written rule format limit Writes Declines count (Some raw) None before after written most = absurd written
-most_written rule format limit Writes Declines count (Some raw) (Some rest) before after written most = record { count = count; rest = rest; unread = refl; written = written; done = inr most }
+    → count ≡ most_messages → IfSome old (HasRun rule format limit Writes Errors (Ok tt) left before after)
+most_written rule format limit Writes Errors count None left before after written most = tt
+most_written rule format limit Writes Errors count (Some raw) None before after written most = absurd written
+most_written rule format limit Writes Errors count (Some raw) (Some rest) before after written most = record { count = count; rest = rest; unread = refl; written = written; done = inr most }
 
-pub stopped_reading : (rule : Padding) (format : Format) (limit : Option ℕ) (Writes : Writing) (Declines : DecliningWriting)
-    (stop : StoppedAt) (old mid left before between after : Option (List ℕ))
-    → IfKnown old mid (HasWritten rule format limit Writes stop.message before between)
-    → IsReadingFault rule format limit stop.error.kind mid left → after ≡ between
-    → IfSome old (HasRun rule format limit Writes Declines (Err stop) left before after)
-stopped_reading rule format limit Writes Declines stop None mid left before between after written fault same = tt
-stopped_reading rule format limit Writes Declines stop (Some raw) None left before between after written fault same = absurd written
-stopped_reading rule format limit Writes Declines stop (Some raw) (Some rest) left before between after written fault same =
-    inl (record { rest = rest; written = subst (λ w. HasWritten rule format limit Writes stop.message before w raw rest) (sym same) written; fault = fault })
+pub failed_reading : (rule : Padding) (format : Format) (limit : Option ℕ) (Writes : Writing) (Errors : WritingErrors)
+    (failure : FailedAt) (old mid left before between after : Option (List ℕ))
+    → IfKnown old mid (HasWritten rule format limit Writes failure.message before between)
+    → ReadingError rule format limit failure.error.kind mid left → after ≡ between
+    → IfSome old (HasRun rule format limit Writes Errors (Err failure) left before after)
+failed_reading rule format limit Writes Errors failure None mid left before between after written error same = tt
+failed_reading rule format limit Writes Errors failure (Some raw) None left before between after written error same = absurd written
+failed_reading rule format limit Writes Errors failure (Some raw) (Some rest) left before between after written error same =
+    inl (record { rest = rest; written = subst (λ w. HasWritten rule format limit Writes failure.message before w raw rest) (sym same) written; error = error })
 
 -- what a sink was left as is what was written to it
-pub left_as_written : {S : Type 0} (written : S → Option (List ℕ)) (Declines : DecliningWriting) (index : ℕ) (message : List (List ℕ)) (kind : ErrorKind)
-    (old new : S) → BreaksOffOr Declines index message (new ≡ old) kind → BreaksOffOr Declines index message (written new ≡ written old) kind
-left_as_written written Declines index message kind old new (inl failed) = inl failed
-left_as_written written Declines index message kind old new (inr (inl broken)) = inr (inl broken)
-left_as_written written Declines index message kind old new (inr (inr same)) = inr (inr (ap written same))
+pub left_as_written : {S : Type 0} (written : S → Option (List ℕ)) (Errors : WritingErrors) (index : ℕ) (message : List (List ℕ)) (kind : ErrorKind)
+    (old new : S) → FailsWithinOr Errors index message (new ≡ old) kind → FailsWithinOr Errors index message (written new ≡ written old) kind
+left_as_written written Errors index message kind old new (inl failed) = inl failed
+left_as_written written Errors index message kind old new (inr (inl sink_error)) = inr (inl sink_error)
+left_as_written written Errors index message kind old new (inr (inr same)) = inr (inr (ap written same))
 
 -- the next message was read, and not written as a whole
-pub stopped_at_message : (rule : Padding) (format : Format) (limit : Option ℕ) (Writes : Writing) (Declines : DecliningWriting)
-    (stop : StoppedAt) (message : List (List ℕ)) (old mid left before between after : Option (List ℕ))
+pub failed_at_message : (rule : Padding) (format : Format) (limit : Option ℕ) (Writes : Writing) (Errors : WritingErrors)
+    (failure : FailedAt) (message : List (List ℕ)) (old mid left before between after : Option (List ℕ))
     → IsWithin message limit → AllByRecursion IsWholeWords message
-    → IfKnown old mid (HasWritten rule format limit Writes stop.message before between)
+    → IfKnown old mid (HasWritten rule format limit Writes failure.message before between)
     → IfKnown mid left ((rules_of rule format).stands message)
-    → IsWritingFault Declines stop.message message stop.error.kind → IfKnown between after (Adds (Declines.leaves stop.message message))
-    → BreaksOffOr Declines stop.message message (after ≡ between) stop.error.kind
-    → IfSome old (HasRun rule format limit Writes Declines (Err stop) left before after)
-stopped_at_message rule format limit Writes Declines stop message None mid left before between after within whole written stands fault of_it untouched = tt
-stopped_at_message rule format limit Writes Declines stop message (Some raw) None left before between after within whole written stands fault of_it untouched = absurd written
-stopped_at_message rule format limit Writes Declines stop message (Some raw) (Some rest) left before between after within whole written stands fault of_it untouched =
+    → WritingError Errors failure.message message failure.error.kind → IfKnown between after (Adds (Errors.leaves failure.message message))
+    → FailsWithinOr Errors failure.message message (after ≡ between) failure.error.kind
+    → IfSome old (HasRun rule format limit Writes Errors (Err failure) left before after)
+failed_at_message rule format limit Writes Errors failure message None mid left before between after within whole written stands error of_it untouched = tt
+failed_at_message rule format limit Writes Errors failure message (Some raw) None left before between after within whole written stands error of_it untouched = absurd written
+failed_at_message rule format limit Writes Errors failure message (Some raw) (Some rest) left before between after within whole written stands error of_it untouched =
     inr (record {
       rest = rest;
       between = between;
@@ -159,7 +159,7 @@ stopped_at_message rule format limit Writes Declines stop message (Some raw) (So
       message = message;
       stands = stands_next rule format limit message (Some rest) left within stands;
       writable = IsWritable-within message limit within whole;
-      fault = fault;
+      error = error;
       left_of_it = of_it;
       untouched = untouched;
     })

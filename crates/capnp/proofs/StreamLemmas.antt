@@ -9,17 +9,17 @@ use Rattle.capnp_frame.specs.Prelude.{IsWithin, Fails, Grammar, AreEncodings, Ta
 use Rattle.capnp_frame.proofs.sources.AskLemmas.{never_fails}
 use Rattle.capnp_frame.proofs.encodings.TextLemmas.{AreEncodings-push}
 use Rattle.capnp.specs.declared.streams.Format.{Format}
-use Rattle.capnp.specs.Prelude.{grammar_of, gives_of, StandsNext, RefusesNext, TakesForNext, EndsBy, IsStream, kind_of, LacksMemory, TakesForListed, EndsReading}
+use Rattle.capnp.specs.Prelude.{grammar_of, gives_of, StandsNext, NextError, TakesForNext, EndsBy, IsStream, kind_of, IsMemoryError, TakesForListed, EndsReading}
 use Rattle.capnp.proofs.EndLemmas.{stream_once}
 use Rattle.capnp.proofs.RunLemmas.{format_parts}
 
 -- a slice never fails, so its reader fails only for want of memory or with an error of its bytes
-pub slice_refuses : (rule : Padding) (format : Format) (limit : Option ℕ) (kind : ErrorKind) (old new : List ℕ) → (kind ≡ DeviceFailed → Fails 0 0)
-    → (kind ≡ DeviceFailed) ⊎ ((kind ≡ OutOfMemory) × TakesMemory rule (gives_of format) limit old new) ⊎ RefusesNext rule format limit kind old new
+pub slice_error : (rule : Padding) (format : Format) (limit : Option ℕ) (kind : ErrorKind) (old new : List ℕ) → (kind ≡ DeviceFailed → Fails 0 0)
+    → (kind ≡ DeviceFailed) ⊎ ((kind ≡ OutOfMemory) × TakesMemory rule (gives_of format) limit old new) ⊎ NextError rule format limit kind old new
     → ((kind ≡ OutOfMemory) × TakesForNext rule format limit old) ⊎ EndsBy rule format limit (Some kind) old
-slice_refuses rule format limit kind old new failed (inl device) = absurd (never_fails kind failed device)
-slice_refuses rule format limit kind old new failed (inr (inl memory)) = inl (memory.0, (new, memory.1))
-slice_refuses rule format limit kind old new failed (inr (inr line)) = inr (new, line)
+slice_error rule format limit kind old new failed (inl device) = absurd (never_fails kind failed device)
+slice_error rule format limit kind old new failed (inr (inl memory)) = inl (memory.0, (new, memory.1))
+slice_error rule format limit kind old new failed (inr (inr line)) = inr (new, line)
 
 -- memory is lacking only where there are bytes, since at the end of a stream the device alone fails
 pub memory_at_bytes : (raw : List ℕ) (kind : ErrorKind) → (Some raw ≡ Some [] → kind ≡ DeviceFailed) → kind ≡ OutOfMemory → 0 < length raw
@@ -42,8 +42,8 @@ pub moves_on : (rule : Padding) (format : Format) (limit : Option ℕ) (m : List
 moves_on rule format limit m raw rest stands = moves_on_by rule format limit m stands.text raw rest stands.is_text stands.within stands.spelled
 
 -- the kind of an error for which memory is lacking
-pub lacks_kind : (error : Error) → LacksMemory (Some error) → error.kind ≡ OutOfMemory
-lacks_kind error lacks = cc
+pub memory_kind : (error : Error) → IsMemoryError (Some error) → error.kind ≡ OutOfMemory
+memory_kind error memory = cc
 
 -- encodings are at the front of a stream
 pub texts_front : (IsText : Grammar) (limit : Option ℕ) (ms : List (List (List ℕ))) (raw rest : List ℕ) → AreEncodings IsText limit ms raw rest
@@ -68,12 +68,12 @@ texts_end IsText limit ms raw rest end texts at =
     let front = texts_front IsText limit ms raw rest texts in rest_is_dropped raw front.0 rest end front.1 at
 
 -- one list of messages, unless memory ran out
-pub stream_is_one : (rule : Padding) (format : Format) (limit : Option ℕ) (ms ns : List (List (List ℕ))) (refusal : Option Error) (raw rest : List ℕ)
-    → AreEncodings (grammar_of rule format) limit ms raw rest → LacksMemory refusal ⊎ EndsBy rule format limit (kind_of refusal) rest
-    → (ending : Option ErrorKind) → IsStream rule format limit ns ending raw → LacksMemory refusal ⊎ (ms ≡ ns) × (kind_of refusal ≡ ending)
-stream_is_one rule format limit ms ns refusal raw rest texts (inl memory) ending stream = inl memory
-stream_is_one rule format limit ms ns refusal raw rest texts (inr ends) ending stream =
-    inr (stream_once rule format limit ms ns (kind_of refusal) ending raw (record { rest = rest; texts = texts; ends = ends }) stream)
+pub stream_is_one : (rule : Padding) (format : Format) (limit : Option ℕ) (ms ns : List (List (List ℕ))) (reason : Option Error) (raw rest : List ℕ)
+    → AreEncodings (grammar_of rule format) limit ms raw rest → IsMemoryError reason ⊎ EndsBy rule format limit (kind_of reason) rest
+    → (ending : Option ErrorKind) → IsStream rule format limit ns ending raw → IsMemoryError reason ⊎ (ms ≡ ns) × (kind_of reason ≡ ending)
+stream_is_one rule format limit ms ns reason raw rest texts (inl memory) ending stream = inl memory
+stream_is_one rule format limit ms ns reason raw rest texts (inr ends) ending stream =
+    inr (stream_once rule format limit ms ns (kind_of reason) ending raw (record { rest = rest; texts = texts; ends = ends }) stream)
 
 pub texts_within : (IsText : Grammar) (limit : Option ℕ) (ms : List (List (List ℕ))) (raw rest : List ℕ) → AreEncodings IsText limit ms raw rest → length rest ≤ length raw
 texts_within IsText limit ms raw rest texts =
@@ -86,27 +86,27 @@ pub next_texts : (rule : Padding) (format : Format) (limit : Option ℕ) (ms ns 
 next_texts rule format limit ms ns raw rest left texts (message, stands, more) =
     subst (λ l. AreEncodings (grammar_of rule format) limit l raw left) (sym more) (AreEncodings-push (grammar_of rule format) limit ms message raw rest left texts stands)
 
-pub refused_ends : (error : Error) (P T Q : Type 0) → ((error.kind ≡ OutOfMemory) × T) ⊎ Q → (LacksMemory (Some error) × (P → T)) ⊎ Q
-refused_ends error P T Q (inl memory) = inl (ap Some memory.0, λ few. memory.1)
-refused_ends error P T Q (inr ends) = inr ends
+pub error_ends : (error : Error) (P T Q : Type 0) → ((error.kind ≡ OutOfMemory) × T) ⊎ Q → (IsMemoryError (Some error) × (P → T)) ⊎ Q
+error_ends error P T Q (inl memory) = inl (ap Some memory.0, λ few. memory.1)
+error_ends error P T Q (inr ends) = inr ends
 
 -- wherever memory is lacking
-pub ends_or_lacks : (rule : Padding) (format : Format) (limit : Option ℕ) (refusal : Option Error) (raw rest : List ℕ) → EndsReading rule format limit refusal raw rest
-    → LacksMemory refusal ⊎ EndsBy rule format limit (kind_of refusal) rest
-ends_or_lacks rule format limit refusal raw rest (inl lacks) = inl lacks.0
-ends_or_lacks rule format limit refusal raw rest (inr ends) = inr ends
+pub ends_or_memory : (rule : Padding) (format : Format) (limit : Option ℕ) (reason : Option Error) (raw rest : List ℕ) → EndsReading rule format limit reason raw rest
+    → IsMemoryError reason ⊎ EndsBy rule format limit (kind_of reason) rest
+ends_or_memory rule format limit reason raw rest (inl memory) = inl memory.0
+ends_or_memory rule format limit reason raw rest (inr ends) = inr ends
 
 -- What is returned where the reading stops.
-pub stopped : (rule : Padding) (format : Format) (limit : Option ℕ) (ms ns : List (List (List ℕ))) (refusal : Option Error) (raw rest : List ℕ) (end : ℕ)
-    → ns ≡ ms → AreEncodings (grammar_of rule format) limit ms raw rest → end ≡ length raw - length rest → EndsReading rule format limit refusal raw rest
-    → (end ≤ length raw) × AreEncodings (grammar_of rule format) limit ns raw (drop end raw) × EndsReading rule format limit refusal raw (drop end raw)
-    × ((messages : List (List (List ℕ))) (ending : Option ErrorKind) → IsStream rule format limit messages ending raw → LacksMemory refusal ⊎ (ns ≡ messages) × (kind_of refusal ≡ ending))
-stopped rule format limit ms ns refusal raw rest end same texts at ends =
+pub reading_ended : (rule : Padding) (format : Format) (limit : Option ℕ) (ms ns : List (List (List ℕ))) (reason : Option Error) (raw rest : List ℕ) (end : ℕ)
+    → ns ≡ ms → AreEncodings (grammar_of rule format) limit ms raw rest → end ≡ length raw - length rest → EndsReading rule format limit reason raw rest
+    → (end ≤ length raw) × AreEncodings (grammar_of rule format) limit ns raw (drop end raw) × EndsReading rule format limit reason raw (drop end raw)
+    × ((messages : List (List (List ℕ))) (ending : Option ErrorKind) → IsStream rule format limit messages ending raw → IsMemoryError reason ⊎ (ns ≡ messages) × (kind_of reason ≡ ending))
+reading_ended rule format limit ms ns reason raw rest end same texts at ends =
     let left : drop end raw ≡ rest = texts_end (grammar_of rule format) limit ms raw rest end texts at in
-    let declared = subst (λ l. AreEncodings (grammar_of rule format) limit l raw rest) (sym same) texts in (
+    let reported = subst (λ l. AreEncodings (grammar_of rule format) limit l raw rest) (sym same) texts in (
       omega (arith, at),
-      subst (λ l. AreEncodings (grammar_of rule format) limit ns raw l) (sym left) declared,
-      subst (λ l. EndsReading rule format limit refusal raw l) (sym left) ends,
+      subst (λ l. AreEncodings (grammar_of rule format) limit ns raw l) (sym left) reported,
+      subst (λ l. EndsReading rule format limit reason raw l) (sym left) ends,
       λ messages ending stream.
-          stream_is_one rule format limit ns messages refusal raw rest declared (ends_or_lacks rule format limit refusal raw rest ends) ending stream,
+          stream_is_one rule format limit ns messages reason raw rest reported (ends_or_memory rule format limit reason raw rest ends) ending stream,
     )

@@ -8,10 +8,10 @@ use Rattle.capnp_frame.specs.declared.io.Write.{Ghosts as SinkGhosts}
 use Rattle.capnp_frame.specs.Prelude.{Appending}
 use Rattle.capnp_frame.proofs.sources.SourceLemmas.{IfKnown-weaker}
 use Rattle.capnp.specs.declared.streams.Format.{Format}
-use Rattle.capnp.specs.declared.streams.StoppedAt.{StoppedAt}
+use Rattle.capnp.specs.declared.streams.FailedAt.{FailedAt}
 use Rattle.capnp.specs.declared.transcoding.Way.{Way}
 use Rattle.capnp.specs.declared.transcoding.Way.TheVariants.{Pack, Unpack}
-use Rattle.capnp.specs.Prelude.{IsPlainSink, Writing, DecliningWriting, WritesFrom, HasWritten, RanOut, HasStopped, HasRun, WritesEach, Transcodes, IsOtherText}
+use Rattle.capnp.specs.Prelude.{IsPlainSink, Writing, WritingErrors, WritesFrom, HasWritten, RanOut, HasFailed, HasRun, WritesEach, Transcodes, IsOtherText}
 use Rattle.capnp.proofs.WriterLemmas.{frame_bytes_added, packed_text_added}
 
 -- what is written of each message is what is weaker
@@ -44,25 +44,25 @@ RanOut-weaker rule format limit P Q weaker left before after raw ran = record {
   done = ran.done;
 }
 
-HasStopped-weaker : (rule : Padding) (format : Format) (limit : Option ℕ) (P Q : Writing) (Declines : DecliningWriting)
+HasFailed-weaker : (rule : Padding) (format : Format) (limit : Option ℕ) (P Q : Writing) (Errors : WritingErrors)
     → IsWeaker P Q → (count : ℕ) (kind : ErrorKind) (left before after : Option (List ℕ)) (raw : List ℕ)
-    → HasStopped rule format limit P Declines count kind left before after raw
-    → HasStopped rule format limit Q Declines count kind left before after raw
-HasStopped-weaker rule format limit P Q Declines weaker count kind left before after raw (inl stopped) = inl (record {
-  rest = stopped.rest;
-  written = HasWritten-weaker rule format limit P Q weaker count before after raw stopped.rest stopped.written;
-  fault = stopped.fault;
+    → HasFailed rule format limit P Errors count kind left before after raw
+    → HasFailed rule format limit Q Errors count kind left before after raw
+HasFailed-weaker rule format limit P Q Errors weaker count kind left before after raw (inl failed) = inl (record {
+  rest = failed.rest;
+  written = HasWritten-weaker rule format limit P Q weaker count before after raw failed.rest failed.written;
+  error = failed.error;
 })
-HasStopped-weaker rule format limit P Q Declines weaker count kind left before after raw (inr stopped) = inr (record {
-  rest = stopped.rest;
-  between = stopped.between;
-  written = HasWritten-weaker rule format limit P Q weaker count before stopped.between raw stopped.rest stopped.written;
-  message = stopped.message;
-  stands = stopped.stands;
-  writable = stopped.writable;
-  fault = stopped.fault;
-  left_of_it = stopped.left_of_it;
-  untouched = stopped.untouched;
+HasFailed-weaker rule format limit P Q Errors weaker count kind left before after raw (inr failed) = inr (record {
+  rest = failed.rest;
+  between = failed.between;
+  written = HasWritten-weaker rule format limit P Q weaker count before failed.between raw failed.rest failed.written;
+  message = failed.message;
+  stands = failed.stands;
+  writable = failed.writable;
+  error = failed.error;
+  left_of_it = failed.left_of_it;
+  untouched = failed.untouched;
 })
 
 -- a plain sink gets the encoding of a message in the other format
@@ -75,21 +75,21 @@ IfSome-weaker : {P Q : List ℕ → Type 0} (unread : Option (List ℕ)) → ((r
 IfSome-weaker None weaker p = tt
 IfSome-weaker (Some raw) weaker p = weaker raw p
 
-HasRun-weaker : (rule : Padding) (format : Format) (limit : Option ℕ) (P Q : Writing) (Declines : DecliningWriting) → IsWeaker P Q
-    → (result : Result (Unit {0}) StoppedAt) (left before after : Option (List ℕ)) (raw : List ℕ)
-    → HasRun rule format limit P Declines result left before after raw → HasRun rule format limit Q Declines result left before after raw
-HasRun-weaker rule format limit P Q Declines weaker (Ok done) left before after raw ran = RanOut-weaker rule format limit P Q weaker left before after raw ran
-HasRun-weaker rule format limit P Q Declines weaker (Err stop) left before after raw ran =
-    HasStopped-weaker rule format limit P Q Declines weaker stop.message stop.error.kind left before after raw ran
+HasRun-weaker : (rule : Padding) (format : Format) (limit : Option ℕ) (P Q : Writing) (Errors : WritingErrors) → IsWeaker P Q
+    → (result : Result (Unit {0}) FailedAt) (left before after : Option (List ℕ)) (raw : List ℕ)
+    → HasRun rule format limit P Errors result left before after raw → HasRun rule format limit Q Errors result left before after raw
+HasRun-weaker rule format limit P Q Errors weaker (Ok done) left before after raw ran = RanOut-weaker rule format limit P Q weaker left before after raw ran
+HasRun-weaker rule format limit P Q Errors weaker (Err failure) left before after raw ran =
+    HasFailed-weaker rule format limit P Q Errors weaker failure.message failure.error.kind left before after raw ran
 
 -- and of all that a run says
 pub WritesEach-weaker : {S T : Type 0} (source : Ghosts S) (old new : S) (sink : SinkGhosts T) (before after : T)
-    (rule : Padding) (format : Format) (limit : Option ℕ) (P Q : Writing) (Declines : DecliningWriting) → IsWeaker P Q
-    → (result : Result (Unit {0}) StoppedAt)
-    → WritesEach source old new sink before after rule format limit P Declines result
-    → WritesEach source old new sink before after rule format limit Q Declines result
-WritesEach-weaker source old new sink before after rule format limit P Q Declines weaker result each = record {
-  written = IfSome-weaker (source.unread old) (HasRun-weaker rule format limit P Q Declines weaker result
+    (rule : Padding) (format : Format) (limit : Option ℕ) (P Q : Writing) (Errors : WritingErrors) → IsWeaker P Q
+    → (result : Result (Unit {0}) FailedAt)
+    → WritesEach source old new sink before after rule format limit P Errors result
+    → WritesEach source old new sink before after rule format limit Q Errors result
+WritesEach-weaker source old new sink before after rule format limit P Q Errors weaker result each = record {
+  written = IfSome-weaker (source.unread old) (HasRun-weaker rule format limit P Q Errors weaker result
       (source.unread new) (sink.written before) (sink.written after)) each.written;
   exact = each.exact;
   kinds = each.kinds;

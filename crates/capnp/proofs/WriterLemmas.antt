@@ -4,16 +4,16 @@ use Rattle.std.specs.List.{AllByRecursion}
 use Rattle.capnp_frame.specs.declared.error.Error.{Error}
 use Rattle.capnp_frame.specs.declared.error.ErrorKind.{ErrorKind}
 use Rattle.capnp_frame.specs.declared.error.ErrorKind.TheVariants.{DeviceFailed, OutOfMemory}
-use Rattle.capnp_frame.specs.Prelude.{KeepsLimit, IsWithin, IsWholeWords, lengths, FailsOr, IfKnown, Fails, Appending, Declining, DeclinesSome, Adds, AppendsAll, AppendsSame, Grows, KeepsCount, WritesSegments, IsWritable, IsWithinSegmentLimit, ExceedsSegmentLimit, chunks, serialized_words}
+use Rattle.capnp_frame.specs.Prelude.{KeepsLimit, IsWithin, IsWholeWords, lengths, FailsOr, IfKnown, Fails, Appending, Declining, ChunksError, Adds, AppendsAll, AppendsSame, Grows, KeepsCount, WritesSegments, IsWritable, IsWithinSegmentLimit, IsPastSegmentLimit, chunks, serialized_words}
 use Rattle.capnp_frame.specs.declared.io.Write.{Ghosts}
 use Rattle.capnp_frame.proofs.sources.SourceLemmas.{IfKnown-weaker}
 use Rattle.capnp_frame.proofs.encodings.SizeLemmas.{concat-chunks, length-frame_bytes}
 use Rattle.capnp_frame.proofs.encodings.TextLemmas.{chunks_joined}
 use Rattle.capnp_frame.proofs.sinks.WritingLemmas.{length-lengths}
-use Rattle.capnp_pack.specs.Prelude.{AppendsPacked, DeclinesPacked}
+use Rattle.capnp_pack.specs.Prelude.{AppendsPacked, PackedChunkError}
 use Rattle.capnp_pack.proofs.encodings.PackedEncodingLemmas.{packed_chunks}
 use Rattle.capnp.specs.declared.streams.Format.TheVariants.{Framed, Packed}
-use Rattle.capnp.specs.Prelude.{IsPlainSink, IsFrameEncoding, IsPackedEncodingOf, RefusesWriter, AppendsMessage, LeavesMessage, WritesMessage}
+use Rattle.capnp.specs.Prelude.{IsPlainSink, IsFrameEncoding, IsPackedEncodingOf, WriterError, AppendsMessage, LeavesMessage, WritesMessage}
 
 -- a plain sink gets the chunks themselves
 AppendsAll-plain : (appends : Appending) (xs : List (List ℕ)) (text : List ℕ) → IsPlainSink appends → AppendsAll appends xs text → AppendsAll AppendsSame xs text
@@ -56,16 +56,16 @@ IsWithin-written message limit writable few size =
     let some = writable.some in
     record { some = omega arith; few = omega arith; each = writable.each; size = size }
 
--- where a message was read, a writer's failure is a fault of the run: it has not too many segments
-pub writer_fault : {X : Type 0} (L : Type 0) (refuses : Declining) (message : List (List ℕ)) (limit : Option ℕ) (r : Result X Error) → IsWithin message limit
-    → IfErr r (λ e. RefusesWriter refuses message e.kind)
-    → IfErr r (λ e. (e.kind ≡ DeviceFailed) ⊎ ((e.kind ≡ OutOfMemory) × (4 ≤ length message)) ⊎ L ⊎ DeclinesSome refuses (chunks message) e.kind)
-writer_fault L refuses message limit (Ok x) within refused = tt
-writer_fault L refuses message limit (Err e) within (inl device) = inl device
-writer_fault L refuses message limit (Err e) within (inr (inl declined)) = inr (inr (inr declined))
-writer_fault L refuses message limit (Err e) within (inr (inr (inl many))) =
+-- where a message was read, a writer's failure is an error of the run: it has not too many segments
+pub writer_error : {X : Type 0} (L : Type 0) (refuses : Declining) (message : List (List ℕ)) (limit : Option ℕ) (r : Result X Error) → IsWithin message limit
+    → IfErr r (λ e. WriterError refuses message e.kind)
+    → IfErr r (λ e. (e.kind ≡ DeviceFailed) ⊎ ((e.kind ≡ OutOfMemory) × (4 ≤ length message)) ⊎ L ⊎ ChunksError refuses (chunks message) e.kind)
+writer_error L refuses message limit (Ok x) within errors = tt
+writer_error L refuses message limit (Err e) within (inl device) = inl device
+writer_error L refuses message limit (Err e) within (inr (inl chunk_errors)) = inr (inr (inr chunk_errors))
+writer_error L refuses message limit (Err e) within (inr (inr (inl many))) =
     let some = many.0 in let few = within.few in absurd (omega (arith, length-lengths message))
-writer_fault L refuses message limit (Err e) within (inr (inr (inr memory))) = inr (inl (memory.1, memory.0))
+writer_error L refuses message limit (Err e) within (inr (inr (inr memory))) = inr (inl (memory.1, memory.0))
 
 -- the size of an encoding that was written
 pub text_size : (r : Result ℕ Error) (message : List (List ℕ)) → IsWritable message → IfOk r (λ words. words ≡ serialized_words message)
@@ -76,46 +76,46 @@ text_size (Ok words) message writable size = λ text is. ap length is ∙ length
 -- what the engine writes of a message, framed
 pub frame_written : {S X : Type 0} (sink : Ghosts S) (old new : S) (message : List (List ℕ)) (r : Result X Error)
     → WritesSegments sink old new message r → WritesMessage Framed sink old new message r
-frame_written sink old new message r declared = record {
-  count = declared.count;
-  unwritten = declared.unwritten;
-  text = λ plain. Adds-weaker r _ _ (frame_bytes_added sink.appends plain message) declared.parts.written;
-  written = declared.parts.written;
-  left = declared.parts.left;
-  refused = declared.parts.refused;
-  untouched = declared.parts.untouched;
-  failed = declared.parts.failed;
-  grows = declared.parts.grows;
-  granted = λ framed. declared.granted;
+frame_written sink old new message r reported = record {
+  count = reported.count;
+  unwritten = reported.unwritten;
+  text = λ plain. Adds-weaker r _ _ (frame_bytes_added sink.appends plain message) reported.parts.written;
+  written = reported.parts.written;
+  left = reported.parts.left;
+  errors = reported.parts.errors;
+  untouched = reported.parts.untouched;
+  failed = reported.parts.failed;
+  grows = reported.parts.grows;
+  granted = λ framed. reported.granted;
 }
 
 -- what stays of a packer stays of its sink
-kept_below : {S P X : Type 0} (see : P → S) (Declines : ErrorKind → Type 0) (old new : P) (r : Result X Error)
-    → FailsOr r (λ kind. Declines kind ⊎ (new ≡ old)) → FailsOr r (λ kind. Declines kind ⊎ (see new ≡ see old))
-kept_below see Declines old new (Ok x) declared = tt
-kept_below see Declines old new (Err e) (inl failed) = inl failed
-kept_below see Declines old new (Err e) (inr (inl declined)) = inr (inl declined)
-kept_below see Declines old new (Err e) (inr (inr same)) = inr (inr (ap see same))
+kept_below : {S P X : Type 0} (see : P → S) (Errors : ErrorKind → Type 0) (old new : P) (r : Result X Error)
+    → FailsOr r (λ kind. Errors kind ⊎ (new ≡ old)) → FailsOr r (λ kind. Errors kind ⊎ (see new ≡ see old))
+kept_below see Errors old new (Ok x) reported = tt
+kept_below see Errors old new (Err e) (inl failed) = inl failed
+kept_below see Errors old new (Err e) (inr (inl chunk_errors)) = inr (inl chunk_errors)
+kept_below see Errors old new (Err e) (inr (inr same)) = inr (inr (ap see same))
 
 packed_is_not_framed : Packed ≡ Framed → ⊥
 packed_is_not_framed same = cc
 
 -- and packed, by a packer in which the sink is seen
 pub packed_written : {S P X : Type 0} (sink : Ghosts S) (see : P → S) (old new : P) (message : List (List ℕ)) (r : Result X Error)
-    → KeepsCount message r → (ExceedsSegmentLimit message → new ≡ old) → OnOk r (IfKnown (sink.written (see old)) (sink.written (see new)) (Adds (AppendsMessage Packed sink.appends message)))
+    → KeepsCount message r → (IsPastSegmentLimit message → new ≡ old) → OnOk r (IfKnown (sink.written (see old)) (sink.written (see new)) (Adds (AppendsMessage Packed sink.appends message)))
     → OnErr r (IfKnown (sink.written (see old)) (sink.written (see new)) (Adds (LeavesMessage Packed sink.appends sink.leaves message)))
-    → IfErr r (λ e. RefusesWriter (DeclinesPacked sink.refuses) message e.kind)
-    → FailsOr r (λ kind. DeclinesSome (DeclinesPacked sink.refuses) (chunks message) kind ⊎ (new ≡ old))
+    → IfErr r (λ e. WriterError (PackedChunkError sink.refuses) message e.kind)
+    → FailsOr r (λ kind. ChunksError (PackedChunkError sink.refuses) (chunks message) kind ⊎ (new ≡ old))
     → IfErr r (λ e. e.kind ≡ DeviceFailed → Fails (sink.failures (see old)) (sink.failures (see new)))
     → Grows sink.written sink.failures sink.same (see old) (see new) → WritesMessage Packed sink (see old) (see new) message r
-packed_written sink see old new message r count unwritten written left refused untouched failed grows = record {
+packed_written sink see old new message r count unwritten written left errors untouched failed grows = record {
   count = count;
   unwritten = λ many. ap see (unwritten many);
   text = λ plain. Adds-weaker r _ _ (packed_text_added sink.appends plain message) written;
   written = written;
   left = left;
-  refused = refused;
-  untouched = kept_below see (DeclinesSome (DeclinesPacked sink.refuses) (chunks message)) old new r untouched;
+  errors = errors;
+  untouched = kept_below see (ChunksError (PackedChunkError sink.refuses) (chunks message)) old new r untouched;
   failed = failed;
   grows = grows;
   granted = λ framed. absurd (packed_is_not_framed framed);

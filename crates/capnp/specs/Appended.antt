@@ -10,13 +10,13 @@ use Rattle.capnp_frame.specs.declared.serialize.segment_table.Padding.{Padding}
 use Rattle.capnp_frame.specs.declared.serialize.segment_table.Padding.TheVariants.{Zero}
 use Rattle.capnp_frame.specs.Prelude.{IfKnown, Advances, Fails, ReadsStream, AreEncodings}
 use Rattle.capnp.specs.declared.streams.Format.{Format}
-use Rattle.capnp.specs.Headline.{IsFault, OrFailsAtEnd}
+use Rattle.capnp.specs.Headline.{ExternalError, OrFailsAtEnd}
 use Rattle.capnp.specs.Streams.{grammar_of, rules_of}
 
 -- Fewer messages than were asked for were read, and then the reader of this format failed with this
 -- error. `source` is what is seen of the source (the members of the trait Read), which is `old`
 -- before the call and `new` after it.
-pub record StopsWithin {S : Type 0} (source : Ghosts S) (old new : S) (rule : Padding) (format : Format) (limit : Option ℕ) (count : ℕ)
+pub record FailsWithin {S : Type 0} (source : Ghosts S) (old new : S) (rule : Padding) (format : Format) (limit : Option ℕ) (count : ℕ)
     (error : Error) : Type 0 where
   -- the source once these were read
   pub between : S
@@ -27,7 +27,7 @@ pub record StopsWithin {S : Type 0} (source : Ghosts S) (old new : S) (rule : Pa
   pub next : OrFailsAtEnd (ReadsStream source between new (rules_of rule format) limit) (Err error)
 
 -- Memory is lacking for the list of these messages, the first ones, which were read; it fails with this kind.
-pub record LacksList {S : Type 0} (source : Ghosts S) (old new : S) (format : Format) (limit : Option ℕ) (count : ℕ) (kind : ErrorKind) : Type 0 where
+pub record ListMemoryError {S : Type 0} (source : Ghosts S) (old new : S) (format : Format) (limit : Option ℕ) (count : ℕ) (kind : ErrorKind) : Type 0 where
   pub memory : kind ≡ OutOfMemory
   pub messages : List (List (List ℕ))
   pub some : 0 < length messages
@@ -44,12 +44,12 @@ pub record ReadsMessages {S V X : Type 0} (source : Ghosts S) (old new : S) (for
       (AreEncodings (grammar_of Zero format) options.traversal_limit_in_words (map segments (readers read))))
   -- each reader has the options that are given
   pub options_are : IfOk result (λ read. AllByRecursion (λ reader. options_of reader ≡ options) (readers read))
-  -- where there are encodings of as many messages, a failure is a fault
+  -- where there are encodings of as many messages, a failure is an external error
   pub accepted : IfErr result (λ error. IfSome (source.unread old) (λ raw. (messages : List (List (List ℕ))) (rest : List ℕ)
-      → AreEncodings (grammar_of Zero format) options.traversal_limit_in_words messages raw rest → length messages ≡ count → IsFault error.kind))
+      → AreEncodings (grammar_of Zero format) options.traversal_limit_in_words messages raw rest → length messages ≡ count → ExternalError error.kind))
   -- it fails where the reader of one message does, or for want of memory for the list
-  pub stops : IfErr result (λ error. LacksList source old new format options.traversal_limit_in_words count error.kind
-      ⊎ StopsWithin source old new Zero format options.traversal_limit_in_words count error)
+  pub fails : IfErr result (λ error. ListMemoryError source old new format options.traversal_limit_in_words count error.kind
+      ⊎ FailsWithin source old new Zero format options.traversal_limit_in_words count error)
   -- `DeviceFailed` is returned only where the device failed
   pub failed : IfErr result (λ error. error.kind ≡ DeviceFailed → Fails (source.failures old) (source.failures new))
   -- the source moves on, or stays

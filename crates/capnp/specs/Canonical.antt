@@ -5,10 +5,10 @@ use Rattle.capnp_frame.specs.declared.error.Error.{Error}
 use Rattle.capnp_frame.specs.declared.error.ErrorKind.{ErrorKind}
 use Rattle.capnp_frame.specs.declared.error.ErrorKind.TheVariants.{OutOfMemory}
 use Rattle.capnp_frame.specs.declared.io.Write.{Ghosts}
-use Rattle.capnp_frame.specs.Prelude.{FailsOr, IsWholeWords, Appending, Leaving, AppendsAll, LeavesSome, Declining, DeclinesSome, Adds, IfKnown, WritesTo, chunks}
+use Rattle.capnp_frame.specs.Prelude.{FailsOr, IsWholeWords, Appending, Leaving, AppendsAll, LeavesSome, Declining, ChunksError, Adds, IfKnown, WritesTo, chunks}
 use Rattle.capnp_layout.specs.Prelude.{words_of}
 use Rattle.capnp_wire.specs.Prelude.{Pointer, IsCanonicalForm}
-use Rattle.capnp_message.specs.Canonical.{LacksForm}
+use Rattle.capnp_message.specs.Canonical.{CanonicalFormError}
 use Rattle.capnp.specs.Written.{IsPlainSink, IsFrameEncoding}
 
 -- the one segment of the canonical form of a root
@@ -29,13 +29,13 @@ abbrev pub LeavesForm : Pointer → Appending → Leaving → List ℕ → Type 
 LeavesForm pointer appends leaves text = (text ≡ []) ⊎ ((form : List ℕ) × IsForm pointer form × LeavesSome appends leaves (chunks (form ∷ [])) text)
 
 -- the sink fails for a chunk of it
-abbrev pub BreaksForm : Pointer → Declining → ErrorKind → Type 0
-BreaksForm pointer refuses kind = (form : List ℕ) × IsForm pointer form × DeclinesSome refuses (chunks (form ∷ [])) kind
+abbrev pub FormSinkError : Pointer → Declining → ErrorKind → Type 0
+FormSinkError pointer refuses kind = (form : List ℕ) × IsForm pointer form × ChunksError refuses (chunks (form ∷ [])) kind
 
 -- why it is not written, beside the device and want of memory: there is no such form, or the sink
 -- fails for a chunk of it
-abbrev pub DeclinesForm : Pointer → Declining → ErrorKind → Type 0
-DeclinesForm pointer refuses kind = LacksForm pointer kind ⊎ BreaksForm pointer refuses kind
+abbrev pub WrittenFormError : Pointer → Declining → ErrorKind → Type 0
+WrittenFormError pointer refuses kind = CanonicalFormError pointer kind ⊎ FormSinkError pointer refuses kind
 
 -- What a call does to its sink that writes the canonical form of this root. `sink` is what is seen of the sink (the members
 -- of the trait Write), `old` and `new` are the sink before the call and after it.
@@ -43,9 +43,9 @@ pub record WritesForm {S X : Type 0} (sink : Ghosts S) (old new : S) (pointer : 
   -- a plain sink gets the framed encoding of the form
   pub text : IsPlainSink sink.appends → OnOk result (IfKnown (sink.written old) (sink.written new) (Adds (IsCanonicalText pointer)))
   -- where there is no form, the call fails with the reason, and the sink is as it was
-  pub lacks : (kind : ErrorKind) → LacksForm pointer kind → IsErrAnd result (λ error. error.kind ≡ kind) × (new ≡ old)
+  pub form_error : (kind : ErrorKind) → CanonicalFormError pointer kind → IsErrAnd result (λ error. error.kind ≡ kind) × (new ≡ old)
   -- every sink gets what the chunks of the form add
   pub writes : WritesTo sink old new (AppendsForm pointer sink.appends) (LeavesForm pointer sink.appends sink.leaves)
-      (λ kind. (kind ≡ OutOfMemory) ⊎ DeclinesForm pointer sink.refuses kind) result
+      (λ kind. (kind ≡ OutOfMemory) ⊎ WrittenFormError pointer sink.refuses kind) result
   -- a failure that isn't the sink's leaves the sink as it was
-  pub untouched : FailsOr result (λ kind. BreaksForm pointer sink.refuses kind ⊎ (new ≡ old))
+  pub untouched : FailsOr result (λ kind. FormSinkError pointer sink.refuses kind ⊎ (new ≡ old))

@@ -2,8 +2,8 @@
 use Rattle.std.specs.Prelude.{◌≡◌, ◌≢◌, ℕ, Bool, true, false, List, [], Option, Some, None, Result, IsOk, IfOk, IfErr, OnOk}
 use Rattle.std.specs.IoError.{error_kind}
 use Rattle.std.specs.declared.io.traits.Read.{Ghosts}
-use Rattle.std.specs.declared.io.Error.{Error as Fault}
-use Rattle.std.specs.declared.io.ErrorKind.TheVariants.{Interrupted, OutOfMemory as LacksMemory}
+use Rattle.std.specs.declared.io.Error.{Error as DeviceError}
+use Rattle.std.specs.declared.io.ErrorKind.TheVariants.{Interrupted, OutOfMemory as IsMemoryError}
 use Rattle.std.specs.Io.Buffered.{reader_buffer, reader_remaining, writer_buffer, writer_capacity, writer_contents}
 use Rattle.std.specs.Io.KnownBytes.{Keeps}
 use Rattle.capnp_frame.specs.declared.error.Error.{Error}
@@ -36,9 +36,9 @@ pending output = writer_buffer output.buffered
 abbrev pub taken_so_far : {W : Type 0} → (W → Option (List ℕ)) → Output W → Option (List ℕ)
 taken_so_far contents output = writer_contents (λ retried. contents retried.device) output.buffered
 
--- What each call of a device keeps that holds its last fault, `old` before the call and `new` after it.
-pub record KeepsFault {X : Type 0} (old new : Option Fault) (result : Result X Fault) : Type 0 where
-  -- the fault of a call that fails is held, except for an interruption
+-- What each call of a device keeps that holds its last error, `old` before the call and `new` after it.
+pub record KeepsDeviceError {X : Type 0} (old new : Option DeviceError) (result : Result X DeviceError) : Type 0 where
+  -- the error of a call that fails is held, except for an interruption
   pub noted : IfErr result (λ error. error_kind error ≢ Interrupted → new ≡ Some error)
   pub interrupted : IfErr result (λ error. error_kind error ≡ Interrupted → new ≡ old)
   pub kept : OnOk result (new ≡ old)
@@ -63,6 +63,6 @@ pub record OpensOutput {W : Type 0} (contents : W → Option (List ℕ)) (device
   pub memory : IfErr result (λ error. error.kind ≡ OutOfMemory)
   pub unbuffered : capacity ≡ 0 → IsOk result
 
--- the device's fault is a growth of memory that failed
-abbrev pub IsOutOfMemory : Fault → Type 0
-IsOutOfMemory fault = error_kind fault ≡ LacksMemory
+-- the device's failure is a growth of memory that failed
+abbrev pub IsOutOfMemory : DeviceError → Type 0
+IsOutOfMemory error = error_kind error ≡ IsMemoryError

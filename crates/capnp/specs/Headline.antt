@@ -15,8 +15,8 @@ use Rattle.capnp.specs.declared.streams.Format.{Format}
 use Rattle.capnp.specs.Streams.{IsPlainSource, grammar_of, rules_of}
 
 -- a failure that does not depend on the bytes
-abbrev pub IsFault : ErrorKind → Type 0
-IsFault kind = (kind ≡ DeviceFailed) ⊎ (kind ≡ OutOfMemory)
+abbrev pub ExternalError : ErrorKind → Type 0
+ExternalError kind = (kind ≡ DeviceFailed) ⊎ (kind ≡ OutOfMemory)
 
 -- a caller-provided buffer has room for the message
 abbrev pub BufferHasRoom : ℕ → List (List ℕ) → Type 0
@@ -32,7 +32,7 @@ pub record ReturnsEncodings (IsText : Grammar) (limit : Option ℕ) (old new : O
   -- where there is an encoding of a message within the limit, a message is returned, except for the
   -- device's failure or for want of memory
   pub accepted : IfSome old (λ raw. (message : List (List ℕ)) (rest : List ℕ) → BeginsWith IsText limit message raw rest
-      → MatchResult result IsSome (λ error. IsFault error.kind))
+      → MatchResult result IsSome (λ error. ExternalError error.kind))
 
 -- What a reader into a caller-provided buffer of `room` bytes returns.
 pub record ReturnsEncodingsInto (IsText : Grammar) (limit : Option ℕ) (room : ℕ) (old new : Option (List ℕ))

@@ -47,7 +47,7 @@ pub record GivesMessage {S X : Type 0} (source : Ghosts S) (segments : X → Lis
   pub goes_on : IfSome given (λ read. OnOk read (messages_left new + 1 ≡ messages_left old))
   -- it ends where no message is left, and after an error
   pub ends : IfNone given (messages_left new ≡ 0)
-  pub stops : IfSome given (λ read. OnErr read (messages_left new ≡ 0))
+  pub fails : IfSome given (λ read. OnErr read (messages_left new ≡ 0))
   -- then it returns nothing more, and asks its source for nothing
   pub ended : messages_left old ≡ 0 → (given ≡ None) × (new ≡ old)
   pub settings : HasSettings new old.format old.padding old.options

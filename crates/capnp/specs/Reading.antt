@@ -13,18 +13,18 @@ abbrev pub kind_of : Option Error → Option ErrorKind
 kind_of None = None
 kind_of (Some error) = Some error.kind
 
-abbrev pub LacksMemory : Option Error → Type 0
-LacksMemory refusal = kind_of refusal ≡ Some OutOfMemory
+abbrev pub IsMemoryError : Option Error → Type 0
+IsMemoryError reason = kind_of reason ≡ Some OutOfMemory
 
 -- a reader fails with this kind where its source ends within a message
 abbrev pub IsCutKind : ErrorKind → Type 0
 IsCutKind kind = (kind ≡ FailedToFillTheWholeBuffer) ⊎ (kind ≡ PrematureEndOfPackedInput)
 
 abbrev pub IsCut : Option Error → Type 0
-IsCut refusal = IsSomeAnd refusal (λ error. IsCutKind error.kind)
+IsCut reason = IsSomeAnd reason (λ error. IsCutKind error.kind)
 
 abbrev pub TellsCut : Option Error → Bool → Type 0
-TellsCut refusal declared = IsTrue declared ↔ IsCut refusal
+TellsCut reason reported = IsTrue reported ↔ IsCut reason
 
 -- memory is taken for the next message of these bytes: to read it, or, once it is read, for its place in a list
 abbrev pub TakesForListed : Padding → Format → Option ℕ → List ℕ → Type 0
@@ -34,20 +34,20 @@ TakesForListed rule format limit rest = TakesForNext rule format limit rest
 -- Why no further message is read of a stream, of which `rest` is left: memory is lacking, and is taken there (a list of 2^64 - 1
 -- messages takes no further one; a stream of fewer bytes has fewer), or the stream ends, or its reader fails.
 abbrev pub EndsReading : Padding → Format → Option ℕ → Option Error → List ℕ → List ℕ → Type 0
-EndsReading rule format limit refusal stream rest =
-    (LacksMemory refusal × (length stream < 2 ^ 64 - 1 → TakesForListed rule format limit rest)) ⊎ EndsBy rule format limit (kind_of refusal) rest
+EndsReading rule format limit reason stream rest =
+    (IsMemoryError reason × (length stream < 2 ^ 64 - 1 → TakesForListed rule format limit rest)) ⊎ EndsBy rule format limit (kind_of reason) rest
 
 -- What is read of a stream in memory: messages, where the last of them ends, and why no further one
 -- was read, if the stream doesn't end there.
 pub record ReadsEach (rule : Padding) (format : Format) (limit : Option ℕ) (stream : List ℕ) (messages : List (List (List ℕ))) (end : ℕ)
-    (refusal : Option Error) : Type 0 where
+    (reason : Option Error) : Type 0 where
   -- the messages are the first `end` bytes
   pub within : end ≤ length stream
   pub texts : AreEncodings (grammar_of rule format) limit messages stream (drop end stream)
   -- and there the stream ends, or its reader fails with this kind, or memory is taken and lacking
-  pub ends : EndsReading rule format limit refusal stream (drop end stream)
+  pub ends : EndsReading rule format limit reason stream (drop end stream)
   -- memory is taken only where there are bytes
-  pub some : LacksMemory refusal → 0 < length stream
+  pub some : IsMemoryError reason → 0 < length stream
   -- so it is the only list of messages that the stream is, unless memory is lacking
   pub exact : (listed : List (List (List ℕ))) (ending : Option ErrorKind) → IsStream rule format limit listed ending stream
-      → LacksMemory refusal ⊎ (messages ≡ listed) × (kind_of refusal ≡ ending)
+      → IsMemoryError reason ⊎ (messages ≡ listed) × (kind_of reason ≡ ending)

@@ -4,9 +4,9 @@ use Rattle.std.specs.List.{AllByRecursion}
 use Rattle.capnp_frame.specs.declared.error.Error.{Error}
 use Rattle.capnp_frame.specs.declared.error.ErrorKind.TheVariants.{OutOfMemory}
 use Rattle.capnp_frame.specs.declared.serialize.segment_table.Padding.TheVariants.{Zero}
-use Rattle.capnp_frame.specs.Prelude.{KeepsLimit, lengths, Adds, KeepsCount, IsWritable, IsWithinSegmentLimit, RefusesMany}
+use Rattle.capnp_frame.specs.Prelude.{KeepsLimit, lengths, Adds, KeepsCount, IsWritable, IsWithinSegmentLimit, SegmentCountError}
 use Rattle.capnp.specs.declared.streams.Format.TheVariants.{Packed}
-use Rattle.capnp.specs.Reading.{kind_of, LacksMemory, IsCut}
+use Rattle.capnp.specs.Reading.{kind_of, IsMemoryError, IsCut}
 use Rattle.capnp.specs.Streams.{EndsBy}
 use Rattle.capnp.specs.Written.{IsTextOf, IsPackedEncodingOf, AppendsEach}
 
@@ -29,7 +29,7 @@ pub record AppendsRecord {X : Type 0} (message : List (List ℕ)) (old new : Lis
   -- it fails by the number of segments exactly where there are more than a reader accepts, and else
   -- only for want of memory
   pub count : KeepsCount message result
-  pub refused : IfErr result (λ error. RefusesMany message error.kind ⊎ (error.kind ≡ OutOfMemory))
+  pub errors : IfErr result (λ error. SegmentCountError message error.kind ⊎ (error.kind ≡ OutOfMemory))
 
 -- The log is cut within the record that follows these, one that a reader accepts: `whole` is the
 -- records before it, and some bytes of it are there, but not all.
@@ -47,16 +47,16 @@ pub record IsCutLog (limit : Option ℕ) (records : List (List (List ℕ))) (who
   pub spelled : log ≡ whole ++ part
 
 -- What is read of a log.
-pub record ReadsLog (limit : Option ℕ) (log : List ℕ) (messages : List (List (List ℕ))) (end : ℕ) (refusal : Option Error) : Type 0 where
+pub record ReadsLog (limit : Option ℕ) (log : List ℕ) (messages : List (List (List ℕ))) (end : ℕ) (reason : Option Error) : Type 0 where
   pub within : end ≤ length log
   -- the records that were appended are read back, in order, unless memory is lacking
   pub back : (records : List (List (List ℕ))) → IsLog limit records log
-      → LacksMemory refusal ⊎ (messages ≡ records) × (refusal ≡ None) × (end ≡ length log)
+      → IsMemoryError reason ⊎ (messages ≡ records) × (reason ≡ None) × (end ≡ length log)
   -- where the log is cut within a record, those before it are read, and `end` is where they end
   pub cut : (records : List (List (List ℕ))) (whole part missing : List ℕ) (next : List (List ℕ)) → IsLog limit records whole
       → IsWritable next → IsPackedEncodingOf next (part ++ missing) → 0 < length missing → log ≡ whole ++ part
-      → LacksMemory refusal ⊎ (messages ≡ records) × (end ≡ length whole)
+      → IsMemoryError reason ⊎ (messages ≡ records) × (end ≡ length whole)
   -- the reason why no further record was read is right
-  pub ends : LacksMemory refusal ⊎ EndsBy Zero Packed limit (kind_of refusal) (drop end log)
+  pub ends : IsMemoryError reason ⊎ EndsBy Zero Packed limit (kind_of reason) (drop end log)
   -- and where a record is cut that a reader accepts, the reason is a kind that says so
-  pub declared : (records : List (List (List ℕ))) (whole : List ℕ) → IsCutLog limit records whole log → LacksMemory refusal ⊎ IsCut refusal
+  pub reported : (records : List (List (List ℕ))) (whole : List ℕ) → IsCutLog limit records whole log → IsMemoryError reason ⊎ IsCut reason

@@ -2,15 +2,15 @@
 use Rattle.std.specs.Prelude.{◌≡◌, ℕ, List, ◌++◌, Option, None, ◌↔◌}
 use Rattle.capnp_frame.specs.declared.error.ErrorKind.{ErrorKind}
 use Rattle.capnp_frame.specs.declared.serialize.segment_table.Padding.{Padding}
-use Rattle.capnp_frame.specs.Prelude.{IsFrame, Giving, Refusing, Splits, RunsShort, Grammar, BeginsWith, AreEncodings, EndsEncodings, RefusesStream, TakesMemory, TakesForLengths, IsReaderKind, IsProvidedReaderKind, StreamRules}
-use Rattle.capnp_pack.specs.Prelude.{IsPackedFrame, Unpacks, RefusesChunk}
+use Rattle.capnp_frame.specs.Prelude.{IsFrame, Giving, Refusing, Splits, RunsShort, Grammar, BeginsWith, AreEncodings, EndsEncodings, StreamError, TakesMemory, TakesForLengths, IsReaderKind, IsProvidedReaderKind, StreamRules}
+use Rattle.capnp_pack.specs.Prelude.{IsPackedFrame, Unpacks, ChunkError}
 use Rattle.capnp.specs.declared.streams.Format.{Format}
 use Rattle.capnp.specs.declared.streams.Format.TheVariants.{Framed, Packed}
 
 -- A source is plain: a request takes the first bytes, or runs short.
 pub record IsPlainSource (gives : Giving) (refuses : Refusing) : Type 0 where
   pub given : (raw : List ℕ) (n : ℕ) (bytes rest : List ℕ) → Splits raw n bytes rest ↔ gives raw n bytes rest
-  pub refused : (raw : List ℕ) (n : ℕ) (kind : ErrorKind) → RunsShort raw n kind ↔ refuses raw n kind
+  pub errors : (raw : List ℕ) (n : ℕ) (kind : ErrorKind) → RunsShort raw n kind ↔ refuses raw n kind
 
 -- a framed encoding of the message is at the front, and the message is within the limit
 abbrev pub BeginsFramed : Padding → Option ℕ → List (List ℕ) → List ℕ → List ℕ → Type 0
@@ -32,14 +32,14 @@ gives_of Packed = Unpacks
 
 abbrev pub refuses_of : Format → Refusing
 refuses_of Framed = RunsShort
-refuses_of Packed = RefusesChunk
+refuses_of Packed = ChunkError
 
 -- the rules of the readers of a format, over a source of plain bytes
 abbrev pub rules_of : Padding → Format → StreamRules
 rules_of rule format = record {
   stands = λ message raw rest. (text : List ℕ) × grammar_of rule format text message × (raw ≡ text ++ rest);
   takes_memory = TakesMemory rule (gives_of format);
-  refuses = RefusesStream rule (gives_of format) (refuses_of format);
+  fails = StreamError rule (gives_of format) (refuses_of format);
   kinds = IsReaderKind rule (refuses_of format);
   provided_kinds = IsProvidedReaderKind rule (refuses_of format);
 }
@@ -53,8 +53,8 @@ abbrev pub StandsNext : Padding → Format → Option ℕ → List (List ℕ) �
 StandsNext rule format limit message raw rest = BeginsWith (grammar_of rule format) limit message raw rest
 
 -- the reader of this format fails there with this kind, and leaves `left` unread
-abbrev pub RefusesNext : Padding → Format → Option ℕ → ErrorKind → List ℕ → List ℕ → Type 0
-RefusesNext rule format limit kind rest left = RefusesStream rule (gives_of format) (refuses_of format) limit None kind rest left
+abbrev pub NextError : Padding → Format → Option ℕ → ErrorKind → List ℕ → List ℕ → Type 0
+NextError rule format limit kind rest left = StreamError rule (gives_of format) (refuses_of format) limit None kind rest left
 
 -- the reader of this format takes memory for the next message of these bytes: for the lengths of more than one segment, or for the segments
 abbrev pub TakesForNext : Padding → Format → Option ℕ → List ℕ → Type 0

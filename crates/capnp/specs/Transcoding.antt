@@ -4,13 +4,13 @@ use Rattle.capnp_frame.specs.declared.error.Error.{Error}
 use Rattle.capnp_frame.specs.declared.io.Read.{Ghosts}
 use Rattle.capnp_frame.specs.declared.io.Write.{Ghosts as SinkGhosts}
 use Rattle.capnp_frame.specs.declared.serialize.segment_table.Padding.{Padding}
-use Rattle.capnp_frame.specs.Prelude.{Appending, Leaving, Declining, DeclinesSome, chunks}
+use Rattle.capnp_frame.specs.Prelude.{Appending, Leaving, Declining, ChunksError, chunks}
 use Rattle.capnp.specs.declared.streams.Format.{Format}
 use Rattle.capnp.specs.declared.streams.Format.TheVariants.{Framed, Packed}
 use Rattle.capnp.specs.declared.transcoding.Way.{Way}
 use Rattle.capnp.specs.declared.transcoding.Way.TheVariants.{Pack, Unpack}
-use Rattle.capnp.specs.Written.{IsPlainSink, IsFrameEncoding, IsPackedEncodingOf, AppendsMessage, LeavesMessage, DeclinesAs}
-use Rattle.capnp.specs.Runs.{Writing, DecliningWriting, WritesEach, WithoutCount}
+use Rattle.capnp.specs.Written.{IsPlainSink, IsFrameEncoding, IsPackedEncodingOf, AppendsMessage, LeavesMessage, ErrorsAs}
+use Rattle.capnp.specs.Runs.{Writing, WritingErrors, WritesEach, WithoutCount}
 
 -- the format that is read
 abbrev pub input_of : Way → Format
@@ -28,10 +28,10 @@ Transcodes way appends index message text = AppendsMessage (output_of_way way) a
 
 -- and how writing it may fail: the sink fails for a chunk, or, from four segments on, memory for
 -- the table is lacking
-abbrev pub DeclinesTranscoded : Way → Appending → Leaving → Declining → DecliningWriting
-DeclinesTranscoded way appends leaves refuses = record {
-  lacks = λ index message kind. ⊥;
-  breaks = λ index message. DeclinesSome (DeclinesAs (output_of_way way) refuses) (chunks message);
+abbrev pub TranscodedErrors : Way → Appending → Leaving → Declining → WritingErrors
+TranscodedErrors way appends leaves refuses = record {
+  message_error = λ index message kind. ⊥;
+  sink_error = λ index message. ChunksError (ErrorsAs (output_of_way way) refuses) (chunks message);
   takes_memory = λ index message. 4 ≤ length message;
   leaves = λ index message. LeavesMessage (output_of_way way) appends leaves message;
 }
@@ -48,7 +48,7 @@ pub record TranscodesEach {S T : Type 0} (source : Ghosts S) (old new : S) (sink
     (rule : Padding) (way : Way) (limit : Option ℕ) (result : Result (Unit {0}) Error) : Type 0 where
   -- a plain sink gets the encodings in the other format
   pub texts : IsPlainSink sink.appends → WithoutCount (WritesEach source old new sink before after rule (input_of way) limit
-      (IsOtherText way) (DeclinesTranscoded way sink.appends sink.leaves sink.refuses)) result
+      (IsOtherText way) (TranscodedErrors way sink.appends sink.leaves sink.refuses)) result
   -- every sink gets what the chunks of the messages add
   pub runs : WithoutCount (WritesEach source old new sink before after rule (input_of way) limit
-      (Transcodes way sink.appends) (DeclinesTranscoded way sink.appends sink.leaves sink.refuses)) result
+      (Transcodes way sink.appends) (TranscodedErrors way sink.appends sink.leaves sink.refuses)) result

@@ -5,9 +5,9 @@ use Rattle.capnp_frame.specs.declared.error.Error.{Error}
 use Rattle.capnp_frame.specs.declared.error.ErrorKind.{ErrorKind}
 use Rattle.capnp_frame.specs.declared.error.ErrorKind.TheVariants.{DeviceFailed}
 use Rattle.capnp_frame.specs.declared.io.Write.{Ghosts}
-use Rattle.capnp_frame.specs.Prelude.{FailsOr, frame_bytes, Appending, Leaving, Declining, DeclinesSome, Adds, AppendsAll, LeavesSome, Grows, IfKnown, Fails, TakesGranted, KeepsCount, RefusesUnwritten, IsWithinSegmentLimit, ExceedsSegmentLimit, RefusesMany, chunks, serialized_words}
+use Rattle.capnp_frame.specs.Prelude.{FailsOr, frame_bytes, Appending, Leaving, Declining, ChunksError, Adds, AppendsAll, LeavesSome, Grows, IfKnown, Fails, TakesGranted, KeepsCount, UnwrittenError, IsWithinSegmentLimit, IsPastSegmentLimit, SegmentCountError, chunks, serialized_words}
 use Rattle.capnp_build.specs.Prelude.{Built, used_of}
-use Rattle.capnp_pack.specs.Prelude.{IsPackedEncoding, AppendsPacked, LeavesPacked, DeclinesPacked}
+use Rattle.capnp_pack.specs.Prelude.{IsPackedEncoding, AppendsPacked, LeavesPacked, PackedChunkError}
 use Rattle.capnp.specs.declared.streams.Format.{Format}
 use Rattle.capnp.specs.declared.streams.Format.TheVariants.{Framed, Packed}
 
@@ -32,8 +32,8 @@ output_of built = map used_of built.spaces
 
 -- why a writer fails: its device fails, the sink fails for one of the chunks, or, before it writes,
 -- there are more segments than a reader accepts, or from four segments on memory is lacking
-abbrev pub RefusesWriter : Declining → List (List ℕ) → ErrorKind → Type 0
-RefusesWriter refuses message kind = (kind ≡ DeviceFailed) ⊎ DeclinesSome refuses (chunks message) kind ⊎ RefusesUnwritten message kind
+abbrev pub WriterError : Declining → List (List ℕ) → ErrorKind → Type 0
+WriterError refuses message kind = (kind ≡ DeviceFailed) ⊎ ChunksError refuses (chunks message) kind ⊎ UnwrittenError message kind
 
 -- what a chunk adds to a sink in this format, what a call that fails leaves of it, and with which
 -- kinds it may fail
@@ -45,9 +45,9 @@ abbrev pub LeavesAs : Format → Appending → Leaving → Leaving
 LeavesAs Framed appends leaves = leaves
 LeavesAs Packed appends leaves = LeavesPacked appends leaves
 
-abbrev pub DeclinesAs : Format → Declining → Declining
-DeclinesAs Framed refuses = refuses
-DeclinesAs Packed refuses = DeclinesPacked refuses
+abbrev pub ErrorsAs : Format → Declining → Declining
+ErrorsAs Framed refuses = refuses
+ErrorsAs Packed refuses = PackedChunkError refuses
 
 -- what a writer adds for a message, and what is left of it where the writer fails
 abbrev pub AppendsMessage : Format → Appending → List (List ℕ) → List ℕ → Type 0
@@ -62,7 +62,7 @@ pub record WritesMessage {S X : Type 0} (format : Format) (sink : Ghosts S) (old
     (result : Result X Error) : Type 0 where
   -- it fails by the number of segments exactly where there are more than a reader accepts, and then the sink stays as it was
   pub count : KeepsCount message result
-  pub unwritten : ExceedsSegmentLimit message → new ≡ old
+  pub unwritten : IsPastSegmentLimit message → new ≡ old
   -- a plain sink gets the encoding of the message
   pub text : IsPlainSink sink.appends → OnOk result (IfKnown (sink.written old) (sink.written new) (Adds (IsTextOf format message)))
   -- every sink gets what the message's chunks add, one after the other
@@ -70,26 +70,26 @@ pub record WritesMessage {S X : Type 0} (format : Format) (sink : Ghosts S) (old
   -- where it fails, what the first chunks add is written, and of the next one what the sink leaves
   -- of it, without a gap
   pub left : OnErr result (IfKnown (sink.written old) (sink.written new) (Adds (LeavesMessage format sink.appends sink.leaves message)))
-  pub refused : IfErr result (λ error. RefusesWriter (DeclinesAs format sink.refuses) message error.kind)
+  pub errors : IfErr result (λ error. WriterError (ErrorsAs format sink.refuses) message error.kind)
   -- a failure that isn't the sink's leaves the sink as it was
-  pub untouched : FailsOr result (λ kind. DeclinesSome (DeclinesAs format sink.refuses) (chunks message) kind ⊎ (new ≡ old))
+  pub untouched : FailsOr result (λ kind. ChunksError (ErrorsAs format sink.refuses) (chunks message) kind ⊎ (new ≡ old))
   -- `DeviceFailed` is returned only where the device failed
   pub failed : IfErr result (λ error. error.kind ≡ DeviceFailed → Fails (sink.failures old) (sink.failures new))
   -- what was written before stays at the front, also where the call fails
   pub grows : Grows sink.written sink.failures sink.same old new
   -- where the sink grants all bytes of the framed encoding, it is written, but for what is lacked before it
-  pub granted : format ≡ Framed → TakesGranted sink.grants old new (8 * serialized_words message) (RefusesUnwritten message) result
+  pub granted : format ≡ Framed → TakesGranted sink.grants old new (8 * serialized_words message) (UnwrittenError message) result
 
 -- one of these messages has more segments than a reader accepts, and the failure carries their
 -- number
-abbrev pub RefusesManyOf : List (List (List ℕ)) → ErrorKind → Type 0
-RefusesManyOf [] kind = ⊥
-RefusesManyOf (m ∷ ms) kind = RefusesMany m kind ⊎ RefusesManyOf ms kind
+abbrev pub SegmentCountErrorIn : List (List (List ℕ)) → ErrorKind → Type 0
+SegmentCountErrorIn [] kind = ⊥
+SegmentCountErrorIn (m ∷ ms) kind = SegmentCountError m kind ⊎ SegmentCountErrorIn ms kind
 
 -- why one of these messages isn't written
-abbrev pub RefusesOneOf : Declining → List (List (List ℕ)) → ErrorKind → Type 0
-RefusesOneOf refuses [] kind = ⊥
-RefusesOneOf refuses (m ∷ ms) kind = RefusesWriter refuses m kind ⊎ RefusesOneOf refuses ms kind
+abbrev pub OneOfError : Declining → List (List (List ℕ)) → ErrorKind → Type 0
+OneOfError refuses [] kind = ⊥
+OneOfError refuses (m ∷ ms) kind = WriterError refuses m kind ⊎ OneOfError refuses ms kind
 
 -- what is added for messages, one after the other
 abbrev pub AppendsEach : (List (List ℕ) → List ℕ → Type 0) → List (List (List ℕ)) → List ℕ → Type 0
@@ -98,18 +98,18 @@ AppendsEach Writes (m ∷ ms) text = (first others : List ℕ) × Writes m first
 
 -- A writer fails at this message with this kind, and leaves these bytes of it: none, unless the
 -- device failed or the sink failed for a chunk.
-pub record StopsMessage (format : Format) (appends : Appending) (leaves : Leaving) (refuses : Declining) (message : List (List ℕ)) (kind : ErrorKind)
+pub record FailsAtMessage (format : Format) (appends : Appending) (leaves : Leaving) (refuses : Declining) (message : List (List ℕ)) (kind : ErrorKind)
     (text : List ℕ) : Type 0 where
-  pub refused : RefusesWriter (DeclinesAs format refuses) message kind
+  pub errors : WriterError (ErrorsAs format refuses) message kind
   pub left : LeavesMessage format appends leaves message text
-  pub untouched : (kind ≡ DeviceFailed) ⊎ DeclinesSome (DeclinesAs format refuses) (chunks message) kind ⊎ (text ≡ [])
+  pub untouched : (kind ≡ DeviceFailed) ⊎ ChunksError (ErrorsAs format refuses) (chunks message) kind ⊎ (text ≡ [])
 
 -- Of messages that are written one after the other, the first ones are added, and the writer of the
 -- next one fails in this way.
-abbrev pub StopsEach : (List (List ℕ) → List ℕ → Type 0) → (List (List ℕ) → ErrorKind → List ℕ → Type 0) → List (List (List ℕ)) → ErrorKind → List ℕ → Type 0
-StopsEach Writes Stops [] kind text = ⊥
-StopsEach Writes Stops (m ∷ ms) kind text = Stops m kind text
-    ⊎ ((first others : List ℕ) × Writes m first × StopsEach Writes Stops ms kind others × (text ≡ first ++ others))
+abbrev pub FailsAmong : (List (List ℕ) → List ℕ → Type 0) → (List (List ℕ) → ErrorKind → List ℕ → Type 0) → List (List (List ℕ)) → ErrorKind → List ℕ → Type 0
+FailsAmong Writes FailsOne [] kind text = ⊥
+FailsAmong Writes FailsOne (m ∷ ms) kind text = FailsOne m kind text
+    ⊎ ((first others : List ℕ) × Writes m first × FailsAmong Writes FailsOne ms kind others × (text ≡ first ++ others))
 
 -- What writing messages one after the other does to a sink, in this format. `sink` is what is seen of the sink (the members of
 -- the trait Write), `old` and `new` are the sink before the call and after it.
@@ -121,12 +121,12 @@ pub record WritesMessages {S X : Type 0} (format : Format) (sink : Ghosts S) (ol
   pub written : OnOk result (IfKnown (sink.written old) (sink.written new) (Adds (AppendsEach (AppendsMessage format sink.appends) messages)))
   -- where it fails, the first messages are written, and the writer of the next one fails in this
   -- way, without a gap
-  pub stops : IfErr result (λ error. IfKnown (sink.written old) (sink.written new)
-      (Adds (StopsEach (AppendsMessage format sink.appends) (StopsMessage format sink.appends sink.leaves sink.refuses) messages error.kind)))
+  pub fails : IfErr result (λ error. IfKnown (sink.written old) (sink.written new)
+      (Adds (FailsAmong (AppendsMessage format sink.appends) (FailsAtMessage format sink.appends sink.leaves sink.refuses) messages error.kind)))
   -- what is written has no more segments than a reader accepts
   pub few : OnOk result (AllByRecursion IsWithinSegmentLimit messages)
   -- it fails as the writer of one of them does
-  pub refused : IfErr result (λ error. RefusesOneOf (DeclinesAs format sink.refuses) messages error.kind)
+  pub errors : IfErr result (λ error. OneOfError (ErrorsAs format sink.refuses) messages error.kind)
   -- `DeviceFailed` is returned only where the device failed
   pub failed : IfErr result (λ error. error.kind ≡ DeviceFailed → Fails (sink.failures old) (sink.failures new))
   -- what was written before stays at the front, also where the call fails

@@ -60,10 +60,10 @@ pub fn append_segments<S: ReaderSegments>(
 /// appended.
 pub fn read_log(alloc: Global, log: &[u8], options: ReaderOptions) -> StreamRead
     ensures read { ReadsLog options.traversal_limit_in_words log.now
-        (map (λ reader. reader.segments) result.messages.items) result.end result.refusal }
+        (map (λ reader. reader.segments) result.messages.items) result.end result.error }
     // Of bytes that are no log: the messages at the front, as `every_message` reads them.
     ensures each { ReadsEach Padding.Zero Format.Packed options.traversal_limit_in_words log.now
-        (map (λ reader. reader.segments) result.messages.items) result.end result.refusal }
+        (map (λ reader. reader.segments) result.messages.items) result.end result.error }
     ensures options { AllByRecursion (λ reader. reader.options ≡ options) result.messages.items }
 {
     every_message(alloc, log, Format::Packed, Padding::Zero, options)

@@ -5,7 +5,7 @@ ghost use Rattle.std.specs.List.{AllByRecursion};
 ghost use Rattle.capnp_frame.specs.declared.error.ErrorKind.{ErrorKind};
 ghost use Rattle.capnp_frame.specs.Prelude.{IsWithin, IsWholeWords, IfKnown, Fails, Appending, Leaving, Declining, Adds, Grows, ReadsStream};
 ghost use Rattle.capnp.specs.Streams.{rules_of};
-ghost use Rattle.capnp.specs.Runs.{Writing, DecliningWriting, IsWritingFault, BreaksOffOr, WritesEach};
+ghost use Rattle.capnp.specs.Runs.{Writing, WritingErrors, WritingError, FailsWithinOr, WritesEach};
 
 mod appended;
 mod message_stream;
@@ -28,10 +28,10 @@ pub enum Format {
     Packed,
 }
 
-/// Where a run over the messages of a stream stopped.
+/// Where a run over the messages of a stream failed.
 #[derive(Debug, Drop)]
-pub struct StoppedAt {
-    /// How many messages were written completely: the index of the one at which it stopped, from 0.
+pub struct FailedAt {
+    /// How many messages were written completely: the index of the one at which it failed, from 0.
     pub message: u64,
     /// Why the next one was not read, or not written completely.
     pub error: Error,
@@ -42,16 +42,16 @@ pub trait MessageWriter {
     /// What is added for a message, by its index, to a sink that appends in this way.
     ghost writes: { Self → Appending → Writing };
 
-    /// How writing a message may fail, to a sink that appends, leaves and declines in this way:
+    /// How writing a message may fail, to a sink that appends, leaves and fails in this way:
     /// with which kinds, whether memory is taken for it, and what is left of it.
-    ghost declines: { Self → Appending → Leaving → Declining → DecliningWriting };
+    ghost writing_errors: { Self → Appending → Leaving → Declining → WritingErrors };
 
     /// Writes what there is to write for the message of this index.
     ///
     /// The message has 1 to 511 segments, each of whole words and fewer than 2^32 of them. `memory`
     /// is caller-provided scratch space, whose content doesn't matter before or after the call.
     ///
-    /// Fails with a kind that `declines` names, with `OutOfMemory` only where `declines` says that
+    /// Fails with a kind that `writing_errors` names, with `OutOfMemory` only where `writing_errors` says that
     /// memory is taken, and with `DeviceFailed` only where the sink's device failed.
     fn write_message<W: Write>(
         &self,
@@ -65,13 +65,13 @@ pub trait MessageWriter {
         requires whole { AllByRecursion IsWholeWords message.now }
         ensures written { OnOk result (IfKnown (W.written sink.old) (W.written sink.new)
             (Adds (writes self.now W.appends index message.now))) }
-        ensures refused { IfErr result (λ error. IsWritingFault
-            (declines self.now W.appends W.leaves W.refuses) index message.now error.kind) }
+        ensures errors { IfErr result (λ error. WritingError
+            (writing_errors self.now W.appends W.leaves W.refuses) index message.now error.kind) }
         ensures left { OnErr result (IfKnown (W.written sink.old) (W.written sink.new)
-            (Adds (DecliningWriting.leaves (declines self.now W.appends W.leaves W.refuses)
+            (Adds (WritingErrors.leaves (writing_errors self.now W.appends W.leaves W.refuses)
             index message.now))) }
-        ensures untouched { IfErr result (λ error. BreaksOffOr
-            (declines self.now W.appends W.leaves W.refuses) index message.now
+        ensures untouched { IfErr result (λ error. FailsWithinOr
+            (writing_errors self.now W.appends W.leaves W.refuses) index message.now
             (sink.new ≡ sink.old) error.kind) }
         ensures failed { IfErr result (λ error. error.kind ≡ ErrorKind.DeviceFailed →
             Fails (W.failures sink.old) (W.failures sink.new)) }
@@ -84,7 +84,7 @@ pub trait MessageWriter {
 /// It takes at most 2^64 - 1 messages, and leaves the rest unread. The memory of a message is
 /// reused for the next one.
 ///
-/// Fails where the reader of the next message fails, or `writer` for this message. `StoppedAt` says
+/// Fails where the reader of the next message fails, or `writer` for this message. `FailedAt` says
 /// after how many messages.
 pub fn write_each_message<R: BufRead, W: Write, M: MessageWriter>(
     alloc: Global,
@@ -93,10 +93,10 @@ pub fn write_each_message<R: BufRead, W: Write, M: MessageWriter>(
     format: Format,
     rules: TableRules,
     writer: &M,
-) -> std::result::Result<(), StoppedAt>
+) -> std::result::Result<(), FailedAt>
     ensures { WritesEach R.Read source.old source.new W.Write sink.old sink.new rules.padding format
         rules.limit_in_words (M.writes writer.now W.appends)
-        (M.declines writer.now W.appends W.leaves W.refuses) result }
+        (M.writing_errors writer.now W.appends W.leaves W.refuses) result }
 {
     let mut spare = OwnedSegments::empty(alloc);
     let mut memory = Vec::new(alloc);
@@ -104,11 +104,11 @@ pub fn write_each_message<R: BufRead, W: Write, M: MessageWriter>(
         let segments = match read_next(source, format, rules, spare) {
             Ok(Some(segments)) => segments,
             Ok(None) => return Ok(()),
-            Err(error) => return Err(StoppedAt { message, error }),
+            Err(error) => return Err(FailedAt { message, error }),
         };
         match writer.write_message(alloc, message, &segments, &mut memory, sink) {
             Ok(()) => spare = segments,
-            Err(error) => return Err(StoppedAt { message, error }),
+            Err(error) => return Err(FailedAt { message, error }),
         }
     }
     Ok(())

@@ -1,6 +1,6 @@
 //! From one format to the other.
 ghost use Rattle.std.specs.Prelude.{◌≡◌};
-ghost use Rattle.capnp.specs.Transcoding.{input_of, Transcodes, DeclinesTranscoded, TranscodesEach};
+ghost use Rattle.capnp.specs.Transcoding.{input_of, Transcodes, TranscodedErrors, TranscodesEach};
 
 use crate::streams::{Format, MessageWriter, write_each_message};
 use crate::{serialize, serialize_packed};
@@ -32,11 +32,11 @@ impl Way {
 }
 
 impl MessageWriter for Way {
-    ghost use Rattle.capnp.specs.Transcoding.{Transcodes, DeclinesTranscoded};
+    ghost use Rattle.capnp.specs.Transcoding.{Transcodes, TranscodedErrors};
 
     ghost writes = { Transcodes };
 
-    ghost declines = { DeclinesTranscoded };
+    ghost writing_errors = { TranscodedErrors };
 
     fn write_message<W: Write>(
         &self,
@@ -108,6 +108,6 @@ fn transcode_by<R: BufRead, W: Write>(
     let rules = TableRules::new(padding, options);
     match write_each_message(alloc, source, sink, way.input(), rules, &way) {
         Ok(()) => Ok(()),
-        Err(stop) => Err(stop.error),
+        Err(failure) => Err(failure.error),
     }
 }

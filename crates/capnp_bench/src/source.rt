@@ -63,5 +63,5 @@ impl BufRead for Trickle<'_> {
 
     ghost plain = { λ _ _ _ _. (λ p. p, λ p. p) };
 
-    ghost plain_refusals = { λ _ _ _. (λ p. p, λ p. p) };
+    ghost plain_errors = { λ _ _ _. (λ p. p, λ p. p) };
 }

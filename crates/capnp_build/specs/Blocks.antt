@@ -10,7 +10,7 @@ use Rattle.capnp_build.specs.Bytes.{Space}
 use Rattle.capnp_build.specs.Out.{Out, HasLarge}
 use Rattle.capnp_build.specs.BuilderState.{BuilderState, space_at, pairs, KeepsOthers}
 use Rattle.capnp_build.specs.Built.{Built, state_of, message, size_in_words, HasNullRoot, IsSet, HasBody, IsLaid, IsRewritten, KeepsBytes, KeepsOutside}
-use Rattle.capnp_build.specs.Placed.{IsAtEnd, IsPlaced, HasNoRoom, LacksSegment, IsZeroAt, KeepsRooms}
+use Rattle.capnp_build.specs.Placed.{IsAtEnd, IsPlaced, HasNoRoom, SegmentError, IsZeroAt, KeepsRooms}
 
 -- a new object is at the root
 abbrev pub IsNew : Form → List Space → Type 0
@@ -25,9 +25,9 @@ pub record PutsBlock {A S : Type 0} (alloc : Ghosts A S) (stands : List Space �
   pub there : OnOk result (0 < length new.spaces)
   pub bytes : OnOk result (KeepsBytes old.spaces new.spaces)
   pub sizes : OnOk result ((i : ℕ) → i < length old.spaces → (space_at new.spaces i).size ≡ (space_at old.spaces i).size)
-  pub refused : OnErr result (new.location ≡ None)
+  pub errors : OnErr result (new.location ≡ None)
   pub kept : OnErr result (new.spaces ≡ old.spaces)
-  pub kind : IfErr result (λ error. HasNoRoom old.spaces words × LacksSegment alloc (state_of old) (words + 1) error.kind)
+  pub kind : IfErr result (λ error. HasNoRoom old.spaces words × SegmentError alloc (state_of old) (words + 1) error.kind)
   pub taken : IfErr result (λ error. error.kind ≡ SegmentTaken → (others : List Out) → alloc.out old.allocator (pairs old.spaces others)
       → HasLarge (words + 1) (pairs old.spaces others))
   pub same : alloc.same old.allocator new.allocator

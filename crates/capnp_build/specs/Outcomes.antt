@@ -7,22 +7,22 @@ use Rattle.capnp_frame.specs.declared.error.Error.{Error}
 use Rattle.capnp_frame.specs.declared.error.ErrorKind.{ErrorKind}
 use Rattle.capnp_frame.specs.declared.error.ErrorKind.TheVariants.{NotOneSegment, SegmentTaken}
 use Rattle.capnp_layout.specs.Prelude.{Form, Trees, none, Root}
-use Rattle.capnp_wire.specs.Prelude.{HasWords, LacksWords}
+use Rattle.capnp_wire.specs.Prelude.{HasWords, WordsError}
 use Rattle.capnp_build.specs.declared.allocator.Allocator as allocator
 use Rattle.capnp_build.specs.declared.owned_builder.OwnedBuilder as owned_builder
 use Rattle.capnp_build.specs.Bytes.{Space}
 use Rattle.capnp_build.specs.BuilderState.{space_at, free_words_of, BuilderState, KeepsOthers, ReturnsRegion, ReturnsEach}
 use Rattle.capnp_build.specs.Built.{Built, state_of, message, size_in_words, HasNullRoot, ForRoot, IsSet, IsWhole, KeepsOutside}
-use Rattle.capnp_build.specs.Placed.{Refuses, DeclinesRoot, IsPut, IsInit}
+use Rattle.capnp_build.specs.Placed.{AllocatorError, RootFormError, IsPut, IsInit}
 use Rattle.capnp_build.specs.Placed.{InitWords, FindsNoRoom, IsCleared, IsZeroAt, KeepsRooms, HasRootAlone, IsLookedAt}
 
 -- there is no segment yet, and the request of the first one, of a word, fails
-abbrev pub LacksFirst : {A S : Type 0} → allocator.Ghosts A S → Built A → ErrorKind → Type 0
-LacksFirst alloc old kind = (length old.spaces ≡ 0) × Refuses alloc old.allocator 1 kind
+abbrev pub FirstSegmentError : {A S : Type 0} → allocator.Ghosts A S → Built A → ErrorKind → Type 0
+FirstSegmentError alloc old kind = (length old.spaces ≡ 0) × AllocatorError alloc old.allocator 1 kind
 
 -- so there is no segment after the call
-abbrev pub StopsFirst : {A S : Type 0} → allocator.Ghosts A S → Built A → List Space → ErrorKind → Type 0
-StopsFirst alloc old spaces kind = (spaces ≡ []) × LacksFirst alloc old kind
+abbrev pub FailsFirstSegment : {A S : Type 0} → allocator.Ghosts A S → Built A → List Space → ErrorKind → Type 0
+FailsFirstSegment alloc old spaces kind = (spaces ≡ []) × FirstSegmentError alloc old kind
 
 -- the first segment has room for a block of this many words, or has to be granted with that room
 abbrev pub HasRoomFirst : {A S : Type 0} → allocator.Ghosts A S → Built A → ℕ → Type 0
@@ -39,24 +39,24 @@ abbrev pub WhereGranted : {A S : Type 0} → allocator.Ghosts A S → Built A �
 WhereGranted alloc old fact = old.spaces ≡ [] → (most : ℕ) → alloc.grants old.allocator 1 most → fact
 
 -- as the first action, over an allocator that has nothing out, a call fails with SegmentTaken only
--- where `refuses` says so
+-- where `fails` says so
 abbrev pub NotExhaustedWhileAvailable : {A S X : Type 0} → allocator.Ghosts A S → (ErrorKind → Type 0) → Built A → Result X Error → Type 0
-NotExhaustedWhileAvailable alloc refuses old result = old.spaces ≡ [] → alloc.out old.allocator [] → IfErr result (λ error. error.kind ≡ SegmentTaken → refuses error.kind)
+NotExhaustedWhileAvailable alloc fails old result = old.spaces ≡ [] → alloc.out old.allocator [] → IfErr result (λ error. error.kind ≡ SegmentTaken → fails error.kind)
 
 -- with which error setting a value in canonical form fails once the old root is cleared: the lines
 -- are tested in this order
-abbrev pub RefusesCanonical : (Trees → Type 0) → (ErrorKind → Type 0) → List Space → ErrorKind → Type 0
-RefusesCanonical has_tree refuses spaces kind =
+abbrev pub ClearedRootError : (Trees → Type 0) → (ErrorKind → Type 0) → List Space → ErrorKind → Type 0
+ClearedRootError has_tree fails spaces kind =
     -- there are more segments
     ((1 < length spaces) × (kind ≡ NotOneSegment))
     -- `measure` fails
-    ⊎ ((length spaces ≡ 1) × LacksWords has_tree refuses true kind)
+    ⊎ ((length spaces ≡ 1) × WordsError has_tree fails true kind)
     -- the segment has no room
     ⊎ ((length spaces ≡ 1) × (kind ≡ NotOneSegment) × ((words : ℕ) × HasWords has_tree true words × (free_words_of (space_at spaces 0) < words)))
 
--- What setting the root to a value keeps. `has_tree` holds of the value's tree, and `refuses` of
+-- What setting the root to a value keeps. `has_tree` holds of the value's tree, and `fails` of
 -- the kinds with which `measure` fails.
-pub record SetsRoot {A S : Type 0} (alloc : allocator.Ghosts A S) (has_tree : Trees → Type 0) (refuses : ErrorKind → Type 0)
+pub record SetsRoot {A S : Type 0} (alloc : allocator.Ghosts A S) (has_tree : Trees → Type 0) (fails : ErrorKind → Type 0)
     (old new : Built A) (result : Result (Unit {0}) Error) : Type 0 where
   pub set : OnOk result (IsSet has_tree false new.spaces)
   -- there is a segment, so the message can be written
@@ -66,21 +66,21 @@ pub record SetsRoot {A S : Type 0} (alloc : allocator.Ghosts A S) (has_tree : Tr
   -- after a failure the root is null
   pub nulled : OnErr result (IsCleared alloc old new)
   -- it fails as `measure` does, as the allocator fails to hand out the first segment, or where no segment has room
-  pub kind : IfErr result (λ error. LacksWords has_tree refuses false error.kind ⊎ StopsFirst alloc old new.spaces error.kind
+  pub kind : IfErr result (λ error. WordsError has_tree fails false error.kind ⊎ FailsFirstSegment alloc old new.spaces error.kind
       ⊎ FindsNoRoom alloc (HasWords has_tree false) old new.spaces error.kind)
   -- the first segment is asked for before the value is measured
-  pub none : new.spaces ≡ [] → IfErr result (λ error. LacksFirst alloc old error.kind)
+  pub none : new.spaces ≡ [] → IfErr result (λ error. FirstSegmentError alloc old error.kind)
   -- the error of `measure` is returned
-  pub exact : (kind : ErrorKind) → LacksWords has_tree refuses false kind → IsErrAnd result (λ error. (error.kind ≡ kind) ⊎ StopsFirst alloc old new.spaces error.kind)
+  pub exact : (kind : ErrorKind) → WordsError has_tree fails false kind → IsErrAnd result (λ error. (error.kind ≡ kind) ⊎ FailsFirstSegment alloc old new.spaces error.kind)
   -- a value is set where the first segment has room
   pub fits : (words : ℕ) → HasWords has_tree false words → HasRoomFirst alloc old words → IsOk result
-  pub available : NotExhaustedWhileAvailable alloc (LacksWords has_tree refuses false) old result
+  pub available : NotExhaustedWhileAvailable alloc (WordsError has_tree fails false) old result
   pub same : alloc.same old.allocator new.allocator
   -- what else the allocator has out stays out
   pub others : KeepsOthers alloc.out (state_of old) (state_of new)
 
 -- What setting the root to a value in canonical form, in the first segment, keeps.
-pub record SetsRootCanonical {A S : Type 0} (alloc : allocator.Ghosts A S) (has_tree : Trees → Type 0) (refuses : ErrorKind → Type 0)
+pub record SetsRootCanonical {A S : Type 0} (alloc : allocator.Ghosts A S) (has_tree : Trees → Type 0) (fails : ErrorKind → Type 0)
     (old new : Built A) (result : Result (Unit {0}) Error) : Type 0 where
   pub set : OnOk result (IsSet has_tree true new.spaces)
   -- which words it takes, once the old root is cleared
@@ -93,14 +93,14 @@ pub record SetsRootCanonical {A S : Type 0} (alloc : allocator.Ghosts A S) (has_
   pub nulled : OnErr result (IsCleared alloc old new)
   -- it fails as the allocator fails to hand out the first segment; once that is there, with the
   -- first line that holds
-  pub kind : IfErr result (λ error. StopsFirst alloc old new.spaces error.kind ⊎ RefusesCanonical has_tree refuses new.spaces error.kind)
+  pub kind : IfErr result (λ error. FailsFirstSegment alloc old new.spaces error.kind ⊎ ClearedRootError has_tree fails new.spaces error.kind)
   -- where there was a segment, the first line that holds is returned
-  pub exact : (kind : ErrorKind) → RefusesCanonical has_tree refuses old.spaces kind → IsErrAnd result (λ error. error.kind ≡ kind)
+  pub exact : (kind : ErrorKind) → ClearedRootError has_tree fails old.spaces kind → IsErrAnd result (λ error. error.kind ≡ kind)
   -- the error of `measure` is returned, once the first segment is there
-  pub lacks : old.spaces ≡ [] → (kind : ErrorKind) → LacksWords has_tree refuses true kind → IsErrAnd result (λ error. (error.kind ≡ kind) ⊎ StopsFirst alloc old new.spaces error.kind)
+  pub words_error : old.spaces ≡ [] → (kind : ErrorKind) → WordsError has_tree fails true kind → IsErrAnd result (λ error. (error.kind ≡ kind) ⊎ FailsFirstSegment alloc old new.spaces error.kind)
   -- a value is set where the one segment has room
   pub fits : length old.spaces ≤ 1 → (words : ℕ) → HasWords has_tree true words → HasRoomFirst alloc old words → IsOk result
-  pub available : NotExhaustedWhileAvailable alloc (LacksWords has_tree refuses true) old result
+  pub available : NotExhaustedWhileAvailable alloc (WordsError has_tree fails true) old result
   pub same : alloc.same old.allocator new.allocator
   -- what else the allocator has out stays out
   pub others : KeepsOthers alloc.out (state_of old) (state_of new)
@@ -118,13 +118,13 @@ pub record InitsRoot {A S K : Type 0} (alloc : allocator.Ghosts A S) (schema : o
   pub nulled : OnErr result (IsCleared alloc old new)
   -- it fails because the type has no such object, as the allocator fails to hand out the first
   -- segment, or where no segment has room
-  pub kind : IfErr result (λ error. schema.refuses n error.kind ⊎ StopsFirst alloc old new.spaces error.kind
+  pub kind : IfErr result (λ error. schema.fails n error.kind ⊎ FailsFirstSegment alloc old new.spaces error.kind
       ⊎ FindsNoRoom alloc (InitWords schema.inits n) old new.spaces error.kind)
   -- the first segment is asked for before the type is asked
-  pub none : new.spaces ≡ [] → IfErr result (λ error. LacksFirst alloc old error.kind)
+  pub none : new.spaces ≡ [] → IfErr result (λ error. FirstSegmentError alloc old error.kind)
   -- an object that the type has is made where the first segment has room
-  pub fits : FitsFirst alloc (InitWords schema.inits n) old (IfErr result (λ error. schema.refuses n error.kind))
-  pub available : NotExhaustedWhileAvailable alloc (schema.refuses n) old result
+  pub fits : FitsFirst alloc (InitWords schema.inits n) old (IfErr result (λ error. schema.fails n error.kind))
+  pub available : NotExhaustedWhileAvailable alloc (schema.fails n) old result
   pub same : alloc.same old.allocator new.allocator
   -- what else the allocator has out stays out
   pub others : KeepsOthers alloc.out (state_of old) (state_of new)
@@ -140,7 +140,7 @@ pub record ClearsRoot {A S : Type 0} (alloc : allocator.Ghosts A S) (old new : B
   pub there : OnOk result (0 < length new.spaces)
   pub none : OnErr result (new.spaces ≡ [])
   -- it fails as the allocator fails to hand out the first segment
-  pub kind : IfErr result (λ error. LacksFirst alloc old error.kind)
+  pub kind : IfErr result (λ error. FirstSegmentError alloc old error.kind)
   pub same : alloc.same old.allocator new.allocator
   -- what else the allocator has out stays out
   pub others : KeepsOthers alloc.out (state_of old) (state_of new)
@@ -161,7 +161,7 @@ pub record EnsuresRoot {A S : Type 0} (alloc : allocator.Ghosts A S) (old new : 
   pub none : OnErr result (new.spaces ≡ [])
   pub looked : IsLookedAt alloc old new
   -- it fails as the allocator fails to hand out the first segment
-  pub kind : IfErr result (λ error. LacksFirst alloc old error.kind)
+  pub kind : IfErr result (λ error. FirstSegmentError alloc old error.kind)
   -- where it has to be granted, the first segment is
   pub granted : WhereGranted alloc old (IsOk result)
   pub available : NotExhaustedWhileAvailable alloc (λ kind. ⊥) old result
@@ -174,14 +174,14 @@ pub record LooksAtRoot {A S K : Type 0} (alloc : allocator.Ghosts A S) (schema :
   pub taken : OnOk result (ForRoot new.spaces schema.takes)
   pub there : OnOk result (0 < length new.spaces)
   pub looked : IsLookedAt alloc old new
-  -- it fails as the allocator fails to hand out the first segment, or because the type declines the
+  -- it fails as the allocator fails to hand out the first segment, or because the type rejects the
   -- root
-  pub kind : IfErr result (λ error. StopsFirst alloc old new.spaces error.kind ⊎ DeclinesRoot schema.declines old.spaces error.kind)
+  pub kind : IfErr result (λ error. FailsFirstSegment alloc old new.spaces error.kind ⊎ RootFormError schema.form_error old.spaces error.kind)
   -- there is no segment only where the first one could not be had
-  pub none : new.spaces ≡ [] → IfErr result (λ error. LacksFirst alloc old error.kind)
+  pub none : new.spaces ≡ [] → IfErr result (λ error. FirstSegmentError alloc old error.kind)
   -- where it has to be granted, the first segment is
-  pub granted : WhereGranted alloc old (IfErr result (λ error. DeclinesRoot schema.declines old.spaces error.kind))
-  pub available : NotExhaustedWhileAvailable alloc (DeclinesRoot schema.declines old.spaces) old result
+  pub granted : WhereGranted alloc old (IfErr result (λ error. RootFormError schema.form_error old.spaces error.kind))
+  pub available : NotExhaustedWhileAvailable alloc (RootFormError schema.form_error old.spaces) old result
   -- what else the allocator has out stays out
   pub others : KeepsOthers alloc.out (state_of old) (state_of new)
 

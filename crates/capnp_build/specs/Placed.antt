@@ -6,7 +6,7 @@ use Rattle.capnp_frame.specs.declared.error.ErrorKind.TheVariants.{OutOfMemory, 
 use Rattle.capnp_layout.specs.Prelude.{Form, null, none, tree}
 use Rattle.capnp_wire.specs.Prelude.{HasWords}
 use Rattle.capnp_build.specs.Bytes.{Space}
-use Rattle.capnp_build.specs.Out.{MayRefuse}
+use Rattle.capnp_build.specs.Out.{AllocationError}
 use Rattle.capnp_build.specs.BuilderState.{BuilderState, space_at, free_words_of, KeepsOthers}
 use Rattle.capnp_build.specs.declared.allocator.Allocator.{Ghosts}
 use Rattle.capnp_build.specs.declared.arena.location.RootLocation.{RootLocation}
@@ -19,15 +19,15 @@ pub record HasNoRoom (spaces : List Space) (words : ℕ) : Type 0 where
   pub others : (i : ℕ) → 0 < i → i < length spaces → free_words_of (space_at spaces i) < words + 1
 
 -- a request of this many words may fail with this kind
-abbrev pub Refuses : {A S : Type 0} → Ghosts A S → A → ℕ → ErrorKind → Type 0
-Refuses alloc allocator asked kind = alloc.refuses allocator asked kind × MayRefuse asked kind
+abbrev pub AllocatorError : {A S : Type 0} → Ghosts A S → A → ℕ → ErrorKind → Type 0
+AllocatorError alloc allocator asked kind = alloc.fails allocator asked kind × AllocationError asked kind
 
 -- a further segment of this many words can't be had: there are as many segments as there may be,
 -- the list of those after the first can't grow, or the allocator fails
-abbrev pub LacksSegment : {A S : Type 0} → Ghosts A S → BuilderState A → ℕ → ErrorKind → Type 0
-LacksSegment alloc state asked kind =
+abbrev pub SegmentError : {A S : Type 0} → Ghosts A S → BuilderState A → ℕ → ErrorKind → Type 0
+SegmentError alloc state asked kind =
     ((2 ^ 32 ≤ length state.spaces + 1) × (kind ≡ AllocationTooLarge asked))
-    ⊎ ((length state.spaces + 1 < 2 ^ 32) × (((0 < length state.spaces) × (kind ≡ OutOfMemory)) ⊎ Refuses alloc state.allocator asked kind))
+    ⊎ ((length state.spaces + 1 < 2 ^ 32) × (((0 < length state.spaces) × (kind ≡ OutOfMemory)) ⊎ AllocatorError alloc state.allocator asked kind))
 
 -- want of room in these segments once the old root is cleared: the value has this many words, no
 -- segment has room for them, and a further segment can't be had
@@ -37,7 +37,7 @@ pub record FindsNoRoom {A S : Type 0} (alloc : Ghosts A S) (measured : ℕ → T
   pub full : HasNoRoom spaces words
   -- the allocator that is asked; where there was a segment, it is as before the call
   pub asked : A
-  pub lacks : LacksSegment alloc (record { spaces = spaces; allocator = asked }) (words + 1) kind
+  pub segment_error : SegmentError alloc (record { spaces = spaces; allocator = asked }) (words + 1) kind
   pub stays : 0 < length old.spaces → asked ≡ old.allocator
   pub same : alloc.same old.allocator asked
 
@@ -163,7 +163,7 @@ pub record IsLookedAt {A S : Type 0} (alloc : Ghosts A S) (old last : Built A) :
   -- what else the allocator has out stays out
   pub others : KeepsOthers alloc.out (state_of old) (state_of last)
 
--- a type declines the root, which is null where there is no segment
-abbrev pub DeclinesRoot : (Form → ErrorKind → Type 0) → List Space → ErrorKind → Type 0
-DeclinesRoot declines [] kind = declines null kind
-DeclinesRoot declines (space ∷ spaces) kind = ForRoot (space ∷ spaces) (λ form. declines form kind)
+-- a type rejects the root, which is null where there is no segment
+abbrev pub RootFormError : (Form → ErrorKind → Type 0) → List Space → ErrorKind → Type 0
+RootFormError form_error [] kind = form_error null kind
+RootFormError form_error (space ∷ spaces) kind = ForRoot (space ∷ spaces) (λ form. form_error form kind)

@@ -14,7 +14,7 @@ use capnp_frame::Result;
 /// For implementers: `out` says which segments may be out, each by its length in bytes and whether
 /// it is caller-provided. `same` is what no call changes, as the caller-provided region of an
 /// allocator. `grants` says which requests have to be granted, where an allocator can promise
-/// that: memory is never sure to be there. `refuses` says with which kinds a request may fail, and
+/// that: memory is never sure to be there. `fails` says with which kinds a request may fail, and
 /// `returns` what taking a segment back does, by the segment and its used words. An allocator for
 /// which nothing depends on the last two may leave them open: code over any allocator still shows
 /// that it asked for exactly these words where a request failed, and that it gives back exactly
@@ -33,7 +33,7 @@ pub trait Allocator: Drop {
     ghost grants: { Self → ℕ → ℕ → Type 0 };
 
     /// With which kinds a request of this many words may fail.
-    ghost refuses: { Self → ℕ → ErrorKind → Type 0 };
+    ghost fails: { Self → ℕ → ErrorKind → Type 0 };
 
     /// Taking back a segment, of which this many words were used, leads from the one allocator to
     /// the other.
@@ -44,7 +44,7 @@ pub trait Allocator: Drop {
     /// Fails only with `OutOfMemory`, with `AllocationTooLarge` of the words asked for, or with
     /// `SegmentTaken`; with the last only while a segment is out that is large enough.
     fn allocate_segment(&mut self, minimum_size: u32) -> Result<Self::Segment>
-        ensures { HandsOut out same grants refuses Self.Segment.content Self.Segment.is_provided
+        ensures { HandsOut out same grants fails Self.Segment.content Self.Segment.is_provided
             minimum_size self.old self.new result };
 
     /// Takes a segment back, of which the first words were used. The rest of it is zero.
@@ -79,7 +79,7 @@ impl<A: Allocator> Allocator for &mut A {
 
     ghost grants = { λ allocator asked words. A.grants allocator.now asked words };
 
-    ghost refuses = { λ allocator asked kind. A.refuses allocator.now asked kind };
+    ghost fails = { λ allocator asked kind. A.fails allocator.now asked kind };
 
     ghost returns = { λ old segment words new. (new.ghost_name ≡ old.ghost_name)
         × A.returns old.now segment words new.now };

@@ -2,7 +2,7 @@
 ghost use Rattle.std.specs.Prelude.{◌≡◌, ◌↔◌, ⊤, ◌<◌, [], false, length, IsTrue, IfOk, IfErr};
 ghost use Rattle.capnp_layout.specs.Prelude.{null};
 ghost use Rattle.capnp_build.specs.Built.{message, ForRoot};
-ghost use Rattle.capnp_build.specs.Placed.{DeclinesRoot};
+ghost use Rattle.capnp_build.specs.Placed.{RootFormError};
 ghost use Rattle.capnp_build.specs.Outcomes.{SetsRoot, InitsRoot};
 ghost use Rattle.capnp_build.specs.RootViews.{InitsView, SizesRoot};
 
@@ -21,7 +21,7 @@ pub type Builder<'a, M> = View<'a, M, Owned>;
 impl OwnedBuilder for Owned {
     ghost inits = { λ n form. form ≡ null };
 
-    ghost refuses = { λ n kind. ⊥ };
+    ghost fails = { λ n kind. ⊥ };
 
     fn object(n: u32) -> Result<Option<NewBody>> {
         Ok(None)
@@ -29,7 +29,7 @@ impl OwnedBuilder for Owned {
 
     ghost takes = { λ form. ⊤ };
 
-    ghost declines = { λ form kind. ⊥ };
+    ghost form_error = { λ form kind. ⊥ };
 
     fn accept(shown: RootKind, bytes: &[u8]) -> Result<()> {
         Ok(())
@@ -81,14 +81,14 @@ impl<'a, M: Building> View<'a, M, Owned> {
 
     /// The root as a view of a type. Nothing changes.
     ///
-    /// Fails with a kind that `declines` of the type names, where the type doesn't accept the
+    /// Fails with a kind that `form_error` of the type names, where the type doesn't accept the
     /// object: for the types of this crate with `WrongPointerKind` or `TextNotTerminated`, as their
     /// reading views do.
     pub fn get_as<K: OwnedBuilder>(self) -> Result<View<'a, M, K>>
         ensures same { IfOk result (λ view. view.message.ghost_name ≡ self.entry.message.ghost_name) }
         ensures looked { IfOk result (λ view. view.message.now ≡ self.entry.message.now) }
         ensures taken { IfOk result (λ view. ForRoot (M.built view.message.now).spaces K.takes) }
-        ensures kind { IfErr result (λ error. DeclinesRoot K.declines
+        ensures kind { IfErr result (λ error. RootFormError K.form_error
             (M.built self.entry.message.now).spaces error.kind) }
     {
         let View { message, kind: _ } = self;
@@ -119,7 +119,7 @@ impl<'a, M: Building> View<'a, M, Owned> {
     /// Sets the root to a value. Fails as `BuilderArena::set_root` does, and the root is then null.
     pub fn set_as<T, V: SetterInput<T> + Drop>(&mut self, value: V) -> Result<()>
         ensures same { self.new.message.ghost_name ≡ self.old.message.ghost_name }
-        ensures sets { SetsRoot M.Allocator.Allocator (V.has_tree value) (V.refuses value)
+        ensures sets { SetsRoot M.Allocator.Allocator (V.has_tree value) (V.fails value)
             (M.built self.old.message.now) (M.built self.new.message.now) result }
     {
         self.message.set_root::<T, V>(&value)

@@ -2,7 +2,7 @@
 ghost use Rattle.std.specs.Prelude.{◌≡◌, ℕ, ◌+◌, ◌-◌, ◌*◌, ◌^◌, ◌/◌, ◌<◌, ◌≤◌, List, [], length, replicate, slice_index_or};
 ghost use Rattle.capnp_frame.specs.declared.error.ErrorKind.TheVariants.{AllocationTooLarge};
 ghost use Rattle.capnp_layout.specs.Prelude.{struct};
-ghost use Rattle.capnp_wire.specs.Prelude.{HasData, TakesStruct, DeclinesStruct};
+ghost use Rattle.capnp_wire.specs.Prelude.{HasData, TakesStruct, StructFormError};
 ghost use Rattle.capnp_build.specs.Built.{ForRoot};
 ghost use Rattle.capnp_build.specs.Written.{HasField, IsFieldSet};
 ghost use Rattle.capnp_build.specs.RootViews.{WritesView};
@@ -20,7 +20,7 @@ pub type StructBuilder<'a, M> = View<'a, M, Owned>;
 impl OwnedBuilder for Owned {
     ghost inits = { λ n form. form ≡ struct (replicate n 0) };
 
-    ghost refuses = { λ n kind. (2 ^ 16 ≤ n) × (kind ≡ AllocationTooLarge n) };
+    ghost fails = { λ n kind. (2 ^ 16 ≤ n) × (kind ≡ AllocationTooLarge n) };
 
     fn object(n: u32) -> Result<Option<NewBody>> {
         if n > 65535 {
@@ -31,7 +31,7 @@ impl OwnedBuilder for Owned {
 
     ghost takes = { TakesStruct };
 
-    ghost declines = { DeclinesStruct };
+    ghost form_error = { StructFormError };
 
     fn accept(shown: RootKind, bytes: &[u8]) -> Result<()> {
         match shown {

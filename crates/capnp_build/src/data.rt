@@ -2,7 +2,7 @@
 ghost use Rattle.std.specs.Prelude.{◌≡◌, ℕ, ◌+◌, ◌-◌, ◌*◌, ◌^◌, ◌/◌, ◌<◌, ◌≤◌, List, [], ◌∷◌, length, take, min, replicate};
 ghost use Rattle.capnp_frame.specs.declared.error.ErrorKind.TheVariants.{AllocationTooLarge};
 ghost use Rattle.capnp_layout.specs.Prelude.{numbers, words_for};
-ghost use Rattle.capnp_wire.specs.Prelude.{IsData, TakesNumbers, DeclinesNumbers};
+ghost use Rattle.capnp_wire.specs.Prelude.{IsData, TakesNumbers, NumbersFormError};
 ghost use Rattle.capnp_build.specs.Built.{ForRoot};
 ghost use Rattle.capnp_build.specs.Written.{HasBytes, IsBytesSet};
 ghost use Rattle.capnp_build.specs.RootViews.{WritesView};
@@ -21,7 +21,7 @@ pub type Builder<'a, M> = View<'a, M, Owned>;
 impl OwnedBuilder for Owned {
     ghost inits = { λ n form. form ≡ numbers 2 (replicate n 0) };
 
-    ghost refuses = { λ n kind. (2 ^ 29 - 1 < n) × (kind ≡ AllocationTooLarge (words_for n 8)) };
+    ghost fails = { λ n kind. (2 ^ 29 - 1 < n) × (kind ≡ AllocationTooLarge (words_for n 8)) };
 
     fn object(n: u32) -> Result<Option<NewBody>> {
         if n > MAX_ELEMENTS {
@@ -32,7 +32,7 @@ impl OwnedBuilder for Owned {
 
     ghost takes = { TakesNumbers 2 };
 
-    ghost declines = { DeclinesNumbers 2 };
+    ghost form_error = { NumbersFormError 2 };
 
     fn accept(shown: RootKind, bytes: &[u8]) -> Result<()> {
         match shown {

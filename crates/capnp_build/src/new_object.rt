@@ -64,7 +64,7 @@ impl SetterInput<Owned> for NewObject {
 
     ghost has_tree = { λ new_object trees. trees ≡ tree (zero_form new_object) none none };
 
-    ghost refuses = { λ new_object refusal. ⊥ };
+    ghost fails = { λ new_object kind. ⊥ };
 
     ghost one = { λ new_object trees is. ap count is };
 

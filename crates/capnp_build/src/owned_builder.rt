@@ -16,26 +16,26 @@ pub trait OwnedBuilder {
     ghost inits: { ℕ → Form → Type 0 };
 
     /// With which errors making an object of this length fails.
-    ghost refuses: { ℕ → ErrorKind → Type 0 };
+    ghost fails: { ℕ → ErrorKind → Type 0 };
 
-    /// The object that is made for length `n`; `None` for null. Fails with a kind that `refuses`
+    /// The object that is made for length `n`; `None` for null. Fails with a kind that `fails`
     /// names.
     fn object(n: u32) -> Result<Option<NewBody>>
         ensures inits { IfOk result (λ body. inits n (new_form body)) }
         ensures fits { IfOk result OptionFits }
-        ensures refused { IfErr result (λ error. refuses n error.kind) };
+        ensures errors { IfErr result (λ error. fails n error.kind) };
 
     /// Which objects have a view.
     ghost takes: { Form → Type 0 };
 
     /// With which error an object without a view fails.
-    ghost declines: { Form → ErrorKind → Type 0 };
+    ghost form_error: { Form → ErrorKind → Type 0 };
 
     /// Checks that an object of this kind, with these bytes, can be viewed as this type. Fails with
-    /// a kind that `declines` names.
+    /// a kind that `form_error` names.
     fn accept(shown: RootKind, bytes: &[u8]) -> Result<()>
         ensures taken { OnOk result ((form : Form) → ShowsRoot shown form →
             HoldsForm bytes.now form → takes form) }
-        ensures declined { IfErr result (λ error. (form : Form) → ShowsRoot shown form →
-            HoldsForm bytes.now form → declines form error.kind) };
+        ensures form_errors { IfErr result (λ error. (form : Form) → ShowsRoot shown form →
+            HoldsForm bytes.now form → form_error form error.kind) };
 }

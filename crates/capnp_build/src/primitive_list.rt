@@ -2,7 +2,7 @@
 ghost use Rattle.std.specs.Prelude.{◌≡◌, ℕ, ◌+◌, ◌-◌, ◌*◌, ◌^◌, ◌/◌, ◌<◌, ◌≤◌, List, [], length, replicate, slice_index_or};
 ghost use Rattle.capnp_frame.specs.declared.error.ErrorKind.TheVariants.{AllocationTooLarge};
 ghost use Rattle.capnp_layout.specs.Prelude.{numbers};
-ghost use Rattle.capnp_wire.specs.Prelude.{IsWords, TakesNumbers, DeclinesNumbers};
+ghost use Rattle.capnp_wire.specs.Prelude.{IsWords, TakesNumbers, NumbersFormError};
 ghost use Rattle.capnp_build.specs.Built.{ForRoot};
 ghost use Rattle.capnp_build.specs.Written.{HasNumber, IsNumberSet};
 ghost use Rattle.capnp_build.specs.RootViews.{WritesView};
@@ -21,7 +21,7 @@ pub type Builder<'a, M, T> = View<'a, M, Owned<T>>;
 impl OwnedBuilder for Owned<u64> {
     ghost inits = { λ n form. form ≡ numbers 5 (replicate n 0) };
 
-    ghost refuses = { λ n kind. (2 ^ 29 - 1 < n) × (kind ≡ AllocationTooLarge n) };
+    ghost fails = { λ n kind. (2 ^ 29 - 1 < n) × (kind ≡ AllocationTooLarge n) };
 
     fn object(n: u32) -> Result<Option<NewBody>> {
         if n > MAX_ELEMENTS {
@@ -32,7 +32,7 @@ impl OwnedBuilder for Owned<u64> {
 
     ghost takes = { TakesNumbers 5 };
 
-    ghost declines = { DeclinesNumbers 5 };
+    ghost form_error = { NumbersFormError 5 };
 
     fn accept(shown: RootKind, bytes: &[u8]) -> Result<()> {
         match shown {

@@ -7,7 +7,7 @@ ghost use Rattle.capnp_build.specs.Bytes.{Space, with_block, with_bytes};
 ghost use Rattle.capnp_build.specs.Out.{Out, HasLarge, IsOut};
 ghost use Rattle.capnp_build.specs.Built.{size_in_words};
 ghost use Rattle.capnp_build.specs.BuilderState.{IsAppendedAt, index_of, BuilderState, pair, pairs, spaces_of, used_of, space_at, free_words_of, with_space, KeepsOthers};
-ghost use Rattle.capnp_build.specs.Placed.{LacksSegment};
+ghost use Rattle.capnp_build.specs.Placed.{SegmentError};
 ghost use Rattle.capnp_build.specs.Output.{CanBeWritten, CountsUsedWords};
 ghost use Rattle.capnp_wire.specs.Prelude.{HasWords};
 ghost use Rattle.capnp_build.specs.Allocating.{TakesBack};
@@ -237,13 +237,13 @@ impl<A: Allocator> Segments<A> {
         }
     }
 
-    /// Adds an unused segment of at least this many words. Fails with the kinds of `LacksSegment`.
+    /// Adds an unused segment of at least this many words. Fails with the kinds of `SegmentError`.
     pub fn add(&mut self, words: u32) -> Result<()>
         ensures added { OnOk result ((space : Space)
             × (self.new.spaces ≡ self.old.spaces ++ space ∷ []) × (space.used ≡ [])
             × (words ≤ space.size / 8)) }
-        ensures refused { OnErr result (self.new.spaces ≡ self.old.spaces) }
-        ensures kind { IfErr result (λ error. LacksSegment A.Allocator self.old words error.kind) }
+        ensures errors { OnErr result (self.new.spaces ≡ self.old.spaces) }
+        ensures kind { IfErr result (λ error. SegmentError A.Allocator self.old words error.kind) }
         ensures granted { self.old.spaces ≡ [] → (most : ℕ) → A.grants self.old.allocator words most →
             IsOk result × ((space_at self.new.spaces 0).size / 8 ≡ most) }
         ensures taken { IfErr result (λ error. error.kind ≡ SegmentTaken → (others : List Out) →

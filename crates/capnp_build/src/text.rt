@@ -2,7 +2,7 @@
 ghost use Rattle.std.specs.Prelude.{◌≡◌, ℕ, ◌+◌, ◌-◌, ◌^◌, ◌/◌, ◌<◌, ◌≤◌, List, [], ◌∷◌, ◌++◌, length, take, min, replicate, true, false};
 ghost use Rattle.capnp_frame.specs.declared.error.ErrorKind.TheVariants.{AllocationTooLarge};
 ghost use Rattle.capnp_layout.specs.Prelude.{numbers};
-ghost use Rattle.capnp_wire.specs.Prelude.{IsText, TakesText, DeclinesText};
+ghost use Rattle.capnp_wire.specs.Prelude.{IsText, TakesText, TextFormError};
 ghost use Rattle.capnp_build.specs.Built.{ForRoot};
 ghost use Rattle.capnp_build.specs.Written.{HasBytes, IsBytesSet};
 ghost use Rattle.capnp_build.specs.RootViews.{WritesView};
@@ -21,7 +21,7 @@ pub type Builder<'a, M> = View<'a, M, Owned>;
 impl OwnedBuilder for Owned {
     ghost inits = { λ n form. form ≡ numbers 2 (replicate (n + 1) 0) };
 
-    ghost refuses = { λ n kind. (2 ^ 29 - 2 < n) × (kind ≡ AllocationTooLarge (n / 8 + 1)) };
+    ghost fails = { λ n kind. (2 ^ 29 - 2 < n) × (kind ≡ AllocationTooLarge (n / 8 + 1)) };
 
     fn object(n: u32) -> Result<Option<NewBody>> {
         if n >= MAX_ELEMENTS {
@@ -32,7 +32,7 @@ impl OwnedBuilder for Owned {
 
     ghost takes = { TakesText };
 
-    ghost declines = { DeclinesText };
+    ghost form_error = { TextFormError };
 
     fn accept(shown: RootKind, bytes: &[u8]) -> Result<()> {
         match shown {

@@ -3,9 +3,9 @@ ghost use Rattle.std.specs.Prelude.{◌≡◌, ◌⊎◌, ◌<◌, List, length,
 ghost use Rattle.capnp_layout.specs.Prelude.{Trees, none};
 ghost use Rattle.capnp_build.specs.Built.{Built, ForRoot, IsRootKind};
 ghost use Rattle.capnp_build.specs.Written.{HasField, IsFieldSet, HasBytes, IsBytesSet, HasNumber, IsNumberSet};
-ghost use Rattle.capnp_build.specs.Placed.{DeclinesRoot, InitWords, FoundNoRoom};
+ghost use Rattle.capnp_build.specs.Placed.{RootFormError, InitWords, FoundNoRoom};
 ghost use Rattle.capnp_build.specs.RootKind.{ShowsRoot, HoldsForm};
-ghost use Rattle.capnp_build.specs.Outcomes.{SetsRoot, InitsRoot, LacksFirst};
+ghost use Rattle.capnp_build.specs.Outcomes.{SetsRoot, InitsRoot, FirstSegmentError};
 ghost use Rattle.capnp_build.specs.RootViews.{WritesRoot, SizesRoot, HoldsTree};
 
 use crate::allocator::Allocator;
@@ -67,7 +67,7 @@ pub trait Building: Drop {
 
     /// Sets the root to a value. Fails as `BuilderArena::set_root` does.
     fn set_root<T, V: SetterInput<T>>(&mut self, value: &V) -> Result<()>
-        ensures { SetsRoot Self.Allocator.Allocator (V.has_tree value.now) (V.refuses value.now)
+        ensures { SetsRoot Self.Allocator.Allocator (V.has_tree value.now) (V.fails value.now)
             (built self.old) (built self.new) result };
 }
 
@@ -135,8 +135,8 @@ pub fn init<M: Building, K: OwnedBuilder>(message: &mut M, n: u32) -> Result<()>
     ensures inits { InitsRoot M.Allocator.Allocator K.OwnedBuilder n
         (M.built message.old) (M.built message.new) result }
     // The error, by the message before the call.
-    ensures no_room { IfErr result (λ error. K.refuses n error.kind
-        ⊎ LacksFirst M.Allocator.Allocator (M.built message.old) error.kind
+    ensures no_room { IfErr result (λ error. K.fails n error.kind
+        ⊎ FirstSegmentError M.Allocator.Allocator (M.built message.old) error.kind
         ⊎ FoundNoRoom M.Allocator.Allocator (InitWords K.inits n) (M.built message.old) error.kind) }
 {
     message.init_object::<K>(n)
@@ -145,7 +145,7 @@ pub fn init<M: Building, K: OwnedBuilder>(message: &mut M, n: u32) -> Result<()>
 // Tests that the object at the root can be viewed as this type.
 pub(crate) fn accept<M: Building, K: OwnedBuilder>(message: &M) -> Result<()>
     ensures taken { OnOk result (ForRoot (M.built message.now).spaces K.takes) }
-    ensures kind { IfErr result (λ error. DeclinesRoot K.declines (M.built message.now).spaces error.kind) }
+    ensures kind { IfErr result (λ error. RootFormError K.form_error (M.built message.now).spaces error.kind) }
 {
     K::accept(message.root_kind(), message.root_bytes())
 }

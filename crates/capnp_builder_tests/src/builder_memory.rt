@@ -12,7 +12,7 @@ use capnp_build::allocator::Allocator;
 use capnp_build::{any_pointer, primitive_list};
 use capnp_frame::Result;
 use capnp_frame::message::ReaderSegments;
-use capnp_frame_tests::growths::lacks_memory;
+use capnp_frame_tests::growths::is_out_of_memory;
 use capnp_frame_tests::retried;
 use capnp_message::{Builder, HeapAllocator, SingleSegmentAllocator};
 use capnp_wire::text;
@@ -59,7 +59,7 @@ fn make_in_the_end<A: Allocator>(
     if returned.is_ok() {
         return returned;
     }
-    assert!(rt; lacks_memory(&returned));
+    assert!(rt; is_out_of_memory(&returned));
     let most = match call {
         Call::SetText(_) | Call::InitWords(_) => words.max(1),
         Call::SetCanonicalText(_) | Call::LookAtRoot => words,
@@ -71,7 +71,7 @@ fn make_in_the_end<A: Allocator>(
 const HELLO: &[u8] = b"\x01\0\0\0\x72\0\0\0Hello, World!\0\0\0";
 
 #[test]
-fn a_refused_root_is_set_later(rt: HostRuntime) -> Result<()> {
+fn a_failed_root_is_set_later(rt: HostRuntime) -> Result<()> {
     let mut message = Builder::new_default(rt.alloc());
     make_in_the_end(&rt, &mut message, Call::SetText("Hello, World!"))?;
     expect(&rt, "words", message.size_in_words(), 3);
@@ -85,7 +85,7 @@ const PADDED: &[u8] = b"\x01\0\0\0\x6a\0\0\0hello world!\0\0\0\0";
 
 // The text has a segment of its own, and so has each list after it.
 #[test]
-fn refused_segments_are_taken_later(rt: HostRuntime) -> Result<()> {
+fn failed_segments_are_taken_later(rt: HostRuntime) -> Result<()> {
     let mut message = far_message(rt.alloc());
     make_in_the_end(&rt, &mut message, Call::SetText("hello world!"))?;
     expect(&rt, "words", message.size_in_words(), 4);
@@ -102,7 +102,7 @@ fn refused_segments_are_taken_later(rt: HostRuntime) -> Result<()> {
 }
 
 #[test]
-fn a_refused_look_is_made_later(rt: HostRuntime) -> Result<()> {
+fn a_failed_look_is_made_later(rt: HostRuntime) -> Result<()> {
     let mut message = Builder::new_default(rt.alloc());
     make_in_the_end(&rt, &mut message, Call::LookAtRoot)?;
     assert!(rt; is_null_root(&mut message)?);
@@ -111,7 +111,7 @@ fn a_refused_look_is_made_later(rt: HostRuntime) -> Result<()> {
 }
 
 #[test]
-fn a_refused_canonical_root_is_set_later(rt: HostRuntime) -> Result<()> {
+fn a_failed_canonical_root_is_set_later(rt: HostRuntime) -> Result<()> {
     let mut message = Builder::new_default(rt.alloc());
     make_in_the_end(&rt, &mut message, Call::SetCanonicalText("hello"))?;
     expect(&rt, "words", message.size_in_words(), 2);
@@ -120,7 +120,7 @@ fn a_refused_canonical_root_is_set_later(rt: HostRuntime) -> Result<()> {
 
 // The same through the root's builder, whose own word is taken first.
 #[test]
-fn a_refused_root_builder_sets_later(rt: HostRuntime) -> Result<()> {
+fn a_failed_root_builder_sets_later(rt: HostRuntime) -> Result<()> {
     let mut message = far_message(rt.alloc());
     assert!(rt; retried!(is_null_root(&mut message))?);
     let mut root: any_pointer::Builder<'_, Builder<HeapAllocator>> = message.get_root::<
@@ -128,7 +128,7 @@ fn a_refused_root_builder_sets_later(rt: HostRuntime) -> Result<()> {
     >()?;
     let returned = root.set_as::<text::Owned, &str>("hello world!");
     if returned.is_err() {
-        assert!(rt; lacks_memory(&returned) && root.is_null());
+        assert!(rt; is_out_of_memory(&returned) && root.is_null());
         root.set_as::<text::Owned, &str>("hello world!")?;
     }
     expect(&rt, "words", root.target_size()?.word_count, 2);

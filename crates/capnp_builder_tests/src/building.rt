@@ -6,7 +6,7 @@ use capnp_build::{any_pointer, primitive_list};
 use capnp_frame::Result;
 use capnp_frame::message::ReaderSegments;
 use capnp_frame_tests::messages::has_segments;
-use capnp_frame_tests::refusals::allocation_refusal;
+use capnp_frame_tests::errors::allocation_error;
 use capnp_message::{Builder, HeapAllocator};
 use capnp_wire::text;
 use std::alloc::Global;
@@ -39,11 +39,11 @@ pub fn is_null_root<A: Allocator>(message: &mut Builder<A>) -> Result<bool> {
 }
 
 /// The error of a new object at the root.
-pub fn init_refusal<K: OwnedBuilder, A: Allocator>(
+pub fn init_error<K: OwnedBuilder, A: Allocator>(
     message: &mut Builder<A>,
     length: u32,
 ) -> (u8, u32) {
-    allocation_refusal(message.initn_root::<K>(length))
+    allocation_error(message.initn_root::<K>(length))
 }
 
 /// The text that is read at the root.

@@ -14,7 +14,7 @@ use capnp_wire::any_pointer;
 use std::process::Abort;
 
 // The kind of an error. One for want of memory is handed back.
-fn refusal<T: Drop>(returned: Result<T>) -> Result<Option<ErrorKind>> {
+fn error_of<T: Drop>(returned: Result<T>) -> Result<Option<ErrorKind>> {
     match returned {
         Ok(_) => Ok(None),
         Err(error) if error.kind == ErrorKind::OutOfMemory => Err(error),
@@ -43,7 +43,7 @@ pub fn is_null<A: Allocator>(message: &Builder<A>) -> bool {
 }
 
 // Messages that fail: by `canonicalize`, by `set_root`, and by `set_root_canonical`.
-fn refuse(
+fn assert_failure(
     rt: &(impl Abort + AllocGlobal),
     segments: &[&[u8]],
     limit: Option<usize>,
@@ -51,13 +51,13 @@ fn refuse(
 ) -> Result<()> {
     let alloc = rt.alloc();
     let reader = reader_of(segments, limit);
-    let found = refusal(reader.canonicalize(alloc))?;
+    let found = error_of(reader.canonicalize(alloc))?;
     expect(rt, segments, found, Some(canonical));
     let mut message: Builder<HeapAllocator> = Builder::new_default(alloc);
-    let found = refusal(set(&mut message, &reader))?;
+    let found = error_of(set(&mut message, &reader))?;
     expect(rt, segments, found, Some(as_it_stands));
     assert!(rt; is_null(&message));
-    let found = refusal(set_canonical(&mut message, &reader))?;
+    let found = error_of(set_canonical(&mut message, &reader))?;
     expect(rt, segments, found, Some(in_canonical_form));
     assert!(rt; is_null(&message));
     Ok(())
@@ -88,9 +88,9 @@ const ROOTS: [(&[&[u8]], ErrorKind); 10] = [
 ];
 
 #[test]
-fn refused_roots(rt: HostRuntime) -> Result<()> {
+fn failed_roots(rt: HostRuntime) -> Result<()> {
     for (segments, kind) in &ROOTS {
-        retried!(refuse(&rt, segments, DEFAULT_LIMIT, [*kind; 3]))?;
+        retried!(assert_failure(&rt, segments, DEFAULT_LIMIT, [*kind; 3]))?;
     }
     Ok(())
 }
@@ -135,7 +135,7 @@ fn follow_chains(rt: &(impl Abort + AllocGlobal)) -> Result<()> {
     expect(rt, "canonical words", words.as_slice(), wanted.as_slice());
     assert!(rt; !reader.is_canonical()?);
     let bytes = chain(alloc, 65)?;
-    refuse(rt, &[bytes.as_slice()], DEFAULT_LIMIT, [DEEP; 3])
+    assert_failure(rt, &[bytes.as_slice()], DEFAULT_LIMIT, [DEEP; 3])
 }
 
 // A tree of 2^40 - 1 structs in 81 words ends at the limit. At the default one, of 8,388,608 words,
@@ -143,27 +143,27 @@ fn follow_chains(rt: &(impl Abort + AllocGlobal)) -> Result<()> {
 // each struct has 256 words.
 #[test]
 fn doublings_end_at_the_limit(rt: HostRuntime) -> Result<()> {
-    retried!(refuse_doublings(&rt))
+    retried!(fail_doublings(&rt))
 }
 
-fn refuse_doublings(rt: &(impl Abort + AllocGlobal)) -> Result<()> {
+fn fail_doublings(rt: &(impl Abort + AllocGlobal)) -> Result<()> {
     let bytes = doublings(rt.alloc(), 0)?;
-    refuse(rt, &[bytes.as_slice()], Some(1 << 16), [LIMITED; 3])?;
+    assert_failure(rt, &[bytes.as_slice()], Some(1 << 16), [LIMITED; 3])?;
     let bytes = doublings(rt.alloc(), 254)?;
-    refuse(rt, &[bytes.as_slice()], DEFAULT_LIMIT, [LIMITED; 3])
+    assert_failure(rt, &[bytes.as_slice()], DEFAULT_LIMIT, [LIMITED; 3])
 }
 
 // 65,536 pointers to one list: 536,936,448 words as a tree, more than a builder or a canonical form
 // has.
 #[test]
 fn shared_lists_are_too_large(rt: HostRuntime) -> Result<()> {
-    retried!(refuse_shared_lists(&rt))
+    retried!(fail_shared_lists(&rt))
 }
 
-fn refuse_shared_lists(rt: &(impl Abort + AllocGlobal)) -> Result<()> {
+fn fail_shared_lists(rt: &(impl Abort + AllocGlobal)) -> Result<()> {
     let bytes = shared_lists(rt.alloc())?;
     let segments = [bytes.as_slice()];
     let too_large = ErrorKind::AllocationTooLarge(536936448);
-    refuse(rt, &segments, NO_LIMIT, [TOO_LARGE, too_large, TOO_LARGE])?;
-    refuse(rt, &segments, DEFAULT_LIMIT, [LIMITED; 3])
+    assert_failure(rt, &segments, NO_LIMIT, [TOO_LARGE, too_large, TOO_LARGE])?;
+    assert_failure(rt, &segments, DEFAULT_LIMIT, [LIMITED; 3])
 }

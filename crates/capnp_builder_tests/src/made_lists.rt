@@ -70,7 +70,7 @@ impl<'a> ValueSource<text::Owned> for Names<'a> {
 
     ghost has_tree = { λ source name trees. IsTextTree name.now trees };
 
-    ghost refuses = { λ source name kind. LongText name.now kind };
+    ghost fails = { λ source name kind. LongText name.now kind };
 
     fn len(&self) -> usize {
         self.names.len()
@@ -98,7 +98,7 @@ impl<'a> StructSource for Entries<'a> {
     ghost use Rattle.std.specs.Prelude.{◌≡◌, ◌∷◌, []};
     ghost use Rattle.capnp_layout.specs.Tree.{none};
     ghost use Rattle.capnp_wire.specs.Values.{IsTextTree, LongText};
-    ghost use Rattle.capnp_values.specs.Fields.{IsRow, RefusesRow};
+    ghost use Rattle.capnp_values.specs.Fields.{IsRow, FieldsError};
     ghost use Rattle.capnp_values.specs.FieldLaws.{settled_none, settled_more};
 
     type Item = PhoneEntry<'a>;
@@ -112,7 +112,7 @@ impl<'a> StructSource for Entries<'a> {
     ghost has_trees = { λ source entry trees.
         IsRow (λ t. IsTextTree entry.number.now t) (λ t. t ≡ none) trees };
 
-    ghost refuses = { λ source entry kind. RefusesRow (λ t. IsTextTree entry.number.now t)
+    ghost fails = { λ source entry kind. FieldsError (λ t. IsTextTree entry.number.now t)
         (λ k. LongText entry.number.now k) (λ k. ⊥) kind };
 
     ghost settled = { λ source entry trees is. settled_more 0 trees

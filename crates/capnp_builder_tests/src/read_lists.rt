@@ -139,9 +139,9 @@ fn measured_within(limit: usize, nesting: i32) -> Result<Walked<u32>> {
 #[test]
 fn lists_are_measured_within_their_limits(rt: HostRuntime) -> Result<()> {
     expect(&rt, "two words", measured_within(2, 2)?, Ok(3));
-    let refused = Err(ErrorKind::ReadLimitExceeded);
-    expect(&rt, "one word", measured_within(1, 2)?, refused);
-    let refused = Err(ErrorKind::NestingLimitExceeded);
-    expect(&rt, "no depth", measured_within(2, 1)?, refused);
+    let failed = Err(ErrorKind::ReadLimitExceeded);
+    expect(&rt, "one word", measured_within(1, 2)?, failed);
+    let failed = Err(ErrorKind::NestingLimitExceeded);
+    expect(&rt, "no depth", measured_within(2, 1)?, failed);
     Ok(())
 }

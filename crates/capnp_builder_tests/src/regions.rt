@@ -18,7 +18,7 @@ use std::process::Abort;
 const LONG: &str = "a text of more words than the region has";
 
 // Why a root is not set to a text; once more where the list of segments could not grow.
-fn refusal_of_root<A: Allocator>(message: &mut Builder<A>, text: &str) -> Option<ErrorKind> {
+fn error_of_root<A: Allocator>(message: &mut Builder<A>, text: &str) -> Option<ErrorKind> {
     match kind_of(set_text(message, text)) {
         Some(ErrorKind::OutOfMemory) => kind_of(set_text(message, text)),
         other => other,
@@ -32,17 +32,17 @@ fn a_single_region_comes_home(rt: HostRuntime) {
     let mut single = SingleSegmentAllocator::new(&mut region);
     let mut message = Builder::new(rt.alloc(), &mut single);
     assert!(rt; set_text(&mut message, "hello").is_ok());
-    let refusals = [
-        refusal_of_root(&mut message, "Hello, World!"),
+    let errors = [
+        error_of_root(&mut message, "Hello, World!"),
         kind_of(set_canonical_text(&mut message, "Hello, World!")),
-        refusal_of_root(&mut message, LONG),
+        error_of_root(&mut message, LONG),
     ];
     let wanted = [
         Some(ErrorKind::SegmentTaken),
         Some(ErrorKind::NotOneSegment),
         Some(ErrorKind::AllocationTooLarge(7)),
     ];
-    expect(&rt, "a text, canonical, and a long one", refusals, wanted);
+    expect(&rt, "a text, canonical, and a long one", errors, wanted);
     drop(message);
     drop(single);
     expect_zeros(&rt, "the region", &region);
@@ -85,7 +85,7 @@ fn set_what_is_too_large(rt: &(impl Abort + AllocGlobal)) -> Result<()> {
     let mut scratch = ScratchSpaceHeapAllocator::new(rt.alloc(), &mut region);
     let mut message = Builder::new(rt.alloc(), &mut scratch);
     set_text(&mut message, "hello")?;
-    let refusals = [
+    let errors = [
         kind_of(set_canonical(&mut message, &reader)),
         kind_of(set(&mut message, &reader)),
     ];
@@ -93,7 +93,7 @@ fn set_what_is_too_large(rt: &(impl Abort + AllocGlobal)) -> Result<()> {
         Some(ErrorKind::CanonicalTooLarge),
         Some(ErrorKind::AllocationTooLarge(536936448)),
     ];
-    expect(rt, "canonical, and as it stands", refusals, wanted);
+    expect(rt, "canonical, and as it stands", errors, wanted);
     expect_segments(rt, "the root's segment", &message, &[&[0; 16]]);
     drop(message);
     drop(scratch);
@@ -112,7 +112,7 @@ fn next_segment(heap: &mut HeapAllocator, words: u32) -> Result<Vec<u8>> {
 // A growth that fails changes nothing: the next request has the same size, and the one after it
 // twice that.
 #[test]
-fn a_heap_that_is_refused(rt: HostRuntime) -> Result<()> {
+fn a_heap_that_fails(rt: HostRuntime) -> Result<()> {
     let mut heap = HeapAllocator::new(rt.alloc()).first_segment_words(16);
     for (words, wanted) in &HANDED_OUT {
         let segment = retried!(next_segment(&mut heap, *words))?;

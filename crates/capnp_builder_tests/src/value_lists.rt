@@ -171,7 +171,7 @@ fn lists_of_lists_stand_at_the_root(rt: HostRuntime) -> Result<()> {
 
 // 2^16 data words, and 2^29 elements, are too many for a tag and for a pointer.
 #[test]
-fn too_many_elements_are_refused(rt: HostRuntime) {
+fn too_many_elements_fail(rt: HostRuntime) {
     let large = [StructValue::new([0; 65536], NoFields)];
     let list = StructList::new(&large);
     expect_too_large::<struct_list::Owned, StructList<'_, StructValue<65536, NoFields>>>(

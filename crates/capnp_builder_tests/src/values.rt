@@ -213,13 +213,13 @@ pub(crate) fn measured<T, V: SetterInput<T>>(value: &V, canonical: bool) -> Walk
 
 /// What is returned for a struct of more data words than a pointer can say.
 pub(crate) fn expect_too_large<T, V: SetterInput<T>>(rt: &impl Abort, value: &V) {
-    let refused = Err(ErrorKind::AllocationTooLarge(65536));
-    expect(rt, "65,536 words", measured::<T, V>(value, true), refused);
+    let failed = Err(ErrorKind::AllocationTooLarge(65536));
+    expect(rt, "65,536 words", measured::<T, V>(value, true), failed);
 }
 
 // A pointer can tell 65,535 data words.
 #[test]
-fn too_many_words_are_refused(rt: HostRuntime) {
+fn too_many_words_fail(rt: HostRuntime) {
     let most: StructValue<65535, NoFields> = StructValue::new([0; 65535], NoFields);
     let found = [
         measured::<any_struct::Owned, StructValue<65535, NoFields>>(&most, false),

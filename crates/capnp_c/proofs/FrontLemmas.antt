@@ -11,9 +11,9 @@ use Rattle.capnp_frame.specs.declared.message.options.ReaderOptions.{ReaderOptio
 use Rattle.capnp_frame.proofs.slices.AgreementLemmas.{index_below}
 use Rattle.capnp_frame.proofs.encodings.TextLemmas.{frames_part}
 use Rattle.capnp_layout.specs.Prelude.{words_of, message_of, root, NoWord, no_word, at_pointer}
-use Rattle.capnp_wire.specs.Prelude.{Pointer, IsCanonicalForm, LeadsToTree, StopsWalkFrom}
+use Rattle.capnp_wire.specs.Prelude.{Pointer, IsCanonicalForm, LeadsToTree, WalkErrorFrom}
 use Rattle.capnp_wire.proofs.views.OneValueLemmas.{one_of_pointer, measured_exactly, measured_found}
-use Rattle.capnp_c.specs.Fronts.{IsAtFront, root_within, root_by, RootHasForm, RootLacksForm, IsShort}
+use Rattle.capnp_c.specs.Fronts.{IsAtFront, root_within, root_by, RootHasForm, RootCanonicalFormError, IsShort}
 
 pub one_front : (options : ReaderOptions) (bytes rest left : List ℕ) (segments others : List (List ℕ)) → IsAtFront options bytes segments rest → IsAtFront options bytes others left → segments ≡ others
 one_front options bytes rest left segments others p q = (frames_part p.text q.text rest left segments others p.is_text q.is_text (sym p.spelled ∙ q.spelled)).1
@@ -45,33 +45,33 @@ front_form p n new following long form =
 -- Which messages have a form
 
 -- one whose root has no word has none
-pub root_lacks : (nesting : ℤ) (limit : Option ℕ) (segments : List (List ℕ)) (kind : ErrorKind) → NoWord (message_of segments) root kind → RootLacksForm (root_within nesting limit segments) kind
-root_lacks nesting limit segments kind none = inl (root, refl, at_pointer (no_word none))
+pub root_form_error : (nesting : ℤ) (limit : Option ℕ) (segments : List (List ℕ)) (kind : ErrorKind) → NoWord (message_of segments) root kind → RootCanonicalFormError (root_within nesting limit segments) kind
+root_form_error nesting limit segments kind none = inl (root, refl, at_pointer (no_word none))
 
 -- and one that has a form does not lack it
-pub has_or_lacks : (p : Pointer) (words : ℕ) (kind : ErrorKind) → RootHasForm p words → RootLacksForm p kind → ⊥
-has_or_lacks p words kind has lacks = measured_exactly (LeadsToTree p) (StopsWalkFrom p) (one_of_pointer p) true (Ok has.0) has.1 kind lacks
+pub has_or_error : (p : Pointer) (words : ℕ) (kind : ErrorKind) → RootHasForm p words → RootCanonicalFormError p kind → ⊥
+has_or_error p words kind has form_error = measured_exactly (LeadsToTree p) (WalkErrorFrom p) (one_of_pointer p) true (Ok has.0) has.1 kind form_error
 
 -- the reason is one, and so is the size
-pub one_reason : (p : Pointer) (a b : ErrorKind) → RootLacksForm p a → RootLacksForm p b → a ≡ b
-one_reason p a b x y = measured_exactly (LeadsToTree p) (StopsWalkFrom p) (one_of_pointer p) true (Err (record { kind = a })) x b y
+pub one_reason : (p : Pointer) (a b : ErrorKind) → RootCanonicalFormError p a → RootCanonicalFormError p b → a ≡ b
+one_reason p a b x y = measured_exactly (LeadsToTree p) (WalkErrorFrom p) (one_of_pointer p) true (Err (record { kind = a })) x b y
 
 pub one_size : (p : Pointer) (a b : ℕ) → RootHasForm p a → RootHasForm p b → a ≡ b
 one_size p a b x y =
-    let same = measured_found (LeadsToTree p) (StopsWalkFrom p) (one_of_pointer p) true (Ok x.0) x.1 y.0 y.1 in
+    let same = measured_found (LeadsToTree p) (WalkErrorFrom p) (one_of_pointer p) true (Ok x.0) x.1 y.0 y.1 in
     let following : x.0 ≡ y.0 = cc in
     x.2 ∙ ap (λ n. n + 1) following ∙ sym y.2
 
 -- The error of a form that is to be written into this many bytes
 
-pub form_fits : (p : Pointer) (room size : ℕ) (kind : ErrorKind) → RootLacksForm p kind ⊎ IsShort p room kind → RootHasForm p size → 8 * size ≤ room → ⊥
-form_fits p room size kind (inl lacks) has fits = has_or_lacks p size kind has lacks
+pub form_fits : (p : Pointer) (room size : ℕ) (kind : ErrorKind) → RootCanonicalFormError p kind ⊎ IsShort p room kind → RootHasForm p size → 8 * size ≤ room → ⊥
+form_fits p room size kind (inl form_error) has fits = has_or_error p size kind has form_error
 form_fits p room size kind (inr (other, form, short, is)) has fits = absurd (omega (arith, fits, short, one_size p other size form has))
 
-pub form_is_short : (p : Pointer) (room size : ℕ) (kind : ErrorKind) → RootLacksForm p kind ⊎ IsShort p room kind → RootHasForm p size → kind ≡ BufferNotLargeEnough
-form_is_short p room size kind (inl lacks) has = absurd (has_or_lacks p size kind has lacks)
+pub form_is_short : (p : Pointer) (room size : ℕ) (kind : ErrorKind) → RootCanonicalFormError p kind ⊎ IsShort p room kind → RootHasForm p size → kind ≡ BufferNotLargeEnough
+form_is_short p room size kind (inl form_error) has = absurd (has_or_error p size kind has form_error)
 form_is_short p room size kind (inr (other, form, short, is)) has = is
 
-pub form_is_lacked : (p : Pointer) (room : ℕ) (own kind : ErrorKind) → RootLacksForm p own ⊎ IsShort p room own → RootLacksForm p kind → own ≡ kind
-form_is_lacked p room own kind (inl lacks) other = one_reason p own kind lacks other
-form_is_lacked p room own kind (inr (size, form, short, is)) other = absurd (has_or_lacks p size kind form other)
+pub form_error_is : (p : Pointer) (room : ℕ) (own kind : ErrorKind) → RootCanonicalFormError p own ⊎ IsShort p room own → RootCanonicalFormError p kind → own ≡ kind
+form_error_is p room own kind (inl form_error) other = one_reason p own kind form_error other
+form_error_is p room own kind (inr (size, form, short, is)) other = absurd (has_or_error p size kind form other)

@@ -5,13 +5,13 @@ use Rattle.std.specs.List.{concat}
 use Rattle.capnp_frame.specs.declared.error.ErrorKind.{ErrorKind}
 use Rattle.capnp_frame.specs.declared.error.ErrorKind.TheVariants.{DeviceFailed, BufferNotLargeEnough}
 use Rattle.capnp_frame.specs.declared.message.options.ReaderOptions.{ReaderOptions}
-use Rattle.capnp_frame.specs.Prelude.{lengths, zero_padded_table, table_size, ByKind, Adds, AppendsAll, AppendsSame, DeclinesSome, Fails}
+use Rattle.capnp_frame.specs.Prelude.{lengths, zero_padded_table, table_size, ByKind, Adds, AppendsAll, AppendsSame, ChunksError, Fails}
 use Rattle.capnp_frame.proofs.sources.AskLemmas.{never_fails}
 use Rattle.capnp_frame.proofs.encodings.FrameLemmas.{length-table}
 use Rattle.capnp_frame.proofs.tables.TableLemmas.{zero_table}
 use Rattle.capnp_frame.proofs.encodings.TextLemmas.{frames_part}
 use Rattle.capnp_frame.proofs.sinks.WritingLemmas.{length-lengths}
-use Rattle.capnp_pack.specs.Prelude.{Packs, IsPackedEncoding, AppendsPacked, DeclinesPacked}
+use Rattle.capnp_pack.specs.Prelude.{Packs, IsPackedEncoding, AppendsPacked, PackedChunkError}
 use Rattle.capnp_pack.proofs.encodings.PackedEncodingLemmas.{packed_message, each_packed}
 use Rattle.capnp_pack.proofs.packing.PackerLemmas.{Packs-once, Packs-whole}
 use Rattle.capnp_c.specs.Fronts.{IsAtFront}
@@ -65,20 +65,20 @@ message_fits segments text block n packed short written =
     absurd (omega (arith, short, ap length same, length-take n block))
 
 -- chunks of whole words fail for want of room in the block alone
-chunks_refused : (chunks : List (List ℕ)) (text : List ℕ) (kind : ErrorKind) → AppendsAll Packs chunks text
-    → DeclinesSome (DeclinesPacked (ByKind BufferNotLargeEnough)) chunks kind → kind ≡ BufferNotLargeEnough
-chunks_refused [] text kind all refused = absurd refused
-chunks_refused (chunk ∷ chunks) text kind (s, t, first, more, e) (inl (inl (part, is))) = absurd (part (Packs-whole chunk s first))
-chunks_refused (chunk ∷ chunks) text kind (s, t, first, more, e) (inl (inr (whole, (any, is)))) = is
-chunks_refused (chunk ∷ chunks) text kind (s, t, first, more, e) (inr refused) = chunks_refused chunks t kind more refused
+chunks_error : (chunks : List (List ℕ)) (text : List ℕ) (kind : ErrorKind) → AppendsAll Packs chunks text
+    → ChunksError (PackedChunkError (ByKind BufferNotLargeEnough)) chunks kind → kind ≡ BufferNotLargeEnough
+chunks_error [] text kind all errors = absurd errors
+chunks_error (chunk ∷ chunks) text kind (s, t, first, more, e) (inl (inl (part, is))) = absurd (part (Packs-whole chunk s first))
+chunks_error (chunk ∷ chunks) text kind (s, t, first, more, e) (inl (inr (whole, (any, is)))) = is
+chunks_error (chunk ∷ chunks) text kind (s, t, first, more, e) (inr errors) = chunks_error chunks t kind more errors
 
-pub message_refused : (segments : List (List ℕ)) (table text : List ℕ) (kind : ErrorKind) → table ≡ zero_padded_table (lengths segments) → IsPackedEncoding text segments
-    → (kind ≡ DeviceFailed) ⊎ DeclinesSome (DeclinesPacked (ByKind BufferNotLargeEnough)) (take 8 table ∷ drop 8 table ∷ segments) kind
+pub message_error : (segments : List (List ℕ)) (table text : List ℕ) (kind : ErrorKind) → table ≡ zero_padded_table (lengths segments) → IsPackedEncoding text segments
+    → (kind ≡ DeviceFailed) ⊎ ChunksError (PackedChunkError (ByKind BufferNotLargeEnough)) (take 8 table ∷ drop 8 table ∷ segments) kind
     → (kind ≡ DeviceFailed → Fails 0 0) → kind ≡ BufferNotLargeEnough
-message_refused segments table text kind is packed (inl device) failed = absurd (never_fails kind failed device)
-message_refused segments table text kind is packed (inr refused) failed =
-    chunks_refused (packed_chunks segments) text kind (text_of_chunks segments text packed)
-    (subst (λ l. DeclinesSome (DeclinesPacked (ByKind BufferNotLargeEnough)) (take 8 l ∷ drop 8 l ∷ segments) kind) is refused)
+message_error segments table text kind is packed (inl device) failed = absurd (never_fails kind failed device)
+message_error segments table text kind is packed (inr errors) failed =
+    chunks_error (packed_chunks segments) text kind (text_of_chunks segments text packed)
+    (subst (λ l. ChunksError (PackedChunkError (ByKind BufferNotLargeEnough)) (take 8 l ∷ drop 8 l ∷ segments) kind) is errors)
 
 -- the text of the chunks, by the table that is there
 pub text_of_parts : (segments : List (List ℕ)) (table text : List ℕ) → table ≡ zero_padded_table (lengths segments) → IsPackedEncoding text segments

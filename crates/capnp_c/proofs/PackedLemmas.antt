@@ -4,21 +4,21 @@ use Rattle.capnp_frame.specs.declared.error.ErrorKind.{ErrorKind}
 use Rattle.capnp_frame.specs.declared.error.ErrorKind.TheVariants.{DeviceFailed, BufferNotLargeEnough}
 use Rattle.capnp_frame.specs.Prelude.{ByKind, Adds, AppendsSame, Fails}
 use Rattle.capnp_frame.proofs.sources.AskLemmas.{never_fails}
-use Rattle.capnp_pack.specs.Prelude.{Packs, AppendsPacked, DeclinesPacked, RefusesChunk}
+use Rattle.capnp_pack.specs.Prelude.{Packs, AppendsPacked, PackedChunkError, ChunkError}
 use Rattle.capnp_pack.proofs.encodings.PackedEncodingLemmas.{packed_over_plain}
 use Rattle.capnp_pack.proofs.packing.PackerLemmas.{Packs-once, Packs-whole}
 
 -- an error of a slice is a line of the table
-pub chunk_refused : (raw : List ℕ) (n : ℕ) (kind : ErrorKind) → (kind ≡ DeviceFailed) ⊎ RefusesChunk raw n kind → (kind ≡ DeviceFailed → Fails 0 0) → RefusesChunk raw n kind
-chunk_refused raw n kind (inl device) failed = absurd (never_fails kind failed device)
-chunk_refused raw n kind (inr line) failed = line
+pub chunk_error : (raw : List ℕ) (n : ℕ) (kind : ErrorKind) → (kind ≡ DeviceFailed) ⊎ ChunkError raw n kind → (kind ≡ DeviceFailed → Fails 0 0) → ChunkError raw n kind
+chunk_error raw n kind (inl device) failed = absurd (never_fails kind failed device)
+chunk_error raw n kind (inr line) failed = line
 
 -- whole words fail for want of room in the block alone
-pub block_refused : (words packed : List ℕ) (kind : ErrorKind) → Packs words packed → (kind ≡ DeviceFailed) ⊎ DeclinesPacked (ByKind BufferNotLargeEnough) words kind
+pub block_error : (words packed : List ℕ) (kind : ErrorKind) → Packs words packed → (kind ≡ DeviceFailed) ⊎ PackedChunkError (ByKind BufferNotLargeEnough) words kind
     → (kind ≡ DeviceFailed → Fails 0 0) → kind ≡ BufferNotLargeEnough
-block_refused words packed kind packs (inl device) failed = absurd (never_fails kind failed device)
-block_refused words packed kind packs (inr (inl (part, is))) failed = absurd (part (Packs-whole words packed packs))
-block_refused words packed kind packs (inr (inr (whole, (chunk, is)))) failed = is
+block_error words packed kind packs (inl device) failed = absurd (never_fails kind failed device)
+block_error words packed kind packs (inr (inl (part, is))) failed = absurd (part (Packs-whole words packed packs))
+block_error words packed kind packs (inr (inr (whole, (chunk, is)))) failed = is
 
 -- and what was written is their one text
 pub packed_fits : (words packed block : List ℕ) (n : ℕ) → Packs words packed → length block < length packed → Packs words (take n block) → ⊥

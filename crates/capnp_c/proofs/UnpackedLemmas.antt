@@ -5,9 +5,9 @@ use Rattle.capnp_frame.specs.declared.error.ErrorKind.{ErrorKind}
 use Rattle.capnp_frame.specs.declared.error.ErrorKind.TheVariants.{DeviceFailed}
 use Rattle.capnp_frame.specs.declared.message.options.ReaderOptions.{ReaderOptions}
 use Rattle.capnp_frame.specs.declared.serialize.segment_table.Padding.TheVariants.{Zero}
-use Rattle.capnp_frame.specs.Prelude.{HasFrame, IsWithin, RefusesStream, Fails}
+use Rattle.capnp_frame.specs.Prelude.{HasFrame, IsWithin, StreamError, Fails}
 use Rattle.capnp_frame.proofs.sources.AskLemmas.{never_fails}
-use Rattle.capnp_pack.specs.Prelude.{PackedStands, Unpacks, RefusesChunk, none_unpacked}
+use Rattle.capnp_pack.specs.Prelude.{PackedStands, Unpacks, ChunkError, none_unpacked}
 use Rattle.capnp_pack.proofs.encodings.PackedFrameLemmas.{packed_requests}
 use Rattle.capnp_c.specs.Packing.{IsMessage}
 
@@ -38,5 +38,5 @@ own_kind own kind (inr same) failed = same
 
 -- a buffer keeps its length
 pub in_room : (options : ReaderOptions) (packed left : List ℕ) (kind : ErrorKind) (after before : ℕ) → after ≡ before
-    → RefusesStream Zero Unpacks RefusesChunk options.traversal_limit_in_words (Some after) kind packed left → RefusesStream Zero Unpacks RefusesChunk options.traversal_limit_in_words (Some before) kind packed left
-in_room options packed left kind after before same refused = subst (λ room. RefusesStream Zero Unpacks RefusesChunk options.traversal_limit_in_words (Some room) kind packed left) same refused
+    → StreamError Zero Unpacks ChunkError options.traversal_limit_in_words (Some after) kind packed left → StreamError Zero Unpacks ChunkError options.traversal_limit_in_words (Some before) kind packed left
+in_room options packed left kind after before same errors = subst (λ room. StreamError Zero Unpacks ChunkError options.traversal_limit_in_words (Some room) kind packed left) same errors

@@ -5,12 +5,12 @@ use Rattle.std.specs.Prelude.{⊤, ◌≡◌, ◌⊎◌, ◌+◌, ◌*◌, ◌<�
 use Rattle.capnp_frame.specs.declared.error.ErrorKind.{ErrorKind}
 use Rattle.capnp_frame.specs.declared.message.options.ReaderOptions.{ReaderOptions}
 use Rattle.capnp_frame.specs.declared.serialize.segment_table.Padding.TheVariants.{Zero}
-use Rattle.capnp_frame.specs.Prelude.{IsWithin, lengths, size_in_words, kind_number, RefusesStream, table_size}
-use Rattle.capnp_pack.specs.Prelude.{IsPackedEncoding, PackedStands, Unpacks, RefusesChunk}
+use Rattle.capnp_frame.specs.Prelude.{IsWithin, lengths, size_in_words, kind_number, StreamError, table_size}
+use Rattle.capnp_pack.specs.Prelude.{IsPackedEncoding, PackedStands, Unpacks, ChunkError}
 use Rattle.capnp_layout.specs.Prelude.{words_of}
 use Rattle.capnp_wire.specs.Prelude.{IsCanonicalForm}
 use Rattle.capnp_c.specs.declared.framed.LinsjoarMessage.{LinsjoarMessage}
-use Rattle.capnp_c.specs.Fronts.{IsAtFront, LacksMessage, root_by, RootHasForm, ReturnsFrontForm}
+use Rattle.capnp_c.specs.Fronts.{IsAtFront, MessageError, root_by, RootHasForm, ReturnsFrontForm}
 use Rattle.capnp_c.specs.Packing.{IsMessage}
 
 -- The message at the front of the bytes is found.
@@ -21,7 +21,7 @@ pub record FindsMessage (options : ReaderOptions) (bytes : List ℕ) (message : 
   -- 0 wherever one is there
   pub accepted : (segments : List (List ℕ)) (rest : List ℕ) → IsAtFront options bytes segments rest → result ≡ 0
   -- where none is there, the number of the reader's error
-  pub refused : (kind : ErrorKind) → LacksMessage options bytes kind → result ≡ kind_number kind
+  pub errors : (kind : ErrorKind) → MessageError options bytes kind → result ≡ kind_number kind
   -- each number that is written is 0 where another one is returned
   pub stays : 0 < result → (message.segments ≡ 0) × (message.start ≡ 0) × (message.end ≡ 0)
 
@@ -35,7 +35,7 @@ pub record CountsSegment (options : ReaderOptions) (bytes : List ℕ) (id words 
   -- 18 where it has none
   pub none : (segments : List (List ℕ)) (rest : List ℕ) → IsAtFront options bytes segments rest → length segments ≤ id → result ≡ 18
   -- where no message is there, the number of the reader's error
-  pub refused : (kind : ErrorKind) → LacksMessage options bytes kind → result ≡ kind_number kind
+  pub errors : (kind : ErrorKind) → MessageError options bytes kind → result ≡ kind_number kind
   pub stays : 0 < result → words ≡ 0
 
 -- The bytes of the message are counted, so that a caller can step to the next one.
@@ -48,7 +48,7 @@ pub record StepsOver (options : ReaderOptions) (bytes : List ℕ) (message_len r
   -- 0 wherever a message is there
   pub accepted : (segments : List (List ℕ)) (rest : List ℕ) → IsAtFront options bytes segments rest → (result ≡ 0) × (0 < message_len)
   -- where other bytes are there, the number of the reader's error
-  pub refused : (kind : ErrorKind) → 0 < length bytes → LacksMessage options bytes kind → result ≡ kind_number kind
+  pub errors : (kind : ErrorKind) → 0 < length bytes → MessageError options bytes kind → result ≡ kind_number kind
   pub stays : 0 < result → message_len ≡ 0
 
 -- The message that the bytes are is packed to the front of a block.
@@ -65,7 +65,7 @@ pub record PacksMessage (options : ReaderOptions) (framed packed : List ℕ) (pa
   -- 6 where bytes follow the message
   pub trailing : (segments : List (List ℕ)) (rest : List ℕ) → IsAtFront options framed segments rest → 0 < length rest → result ≡ 6
   -- where no message is there, the number of the reader's error
-  pub refused : (kind : ErrorKind) → LacksMessage options framed kind → result ≡ kind_number kind
+  pub errors : (kind : ErrorKind) → MessageError options framed kind → result ≡ kind_number kind
   pub stays : 0 < result → packed_len ≡ 0
 
 -- The packed message at the front of the bytes is unpacked to the front of a block.
@@ -81,8 +81,8 @@ pub record UnpacksMessage (options : ReaderOptions) (packed framed : List ℕ) (
   -- 9 where there are no packed bytes
   pub none : packed ≡ [] → 8 ≤ length framed → result ≡ 9
   -- where no message is there, or no room, the number of the reader's error
-  pub refused : (kind : ErrorKind) (left : List ℕ)
-      → RefusesStream Zero Unpacks RefusesChunk options.traversal_limit_in_words (Some (length framed)) kind packed left → result ≡ kind_number kind
+  pub errors : (kind : ErrorKind) (left : List ℕ)
+      → StreamError Zero Unpacks ChunkError options.traversal_limit_in_words (Some (length framed)) kind packed left → result ≡ kind_number kind
   pub stays : 0 < result → (framed_len ≡ 0) × (packed_read ≡ 0)
 
 -- The canonical form of the message at the front of the bytes is measured.

@@ -4,17 +4,17 @@ use Rattle.capnp_frame.specs.declared.error.ErrorKind.{ErrorKind}
 use Rattle.capnp_frame.specs.declared.error.ErrorKind.TheVariants.{BufferNotLargeEnough}
 use Rattle.capnp_frame.specs.declared.message.options.ReaderOptions.{ReaderOptions}
 use Rattle.capnp_frame.specs.declared.serialize.segment_table.Padding.TheVariants.{Zero}
-use Rattle.capnp_frame.specs.Prelude.{by_fields, RefusesFlat, IsFrame, kind_number, BeginsWith}
+use Rattle.capnp_frame.specs.Prelude.{by_fields, FlatError, IsFrame, kind_number, BeginsWith}
 use Rattle.capnp_layout.specs.Prelude.{message_of}
-use Rattle.capnp_wire.specs.Prelude.{root, nesting_of, HasWords, LacksWords, LeadsToTree, StopsWalkFrom, Pointer}
+use Rattle.capnp_wire.specs.Prelude.{root, nesting_of, HasWords, WordsError, LeadsToTree, WalkErrorFrom, Pointer}
 
 -- a framed encoding of the message is at the front, and the message is within the limit of words
 abbrev pub IsAtFront : ReaderOptions → List ℕ → List (List ℕ) → List ℕ → Type 0
 IsAtFront options bytes segments rest = BeginsWith (IsFrame Zero) options.traversal_limit_in_words segments bytes rest
 
 -- none is there, and the first line of the table of errors that holds has this kind
-abbrev pub LacksMessage : ReaderOptions → List ℕ → ErrorKind → Type 0
-LacksMessage options bytes kind = RefusesFlat by_fields Zero options.traversal_limit_in_words kind bytes
+abbrev pub MessageError : ReaderOptions → List ℕ → ErrorKind → Type 0
+MessageError options bytes kind = FlatError by_fields Zero options.traversal_limit_in_words kind bytes
 
 -- the root of these segments, within a limit of nesting and one of words
 abbrev pub root_within : ℤ → Option ℕ → List (List ℕ) → Pointer
@@ -29,8 +29,8 @@ abbrev pub RootHasForm : Pointer → ℕ → Type 0
 RootHasForm pointer words = (following : ℕ) × HasWords (LeadsToTree pointer) true following × (words ≡ following + 1)
 
 -- It has none: a walk over the root's tree stops with this error, or the form has too many words.
-abbrev pub RootLacksForm : Pointer → ErrorKind → Type 0
-RootLacksForm pointer kind = LacksWords (LeadsToTree pointer) (StopsWalkFrom pointer) true kind
+abbrev pub RootCanonicalFormError : Pointer → ErrorKind → Type 0
+RootCanonicalFormError pointer kind = WordsError (LeadsToTree pointer) (WalkErrorFrom pointer) true kind
 
 -- it has one, and a block of this many bytes has no room for it
 abbrev pub IsShort : Pointer → ℕ → ErrorKind → Type 0
@@ -44,7 +44,7 @@ pub record ReturnsFrontForm (options : ReaderOptions) (bytes : List ℕ) (has_ro
   pub accepted : (segments : List (List ℕ)) (rest : List ℕ) (size : ℕ) → IsAtFront options bytes segments rest
       → RootHasForm (root_by options segments) size → has_room size → result ≡ 0
   -- where the message has no form, the number of the error is returned
-  pub refused : (segments : List (List ℕ)) (rest : List ℕ) (kind : ErrorKind) → IsAtFront options bytes segments rest
-      → RootLacksForm (root_by options segments) kind → result ≡ kind_number kind
+  pub errors : (segments : List (List ℕ)) (rest : List ℕ) (kind : ErrorKind) → IsAtFront options bytes segments rest
+      → RootCanonicalFormError (root_by options segments) kind → result ≡ kind_number kind
   -- where no message is there, the number of the first line of the table of errors that holds is returned
-  pub unreadable : (kind : ErrorKind) → LacksMessage options bytes kind → result ≡ kind_number kind
+  pub unreadable : (kind : ErrorKind) → MessageError options bytes kind → result ≡ kind_number kind

@@ -4,8 +4,8 @@ use Rattle.capnp_frame.specs.declared.error.Error.{Error}
 use Rattle.capnp_frame.specs.declared.error.ErrorKind.TheVariants.{DeviceFailed}
 use Rattle.capnp_frame.specs.declared.io.Write.{Ghosts}
 use Rattle.capnp_frame.specs.declared.message.options.ReaderOptions.{ReaderOptions}
-use Rattle.capnp_frame.specs.Prelude.{Adds, AppendsAll, DeclinesSome, Grows, IfKnown, Fails}
-use Rattle.capnp_pack.specs.Prelude.{Packs, table_first, table_others, AppendsPacked, DeclinesPacked}
+use Rattle.capnp_frame.specs.Prelude.{Adds, AppendsAll, ChunksError, Grows, IfKnown, Fails}
+use Rattle.capnp_pack.specs.Prelude.{Packs, table_first, table_others, AppendsPacked, PackedChunkError}
 use Rattle.capnp_c.specs.Fronts.{IsAtFront}
 
 -- the bytes are a framed encoding of the message, and no more
@@ -23,7 +23,7 @@ pub record PacksChunks {S X : Type 0} (sink : Ghosts S) (old new : S) (chunks : 
   -- where it succeeds, the packed encoding of each chunk is added
   pub packed : OnOk result (IfKnown (sink.written old) (sink.written new) (Adds (AppendsAll (AppendsPacked sink.appends) chunks)))
   -- it fails with the device's failure, or with a kind of one of the chunks
-  pub refused : IfErr result (λ error. (error.kind ≡ DeviceFailed) ⊎ DeclinesSome (DeclinesPacked sink.refuses) chunks error.kind)
+  pub errors : IfErr result (λ error. (error.kind ≡ DeviceFailed) ⊎ ChunksError (PackedChunkError sink.refuses) chunks error.kind)
   -- `DeviceFailed` is returned only where the device failed
   pub failed : IfErr result (λ error. error.kind ≡ DeviceFailed → Fails (sink.failures old) (sink.failures new))
   -- where the sink grants the packed encoding, the step succeeds

@@ -6,7 +6,7 @@ ghost use Rattle.capnp_frame.specs.declared.message.options.TheConstants.{DEFAUL
 ghost use Rattle.capnp_layout.specs.Prelude.{words_of};
 ghost use Rattle.capnp_wire.specs.Prelude.{pointer_of, IsCanonicalForm};
 ghost use Rattle.capnp_c.specs.Exports.{MeasuresForm, WritesForm};
-ghost use Rattle.capnp_c.specs.Fronts.{IsAtFront, LacksMessage, root_within, root_by, RootHasForm, RootLacksForm, IsShort};
+ghost use Rattle.capnp_c.specs.Fronts.{IsAtFront, MessageError, root_within, root_by, RootHasForm, RootCanonicalFormError, IsShort};
 ghost use Rattle.capnp_c.specs.Options.{options_of};
 
 use crate::options::LinsjoarOptions;
@@ -97,7 +97,7 @@ fn opened<'a>(
         arena.nesting_limit arena.limiter.limit arena.segments.segments ≡ root_by options segments) }
     ensures accepted { (segments : List (List ℕ)) (rest : List ℕ) →
         IsAtFront options bytes.now segments rest → IsOk result }
-    ensures exact { (kind : ErrorKind) → LacksMessage options bytes.now kind →
+    ensures exact { (kind : ErrorKind) → MessageError options bytes.now kind →
         IsErrAnd result (λ error. error.kind ≡ kind) }
 {
     let segments = NoAllocBufferSegments::from_buffer(bytes, options)?;
@@ -112,7 +112,7 @@ fn measured_root<'a, S: ReaderSegments>(
         arena.now.nesting_limit arena.now.limiter.limit (S.segments arena.now.segments)) }
     ensures size { IfOk result (λ (root, size). RootHasForm (root_within
         arena.now.nesting_limit arena.now.limiter.limit (S.segments arena.now.segments)) size) }
-    ensures lacks { IfErr result (λ error. RootLacksForm (root_within
+    ensures form_error { IfErr result (λ error. RootCanonicalFormError (root_within
         arena.now.nesting_limit arena.now.limiter.limit (S.segments arena.now.segments)) error.kind) }
 {
     let root = arena.get_root()?;
@@ -124,10 +124,10 @@ fn measured(bytes: &[u8], options: ReaderOptions) -> Result<usize>
     ensures size { (segments : List (List ℕ)) (rest : List ℕ) →
         IsAtFront options bytes.now segments rest →
         IfOk result (λ words. RootHasForm (root_by options segments) words) }
-    ensures lacks { (segments : List (List ℕ)) (rest : List ℕ) →
+    ensures form_error { (segments : List (List ℕ)) (rest : List ℕ) →
         IsAtFront options bytes.now segments rest →
-        IfErr result (λ error. RootLacksForm (root_by options segments) error.kind) }
-    ensures exact { (kind : ErrorKind) → LacksMessage options bytes.now kind →
+        IfErr result (λ error. RootCanonicalFormError (root_by options segments) error.kind) }
+    ensures exact { (kind : ErrorKind) → MessageError options bytes.now kind →
         IsErrAnd result (λ error. error.kind ≡ kind) }
 {
     let arena = opened(bytes, options)?;
@@ -142,11 +142,11 @@ fn written(bytes: &[u8], options: ReaderOptions, block: &mut [u8]) -> Result<usi
     ensures size { (segments : List (List ℕ)) (rest : List ℕ) →
         IsAtFront options bytes.now segments rest →
         IfOk result (λ words. RootHasForm (root_by options segments) words) }
-    ensures lacks { (segments : List (List ℕ)) (rest : List ℕ) →
+    ensures form_error { (segments : List (List ℕ)) (rest : List ℕ) →
         IsAtFront options bytes.now segments rest →
-        IfErr result (λ error. RootLacksForm (root_by options segments) error.kind
+        IfErr result (λ error. RootCanonicalFormError (root_by options segments) error.kind
         ⊎ IsShort (root_by options segments) (length block.new) error.kind) }
-    ensures exact { (kind : ErrorKind) → LacksMessage options bytes.now kind →
+    ensures exact { (kind : ErrorKind) → MessageError options bytes.now kind →
         IsErrAnd result (λ error. error.kind ≡ kind) }
 {
     let arena = opened(bytes, options)?;

@@ -1,9 +1,9 @@
 //! Words: packed and unpacked.
 ghost use Rattle.std.specs.Prelude.{◌≡◌, ◌⊎◌, ◌<◌, ◌≤◌, ◌+◌, ℕ, List, length, take, IfErr, OnOk, IsOk};
 ghost use Rattle.std.specs.Result.{IsErrAnd};
-ghost use Rattle.capnp_frame.specs.Prelude.{IsWholeWords, kind_number, Adds, Grows, IfKnown, IsRefused, Fails};
+ghost use Rattle.capnp_frame.specs.Prelude.{IsWholeWords, kind_number, Adds, Grows, IfKnown, RequestError, Fails};
 ghost use Rattle.capnp_frame.specs.declared.error.ErrorKind.{ErrorKind};
-ghost use Rattle.capnp_pack.specs.Prelude.{Packs, AppendsPacked, DeclinesPacked, Unpacks, RefusesChunk};
+ghost use Rattle.capnp_pack.specs.Prelude.{Packs, AppendsPacked, PackedChunkError, Unpacks, ChunkError};
 
 use crate::provided_text::ProvidedText;
 use capnp_frame::Result;
@@ -20,7 +20,7 @@ pub extern "C" fn linsjoar_pack(words: &[u8], text: &mut [u8], written: &mut usi
     ensures packed { result ≡ 0 → Packs words.now (take written.new text.new) }
     ensures within { written.new ≤ length text.new }
     ensures part { (IsWholeWords words.now → ⊥) → result ≡ 14 }
-    ensures refused { IsWholeWords words.now → (result ≡ 0) ⊎ (result ≡ 2) }
+    ensures errors { IsWholeWords words.now → (result ≡ 0) ⊎ (result ≡ 2) }
     ensures accepted { (packed : List ℕ) → Packs words.now packed → length packed ≤ length text.new →
         result ≡ 0 }
     ensures short { (packed : List ℕ) → Packs words.now packed → length text.new < length packed →
@@ -45,8 +45,8 @@ pub(crate) fn pack_into<W: Write>(sink: &mut W, words: &[u8]) -> Result<()>
         (Adds (AppendsPacked W.appends words.now))) }
     ensures failed { IfErr result (λ error. error.kind ≡ ErrorKind.DeviceFailed →
         Fails (W.failures sink.old) (W.failures sink.new)) }
-    ensures refused { IfErr result (λ error. (error.kind ≡ ErrorKind.DeviceFailed)
-        ⊎ DeclinesPacked W.refuses words.now error.kind) }
+    ensures errors { IfErr result (λ error. (error.kind ≡ ErrorKind.DeviceFailed)
+        ⊎ PackedChunkError W.refuses words.now error.kind) }
     ensures part { (IsWholeWords words.now → ⊥) →
         IsErrAnd result (λ error. error.kind ≡ ErrorKind.NotWholeWords) }
     ensures granted { (packed : List ℕ) (more : ℕ) → Packs words.now packed →
@@ -66,7 +66,7 @@ pub extern "C" fn linsjoar_unpack(text: &[u8], words: &mut [u8], read: &mut usiz
         × (read.new + length rest ≡ length text.now) }
     ensures accepted { (bytes rest : List ℕ) → Unpacks text.now (length words.new) bytes rest →
         result ≡ 0 }
-    ensures refused { (kind : ErrorKind) → RefusesChunk text.now (length words.new) kind →
+    ensures errors { (kind : ErrorKind) → ChunkError text.now (length words.new) kind →
         result ≡ kind_number kind }
     ensures stays { 0 < result → read.new ≡ 0 }
 {
@@ -87,8 +87,8 @@ fn unpack_from<R: BufRead>(source: &mut R, words: &mut [u8]) -> Result<()>
         (λ raw rest. Unpacks raw (length words.new) words.new rest)) }
     ensures failed { IfErr result (λ error. error.kind ≡ ErrorKind.DeviceFailed →
         Fails (R.failures source.old) (R.failures source.new)) }
-    ensures refused { IfErr result (λ error. (error.kind ≡ ErrorKind.DeviceFailed)
-        ⊎ IsRefused RefusesChunk (length words.new) (R.unread source.old) error.kind) }
+    ensures errors { IfErr result (λ error. (error.kind ≡ ErrorKind.DeviceFailed)
+        ⊎ RequestError ChunkError (length words.new) (R.unread source.old) error.kind) }
 {
     let mut packed = PackedRead::new(source);
     packed.read_exact(words)

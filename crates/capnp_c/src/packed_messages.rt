@@ -6,7 +6,7 @@ ghost use Rattle.capnp_frame.specs.declared.error.ErrorKind.{ErrorKind};
 ghost use Rattle.capnp_frame.specs.declared.message.options.ReaderOptions.{ReaderOptions};
 ghost use Rattle.capnp_frame.specs.declared.message.options.TheConstants.{DEFAULT_READER_OPTIONS};
 ghost use Rattle.capnp_c.specs.Exports.{PacksMessage, UnpacksMessage};
-ghost use Rattle.capnp_c.specs.Fronts.{IsAtFront, LacksMessage};
+ghost use Rattle.capnp_c.specs.Fronts.{IsAtFront, MessageError};
 ghost use Rattle.capnp_c.specs.Options.{options_of};
 ghost use Rattle.capnp_c.specs.Packing.{IsMessage, PacksChunks};
 
@@ -154,7 +154,7 @@ fn whole_message<'a>(framed: &'a [u8], options: ReaderOptions) -> Result<NoAlloc
     ensures trailing { (segments : List (List ℕ)) (rest : List ℕ) →
         IsAtFront options framed.now segments rest → 0 < length rest →
         IsErrAnd result (λ error. kind_number error.kind ≡ 6) }
-    ensures exact { (kind : ErrorKind) → LacksMessage options framed.now kind →
+    ensures exact { (kind : ErrorKind) → MessageError options framed.now kind →
         IsErrAnd result (λ error. error.kind ≡ kind) }
 {
     let mut rest = framed;

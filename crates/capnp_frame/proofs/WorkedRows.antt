@@ -1,9 +1,9 @@
 -- The definitions at worked examples.
 use Rattle.std.proofs.Common.{Some, None, inl, inr, ◌≡◌, ℕ, List, [], ◌∷◌, ◌++◌, length, refl, replicate, lit<, lit≤}
 use Rattle.std.specs.List.{concat}
-use Rattle.capnp_frame.specs.Prelude.{lengths, zero_padded_table, IsFrame, frame_bytes, Splits, RunsShort, RefusesStream}
+use Rattle.capnp_frame.specs.Prelude.{lengths, zero_padded_table, IsFrame, frame_bytes, Splits, RunsShort, StreamError}
 use Rattle.capnp_frame.specs.declared.serialize.segment_table.Padding.TheVariants.{Any, Zero}
-use Rattle.capnp_frame.proofs.errors.RefusalLemmas.{in_range}
+use Rattle.capnp_frame.proofs.errors.StreamErrorLemmas.{in_range}
 use Rattle.capnp_frame.specs.declared.error.ErrorKind.TheVariants.{FailedToFillTheWholeBuffer, InvalidNumberOfSegments, MessageTooLarge}
 
 abbrev eight : List ℕ
@@ -40,15 +40,15 @@ pub four_lengths : zero_padded_table (lengths
 four_lengths = refl
 
 -- the error table: a cut first word
-pub cut_word : RefusesStream Zero Splits RunsShort (Some 8) None FailedToFillTheWholeBuffer (0 ∷ 0 ∷ 0 ∷ 0 ∷ []) []
+pub cut_word : StreamError Zero Splits RunsShort (Some 8) None FailedToFillTheWholeBuffer (0 ∷ 0 ∷ 0 ∷ 0 ∷ []) []
 cut_word = inr (λ x. x, ((λ e. cc), inl (lit< tt, refl)))
 
 -- a count field of 4294967295 declares no segment
-pub wrapped_count : RefusesStream Zero Splits RunsShort (Some 8) None (InvalidNumberOfSegments 0) (255 ∷ 255 ∷ 255 ∷ 255 ∷ 0 ∷ 0 ∷ 0 ∷ 0 ∷ []) []
+pub wrapped_count : StreamError Zero Splits RunsShort (Some 8) None (InvalidNumberOfSegments 0) (255 ∷ 255 ∷ 255 ∷ 255 ∷ 0 ∷ 0 ∷ 0 ∷ 0 ∷ []) []
 wrapped_count = inr (λ x. x, ((λ e. cc), inr (255 ∷ 255 ∷ 255 ∷ 255 ∷ 0 ∷ 0 ∷ 0 ∷ 0 ∷ [], [], (refl, refl), (0, (4294967295, lit< tt, refl, refl), inl (inl refl, (refl, refl))))))
 
 -- three words pass a limit of 2, though none of them is there
-pub three_words : RefusesStream Zero Splits RunsShort (Some 2) None (MessageTooLarge 3) (0 ∷ 0 ∷ 0 ∷ 0 ∷ 3 ∷ 0 ∷ 0 ∷ 0 ∷ []) []
+pub three_words : StreamError Zero Splits RunsShort (Some 2) None (MessageTooLarge 3) (0 ∷ 0 ∷ 0 ∷ 0 ∷ 3 ∷ 0 ∷ 0 ∷ 0 ∷ []) []
 three_words = inr (
   λ x. x,
   (

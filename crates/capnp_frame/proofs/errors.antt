@@ -1,3 +1,3 @@
 -- The error table, and which line of it each part of a reader meets.
-pub mod RefusalLemmas
-pub mod MetRefusals
+pub mod StreamErrorLemmas
+pub mod MetErrors

@@ -9,7 +9,7 @@ use Rattle.capnp_frame.specs.declared.serialize.segment_table.Padding.{Padding}
 use Rattle.capnp_frame.specs.Frame.{IsFrame}
 use Rattle.capnp_frame.specs.Texts.{BeginsWith}
 use Rattle.capnp_frame.specs.Views.{SeenBuffer}
-use Rattle.capnp_frame.specs.FlatRefusals.{FlatForm, by_words, by_fields, AcceptsSeveral, RefusesFlat}
+use Rattle.capnp_frame.specs.FlatErrors.{FlatForm, by_words, by_fields, AcceptsSeveral, FlatError}
 
 -- The rules by which a message is read: how its table is taken, the rule of padding, and the limit of words.
 pub record FlatRules : Type 0 where
@@ -33,8 +33,8 @@ abbrev pub StandsBy : FlatRules → List (List ℕ) → List ℕ → List ℕ �
 StandsBy rules message bytes rest = BeginsWith (IsFrame rules.padding) rules.limit message bytes rest
 
 -- by these rules, the first line of the table of errors that holds has this kind
-abbrev pub RefusesBy : FlatRules → ErrorKind → List ℕ → Type 0
-RefusesBy rules kind bytes = RefusesFlat rules.form rules.padding rules.limit kind bytes
+abbrev pub RulesError : FlatRules → ErrorKind → List ℕ → Type 0
+RulesError rules kind bytes = FlatError rules.form rules.padding rules.limit kind bytes
 
 -- `stands` holds of what is left after a message: of a slice, what it has after the call; of a
 -- buffer, some bytes.
@@ -42,10 +42,10 @@ abbrev pub Leaves : Option (List ℕ) → (List ℕ → Type 0) → Type 0
 Leaves (Some left) stands = stands left
 Leaves None stands = (rest : List ℕ) × stands rest
 
--- the condition `other`; for a reader that takes memory, `lacks` or `other`
-abbrev pub OrLacksMemory : FlatForm → Type 0 → Type 0 → Type 0
-OrLacksMemory (by_words empty) lacks other = lacks ⊎ other
-OrLacksMemory by_fields lacks other = other
+-- the condition `other`; for a reader that takes memory, `memory` or `other`
+abbrev pub OrOutOfMemory : FlatForm → Type 0 → Type 0 → Type 0
+OrOutOfMemory (by_words empty) memory other = memory ⊎ other
+OrOutOfMemory by_fields memory other = other
 
 -- where a message is, only a reader that takes memory may fail, and only for want of it, for more than one segment
 abbrev pub AcceptsFlat : {X : Type 0} → FlatForm → List (List ℕ) → Result X Error → Type 0
@@ -63,12 +63,12 @@ pub record ReadsFlat {X : Type 0} (rules : FlatRules) (bytes : List ℕ) (left :
   -- a failure leaves a slice as it was
   pub unchanged : OnErr result (IfSome left (λ left. left ≡ bytes))
   -- a reader fails for want of memory once a number of more than one segment is accepted, or with a line of the table
-  pub refused : IfErr result (λ error. OrLacksMemory rules.form
-      ((error.kind ≡ OutOfMemory) × AcceptsSeveral rules.form bytes) (RefusesBy rules error.kind bytes))
+  pub errors : IfErr result (λ error. OrOutOfMemory rules.form
+      ((error.kind ≡ OutOfMemory) × AcceptsSeveral rules.form bytes) (RulesError rules error.kind bytes))
   -- where a line is the first to hold, the call fails with that line's kind, unless memory is
   -- lacking
-  pub exact : (kind : ErrorKind) → RefusesBy rules kind bytes
-      → IsErrAnd result (λ error. OrLacksMemory rules.form (error.kind ≡ OutOfMemory) (error.kind ≡ kind))
+  pub exact : (kind : ErrorKind) → RulesError rules kind bytes
+      → IsErrAnd result (λ error. OrOutOfMemory rules.form (error.kind ≡ OutOfMemory) (error.kind ≡ kind))
 
 -- What a reader keeps that finds a message in a buffer: what is returned has the buffer.
 pub record ReadsBuffer {B : Type 0} (rules : FlatRules) (held : B) (bytes : List ℕ) (result : Result (SeenBuffer B) Error) : Type 0 where

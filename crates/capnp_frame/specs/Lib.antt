@@ -8,7 +8,7 @@ pub mod Numbers
 pub mod Source
 pub mod Sink
 pub mod Requests
-pub mod Refusals
+pub mod StreamErrors
 pub mod Texts
 pub mod Lending
 pub mod SplittingLaws
@@ -16,7 +16,7 @@ pub mod Writing
 pub mod Words
 pub mod Views
 pub mod Front
-pub mod FlatRefusals
+pub mod FlatErrors
 pub mod FlatReaders
 pub mod KeptTables
 pub mod Asking

@@ -1,7 +1,7 @@
 -- The definitions that proofs and other crates cite, passed on from one place. Declares nothing.
 pub use Rattle.capnp_frame.specs.Asking.{Asked, FailsOr}
-pub use Rattle.capnp_frame.specs.FlatReaders.{AcceptsFlat, FlatRules, Leaves, OrLacksMemory, ReadsFlat, RefusesBy, StandsBy, no_alloc_rules, slice_rules}
-pub use Rattle.capnp_frame.specs.FlatRefusals.{AcceptsSeveral, CutsSegments, FlatForm, RefusesCount, RefusesFlat, RefusesLengths, by_fields, by_words, count_end, count_of, cut_kind, empty_kind, lengths_end}
+pub use Rattle.capnp_frame.specs.FlatReaders.{AcceptsFlat, FlatRules, Leaves, OrOutOfMemory, ReadsFlat, RulesError, StandsBy, no_alloc_rules, slice_rules}
+pub use Rattle.capnp_frame.specs.FlatErrors.{AcceptsSeveral, CutsSegments, FlatForm, FlatCountError, FlatError, LengthsError, by_fields, by_words, count_end, count_of, cut_kind, empty_kind, lengths_end}
 pub use Rattle.capnp_frame.specs.Frame.{IsFrame, frame_bytes}
 pub use Rattle.capnp_frame.specs.FramedInto.{ReadsFramedInto}
 pub use Rattle.capnp_frame.specs.Front.{DeclaresTable, HasFrame, HaveSameNumbers, HoldsMessage, IsDescribed, SpellsLengths, declared_lengths, declared_padding, declared_segments, number, numbers}
@@ -9,18 +9,18 @@ pub use Rattle.capnp_frame.specs.Lending.{overwritten}
 pub use Rattle.capnp_frame.specs.Limits.{AreWithin, IsWithin, KeepsLimit, default_limit}
 pub use Rattle.capnp_frame.specs.Message.{IsWholeWords, lengths, size_in_words, word_count}
 pub use Rattle.capnp_frame.specs.Numbers.{kind_number}
-pub use Rattle.capnp_frame.specs.Refusals.{Asks, BreaksPadding, CountStands, DeclaresAccepted, IsOutOfRange, IsProvidedReaderKind, IsReaderKind, IsTableKind, IsTooLarge, LacksRoom, Outgrows, RefusesAtCount, RefusesAtLimit, RefusesAtStart, RefusesRest, RefusesStream, RefusesTable, StopsBy, TakesForLengths, TakesMemory, Tells, Unless}
+pub use Rattle.capnp_frame.specs.StreamErrors.{Asks, RejectsPadding, CountStands, DeclaresAccepted, IsOutOfRange, IsProvidedReaderKind, IsReaderKind, IsTableKind, IsTooLarge, IsTooShort, Outgrows, CountError, LimitError, StartError, RestError, StreamError, TableError, FailsLeaving, TakesForLengths, TakesMemory, Tells, Unless}
 pub use Rattle.capnp_frame.specs.Requests.{MessageStands, RestStands, TableStands}
 pub use Rattle.capnp_frame.specs.SegmentLengths.{AreRanges, cut, range_len, ranges, ranges_from}
 pub use Rattle.capnp_frame.specs.SegmentTable.{FitsField, HasTable, IsTable, KeepsPadding, field, padding_len, table_bytes, table_size, zero_padded_table}
-pub use Rattle.capnp_frame.specs.Sink.{Adds, Appending, AppendsAll, AppendsSame, ByKind, DeclinesAny, DeclinesSome, Declining, Grows, LeavesFront, LeavesNothing, LeavesSome, Leaving}
+pub use Rattle.capnp_frame.specs.Sink.{Adds, Appending, AppendsAll, AppendsSame, ByKind, AnyChunkError, ChunksError, Declining, Grows, LeavesFront, LeavesNothing, LeavesSome, Leaving}
 pub use Rattle.capnp_frame.specs.Skipping.{Drops, LengthsStand, SkipsMessage}
-pub use Rattle.capnp_frame.specs.Source.{Advances, Fails, Fills, Giving, IfKnown, IsFront, IsPlain, IsPreorder, IsRefused, IsSource, IsTail, Refusing, ReturnsPart, RunsShort, Splits}
+pub use Rattle.capnp_frame.specs.Source.{Advances, Fails, Fills, Giving, IfKnown, IsFront, IsPlain, IsPreorder, RequestError, IsSource, IsTail, Refusing, ReturnsPart, RunsShort, Splits}
 pub use Rattle.capnp_frame.specs.SplittingLaws.{always, same_front, splitting}
-pub use Rattle.capnp_frame.specs.Steps.{AsksNext, AsksNextInto, FindsMessage, FindsTable, ReadsLengths, ReadsTable, RefusesComplete, StopsAtTable}
+pub use Rattle.capnp_frame.specs.Steps.{AsksNext, AsksNextInto, FindsMessage, FindsTable, ReadsLengths, ReadsTable, CompleteTableError, TableRestError}
 pub use Rattle.capnp_frame.specs.Streams.{ReadsStream, ReadsStreamInto, StreamRules, framed_rules, next_in, reusing_rules, skipping_rules}
 pub use Rattle.capnp_frame.specs.Texts.{AreEncodings, BeginsWith, EndsEncodings, Grammar}
 pub use Rattle.capnp_frame.specs.Views.{SeenBuffer}
 pub use Rattle.capnp_frame.specs.Words.{bytes_of}
-pub use Rattle.capnp_frame.specs.Writers.{CountsWords, KeepsCount, LacksNothing, LacksTable, RefusesUnwritten, ReturnsEncoding, TakesGranted, WritesChunks, WritesSegments, WritesTo}
-pub use Rattle.capnp_frame.specs.Writing.{ExceedsSegmentLimit, IsWithinSegmentLimit, IsWritable, RefusesMany, chunks, serialized_words, table_chunks, word_and_rest}
+pub use Rattle.capnp_frame.specs.Writers.{CountsWords, KeepsCount, NoError, TableMemoryError, UnwrittenError, ReturnsEncoding, TakesGranted, WritesChunks, WritesSegments, WritesTo}
+pub use Rattle.capnp_frame.specs.Writing.{IsPastSegmentLimit, IsWithinSegmentLimit, IsWritable, SegmentCountError, chunks, serialized_words, table_chunks, word_and_rest}

@@ -32,13 +32,13 @@ abbrev pub ByKind : ErrorKind → Declining
 ByKind own chunk kind = kind ≡ own
 
 -- a chunk may fail with this kind
-abbrev pub DeclinesAny : Declining → ErrorKind → Type 0
-DeclinesAny refuses kind = (chunk : List ℕ) × refuses chunk kind
+abbrev pub AnyChunkError : Declining → ErrorKind → Type 0
+AnyChunkError refuses kind = (chunk : List ℕ) × refuses chunk kind
 
 -- one of these chunks fails with this kind
-abbrev pub DeclinesSome : Declining → List (List ℕ) → ErrorKind → Type 0
-DeclinesSome refuses [] kind = ⊥
-DeclinesSome refuses (chunk ∷ chunks) kind = refuses chunk kind ⊎ DeclinesSome refuses chunks kind
+abbrev pub ChunksError : Declining → List (List ℕ) → ErrorKind → Type 0
+ChunksError refuses [] kind = ⊥
+ChunksError refuses (chunk ∷ chunks) kind = refuses chunk kind ⊎ ChunksError refuses chunks kind
 
 -- `after` is `before` followed by bytes of which P holds
 abbrev pub Adds : (List ℕ → Type 0) → List ℕ → List ℕ → Type 0

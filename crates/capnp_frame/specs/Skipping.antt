@@ -7,7 +7,7 @@ use Rattle.capnp_frame.specs.declared.io.Read.{Ghosts}
 use Rattle.capnp_frame.specs.Asking.{Asked, FailsOr}
 use Rattle.capnp_frame.specs.Message.{lengths}
 use Rattle.capnp_frame.specs.Requests.{MessageStands}
-use Rattle.capnp_frame.specs.Source.{Giving, IfKnown, IsRefused}
+use Rattle.capnp_frame.specs.Source.{Giving, IfKnown, RequestError}
 
 -- The result is that of a reader, of which `Reads` holds, with the lengths of a message in the
 -- message's place.
@@ -28,5 +28,5 @@ Drops n raw rest = (n ≤ length raw) × (rest ≡ drop n raw)
 pub record SkipsBytes {S X : Type 0} (source : Ghosts S) (old new : S) (n : ℕ) (result : Result X Error) : Type 0 where
   pub dropped : OnOk result (IfKnown (source.unread old) (source.unread new) (Drops n))
   -- a failure is the device's, or that of a request of as many bytes
-  pub refused : FailsOr result (IsRefused source.refuses n (source.unread old))
+  pub errors : FailsOr result (RequestError source.refuses n (source.unread old))
   pub asked : Asked source.unread source.failures source.same old new result

@@ -76,13 +76,13 @@ pub record Fills {S : Type 0} (unread : S → Option (List ℕ)) (failures : S �
 
 -- A request of n bytes may fail with this kind; where the unread bytes aren't known, some request
 -- of some bytes may.
-abbrev pub IsRefused : Refusing → ℕ → Option (List ℕ) → ErrorKind → Type 0
-IsRefused refuses n None kind = (raw : List ℕ) × (m : ℕ) × refuses raw m kind
-IsRefused refuses n (Some raw) kind = refuses raw n kind
+abbrev pub RequestError : Refusing → ℕ → Option (List ℕ) → ErrorKind → Type 0
+RequestError refuses n None kind = (raw : List ℕ) × (m : ℕ) × refuses raw m kind
+RequestError refuses n (Some raw) kind = refuses raw n kind
 
 -- Only `got` of a request of n bytes is given so far. The rest of it is given from `left` just as
 -- the whole is given from `raw`, and fails with the same kinds.
 pub record ReturnsPart (gives : Giving) (refuses : Refusing) (n : ℕ) (got raw left : List ℕ) : Type 0 where
   pub joins : (more rest : List ℕ) → gives left (n - length got) more rest → gives raw n (got ++ more) rest
   pub splits : (bytes rest : List ℕ) → gives raw n bytes rest → (more : List ℕ) × (bytes ≡ got ++ more) × gives left (n - length got) more rest
-  pub refusals : (kind : ErrorKind) → refuses left (n - length got) kind ↔ refuses raw n kind
+  pub same_errors : (kind : ErrorKind) → refuses left (n - length got) kind ↔ refuses raw n kind

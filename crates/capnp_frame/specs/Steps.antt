@@ -13,17 +13,17 @@ use Rattle.capnp_frame.specs.Front.{declared_lengths, declared_segments, Declare
 use Rattle.capnp_frame.specs.Source.{Giving, Refusing, IfKnown}
 use Rattle.capnp_frame.specs.Requests.{RestStands, TableStands, MessageStands}
 use Rattle.capnp_frame.specs.Errors.{FailsWith}
-use Rattle.capnp_frame.specs.Refusals.{RefusesAtLimit, RefusesRest, RefusesTable, TakesForLengths, IsTableKind, IsReaderKind, IsProvidedReaderKind}
+use Rattle.capnp_frame.specs.StreamErrors.{LimitError, RestError, TableError, TakesForLengths, IsTableKind, IsReaderKind, IsProvidedReaderKind}
 use Rattle.capnp_frame.specs.Asking.{Asked, FailsOr}
 
 -- A step that completes a table of a given number of segments fails by a line of the table of
 -- errors: the request of its other words, the limit, or the padding.
-abbrev pub StopsAtTable : Padding → Giving → Refusing → Option ℕ → ErrorKind → List ℕ → ℕ → List ℕ → List ℕ → Type 0
-StopsAtTable rule gives refuses limit kind first count raw left = RefusesRest rule gives refuses limit kind (λ ns following. ⊥) left first count raw
+abbrev pub TableRestError : Padding → Giving → Refusing → Option ℕ → ErrorKind → List ℕ → ℕ → List ℕ → List ℕ → Type 0
+TableRestError rule gives refuses limit kind first count raw left = RestError rule gives refuses limit kind (λ ns following. ⊥) left first count raw
 
 -- A complete table fails by the limit or by the padding, whatever is unread after it.
-abbrev pub RefusesComplete : Padding → Option ℕ → ErrorKind → List ℕ → Type 0
-RefusesComplete rule limit kind table = (following : List ℕ) → RefusesAtLimit rule limit kind (λ ns rest. ⊥) following (take 8 table) (drop 8 table) following
+abbrev pub CompleteTableError : Padding → Option ℕ → ErrorKind → List ℕ → Type 0
+CompleteTableError rule limit kind table = (following : List ℕ) → LimitError rule limit kind (λ ns rest. ⊥) following (take 8 table) (drop 8 table) following
 
 -- What is kept by a step that reads the words of a table after its first, tests the limit and the
 -- padding, and fills in where each segment begins and ends.
@@ -36,8 +36,8 @@ pub record ReadsLengths {S : Type 0} (source : Ghosts S) (old new : S) (rule : P
   pub each : OnOk result (AllByRecursion FitsField (map range_len indices))
   pub within : OnOk result (KeepsLimit (map range_len indices) limit)
   -- a failure is the device's, or of the first line that holds
-  pub refused : FailsOr result (λ kind. IfKnown (source.unread old) (source.unread new)
-      (StopsAtTable rule source.gives source.refuses limit kind first (length indices)))
+  pub errors : FailsOr result (λ kind. IfKnown (source.unread old) (source.unread new)
+      (TableRestError rule source.gives source.refuses limit kind first (length indices)))
   pub kinds : IfErr result (λ error. IsTableKind rule source.refuses error.kind)
   pub asked : Asked source.unread source.failures source.same old new result
 
@@ -62,7 +62,7 @@ pub record FindsMessage (rule : Padding) (gives : Giving) (limit : Option ℕ) (
 pub record AsksNext {S X : Type 0} (source : Ghosts S) (old new : S) (rule : Padding) (takes : List ℕ → List ℕ → Type 0)
     (lines : ErrorKind → List ℕ → List ℕ → Type 0) (result : Result (Option X) Error) : Type 0 where
   pub none : IfOk result (λ found. IfNone found (IfSome (source.unread old) (λ raw. raw ≡ [])))
-  pub refused : FailsOr result (λ kind. ((kind ≡ OutOfMemory) × IfKnown (source.unread old) (source.unread new) takes)
+  pub errors : FailsOr result (λ kind. ((kind ≡ OutOfMemory) × IfKnown (source.unread old) (source.unread new) takes)
       ⊎ IfKnown (source.unread old) (source.unread new) (lines kind))
   pub kinds : IfErr result (λ error. IsReaderKind rule source.refuses error.kind)
   pub end : IfErr result (λ error. source.unread old ≡ Some [] → error.kind ≡ DeviceFailed)
@@ -76,14 +76,14 @@ pub record ReadsTable {S : Type 0} (source : Ghosts S) (old new : S) (rule : Pad
   pub found : IfOk result (λ found. IfSome found (λ ns. IfKnown (source.unread old) (source.unread new) (TableStands rule source.gives ns)))
   pub within : IfOk result (λ found. IfSome found (λ ns. AreWithin ns limit))
   pub bound : IfOk result (λ found. IfSome found (λ ns. sum ns < 2 ^ 42))
-  pub asks : AsksNext source old new rule (TakesForLengths kept source.gives) (RefusesTable rule source.gives source.refuses limit None) result
+  pub asks : AsksNext source old new rule (TakesForLengths kept source.gives) (TableError rule source.gives source.refuses limit None) result
 
 -- A step that reads into a caller-provided buffer of `room` bytes, which takes no memory.
 pub record AsksNextInto {S X : Type 0} (source : Ghosts S) (old new : S) (rule : Padding) (room : ℕ)
     (lines : ErrorKind → List ℕ → List ℕ → Type 0) (result : Result (Option X) Error) : Type 0 where
   pub none : IfOk result (λ found. IfNone found ((8 ≤ room) × IfSome (source.unread old) (λ raw. raw ≡ [])))
   pub short : room < 8 → (new ≡ old) × FailsWith result BufferNotLargeEnough
-  pub refused : FailsOr result (λ kind. IfKnown (source.unread old) (source.unread new) (lines kind))
+  pub errors : FailsOr result (λ kind. IfKnown (source.unread old) (source.unread new) (lines kind))
   pub kinds : IfErr result (λ error. IsProvidedReaderKind rule source.refuses error.kind)
   pub end : IfErr result (λ error. source.unread old ≡ Some [] → 8 ≤ room → error.kind ≡ DeviceFailed)
   pub asked : Asked source.unread source.failures source.same old new result

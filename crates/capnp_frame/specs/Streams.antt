@@ -14,7 +14,7 @@ use Rattle.capnp_frame.specs.Limits.{IsWithin}
 use Rattle.capnp_frame.specs.Requests.{MessageStands}
 use Rattle.capnp_frame.specs.Source.{Giving, Refusing, IfKnown, Advances, Fails}
 use Rattle.capnp_frame.specs.Errors.{FailsWith}
-use Rattle.capnp_frame.specs.Refusals.{RefusesStream, Outgrows, TakesMemory, TakesForLengths, IsReaderKind, IsProvidedReaderKind}
+use Rattle.capnp_frame.specs.StreamErrors.{StreamError, Outgrows, TakesMemory, TakesForLengths, IsReaderKind, IsProvidedReaderKind}
 
 -- A message is at the front of `raw`, and `rest` after it, as a relation:
 -- `stands segments raw rest`.
@@ -35,7 +35,7 @@ pub record StreamRules : Type 1 where
   -- the table of errors: `refuses limit room kind raw left` says that within a limit of words, and
   -- the bytes of a caller-provided buffer, reading fails with `kind` and leaves `left` unread, by the
   -- first line that holds
-  pub refuses : Option ℕ → Option ℕ → ErrorKind → List ℕ → List ℕ → Type 0
+  pub fails : Option ℕ → Option ℕ → ErrorKind → List ℕ → List ℕ → Type 0
   -- the kinds with which a reader that allocates may fail, also where the unread bytes aren't known
   pub kinds : ErrorKind → Type 0
   -- the kinds that a reader into a caller-provided buffer may return
@@ -47,7 +47,7 @@ abbrev pub framed_rules : Padding → Giving → Refusing → StreamRules
 framed_rules rule gives refuses = record {
   stands = MessageStands rule gives;
   takes_memory = TakesMemory rule gives;
-  refuses = RefusesStream rule gives refuses;
+  fails = StreamError rule gives refuses;
   kinds = IsReaderKind rule refuses;
   provided_kinds = IsProvidedReaderKind rule refuses;
 }
@@ -79,12 +79,12 @@ pub record ReadsStream {S : Type 0} (source : Ghosts S) (old new : S) (rules : S
   -- where nothing is unread, only with the device's failure
   pub end : IfErr result (λ error. source.unread old ≡ Some [] → error.kind ≡ DeviceFailed)
   -- it fails with the device's failure, for want of memory where memory is taken, or with a line of the table of errors
-  pub refused : IfErr result (λ error. (error.kind ≡ DeviceFailed)
+  pub errors : IfErr result (λ error. (error.kind ≡ DeviceFailed)
       ⊎ ((error.kind ≡ OutOfMemory) × IfKnown (source.unread old) (source.unread new) (rules.takes_memory limit))
-      ⊎ IfKnown (source.unread old) (source.unread new) (rules.refuses limit None error.kind))
+      ⊎ IfKnown (source.unread old) (source.unread new) (rules.fails limit None error.kind))
   -- where a line is the first to hold, the call fails with that line's kind, unless the device
   -- fails or memory is lacking
-  pub exact : IfSome (source.unread old) (λ raw. (kind : ErrorKind) (left : List ℕ) → rules.refuses limit None kind raw left
+  pub exact : IfSome (source.unread old) (λ raw. (kind : ErrorKind) (left : List ℕ) → rules.fails limit None kind raw left
       → IsErrAnd result (λ error. (error.kind ≡ DeviceFailed) ⊎ (error.kind ≡ OutOfMemory) ⊎ (error.kind ≡ kind)))
   pub kinds : IfErr result (λ error. rules.kinds error.kind)
   -- `DeviceFailed` is returned only where the device failed
@@ -112,11 +112,11 @@ pub record ReadsStreamInto {S : Type 0} (source : Ghosts S) (old new : S) (rules
   -- a buffer under 8 bytes asks the source for nothing
   pub short : room < 8 → (new ≡ old) × FailsWith result BufferNotLargeEnough
   -- it fails with the device's failure, or with a line of the table of errors
-  pub refused : IfErr result (λ error. (error.kind ≡ DeviceFailed)
-      ⊎ IfKnown (source.unread old) (source.unread new) (rules.refuses limit (Some room) error.kind))
+  pub errors : IfErr result (λ error. (error.kind ≡ DeviceFailed)
+      ⊎ IfKnown (source.unread old) (source.unread new) (rules.fails limit (Some room) error.kind))
   -- where a line is the first to hold, the call fails with that line's kind, unless the device
   -- fails
-  pub exact : IfSome (source.unread old) (λ raw. (kind : ErrorKind) (left : List ℕ) → rules.refuses limit (Some room) kind raw left
+  pub exact : IfSome (source.unread old) (λ raw. (kind : ErrorKind) (left : List ℕ) → rules.fails limit (Some room) kind raw left
       → IsErrAnd result (λ error. (error.kind ≡ DeviceFailed) ⊎ (error.kind ≡ kind)))
   pub kinds : IfErr result (λ error. rules.provided_kinds error.kind)
   -- `DeviceFailed` is returned only where the device failed

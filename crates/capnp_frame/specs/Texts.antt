@@ -4,7 +4,7 @@ use Rattle.capnp_frame.specs.declared.error.ErrorKind.{ErrorKind}
 use Rattle.capnp_frame.specs.declared.serialize.segment_table.Padding.{Padding}
 use Rattle.capnp_frame.specs.Limits.{IsWithin}
 use Rattle.capnp_frame.specs.Source.{Giving, Refusing}
-use Rattle.capnp_frame.specs.Refusals.{RefusesStream}
+use Rattle.capnp_frame.specs.StreamErrors.{StreamError}
 
 -- Which bytes encode which message, as a relation: `IsText text segments`.
 abbrev pub Grammar : Type 1
@@ -25,4 +25,4 @@ AreEncodings IsText limit (m ∷ ms) raw rest = (between : List ℕ) × BeginsWi
 -- why no message follows: nothing is left, or a reader by the rule of padding fails with this kind
 abbrev pub EndsEncodings : Padding → Giving → Refusing → Option ℕ → Option ErrorKind → List ℕ → Type 0
 EndsEncodings rule gives refuses limit None rest = rest ≡ []
-EndsEncodings rule gives refuses limit (Some kind) rest = (left : List ℕ) × RefusesStream rule gives refuses limit None kind rest left
+EndsEncodings rule gives refuses limit (Some kind) rest = (left : List ℕ) × StreamError rule gives refuses limit None kind rest left

@@ -7,30 +7,30 @@ use Rattle.capnp_frame.specs.declared.io.Write.{Ghosts}
 use Rattle.capnp_frame.specs.Asking.{FailsOr}
 use Rattle.capnp_frame.specs.Errors.{FailsWith}
 use Rattle.capnp_frame.specs.Frame.{frame_bytes}
-use Rattle.capnp_frame.specs.Sink.{Adds, AppendsAll, LeavesSome, DeclinesSome, Grows}
+use Rattle.capnp_frame.specs.Sink.{Adds, AppendsAll, LeavesSome, ChunksError, Grows}
 use Rattle.capnp_frame.specs.Source.{IfKnown, Fails}
-use Rattle.capnp_frame.specs.Writing.{IsWithinSegmentLimit, ExceedsSegmentLimit, RefusesMany, chunks, serialized_words}
+use Rattle.capnp_frame.specs.Writing.{IsWithinSegmentLimit, IsPastSegmentLimit, SegmentCountError, chunks, serialized_words}
 
 -- What each function that writes does to its sink. `sink` is what is seen of the sink (the members
 -- of the trait Write), `old` and `new` are the sink before the call and after it. `adds` says what
--- is added where the call succeeds, `leaves` what is added where it fails, and `declines` which
+-- is added where the call succeeds, `leaves` what is added where it fails, and `own_kinds` which
 -- kinds it may fail with beside the device's.
-pub record WritesTo {S X : Type 0} (sink : Ghosts S) (old new : S) (adds leaves : List ℕ → Type 0) (declines : ErrorKind → Type 0)
+pub record WritesTo {S X : Type 0} (sink : Ghosts S) (old new : S) (adds leaves : List ℕ → Type 0) (own_kinds : ErrorKind → Type 0)
     (result : Result X Error) : Type 0 where
   -- where the call succeeds, this is added after what was written before
   pub written : OnOk result (IfKnown (sink.written old) (sink.written new) (Adds adds))
   -- where it fails, bytes of which `leaves` holds are added after what was written before
   pub left : OnErr result (IfKnown (sink.written old) (sink.written new) (Adds leaves))
-  -- it fails with the device's failure, or with a kind that is declined
-  pub refused : FailsOr result declines
+  -- it fails with the device's failure, or with one of `own_kinds`
+  pub errors : FailsOr result own_kinds
   -- `DeviceFailed` is returned only where the device failed
   pub failed : IfErr result (λ error. error.kind ≡ DeviceFailed → Fails (sink.failures old) (sink.failures new))
   -- what was written before stays at the front, also where the call fails
   pub grows : Grows sink.written sink.failures sink.same old new
 
--- What writing chunks, one after the other, does to a sink. `lacks` says which kinds the call may
+-- What writing chunks, one after the other, does to a sink. `early` says which kinds the call may
 -- fail with before anything is written.
-pub record WritesChunks {S X : Type 0} (sink : Ghosts S) (old new : S) (chunks : List (List ℕ)) (lacks : ErrorKind → Type 0)
+pub record WritesChunks {S X : Type 0} (sink : Ghosts S) (old new : S) (chunks : List (List ℕ)) (early : ErrorKind → Type 0)
     (result : Result X Error) : Type 0 where
   -- where the call succeeds, what the chunks add is after what was written before
   pub written : OnOk result (IfKnown (sink.written old) (sink.written new) (Adds (AppendsAll sink.appends chunks)))
@@ -38,10 +38,10 @@ pub record WritesChunks {S X : Type 0} (sink : Ghosts S) (old new : S) (chunks :
   -- without a gap
   pub left : OnErr result (IfKnown (sink.written old) (sink.written new) (Adds (LeavesSome sink.appends sink.leaves chunks)))
   -- it fails with the device's failure, with a kind of the sink's for one of the chunks, or with a
-  -- kind of which `lacks` holds
-  pub refused : FailsOr result (λ kind. DeclinesSome sink.refuses chunks kind ⊎ lacks kind)
+  -- kind of which `early` holds
+  pub errors : FailsOr result (λ kind. ChunksError sink.refuses chunks kind ⊎ early kind)
   -- a failure that isn't the sink's leaves the sink as it was
-  pub untouched : FailsOr result (λ kind. DeclinesSome sink.refuses chunks kind ⊎ (new ≡ old))
+  pub untouched : FailsOr result (λ kind. ChunksError sink.refuses chunks kind ⊎ (new ≡ old))
   -- `DeviceFailed` is returned only where the device failed
   pub failed : IfErr result (λ error. error.kind ≡ DeviceFailed → Fails (sink.failures old) (sink.failures new))
   -- what was written before stays at the front, also where the call fails
@@ -50,38 +50,38 @@ pub record WritesChunks {S X : Type 0} (sink : Ghosts S) (old new : S) (chunks :
 -- Where a sink grants this many bytes and more, the call succeeds, and the more stays granted; or it fails with a kind that is
 -- lacked, and the sink is as it was.
 abbrev pub TakesGranted : {S X : Type 0} → (S → ℕ → Type 0) → S → S → ℕ → (ErrorKind → Type 0) → Result X Error → Type 0
-TakesGranted grants old new bytes lacks result = (more : ℕ) → grants old (bytes + more)
-    → MatchResult result (λ written. grants new more) (λ error. lacks error.kind × (new ≡ old))
+TakesGranted grants old new bytes early result = (more : ℕ) → grants old (bytes + more)
+    → MatchResult result (λ written. grants new more) (λ error. early error.kind × (new ≡ old))
 
 -- nothing is lacked
-abbrev pub LacksNothing : ErrorKind → Type 0
-LacksNothing kind = ⊥
+abbrev pub NoError : ErrorKind → Type 0
+NoError kind = ⊥
 
 -- from four segments on, the call may lack memory for the table
-abbrev pub LacksTable : List (List ℕ) → ErrorKind → Type 0
-LacksTable segments kind = (4 ≤ length segments) × (kind ≡ OutOfMemory)
+abbrev pub TableMemoryError : List (List ℕ) → ErrorKind → Type 0
+TableMemoryError segments kind = (4 ≤ length segments) × (kind ≡ OutOfMemory)
 
 -- why a call fails before anything is written: by the number of segments, or for want of memory for
 -- the table
-abbrev pub RefusesUnwritten : List (List ℕ) → ErrorKind → Type 0
-RefusesUnwritten segments kind = RefusesMany segments kind ⊎ LacksTable segments kind
+abbrev pub UnwrittenError : List (List ℕ) → ErrorKind → Type 0
+UnwrittenError segments kind = SegmentCountError segments kind ⊎ TableMemoryError segments kind
 
 -- What each function that writes a message keeps of the number of its segments.
 pub record KeepsCount {X : Type 0} (segments : List (List ℕ)) (result : Result X Error) : Type 0 where
   -- what is written has no more segments than a reader accepts
   pub few : OnOk result (IsWithinSegmentLimit segments)
   -- where there are more, the call fails by their number, before all else
-  pub many : ExceedsSegmentLimit segments → FailsWith result (InvalidNumberOfSegments (length segments))
+  pub many : IsPastSegmentLimit segments → FailsWith result (InvalidNumberOfSegments (length segments))
 
 -- What each function that writes a message does to its sink.
 pub record WritesSegments {S X : Type 0} (sink : Ghosts S) (old new : S) (segments : List (List ℕ)) (result : Result X Error) : Type 0 where
   -- it fails by the number of segments exactly where there are more than a reader accepts, and then the sink stays as it was
   pub count : KeepsCount segments result
-  pub unwritten : ExceedsSegmentLimit segments → new ≡ old
+  pub unwritten : IsPastSegmentLimit segments → new ≡ old
   -- else the chunks of the message are written, one after the other
-  pub parts : WritesChunks sink old new (chunks segments) (RefusesUnwritten segments) result
+  pub parts : WritesChunks sink old new (chunks segments) (UnwrittenError segments) result
   -- where the sink grants all bytes of the framed encoding, the message is written, but for what is lacked before it
-  pub granted : TakesGranted sink.grants old new (8 * serialized_words segments) (RefusesUnwritten segments) result
+  pub granted : TakesGranted sink.grants old new (8 * serialized_words segments) (UnwrittenError segments) result
 
 -- What each function keeps that returns the framed encoding of a message; `bytes` is how the
 -- encoding is seen in the result.
@@ -90,7 +90,7 @@ pub record ReturnsEncoding {X : Type 0} (segments : List (List ℕ)) (bytes : X 
   -- the call fails by the number of segments exactly where there are more than a reader accepts
   pub count : KeepsCount segments result
   -- with no more than that it fails for want of memory alone
-  pub kinds : IfErr result (λ error. RefusesMany segments error.kind ⊎ (error.kind ≡ OutOfMemory))
+  pub kinds : IfErr result (λ error. SegmentCountError segments error.kind ⊎ (error.kind ≡ OutOfMemory))
 
 -- What each function that counts the words of a framed encoding keeps.
 pub record CountsWords (segments : List (List ℕ)) (result : Result ℕ Error) : Type 0 where

@@ -20,12 +20,12 @@ abbrev pub IsWithinSegmentLimit : List (List ℕ) → Type 0
 IsWithinSegmentLimit segments = length segments < SEGMENTS_COUNT_LIMIT
 
 -- more than that
-abbrev pub ExceedsSegmentLimit : List (List ℕ) → Type 0
-ExceedsSegmentLimit segments = SEGMENTS_COUNT_LIMIT ≤ length segments
+abbrev pub IsPastSegmentLimit : List (List ℕ) → Type 0
+IsPastSegmentLimit segments = SEGMENTS_COUNT_LIMIT ≤ length segments
 
 -- there are more, and the failure carries their number
-abbrev pub RefusesMany : List (List ℕ) → ErrorKind → Type 0
-RefusesMany segments kind = ExceedsSegmentLimit segments × (kind ≡ InvalidNumberOfSegments (length segments))
+abbrev pub SegmentCountError : List (List ℕ) → ErrorKind → Type 0
+SegmentCountError segments kind = IsPastSegmentLimit segments × (kind ≡ InvalidNumberOfSegments (length segments))
 
 -- the first word, and the other words as one chunk where there are any
 abbrev pub word_and_rest : List ℕ → List (List ℕ)

@@ -8,7 +8,7 @@ ghost use Rattle.std.specs.Borrow.{sem};
 ghost use Rattle.std.specs.Io.BufRead.{Rests};
 ghost use Rattle.capnp_frame.specs.declared.error.ErrorKind.{ErrorKind};
 ghost use Rattle.capnp_frame.specs.Message.{IsWholeWords};
-ghost use Rattle.capnp_frame.specs.Source.{Giving, Refusing, IsSource, IsPreorder, IsPlain, Splits, RunsShort, Fails, IfKnown, Advances, Fills, IsFront, IsRefused, ReturnsPart};
+ghost use Rattle.capnp_frame.specs.Source.{Giving, Refusing, IsSource, IsPreorder, IsPlain, Splits, RunsShort, Fails, IfKnown, Advances, Fills, IsFront, RequestError, ReturnsPart};
 ghost use Rattle.capnp_frame.specs.Sink.{Appending, Leaving, Declining, Adds, Grows};
 
 mod references;
@@ -50,14 +50,14 @@ pub trait Read {
             (λ raw. 0 < length buffer.new → (count ≡ 0) ↔ (raw ≡ []))) }
         // Where `read` returns 0 and `buffer` has room, `read_exact` fails with this kind.
         ensures spent { IfOk result (λ count. count ≡ 0 → 0 < length buffer.new →
-            IsRefused refuses (length buffer.new) (unread self.old)
+            RequestError refuses (length buffer.new) (unread self.old)
             ErrorKind.FailedToFillTheWholeBuffer) }
 
         // With which kinds it fails.
         ensures failed { IfErr result (λ error. error.kind ≡ ErrorKind.DeviceFailed →
             Fails (failures self.old) (failures self.new)) }
-        ensures refused { IfErr result (λ error. (error.kind ≡ ErrorKind.DeviceFailed)
-            ⊎ IsRefused refuses (length buffer.new) (unread self.old) error.kind) }
+        ensures errors { IfErr result (λ error. (error.kind ≡ ErrorKind.DeviceFailed)
+            ⊎ RequestError refuses (length buffer.new) (unread self.old) error.kind) }
         ensures at_end { IfErr result (λ error. unread self.old ≡ Some [] →
             IsWholeWords buffer.new → error.kind ≡ ErrorKind.DeviceFailed) }
         ensures plain { IfErr result (λ error. IsPlain gives → error.kind ≡ ErrorKind.DeviceFailed) }
@@ -71,8 +71,8 @@ pub trait Read {
             (λ raw rest. gives raw (length buffer.new) buffer.new rest)) }
         ensures failed { IfErr result (λ error. error.kind ≡ ErrorKind.DeviceFailed →
             Fails (failures self.old) (failures self.new)) }
-        ensures refused { IfErr result (λ error. (error.kind ≡ ErrorKind.DeviceFailed)
-            ⊎ IsRefused refuses (length buffer.new) (unread self.old) error.kind) }
+        ensures errors { IfErr result (λ error. (error.kind ≡ ErrorKind.DeviceFailed)
+            ⊎ RequestError refuses (length buffer.new) (unread self.old) error.kind) }
         ensures plain { IfErr result (λ error. IsPlain gives →
             (error.kind ≡ ErrorKind.DeviceFailed)
             ⊎ (error.kind ≡ ErrorKind.FailedToFillTheWholeBuffer)) }
@@ -122,7 +122,7 @@ pub trait BufRead: Read {
     ghost plain: { (raw : List ℕ) (n : ℕ) (bytes rest : List ℕ) →
         Splits raw n bytes rest ↔ Self.gives raw n bytes rest };
 
-    ghost plain_refusals: { (raw : List ℕ) (n : ℕ) (kind : ErrorKind) →
+    ghost plain_errors: { (raw : List ℕ) (n : ℕ) (kind : ErrorKind) →
         RunsShort raw n kind ↔ Self.refuses raw n kind };
 }
 
@@ -162,7 +162,7 @@ pub trait Write {
             IsOk result × grants self.new more }
         ensures failed { IfErr result (λ error. error.kind ≡ ErrorKind.DeviceFailed →
             Fails (failures self.old) (failures self.new)) }
-        ensures refused { IfErr result (λ error. (error.kind ≡ ErrorKind.DeviceFailed)
+        ensures errors { IfErr result (λ error. (error.kind ≡ ErrorKind.DeviceFailed)
             ⊎ refuses chunk.now error.kind) }
         ensures grows { Grows written failures same self.old self.new };
 

@@ -5,13 +5,13 @@ ghost use Rattle.capnp_frame.specs.Message.{IsWholeWords, lengths, size_in_words
 ghost use Rattle.capnp_frame.specs.SegmentTable.{zero_padded_table, HasTable, IsTable};
 ghost use Rattle.capnp_frame.specs.Frame.{IsFrame, frame_bytes};
 ghost use Rattle.capnp_frame.specs.Source.{Splits, IsFront, Fails};
-ghost use Rattle.capnp_frame.specs.Sink.{AppendsSame, AppendsAll, LeavesFront, LeavesSome, ByKind, DeclinesSome};
+ghost use Rattle.capnp_frame.specs.Sink.{AppendsSame, AppendsAll, LeavesFront, LeavesSome, ByKind, ChunksError};
 ghost use Rattle.capnp_frame.specs.Requests.{MessageStands};
-ghost use Rattle.capnp_frame.specs.Refusals.{IsTooLarge, RefusesStream, Outgrows};
-ghost use Rattle.capnp_frame.specs.Writers.{RefusesUnwritten};
-ghost use Rattle.capnp_frame.specs.Writing.{IsWritable, RefusesMany, chunks, serialized_words};
+ghost use Rattle.capnp_frame.specs.StreamErrors.{IsTooLarge, StreamError, Outgrows};
+ghost use Rattle.capnp_frame.specs.Writers.{UnwrittenError};
+ghost use Rattle.capnp_frame.specs.Writing.{IsWritable, SegmentCountError, chunks, serialized_words};
 ghost use Rattle.capnp_frame.specs.Front.{HasFrame};
-ghost use Rattle.capnp_frame.specs.FlatRefusals.{FlatForm, RefusesFlat};
+ghost use Rattle.capnp_frame.specs.FlatErrors.{FlatForm, FlatError};
 ghost use Rattle.capnp_frame.specs.declared.error.ErrorKind.{ErrorKind};
 ghost use Rattle.capnp_frame.specs.declared.serialize.segment_table.Padding.{Padding};
 
@@ -60,10 +60,10 @@ pub fn plain_requests_take_a_frame()
 
 /// Reading a message of more words than the limit fails with `MessageTooLarge`, of how many words
 /// it has.
-pub fn message_past_the_limit_is_refused<R: Read>()
+pub fn message_past_the_limit_fails<R: Read>()
     ensures { (rule : Padding) (limit : Option ℕ) (m : List (List ℕ)) (raw rest : List ℕ) →
         MessageStands rule R.gives m raw rest → length m < SEGMENTS_COUNT_LIMIT → IsTooLarge (lengths m) limit →
-        (left : List ℕ) × RefusesStream rule R.gives R.refuses limit None
+        (left : List ℕ) × StreamError rule R.gives R.refuses limit None
         (ErrorKind.MessageTooLarge (size_in_words m)) raw left }
 {}
 
@@ -102,10 +102,10 @@ pub fn what_is_left_of_a_message_is_a_front<W: Write>()
 /// The readers of slices and buffers accept the same bytes with the same segments: where one form
 /// fails the other fails, and bytes begin with at most one message.
 pub fn flat_readers_agree()
-    ensures refused { (form other : FlatForm) (rule : Padding) (limit : Option ℕ) (kind : ErrorKind)
+    ensures errors { (form other : FlatForm) (rule : Padding) (limit : Option ℕ) (kind : ErrorKind)
         (bytes : List ℕ) → AllByRecursion (λ byte. byte < 256) bytes →
-        RefusesFlat form rule limit kind bytes →
-        (own : ErrorKind) × RefusesFlat other rule limit own bytes }
+        FlatError form rule limit kind bytes →
+        (own : ErrorKind) × FlatError other rule limit own bytes }
     ensures found { (rule also : Padding) (bytes rest left : List ℕ)
         (segments others : List (List ℕ)) →
         HasFrame rule bytes segments rest → HasFrame also bytes others left →
@@ -126,11 +126,11 @@ pub fn slices_never_fail()
 {}
 
 /// Writing a message to a vector fails only for want of memory or for too many segments.
-pub fn vectors_lack_memory_alone()
+pub fn vectors_only_run_out_of_memory()
     ensures { (kind : ErrorKind) (segments : List (List ℕ)) →
         (kind ≡ ErrorKind.DeviceFailed → Fails 0 0) →
         (kind ≡ ErrorKind.DeviceFailed)
-        ⊎ DeclinesSome (ByKind ErrorKind.OutOfMemory) (chunks segments) kind
-        ⊎ RefusesUnwritten segments kind →
-        RefusesMany segments kind ⊎ (kind ≡ ErrorKind.OutOfMemory) }
+        ⊎ ChunksError (ByKind ErrorKind.OutOfMemory) (chunks segments) kind
+        ⊎ UnwrittenError segments kind →
+        SegmentCountError segments kind ⊎ (kind ≡ ErrorKind.OutOfMemory) }
 {}

@@ -56,7 +56,7 @@ pub fn assert_calls(rt: &impl Abort, found: u64, wanted: u64, at: At<'_>) {
 }
 
 /// A call failed, with this kind.
-pub fn assert_refused<T: Drop>(rt: &impl Abort, returned: Result<T>, kind: ErrorKind, at: At<'_>) {
+pub fn assert_fails<T: Drop>(rt: &impl Abort, returned: Result<T>, kind: ErrorKind, at: At<'_>) {
     let At { row, number } = at;
     match returned {
         Ok(_) => panic!(rt; "a result for {kind:?}, at {row}, {number}"),

@@ -1,12 +1,12 @@
 //! Chunks that are packed by themselves.
 use crate::assertions::{
-    At, assert_bytes, assert_calls, assert_count, assert_holds, assert_refused,
+    At, assert_bytes, assert_calls, assert_count, assert_holds, assert_fails,
 };
 use crate::chunk_rows::{PACKED, Packed};
 use crate::packing::{pack, unpack, unpack_some};
 use crate::retried;
-use crate::sinks::FaultySink;
-use crate::sources::{Faulty, Trickle};
+use crate::sinks::FailingSink;
+use crate::sources::{Failing, Trickle};
 use capnp_frame::{ErrorKind, Result};
 use std::process::Abort;
 
@@ -25,7 +25,7 @@ fn pack_row(rt: &(impl Abort + AllocGlobal), row: &Packed) -> Result<()> {
         return Ok(());
     }
     let at = At::row(row.name);
-    let mut sink = FaultySink::new(Vec::new(rt.alloc()), 0);
+    let mut sink = FailingSink::new(Vec::new(rt.alloc()), 0);
     pack(&mut sink, row.chunks)?;
     assert_bytes(rt, sink.written.as_slice(), row.text, at);
     assert_calls(rt, sink.calls, row.handed.unwrap_or(sink.calls), at);
@@ -43,7 +43,7 @@ fn unpack_each(rt: &impl Abort, row: &Packed) -> Result<()> {
 // Of a source that shows a chunk whole, it asks once for each, and nothing for no bytes.
 fn unpack_row(rt: &impl Abort, row: &Packed, most: usize) -> Result<()> {
     let at = At::new(row.name, most as u64);
-    let mut source = Faulty::new(Trickle::new(row.text, most), 0);
+    let mut source = Failing::new(Trickle::new(row.text, most), 0);
     let mut parts = Trickle::new(row.text, most);
     let mut asked: u64 = 0;
     for chunk in row.chunks {
@@ -65,7 +65,7 @@ fn unpack_row(rt: &impl Abort, row: &Packed, most: usize) -> Result<()> {
 // A chunk by `read_exact`, and by one `read`, which returns all that was asked for.
 fn unpack_chunk(
     rt: &impl Abort,
-    source: &mut Faulty<'_>,
+    source: &mut Failing<'_>,
     parts: &mut Trickle<'_>,
     chunk: &[u8],
     at: At<'_>,
@@ -90,22 +90,22 @@ const PARTS_OF_WORDS: [(&str, &[u8], usize); 4] = [
 ];
 
 #[test]
-fn parts_of_words_are_refused(rt: HostRuntime) {
+fn parts_of_words_are_failed(rt: HostRuntime) {
     for &(name, text, length) in &PARTS_OF_WORDS {
         for most in [1, 24] {
-            refuse(&rt, text, length, At::new(name, most));
+            assert_failure(&rt, text, length, At::new(name, most));
         }
     }
 }
 
 // For a part of a word nothing is asked, and nothing is written.
-fn refuse(rt: &impl Abort, text: &[u8], length: usize, at: At<'_>) {
+fn assert_failure(rt: &impl Abort, text: &[u8], length: usize, at: At<'_>) {
     let kind = ErrorKind::NotWholeWords;
     let mut source = Trickle::new(text, at.number as usize);
     let mut space = [0xaa; 12];
     let room = &mut space[..length.min(12)];
-    assert_refused(rt, unpack(&mut source, room), kind, at);
-    assert_refused(rt, unpack_some(&mut source, room), kind, at);
+    assert_fails(rt, unpack(&mut source, room), kind, at);
+    assert_fails(rt, unpack_some(&mut source, room), kind, at);
     assert_holds(
         rt,
         source.bytes == text && source.fills == 0 && source.reads == 0,
@@ -147,9 +147,9 @@ fn a_tag_alone_leaves_the_word(rt: HostRuntime) {
     for tag in [0, 1, 2, 0x24, 0x80, 0xf0, 0xfe, 0xff] {
         let at = At::new("a tag alone", u64::from(tag));
         let text = [tag];
-        let mut source = Faulty::new(Trickle::new(&text, 1), 2);
+        let mut source = Failing::new(Trickle::new(&text, 1), 2);
         let mut word = [0xaa; 8];
-        assert_refused(
+        assert_fails(
             &rt,
             unpack(&mut source, &mut word),
             ErrorKind::DeviceFailed,
@@ -197,7 +197,7 @@ fn write_parts(rt: &(impl Abort + AllocGlobal)) -> Result<()> {
     let at = At::row("parts of a word");
     let mut sink = [3, 2, 1].to_vec(rt.alloc())?;
     for part in &PARTS {
-        assert_refused(rt, pack(&mut sink, &[part]), ErrorKind::NotWholeWords, at);
+        assert_fails(rt, pack(&mut sink, &[part]), ErrorKind::NotWholeWords, at);
     }
     pack(&mut sink, &[&[5, 0, 0, 0, 0, 0, 0, 0]])?;
     assert_bytes(rt, sink.as_slice(), &[3, 2, 1, 1, 5], at);

@@ -13,7 +13,7 @@ macro_rules! retried {
 }
 
 /// Whether a call failed for want of memory.
-pub fn lacks_memory<T>(returned: &Result<T>) -> bool {
+pub fn is_out_of_memory<T>(returned: &Result<T>) -> bool {
     returned
         .as_ref()
         .is_err_and(|error| error.kind == ErrorKind::OutOfMemory)

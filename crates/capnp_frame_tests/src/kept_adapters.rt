@@ -1,9 +1,9 @@
 //! One adapter that is kept through errors: it goes on as if there had been none.
 use crate::assertions::{At, assert_bytes, assert_calls, assert_count, assert_kind};
-use crate::refusals::kind_of;
+use crate::errors::kind_of;
 use crate::retried;
-use crate::sinks::FaultySink;
-use crate::sources::{Faulty, Trickle};
+use crate::sinks::FailingSink;
+use crate::sources::{Failing, Trickle};
 use capnp_frame::io::{Read, Write};
 use capnp_frame::{ErrorKind, Result};
 use capnp_pack::{PackedRead, PackedWrite};
@@ -28,7 +28,7 @@ fn one_adapter_of_a_sink(rt: HostRuntime) -> Result<()> {
 
 fn write_chunks(rt: &(impl Abort + AllocGlobal)) -> Result<()> {
     let at = At::row("one adapter of a sink");
-    let mut sink = FaultySink::new(Vec::new(rt.alloc()), 2);
+    let mut sink = FailingSink::new(Vec::new(rt.alloc()), 2);
     write_each(rt, &mut PackedWrite::new(&mut sink))?;
     assert_bytes(rt, sink.written.as_slice(), &[1, 5, 1, 7, 0x80, 8], at);
     assert_calls(rt, sink.calls, 4, at);
@@ -59,7 +59,7 @@ const REQUESTS: [Request; 5] = [
 #[test]
 fn one_adapter_of_a_source(rt: HostRuntime) -> Result<()> {
     let at = At::row("one adapter of a source");
-    let mut source = Faulty::new(Trickle::new(&[1, 5, 1, 6, 1, 7, 1, 8], 24), 2);
+    let mut source = Failing::new(Trickle::new(&[1, 5, 1, 6, 1, 7, 1, 8], 24), 2);
     read_each(&rt, &mut PackedRead::new(&mut source))?;
     assert_bytes(&rt, source.source.bytes, &[], at);
     assert_calls(&rt, source.failures, 1, at);

@@ -1,6 +1,6 @@
 //! Lengths of segments, added up.
-use crate::assertions::{At, assert_count, assert_holds, assert_refused};
-use crate::growths::lacks_memory;
+use crate::assertions::{At, assert_count, assert_holds, assert_fails};
+use crate::growths::is_out_of_memory;
 use crate::retried;
 use capnp_frame::message::ReaderSegments;
 use capnp_frame::serialize::{OwnedSegments, SegmentLengthsBuilder};
@@ -88,8 +88,8 @@ fn add_up(rt: &(impl Abort + AllocGlobal), row: &Lengths) -> Result<()> {
     let mut lengths = builder_of(rt.alloc(), row)?;
     assert_count(rt, lengths.total_words(), row.total, at);
     if row.total > 0 {
-        let refused = lengths.try_push_segment(usize::MAX);
-        assert_refused(rt, refused, ErrorKind::MessageSizeOverflow, at);
+        let failed = lengths.try_push_segment(usize::MAX);
+        assert_fails(rt, failed, ErrorKind::MessageSizeOverflow, at);
         assert_count(rt, lengths.total_words(), row.total, at);
     }
     assert_holds(
@@ -180,7 +180,7 @@ const TOO_LONG: [(usize, ErrorKind); 3] = [
 #[test]
 fn more_than_an_address_space(rt: HostRuntime) -> Result<()> {
     for capacity in [1 << 60, usize::MAX] {
-        assert!(rt; lacks_memory(&SegmentLengthsBuilder::with_capacity(rt.alloc(), capacity)));
+        assert!(rt; is_out_of_memory(&SegmentLengthsBuilder::with_capacity(rt.alloc(), capacity)));
     }
     for &(length, kind) in &TOO_LONG {
         make_too_long(&rt, length, kind)?;
@@ -192,12 +192,12 @@ fn make_too_long(rt: &(impl Abort + AllocGlobal), length: usize, kind: ErrorKind
     let mut lengths = retried!(SegmentLengthsBuilder::with_capacity(rt.alloc(), 1))?;
     lengths.try_push_segment(length)?;
     let at = At::new("words", length as u64);
-    assert_refused(rt, lengths.into_owned_segments(), kind, at);
+    assert_fails(rt, lengths.into_owned_segments(), kind, at);
     Ok(())
 }
 
 #[test]
-fn a_refused_length_is_not_added(rt: HostRuntime) -> Result<()> {
+fn a_failed_length_is_not_added(rt: HostRuntime) -> Result<()> {
     retried!(push_after_three(&rt))
 }
 
@@ -211,7 +211,7 @@ fn push_after_three(rt: &(impl Abort + AllocGlobal)) -> Result<()> {
     } else {
         (&[(0, 3)], 3)
     };
-    assert!(rt; pushed.is_ok() || lacks_memory(&pushed));
+    assert!(rt; pushed.is_ok() || is_out_of_memory(&pushed));
     assert!(rt; lengths.total_words() == total);
     assert!(rt; lengths.to_segment_indices().as_slice() == indices);
     Ok(())

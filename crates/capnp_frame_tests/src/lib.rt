@@ -35,9 +35,9 @@ mod no_memory;
 mod packing;
 #[cfg(test)]
 mod parts;
-pub mod refusals;
+pub mod errors;
 #[cfg(test)]
-mod sink_faults;
+mod sink_errors;
 pub mod sinks;
 #[cfg(test)]
 mod skipping;

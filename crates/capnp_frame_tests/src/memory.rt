@@ -5,7 +5,7 @@
 //! that the call returns rightly when it is made again.
 use crate::assertions::{At, assert_bytes, assert_count, assert_holds};
 use crate::framing::{Found, read_by};
-use crate::growths::lacks_memory;
+use crate::growths::is_out_of_memory;
 use crate::limits::STRICT;
 use crate::retried;
 use capnp_frame::io::Write;
@@ -14,7 +14,7 @@ use capnp_frame::{Error, ErrorKind, Result};
 use std::process::Abort;
 
 #[test]
-fn a_refused_chunk_is_not_written(rt: HostRuntime) -> Result<()> {
+fn a_failed_chunk_is_not_written(rt: HostRuntime) -> Result<()> {
     retried!(write_after_three(&rt))
 }
 
@@ -26,7 +26,7 @@ fn write_after_three(rt: &(impl Abort + AllocGlobal)) -> Result<()> {
     sink.write_all(&[1, 2, 3])?;
     let written = sink.write_all(&CHUNK);
     if written.is_err() {
-        assert_holds(rt, lacks_memory(&written), at);
+        assert_holds(rt, is_out_of_memory(&written), at);
         assert_bytes(rt, sink.as_slice(), &[1, 2, 3], at);
         sink.write_all(&CHUNK)?;
     }
@@ -131,7 +131,7 @@ fn read_row(rt: &(impl Abort + AllocGlobal), row: &Asking) -> Result<()> {
     let at = At::row(row.name);
     let mut source = row.bytes;
     let returned = read_by(rt.alloc(), &mut source, row.rules, &SEGMENTS);
-    if lacks_memory(&returned) {
+    if is_out_of_memory(&returned) {
         assert_holds(rt, row.asks.contains(&source.len()), at);
         return Err(Error::from_kind(ErrorKind::OutOfMemory));
     }

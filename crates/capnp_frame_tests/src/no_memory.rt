@@ -1,5 +1,5 @@
 //! Calls that take no memory: they succeed whichever growth fails, and none is made twice.
-use crate::assertions::{At, assert_bytes, assert_count, assert_holds, assert_refused};
+use crate::assertions::{At, assert_bytes, assert_count, assert_holds, assert_fails};
 use crate::framing::{Found, read_into, read_packed, write, write_packed};
 use crate::limits::STRICT;
 use crate::messages::has_segments;
@@ -58,7 +58,7 @@ fn messages_are_found(rt: HostRuntime) -> Result<()> {
     let found = NoAllocBufferSegments::from_buffer(FRAMED.as_slice(), DEFAULT_READER_OPTIONS)?;
     assert!(rt; has_segments(&found, &SEGMENTS));
     let cut = NoAllocBufferSegments::from_buffer(&FRAMED[..31], DEFAULT_READER_OPTIONS);
-    assert_refused(
+    assert_fails(
         &rt,
         cut,
         ErrorKind::MessageEndsPrematurely(2, 1),
@@ -91,7 +91,7 @@ fn a_buffer_that_is_a_byte_short(rt: HostRuntime) {
     let mut room = [9; 31];
     let mut source = FRAMED.as_slice();
     let short = read_into(&mut source, &mut room, &SEGMENTS);
-    assert_refused(
+    assert_fails(
         &rt,
         short,
         ErrorKind::BufferNotLargeEnough,
@@ -110,7 +110,7 @@ fn chunks_are_packed(rt: HostRuntime) -> Result<()> {
     let mut left: &mut [u8] = &mut text;
     pack(&mut left, &[&WORDS])?;
     assert_holds(&rt, left.is_empty(), at);
-    assert_refused(
+    assert_fails(
         &rt,
         pack(&mut left, &[&WORDS]),
         ErrorKind::BufferNotLargeEnough,
@@ -129,13 +129,13 @@ fn chunks_are_unpacked(rt: HostRuntime) -> Result<()> {
     assert_bytes(&rt, &back, &WORDS, at);
     assert_count(&rt, unpack_some(&mut source, &mut back)?, 0, at);
     let cut = unpack(&mut &PACKED_WORDS[..5], &mut back);
-    assert_refused(&rt, cut, ErrorKind::PrematureEndOfPackedInput, at);
+    assert_fails(&rt, cut, ErrorKind::PrematureEndOfPackedInput, at);
     Ok(())
 }
 
 // A packed message that fails before its number of segments is accepted.
 #[rattlefmt::skip]
-const REFUSED: [(&str, &[u8], ErrorKind); 3] = [
+const FAILING: [(&str, &[u8], ErrorKind); 3] = [
     ("512 segments", &[3, 255, 1], ErrorKind::InvalidNumberOfSegments(512)),
     ("a cut word", &[3, 255], ErrorKind::PrematureEndOfPackedInput),
     ("a long run", &[0, 1], ErrorKind::PackedInputDidNotEndCleanlyOnASegmentBoundary),
@@ -143,9 +143,9 @@ const REFUSED: [(&str, &[u8], ErrorKind); 3] = [
 
 #[test]
 fn packed_messages_that_take_no_memory(rt: HostRuntime) -> Result<()> {
-    for &(name, text, kind) in &REFUSED {
+    for &(name, text, kind) in &FAILING {
         let mut source = text;
-        assert_refused(
+        assert_fails(
             &rt,
             read_packed(rt.alloc(), &mut source, &[]),
             kind,

@@ -8,17 +8,17 @@ use capnp_frame::{Error, ErrorKind, Result};
 
 /// A sink whose chunks are counted from 1, and one of which fails. Of that one nothing is written.
 #[derive(Drop)]
-pub struct FaultySink {
+pub struct FailingSink {
     pub written: Vec<u8>,
     pub calls: u64,
     pub fails_at: u64,
     pub failures: u64,
 }
 
-impl FaultySink {
+impl FailingSink {
     /// These bytes are written already.
-    pub fn new(written: Vec<u8>, fails_at: u64) -> FaultySink {
-        FaultySink {
+    pub fn new(written: Vec<u8>, fails_at: u64) -> FailingSink {
+        FailingSink {
             written,
             calls: 0,
             fails_at,
@@ -27,7 +27,7 @@ impl FaultySink {
     }
 }
 
-impl Write for FaultySink {
+impl Write for FailingSink {
     ghost written = { λ sink. Some sink.written.items };
 
     ghost failures = { λ sink. sink.failures };

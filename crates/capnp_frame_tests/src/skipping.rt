@@ -3,7 +3,7 @@ use crate::assertions::{At, assert_count, assert_holds, assert_kind};
 use crate::limits::{NO_LIMIT, STRICT};
 use crate::messages::{MESSAGES, Message};
 use crate::retried;
-use crate::sources::{Faulty, Trickle};
+use crate::sources::{Failing, Trickle};
 use capnp_frame::io::BufRead;
 use capnp_frame::serialize::{Padding, SegmentLengthsBuilder, TableRules, read_table};
 use capnp_frame::{Error, ErrorKind, Result};
@@ -77,7 +77,7 @@ fn skip_again(rt: &(impl Abort + AllocGlobal), message: &Message, most: usize) -
 
 // What a message fails by, and how many of its bytes stay unread.
 #[rattlefmt::skip]
-const REFUSED: [(&str, &[u8], Option<usize>, ErrorKind, usize); 20] = [
+const FAILING: [(&str, &[u8], Option<usize>, ErrorKind, usize); 20] = [
     ("a tag", &[0x10], NO_LIMIT, ErrorKind::PrematureEndOfPackedInput, 0),
     ("a run past the table's first word", &[0, 1, 7], NO_LIMIT,
      ErrorKind::PackedInputDidNotEndCleanlyOnASegmentBoundary, 1),
@@ -114,15 +114,15 @@ const REFUSED: [(&str, &[u8], Option<usize>, ErrorKind, usize); 20] = [
 ];
 
 #[test]
-fn messages_are_refused(rt: HostRuntime) {
-    for &(name, text, limit, kind, unread) in &REFUSED {
+fn messages_fail(rt: HostRuntime) {
+    for &(name, text, limit, kind, unread) in &FAILING {
         for most in 1..=24 {
-            refuse(&rt, (text, limit), kind, unread, At::new(name, most));
+            assert_failure(&rt, (text, limit), kind, unread, At::new(name, most));
         }
     }
 }
 
-fn refuse(
+fn assert_failure(
     rt: &(impl Abort + AllocGlobal),
     (text, limit): (&[u8], Option<usize>),
     kind: ErrorKind,
@@ -130,16 +130,16 @@ fn refuse(
     at: At<'_>,
 ) {
     let mut source = Trickle::new(text, at.number as usize);
-    let mut found = refusal(rt.alloc(), &mut source, limit);
+    let mut found = error_of(rt.alloc(), &mut source, limit);
     if found == Some(ErrorKind::OutOfMemory) {
         source = Trickle::new(text, at.number as usize);
-        found = refusal(rt.alloc(), &mut source, limit);
+        found = error_of(rt.alloc(), &mut source, limit);
     }
     assert_kind(rt, found, Some(kind), at);
     assert_count(rt, source.bytes.len(), unread, at);
 }
 
-fn refusal(alloc: Global, source: &mut Trickle<'_>, limit: Option<usize>) -> Option<ErrorKind> {
+fn error_of(alloc: Global, source: &mut Trickle<'_>, limit: Option<usize>) -> Option<ErrorKind> {
     let rules = TableRules {
         limit_in_words: limit,
         ..STRICT
@@ -226,9 +226,9 @@ fn a_device_that_fails_is_blamed(rt: HostRuntime) -> Result<()> {
 
 fn blame(rt: &(impl Abort + AllocGlobal), message: &Message, fails_at: u64) -> Result<()> {
     let at = At::new(message.name, fails_at);
-    let mut source = Faulty::new(Trickle::new(message.packed, 3), fails_at);
+    let mut source = Failing::new(Trickle::new(message.packed, 3), fails_at);
     let skipped = retried!({
-        source = Faulty::new(Trickle::new(message.packed, 3), fails_at);
+        source = Failing::new(Trickle::new(message.packed, 3), fails_at);
         let lengths = SegmentLengthsBuilder::empty(rt.alloc());
         skip(&mut source, STRICT, lengths)
     });

@@ -69,21 +69,21 @@ impl BufRead for Trickle<'_> {
 
     ghost plain = { λ _ _ _ _. (λ p. p, λ p. p) };
 
-    ghost plain_refusals = { λ _ _ _. (λ p. p, λ p. p) };
+    ghost plain_errors = { λ _ _ _. (λ p. p, λ p. p) };
 }
 
 /// A source whose calls are counted from 1, and one of which fails. That one takes nothing.
 #[derive(Drop)]
-pub struct Faulty<'a> {
+pub struct Failing<'a> {
     pub source: Trickle<'a>,
     pub calls: u64,
     pub fails_at: u64,
     pub failures: u64,
 }
 
-impl<'a> Faulty<'a> {
-    pub fn new(source: Trickle<'a>, fails_at: u64) -> Faulty<'a> {
-        Faulty {
+impl<'a> Failing<'a> {
+    pub fn new(source: Trickle<'a>, fails_at: u64) -> Failing<'a> {
+        Failing {
             source,
             calls: 0,
             fails_at,
@@ -92,7 +92,7 @@ impl<'a> Faulty<'a> {
     }
 }
 
-impl Read for Faulty<'_> {
+impl Read for Failing<'_> {
     ghost unread = { λ source. Some source.source.bytes.now };
 
     ghost failures = { λ source. source.failures };
@@ -117,7 +117,7 @@ impl Read for Faulty<'_> {
     ghost keeps = { always };
 }
 
-impl BufRead for Faulty<'_> {
+impl BufRead for Failing<'_> {
     ghost shown = { λ source. take source.source.shown source.source.bytes.now };
 
     fn fill_buf(&mut self) -> Result<&[u8]> {
@@ -136,7 +136,7 @@ impl BufRead for Faulty<'_> {
 
     ghost plain = { λ _ _ _ _. (λ p. p, λ p. p) };
 
-    ghost plain_refusals = { λ _ _ _. (λ p. p, λ p. p) };
+    ghost plain_errors = { λ _ _ _. (λ p. p, λ p. p) };
 }
 
 /// A source that counts what it is asked for, and how many of these requests are of no bytes.

@@ -1,5 +1,5 @@
 //! Calls that no row needs, each on its happy path.
-use crate::assertions::{At, assert_bytes, assert_count, assert_refused};
+use crate::assertions::{At, assert_bytes, assert_count, assert_fails};
 use crate::retried;
 use crate::sources::Trickle;
 use capnp_frame::io::{BufRead, Read, Write};
@@ -33,7 +33,7 @@ const BYTES: [u8; 11] = [1, 2, 3, 4, 5, 6, 7, 8, 9, 10, 11];
 fn a_slice_is_read(rt: HostRuntime) -> Result<()> {
     read_bytes(&rt, &mut BYTES.as_slice())?;
     let cut = first_word(&mut &BYTES[..7]);
-    assert_refused(
+    assert_fails(
         &rt,
         cut,
         ErrorKind::FailedToFillTheWholeBuffer,

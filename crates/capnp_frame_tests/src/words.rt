@@ -1,5 +1,5 @@
 //! Words, and bytes that are written into a caller-provided slice.
-use crate::assertions::{At, assert_bytes, assert_count, assert_refused};
+use crate::assertions::{At, assert_bytes, assert_count, assert_fails};
 use crate::retried;
 use capnp_frame::io::Write;
 use capnp_frame::message::AsBytes;
@@ -34,8 +34,8 @@ const TOO_MANY: [(usize, ErrorKind); 3] = [
 #[test]
 fn more_words_than_an_address_space(rt: HostRuntime) {
     for &(length, kind) in &TOO_MANY {
-        let refused = Word::allocate_zeroed_vec(rt.alloc(), length);
-        assert_refused(&rt, refused, kind, At::new("words", length as u64));
+        let failed = Word::allocate_zeroed_vec(rt.alloc(), length);
+        assert_fails(&rt, failed, kind, At::new("words", length as u64));
     }
 }
 
@@ -52,7 +52,7 @@ struct Provided {
     name: &'static str,
     room: usize,
     chunks: &'static [(&'static [u8], usize)],
-    refused: &'static [u8],
+    failed: &'static [u8],
     space: [u8; 5],
 }
 
@@ -62,14 +62,14 @@ const PROVIDED: [Provided; 2] = [
         name: "five bytes, and then one",
         room: 5,
         chunks: &[(&[1, 2], 3), (&[], 3), (&[4, 5, 6], 0), (&[], 0)],
-        refused: &[7],
+        failed: &[7],
         space: [1, 2, 4, 5, 6],
     },
     Provided {
         name: "three bytes of two",
         room: 2,
         chunks: &[],
-        refused: &[1, 2, 3],
+        failed: &[1, 2, 3],
         space: [9, 9, 9, 9, 9],
     },
 ];
@@ -92,9 +92,9 @@ fn write_into(rt: &impl Abort, row: &Provided) -> Result<()> {
         assert_count(rt, left.len(), *room, at);
     }
     let length = left.len();
-    assert_refused(
+    assert_fails(
         rt,
-        left.write_all(row.refused),
+        left.write_all(row.failed),
         ErrorKind::BufferNotLargeEnough,
         at,
     );

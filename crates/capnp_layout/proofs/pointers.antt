@@ -1,6 +1,6 @@
 -- Pointers, where they lead, and when they are invalid.
-pub mod FaultLemmas
-pub mod RefusalLemmas
+pub mod PointerErrorLemmas
+pub mod OneErrorLemmas
 pub mod LandingLemmas
 pub mod LandingPadLemmas
 pub mod LocalLemmas

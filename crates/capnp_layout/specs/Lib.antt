@@ -9,7 +9,7 @@ pub mod Body
 pub mod Local
 pub mod Reached
 pub mod Traversed
-pub mod Faults
+pub mod PointerErrors
 pub mod Layout
 pub mod Block
 pub mod Rows

@@ -14,8 +14,8 @@ less None traversed = None
 less (Some most) traversed = Some (most - traversed)
 
 -- the words counted are past the limit
-abbrev pub Exceeds : Option ℕ → ℕ → Type 0
-Exceeds limit traversed = (most : ℕ) × (limit ≡ Some most) × (most < traversed)
+abbrev pub IsPastLimit : Option ℕ → ℕ → Type 0
+IsPastLimit limit traversed = (most : ℕ) × (limit ≡ Some most) × (most < traversed)
 
 -- trees are at places, no deeper than the nesting depth left; this many words are traversed, and
 -- the trees have this many words

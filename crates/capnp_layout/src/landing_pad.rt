@@ -5,7 +5,7 @@ ghost use Rattle.capnp_layout.specs.Pointer.{words_of};
 ghost use Rattle.capnp_layout.specs.PointerWord.{IsLocal, IsFarPointer};
 ghost use Rattle.capnp_layout.specs.Object.{message_of, word_at};
 ghost use Rattle.capnp_layout.specs.Landing.{HasWideLandingPad, IsLanding, NotLocal};
-ghost use Rattle.capnp_layout.specs.Faults.{BadLandingPad, Fault};
+ghost use Rattle.capnp_layout.specs.PointerErrors.{BadLandingPad, PointerError};
 ghost use Rattle.capnp_layout.specs.declared.place.Place.{Place};
 ghost use Rattle.capnp_layout.specs.declared.pointer.FarPointer.{FarPointer};
 
@@ -41,8 +41,8 @@ pub fn resolve<'a, S: ReaderSegments>(
     ensures found { let m = message_of (S.segments segments.now) in
         IfOk result (λ found. MatchOption found (word_at m place ≡ Some 0)
         (λ landing. IsLanding m place landing)) }
-    ensures refused { IfErr result (λ error. (nesting : ℕ) →
-        Fault (message_of (S.segments segments.now)) place nesting error.kind) }
+    ensures errors { IfErr result (λ error. (nesting : ℕ) →
+        PointerError (message_of (S.segments segments.now)) place nesting error.kind) }
 {
     let pointer = existing_word(segment, place.word)?;
     if pointer == 0 {
@@ -87,7 +87,7 @@ fn resolve_far<S: ReaderSegments>(segments: &S, far: FarPointer) -> Result<Landi
     ensures found { let m = message_of (S.segments segments.now) in
         IfOk result (λ landing. (place : Place) (word : ℕ) → word_at m place ≡ Some word →
         IsFarPointer word far → IsLanding m place landing) }
-    ensures refused { IfErr result (λ error. (word : ℕ) → IsFarPointer word far →
+    ensures errors { IfErr result (λ error. (word : ℕ) → IsFarPointer word far →
         BadLandingPad (message_of (S.segments segments.now)) word error.kind) }
 {
     let landing_pad = segment(segments, far.landing_pad.segment)?;
@@ -106,7 +106,7 @@ fn resolve_double_far<S: ReaderSegments>(segments: &S, first: u64, tag: u64) -> 
     ensures found { let m = message_of (S.segments segments.now) in
         IfOk result (λ landing. (place : Place) (word : ℕ) → word_at m place ≡ Some word →
         HasWideLandingPad m word first tag → IsLanding m place landing) }
-    ensures refused { let m = message_of (S.segments segments.now) in
+    ensures errors { let m = message_of (S.segments segments.now) in
         IfErr result (λ error. (word : ℕ) →
         HasWideLandingPad m word first tag → BadLandingPad m word error.kind) }
 {
@@ -139,7 +139,7 @@ fn content_pointer(first: u64) -> Result<Place>
 // A word that is a struct or list pointer.
 fn local_pointer(word: u64) -> Result<LocalPointer>
     ensures found { IfOk result (λ local. IsLocal word local) }
-    ensures refused { IfErr result (λ error. NotLocal word error.kind) }
+    ensures errors { IfErr result (λ error. NotLocal word error.kind) }
 {
     match PointerWord::read(word) {
         PointerWord::Local(local) => Ok(local),

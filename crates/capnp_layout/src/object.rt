@@ -7,7 +7,7 @@ ghost use Rattle.capnp_layout.specs.Object.{message_of, word_at, elements, Shape
 ghost use Rattle.capnp_layout.specs.Tree.{numbers, Trees, depth};
 ghost use Rattle.capnp_layout.specs.Reached.{At};
 ghost use Rattle.capnp_layout.specs.Body.{IsObject, shape_of, room_of, words_in, traversed_of};
-ghost use Rattle.capnp_layout.specs.Faults.{RejectsSize, Fault};
+ghost use Rattle.capnp_layout.specs.PointerErrors.{SizeError, PointerError};
 ghost use Rattle.capnp_layout.specs.Rows.{segment_of, places_in, end_of};
 ghost use Rattle.capnp_layout.specs.declared.place.Place.{Place};
 ghost use Rattle.capnp_layout.specs.declared.pointer.Elements.{Elements};
@@ -43,7 +43,7 @@ pub enum Body {
 }
 
 /// The object that the pointer at a place leads to, where it may be entered at this nesting depth;
-/// `None` for null. Where there is none the error says what is there: `specs/Faults.antt` has the
+/// `None` for null. Where there is none the error says what is there: `specs/PointerErrors.antt` has the
 /// cases in their order.
 #[inline(always)]
 pub fn object_at<S: ReaderSegments>(
@@ -54,8 +54,8 @@ pub fn object_at<S: ReaderSegments>(
     ensures found { let m = message_of (S.segments segments.now) in
         IfOk result (λ found. MatchOption found (word_at m place ≡ Some 0)
         (λ object. IsObject m place object × (0 < nesting))) }
-    ensures refused { IfErr result (λ error.
-        Fault (message_of (S.segments segments.now)) place nesting error.kind) }
+    ensures errors { IfErr result (λ error.
+        PointerError (message_of (S.segments segments.now)) place nesting error.kind) }
 {
     let segment = segment(segments, place.segment)?;
     object_in(segments, segment, place, nesting)
@@ -74,8 +74,8 @@ pub fn object_in<'a, S: ReaderSegments>(
     ensures found { let m = message_of (S.segments segments.now) in
         IfOk result (λ found. MatchOption found (word_at m place ≡ Some 0)
         (λ object. IsObject m place object × (0 < nesting))) }
-    ensures refused { IfErr result (λ error.
-        Fault (message_of (S.segments segments.now)) place nesting error.kind) }
+    ensures errors { IfErr result (λ error.
+        PointerError (message_of (S.segments segments.now)) place nesting error.kind) }
 {
     let Some(landing) = resolve(segments, segment, place)? else {
         return Ok(None);
@@ -140,8 +140,8 @@ pub fn body_at(segment: &[u8], start: usize, shape: LocalShape) -> Result<Body>
         ShapeStands words place tag (shape_of words place body)) }
     ensures room { IfOk result (λ body. start + room_of body ≤ length segment.now / 8) }
     ensures elements { IfOk result (λ body. words_in body ≤ room_of body) }
-    ensures refused { IfErr result (λ error. (tag : ℕ) → IsLocalShape tag shape →
-        RejectsSize (words_of segment.now) start tag error.kind) }
+    ensures errors { IfErr result (λ error. (tag : ℕ) → IsLocalShape tag shape →
+        SizeError (words_of segment.now) start tag error.kind) }
 {
     match shape {
         LocalShape::Struct(size) => {
@@ -168,8 +168,8 @@ fn structs(segment: &[u8], start: usize, words: u32) -> Result<Body>
         ShapeStands words_there place tag (shape_of words_there place body)) }
     ensures room { IfOk result (λ body. start + room_of body ≤ length segment.now / 8) }
     ensures elements { IfOk result (λ body. words_in body ≤ room_of body) }
-    ensures refused { IfErr result (λ error. (tag : ℕ) → IsLocalShape tag (LocalShape.Structs words) →
-        RejectsSize (words_of segment.now) start tag error.kind) }
+    ensures errors { IfErr result (λ error. (tag : ℕ) → IsLocalShape tag (LocalShape.Structs words) →
+        SizeError (words_of segment.now) start tag error.kind) }
 {
     expect_room(segment, start, 1 + words as u64)?;
     let tag = existing_word(segment, start)?;

@@ -1,7 +1,7 @@
 -- What the program prints for messages.
 use Rattle.std.specs.Prelude.{◌≡◌, ◌⊎◌, ⊤, ℕ, List, [], ◌∷◌, ◌++◌, length, sum, decimal}
 use Rattle.std.specs.List.{flat_map}
-use Rattle.capnp.specs.Prelude.{Appending, Leaving, Declining, lengths, size_in_words, default_root, LacksForm, AppendsForm, LeavesForm, BreaksForm, Writing, DecliningWriting, Transcodes, DeclinesTranscoded}
+use Rattle.capnp.specs.Prelude.{Appending, Leaving, Declining, lengths, size_in_words, default_root, CanonicalFormError, AppendsForm, LeavesForm, FormSinkError, Writing, WritingErrors, Transcodes, TranscodedErrors}
 use Rattle.capnp_ls.specs.declared.command.Command.{Command}
 use Rattle.capnp_ls.specs.declared.command.Command.TheVariants.{Listing, Transcoding, Canonical}
 
@@ -31,10 +31,10 @@ Prints (Transcoding way padding) appends index segments text = Transcodes way ap
 Prints (Canonical format) appends index segments text = PrintsForm appends index segments text
 
 -- how writing a message's canonical form may fail: it has none, or the sink fails for a chunk of it
-abbrev pub DeclinesForm : Appending → Leaving → Declining → DecliningWriting
-DeclinesForm appends leaves refuses = record {
-  lacks = λ index segments. LacksForm (default_root segments);
-  breaks = λ index segments. BreaksForm (default_root segments) refuses;
+abbrev pub FormErrors : Appending → Leaving → Declining → WritingErrors
+FormErrors appends leaves refuses = record {
+  message_error = λ index segments. CanonicalFormError (default_root segments);
+  sink_error = λ index segments. FormSinkError (default_root segments) refuses;
   takes_memory = λ index segments. ⊤;
   leaves = λ index segments. LeavesForm (default_root segments) appends leaves;
 }
@@ -42,12 +42,12 @@ DeclinesForm appends leaves refuses = record {
 -- and how printing for this message may fail: it has no canonical form, or the sink fails for a
 -- chunk of what is printed. Memory is taken for a line and for a form; of these the sink is left
 -- with nothing, or with what it leaves of a chunk.
-abbrev pub DeclinesPrinted : Command → Appending → Leaving → Declining → DecliningWriting
-DeclinesPrinted (Listing format padding) appends leaves refuses = record {
-  lacks = λ index segments kind. ⊥;
-  breaks = λ index segments. refuses (line index segments);
+abbrev pub PrintedErrors : Command → Appending → Leaving → Declining → WritingErrors
+PrintedErrors (Listing format padding) appends leaves refuses = record {
+  message_error = λ index segments kind. ⊥;
+  sink_error = λ index segments. refuses (line index segments);
   takes_memory = λ index segments. ⊤;
   leaves = λ index segments text. (text ≡ []) ⊎ leaves (line index segments) text;
 }
-DeclinesPrinted (Transcoding way padding) appends leaves refuses = DeclinesTranscoded way appends leaves refuses
-DeclinesPrinted (Canonical format) appends leaves refuses = DeclinesForm appends leaves refuses
+PrintedErrors (Transcoding way padding) appends leaves refuses = TranscodedErrors way appends leaves refuses
+PrintedErrors (Canonical format) appends leaves refuses = FormErrors appends leaves refuses

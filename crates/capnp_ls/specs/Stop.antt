@@ -12,17 +12,17 @@ abbrev pub usage_line : List ℕ
 usage_line = codes "usage: capnp_ls list [--packed] [--lenient] | pack [--lenient] | unpack [--lenient] | canon [--packed]" ++ newline
 
 -- how the line for an error begins: the message's index and the number of the kind
-abbrev pub refusal_front : ℕ → ErrorKind → List ℕ
-refusal_front message kind = codes "capnp_ls: message " ++ (decimal message ++ (codes ": error " ++ (decimal (kind_number kind) ++ codes " ")))
+abbrev pub error_front : ℕ → ErrorKind → List ℕ
+error_front message kind = codes "capnp_ls: message " ++ (decimal message ++ (codes ": error " ++ (decimal (kind_number kind) ++ codes " ")))
 
 -- `line` reports the stop; the wording for an error is left open
 abbrev pub IsLineOf : Stop → List ℕ → Type 0
 IsLineOf Usage line = line ≡ usage_line
-IsLineOf (Refused message error) line = (text : List ℕ) × (line ≡ refusal_front message error.kind ++ (text ++ newline))
+IsLineOf (Refused message error) line = (text : List ℕ) × (line ≡ error_front message error.kind ++ (text ++ newline))
 
 -- `line` says why a stream of this name failed; the wording of the reason is left open
-abbrev pub IsFaultLine : List ℕ → List ℕ → Type 0
-IsFaultLine name line = (text : List ℕ) × (line ≡ codes "capnp_ls: " ++ (name ++ (codes ": " ++ (text ++ newline))))
+abbrev pub IsDeviceErrorLine : List ℕ → List ℕ → Type 0
+IsDeviceErrorLine name line = (text : List ℕ) × (line ≡ codes "capnp_ls: " ++ (name ++ (codes ": " ++ (text ++ newline))))
 
 -- the status that the program ends with
 abbrev pub status_of : Stop → ℕ

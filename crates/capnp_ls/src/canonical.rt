@@ -1,5 +1,5 @@
 //! Messages that are written in canonical form.
-ghost use Rattle.capnp_ls.specs.Output.{PrintsForm, DeclinesForm};
+ghost use Rattle.capnp_ls.specs.Output.{PrintsForm, FormErrors};
 
 use capnp::io::Write;
 use capnp::message::{DEFAULT_READER_OPTIONS, Reader};
@@ -15,7 +15,7 @@ pub struct CanonicalForm;
 impl MessageWriter for CanonicalForm {
     ghost writes = { λ _. PrintsForm };
 
-    ghost declines = { λ _. DeclinesForm };
+    ghost writing_errors = { λ _. FormErrors };
 
     fn write_message<W: Write>(
         &self,

@@ -80,7 +80,7 @@ pub fn print_flag<W: Write>(flag: Flag, sink: &mut W) -> Result<()>
         (Adds (W.appends (text_of flag)))) }
     ensures failed { IfErr result (λ error. error.kind ≡ ErrorKind.DeviceFailed →
         Fails (W.failures sink.old) (W.failures sink.new)) }
-    ensures refused { IfErr result (λ error. (error.kind ≡ ErrorKind.DeviceFailed)
+    ensures errors { IfErr result (λ error. (error.kind ≡ ErrorKind.DeviceFailed)
         ⊎ W.refuses (text_of flag) error.kind) }
     ensures grows { Grows W.written W.failures W.same sink.old sink.new }
 {

@@ -2,14 +2,14 @@
 ghost use Rattle.std.specs.Prelude.{◌≡◌, ◌<◌, ◌⊎◌, ◌^◌, [], length, OnOk, OnErr, IfErr};
 ghost use Rattle.capnp.specs.Prelude.{ErrorKind, IfKnown, Fails, Adds, Grows, SkipsMessage, ReadsStream, default_limit, skipping_rules_of, WritesEach};
 ghost use Rattle.capnp_ls.specs.declared.command.Command.{Command};
-ghost use Rattle.capnp_ls.specs.Output.{line_of, Prints, DeclinesPrinted};
+ghost use Rattle.capnp_ls.specs.Output.{line_of, Prints, PrintedErrors};
 
 use crate::command::Command;
 use crate::listing::write_line;
 use capnp::io::{BufRead, Write};
 use capnp::message::DEFAULT_READER_OPTIONS;
 use capnp::serialize::{Padding, SegmentLengthsBuilder};
-use capnp::streams::{Format, StoppedAt};
+use capnp::streams::{Format, FailedAt};
 use capnp::{Result, serialize, serialize_packed};
 use std::alloc::Global;
 
@@ -21,10 +21,10 @@ pub fn list_each<R: BufRead, W: Write>(
     sink: &mut W,
     format: Format,
     padding: Padding,
-) -> std::result::Result<(), StoppedAt>
+) -> std::result::Result<(), FailedAt>
     ensures { WritesEach R.Read source.old source.new W.Write sink.old sink.new padding format
         default_limit (Prints (Command.Listing format padding) W.appends)
-        (DeclinesPrinted (Command.Listing format padding) W.appends W.leaves W.refuses) result }
+        (PrintedErrors (Command.Listing format padding) W.appends W.leaves W.refuses) result }
 {
     let mut spare = SegmentLengthsBuilder::empty(alloc);
     let mut text = Vec::new(alloc);
@@ -32,11 +32,11 @@ pub fn list_each<R: BufRead, W: Write>(
         let lengths = match skip_next(source, format, padding, spare) {
             Ok(Some(lengths)) => lengths,
             Ok(None) => return Ok(()),
-            Err(error) => return Err(StoppedAt { message, error }),
+            Err(error) => return Err(FailedAt { message, error }),
         };
         match print_line(sink, message, &lengths, &mut text) {
             Ok(()) => spare = lengths,
-            Err(error) => return Err(StoppedAt { message, error }),
+            Err(error) => return Err(FailedAt { message, error }),
         }
     }
     Ok(())
@@ -70,7 +70,7 @@ fn print_line<W: Write>(
     requires { length lengths.now < 2 ^ 32 }
     ensures written { OnOk result (IfKnown (W.written sink.old) (W.written sink.new)
         (Adds (W.appends (line_of index lengths.now)))) }
-    ensures refused { IfErr result (λ error. (error.kind ≡ ErrorKind.DeviceFailed)
+    ensures errors { IfErr result (λ error. (error.kind ≡ ErrorKind.DeviceFailed)
         ⊎ (error.kind ≡ ErrorKind.OutOfMemory) ⊎ W.refuses (line_of index lengths.now) error.kind) }
     ensures left { OnErr result (IfKnown (W.written sink.old) (W.written sink.new)
         (Adds (λ part. (part ≡ []) ⊎ W.leaves (line_of index lengths.now) part))) }

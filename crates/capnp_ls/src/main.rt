@@ -17,7 +17,7 @@ mod program;
 mod stop;
 
 use crate::flags::{Flag, print_flag};
-use crate::stop::{Stop, report, report_fault};
+use crate::stop::{Stop, report, report_device_error};
 use capnp::devices::{Input, OUTPUT_BYTES, Output, Watched};
 use capnp::{Error, ErrorKind};
 use std::io::{Read, Write};
@@ -32,11 +32,11 @@ fn main(rt: HostRuntime) -> ExitCode {
         && let Ok(mut diagnostics) = Output::new(rt.alloc(), 0, rt.stderr())
     {
         let _ = report(rt.alloc(), stop, &mut diagnostics);
-        if let Some(fault) = input.fault() {
-            let _ = report_fault(rt.alloc(), "standard input", &fault, &mut diagnostics);
+        if let Some(error) = input.last_error() {
+            let _ = report_device_error(rt.alloc(), "standard input", &error, &mut diagnostics);
         }
-        if let Some(fault) = output.fault() {
-            let _ = report_fault(rt.alloc(), "standard output", &fault, &mut diagnostics);
+        if let Some(error) = output.last_error() {
+            let _ = report_device_error(rt.alloc(), "standard output", &error, &mut diagnostics);
         }
     }
     exit_code(&returned)
@@ -64,8 +64,8 @@ fn flush_after<W: Write + Drop>(
     sink: &mut Output<W>,
 ) -> Result<(), Stop>
     ensures flushed { OnOk result (pending sink.new ≡ []) }
-    ensures stopped { IfErr returned (λ stop. IsErrOf result stop) }
-    ensures fault { OnOk returned (IfErr result (λ stop. IsAtStart stop ErrorKind.DeviceFailed)) }
+    ensures errors { IfErr returned (λ stop. IsErrOf result stop) }
+    ensures device_error { OnOk returned (IfErr result (λ stop. IsAtStart stop ErrorKind.DeviceFailed)) }
     ensures emptied { (pending sink.new ≡ []) ⊎ Fails sink.old.failures.count sink.new.failures.count }
     ensures failed { OnOk returned (OnErr result
         (Fails sink.old.failures.count sink.new.failures.count)) }
@@ -83,7 +83,7 @@ fn flush_after<W: Write + Drop>(
 /// The status that the program ends with: 0, or that of its stop.
 fn exit_code(returned: &Result<(), Stop>) -> ExitCode
     ensures done { OnOk returned.now (exit_status result ≡ 0) }
-    ensures stopped { IfErr returned.now (λ stop. exit_status result ≡ status_of stop) }
+    ensures errors { IfErr returned.now (λ stop. exit_status result ≡ status_of stop) }
 {
     match returned {
         Ok(()) => ExitCode::SUCCESS,

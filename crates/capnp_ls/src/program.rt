@@ -3,7 +3,7 @@ ghost use Rattle.std.specs.Prelude.{◌≡◌, ◌⊎◌, ◌↔◌, map, string
 ghost use Rattle.capnp.specs.Prelude.{WritesEach, default_limit};
 ghost use Rattle.capnp_ls.specs.declared.command.Command.{Command};
 ghost use Rattle.capnp_ls.specs.Commands.{command_words, command_input, padding_of};
-ghost use Rattle.capnp_ls.specs.Output.{Prints, DeclinesPrinted};
+ghost use Rattle.capnp_ls.specs.Output.{Prints, PrintedErrors};
 ghost use Rattle.capnp_ls.specs.Runs.{ForCommand};
 
 use crate::canonical::CanonicalForm;
@@ -13,7 +13,7 @@ use crate::stop::Stop;
 use capnp::io::{BufRead, Write};
 use capnp::message::DEFAULT_READER_OPTIONS;
 use capnp::serialize::{Padding, TableRules};
-use capnp::streams::{StoppedAt, write_each_message};
+use capnp::streams::{FailedAt, write_each_message};
 use std::alloc::Global;
 
 /// Runs the command that these words stand for: reads the messages of `source`, and writes what the
@@ -36,19 +36,19 @@ pub fn run<R: BufRead, W: Write>(
         → (source.new ≡ source.old) × (sink.new ≡ sink.old) }
 
     // For the words of a command: what it reads and writes, and where it stops.
-    ensures declared { IsErrOf result Stop.Usage
+    ensures reported { IsErrOf result Stop.Usage
         ⊎ ((command : Command) × (map string_bytes words.now ≡ command_words command)) }
     ensures runs { (command : Command) → map string_bytes words.now ≡ command_words command →
         ForCommand (WritesEach R.Read source.old source.new W.Write sink.old sink.new
         (padding_of command) (command_input command) default_limit (Prints command W.appends)
-        (DeclinesPrinted command W.appends W.leaves W.refuses)) result }
+        (PrintedErrors command W.appends W.leaves W.refuses)) result }
 {
     let Some(command) = Command::from_words(words) else {
         return Err(Stop::Usage);
     };
     match print_each(alloc, source, sink, command) {
         Ok(()) => Ok(()),
-        Err(StoppedAt { message, error }) => Err(Stop::Refused { message, error }),
+        Err(FailedAt { message, error }) => Err(Stop::Refused { message, error }),
     }
 }
 
@@ -58,10 +58,10 @@ fn print_each<R: BufRead, W: Write>(
     source: &mut R,
     sink: &mut W,
     command: Command,
-) -> std::result::Result<(), StoppedAt>
+) -> std::result::Result<(), FailedAt>
     ensures { WritesEach R.Read source.old source.new W.Write sink.old sink.new
         (padding_of command) (command_input command) default_limit (Prints command W.appends)
-        (DeclinesPrinted command W.appends W.leaves W.refuses) result }
+        (PrintedErrors command W.appends W.leaves W.refuses) result }
 {
     let options = DEFAULT_READER_OPTIONS;
     match command {

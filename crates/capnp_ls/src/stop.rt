@@ -2,7 +2,7 @@
 ghost use Rattle.std.specs.Prelude.{◌≡◌, ◌⊎◌, List, ℕ, [], IfOk, IfErr, OnOk, OnErr, string_bytes};
 ghost use Rattle.capnp.specs.Prelude.{ErrorKind, Fails, IfKnown, Adds, Grows};
 ghost use Rattle.capnp_ls.specs.declared.stop.Stop.TheVariants.{Usage, Refused};
-ghost use Rattle.capnp_ls.specs.Stop.{IsLineOf, IsFaultLine, status_of, usage_line};
+ghost use Rattle.capnp_ls.specs.Stop.{IsLineOf, IsDeviceErrorLine, status_of, usage_line};
 
 use capnp::io::Write;
 use capnp::{Error, ErrorKind, Result};
@@ -42,7 +42,7 @@ pub fn report<W: Write>(alloc: Global, stop: &Stop, sink: &mut W) -> Result<()>
         (Adds (λ text. (line : List ℕ) × IsLineOf stop.now line × W.appends line text))) }
     ensures failed { IfErr result (λ error. error.kind ≡ ErrorKind.DeviceFailed →
         Fails (W.failures sink.old) (W.failures sink.new)) }
-    ensures refused { IfErr result (λ error. (error.kind ≡ ErrorKind.DeviceFailed)
+    ensures errors { IfErr result (λ error. (error.kind ≡ ErrorKind.DeviceFailed)
         ⊎ (error.kind ≡ ErrorKind.OutOfMemory)
         ⊎ ((line : List ℕ) × IsLineOf stop.now line × W.refuses line error.kind)) }
     ensures left { OnErr result (IfKnown (W.written sink.old) (W.written sink.new) (Adds (λ part.
@@ -55,13 +55,13 @@ pub fn report<W: Write>(alloc: Global, stop: &Stop, sink: &mut W) -> Result<()>
     match stop {
         Stop::Usage => sink.write_all(USAGE.as_bytes()),
         Stop::Refused { message, error } => {
-            let line = refusal_line(alloc, *message, error)?;
+            let line = error_line(alloc, *message, error)?;
             sink.write_all(line.as_bytes())
         }
     }
 }
 
-fn refusal_line(
+fn error_line(
     alloc: Global,
     message: u64,
     error: &Error,
@@ -79,35 +79,35 @@ fn refusal_line(
 /// Writes why the stream of this name failed as one line, in one chunk.
 ///
 /// Fails as `report` does.
-pub fn report_fault<W: Write>(
+pub fn report_device_error<W: Write>(
     alloc: Global,
     name: &str,
-    fault: &io::Error,
+    device_error: &io::Error,
     sink: &mut W,
 ) -> Result<()>
     ensures line { OnOk result (IfKnown (W.written sink.old) (W.written sink.new)
-        (Adds (λ text. (line : List ℕ) × IsFaultLine name.now line × W.appends line text))) }
+        (Adds (λ text. (line : List ℕ) × IsDeviceErrorLine name.now line × W.appends line text))) }
     ensures failed { IfErr result (λ error. error.kind ≡ ErrorKind.DeviceFailed →
         Fails (W.failures sink.old) (W.failures sink.new)) }
-    ensures refused { IfErr result (λ error. (error.kind ≡ ErrorKind.DeviceFailed)
+    ensures errors { IfErr result (λ error. (error.kind ≡ ErrorKind.DeviceFailed)
         ⊎ (error.kind ≡ ErrorKind.OutOfMemory)
-        ⊎ ((line : List ℕ) × IsFaultLine name.now line × W.refuses line error.kind)) }
+        ⊎ ((line : List ℕ) × IsDeviceErrorLine name.now line × W.refuses line error.kind)) }
     ensures left { OnErr result (IfKnown (W.written sink.old) (W.written sink.new) (Adds (λ part.
-        (part ≡ []) ⊎ ((line : List ℕ) × IsFaultLine name.now line × W.leaves line part)))) }
+        (part ≡ []) ⊎ ((line : List ℕ) × IsDeviceErrorLine name.now line × W.leaves line part)))) }
     ensures grows { Grows W.written W.failures W.same sink.old sink.new }
 {
-    let line = fault_line(alloc, name, fault)?;
+    let line = device_error_line(alloc, name, device_error)?;
     sink.write_all(line.as_bytes())
 }
 
-fn fault_line(
+fn device_error_line(
     alloc: Global,
     name: &str,
-    fault: &io::Error,
+    device_error: &io::Error,
 ) -> std::result::Result<String, AllocError>
-    ensures { IfOk result (λ line. IsFaultLine name.now (string_bytes line)) }
+    ensures { IfOk result (λ line. IsDeviceErrorLine name.now (string_bytes line)) }
 {
-    let text = fault.to_string(alloc)?;
+    let text = device_error.to_string(alloc)?;
     let mut line = format!(in alloc; "capnp_ls: {name}: ")?;
     line.push_str(&text)?;
     line.push('\n')?;

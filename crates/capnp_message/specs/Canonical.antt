@@ -5,7 +5,7 @@ use Rattle.capnp_frame.specs.declared.error.Error.{Error}
 use Rattle.capnp_frame.specs.declared.error.ErrorKind.{ErrorKind}
 use Rattle.capnp_frame.specs.declared.error.ErrorKind.TheVariants.{OutOfMemory}
 use Rattle.capnp_layout.specs.Prelude.{Trees, total_words, trim}
-use Rattle.capnp_wire.specs.Prelude.{Pointer, LacksWords, LeadsToTree, StopsWalkFrom, IsCanonicalForm}
+use Rattle.capnp_wire.specs.Prelude.{Pointer, WordsError, LeadsToTree, WalkErrorFrom, IsCanonicalForm}
 
 -- A message has a canonical form: there is a tree at its root, within the nesting depth left and
 -- the limit, and the form has at most 2 ^ 29 words with its root pointer.
@@ -15,14 +15,14 @@ pub record HasForm (pointer : Pointer) : Type 0 where
   pub few : 1 + total_words (trim trees) ≤ 2 ^ 29
 
 -- It has none: a walk over its root tree stops with this error, or the form has more words.
-abbrev pub LacksForm : Pointer → ErrorKind → Type 0
-LacksForm pointer kind = LacksWords (LeadsToTree pointer) (StopsWalkFrom pointer) true kind
+abbrev pub CanonicalFormError : Pointer → ErrorKind → Type 0
+CanonicalFormError pointer kind = WordsError (LeadsToTree pointer) (WalkErrorFrom pointer) true kind
 
 -- What each call keeps that returns the canonical form; `words` is how its words are seen. The form
 -- is returned, or the call fails because there is none, with the one error, or because memory is
 -- lacking.
 pub record ReturnsForm {T : Type 0} (pointer : Pointer) (words : T → List ℕ) (result : Result T Error) : Type 0 where
   pub returned : MatchResult result (λ form. IsCanonicalForm pointer (words form))
-      (λ error. LacksForm pointer error.kind ⊎ (error.kind ≡ OutOfMemory))
+      (λ error. CanonicalFormError pointer error.kind ⊎ (error.kind ≡ OutOfMemory))
   pub found : HasForm pointer → IfErr result (λ error. error.kind ≡ OutOfMemory)
-  pub exact : (kind : ErrorKind) → LacksForm pointer kind → IsErrAnd result (λ error. error.kind ≡ kind)
+  pub exact : (kind : ErrorKind) → CanonicalFormError pointer kind → IsErrAnd result (λ error. error.kind ≡ kind)

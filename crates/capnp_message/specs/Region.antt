@@ -28,8 +28,8 @@ abbrev pub GrantsRegion : {X : Type 0} → Option X → ℕ → ℕ → ℕ → 
 GrantsRegion region size asked words = IsSome region × (asked ≤ size / 8) × (words ≡ size / 8)
 
 -- a request of more words than it has fails, and while it is out so does any other one
-abbrev pub RefusesRegion : {X : Type 0} → Option X → ℕ → ℕ → ErrorKind → Type 0
-RefusesRegion region size asked kind =
+abbrev pub RegionError : {X : Type 0} → Option X → ℕ → ℕ → ErrorKind → Type 0
+RegionError region size asked kind =
     ((size / 8 < asked) × (kind ≡ AllocationTooLarge asked)) ⊎ ((asked ≤ size / 8) × (region ≡ None) × (kind ≡ SegmentTaken))
 
 -- in either case there is a list of the segments that are out, which may be empty

@@ -12,8 +12,8 @@ use Rattle.capnp_message.specs.Seen.{ReadMessage, HasRoot}
 -- What each view of the root keeps: the view shows what is there, or the call fails because there
 -- is no word for the root, or with a stated error of the view.
 pub record ReadsRoot {V : Type 0} (pointer : Pointer) (shows : V → Type 0) (accepts : Type 0)
-    (refuses declines : ErrorKind → Type 0) (result : Result V Error) : Type 0 where
-  pub returned : MatchResult result shows (λ error. NoWord pointer.message root error.kind ⊎ refuses error.kind)
+    (fails form_error : ErrorKind → Type 0) (result : Result V Error) : Type 0 where
+  pub returned : MatchResult result shows (λ error. NoWord pointer.message root error.kind ⊎ fails error.kind)
   pub stands : OnOk result (HasRoot pointer)
   -- without a limit there is a view of what it accepts, and no error of the limit
   pub found : pointer.limit ≡ None → HasRoot pointer → accepts → IsOk result
@@ -21,8 +21,8 @@ pub record ReadsRoot {V : Type 0} (pointer : Pointer) (shows : V → Type 0) (ac
   -- where no object is there, this is the error, whatever was read before, unless the view accepts
   -- the pointer itself
   pub exact : (kind : ErrorKind) → IsInvalidPointer pointer kind → (accepts → ⊥) → IsErrAnd result (λ error. error.kind ≡ kind)
-  -- where an object is there that the view declines
-  pub declined : (kind : ErrorKind) → HasRoot pointer → declines kind
+  -- where an object is there that the view rejects
+  pub form_errors : (kind : ErrorKind) → HasRoot pointer → form_error kind
       → IsErrAnd result (λ error. (error.kind ≡ kind) ⊎ MeetsLimit pointer error.kind)
   -- where there is no word for the root
   pub nowhere : (kind : ErrorKind) → NoWord pointer.message root kind → IsErrAnd result (λ error. error.kind ≡ kind)

@@ -65,7 +65,7 @@ impl<A: Allocator> Builder<A> {
     /// where the list of segments can't grow, and as the allocator does to hand out a further one.
     /// The root is then null.
     pub fn set_root<T, V: SetterInput<T> + Drop>(&mut self, value: V) -> Result<()>
-        ensures { SetsRoot A.Allocator (V.has_tree value) (V.refuses value)
+        ensures { SetsRoot A.Allocator (V.has_tree value) (V.fails value)
             self.old self.new result }
     {
         self.arena.set_root::<T, V>(&value)
@@ -78,7 +78,7 @@ impl<A: Allocator> Builder<A> {
     /// `NotOneSegment` where there are more segments, as `measure` of the value does, and with
     /// `NotOneSegment` where the segment has no room. The root is then null.
     pub fn set_root_canonical<T, V: SetterInput<T> + Drop>(&mut self, value: V) -> Result<()>
-        ensures { SetsRootCanonical A.Allocator (V.has_tree value) (V.refuses value)
+        ensures { SetsRootCanonical A.Allocator (V.has_tree value) (V.fails value)
             self.old self.new result }
     {
         self.arena.set_root_canonical::<T, V>(&value)
@@ -90,8 +90,8 @@ impl<A: Allocator> Builder<A> {
     /// Fails as `any_pointer::Reader::get_as` of `capnp_wire` does of the root.
     pub fn get_root_as_reader<'a, T: FromPointerReader<'a, BuilderArena<A>>>(&'a self) -> Result<T>
         ensures { let pointer = unlimited_root (map used_of self.now.spaces) in
-            IsViewOf pointer (T.shows pointer) (T.accepts pointer) (T.refuses pointer)
-            (T.declines pointer) result }
+            IsViewOf pointer (T.shows pointer) (T.accepts pointer) (T.fails pointer)
+            (T.form_error pointer) result }
     {
         self.arena.get_root_as_reader().get_as()
     }

@@ -125,7 +125,7 @@ impl Allocator for HeapAllocator {
     // Memory is never sure to be there.
     ghost grants = { λ allocator asked words. ⊥ };
 
-    ghost refuses = { λ allocator asked kind. kind ≡ OutOfMemory };
+    ghost fails = { λ allocator asked kind. kind ≡ OutOfMemory };
 
     // The next size is then the suggested first one again, or the maximum.
     ghost returns = { λ old segment words new. StartsAnew old new };

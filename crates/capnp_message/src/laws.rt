@@ -4,7 +4,7 @@ ghost use Rattle.capnp_frame.specs.declared.error.ErrorKind.TheVariants.{OutOfMe
 ghost use Rattle.capnp_layout.specs.Prelude.{words_of, root, numbers_of};
 ghost use Rattle.capnp_wire.specs.Prelude.{nesting_of, Pointer, IsCanonicalForm};
 ghost use Rattle.capnp_message.specs.Seen.{root_of};
-ghost use Rattle.capnp_message.specs.Canonical.{LacksForm};
+ghost use Rattle.capnp_message.specs.Canonical.{CanonicalFormError};
 ghost use Rattle.capnp_message.specs.Region.{IsOutAlone, IsProvidedAlone, IsAvailable};
 
 use crate::reader::Reader;
@@ -45,7 +45,7 @@ pub fn canonicalize_twice<S: ReaderSegments + Drop>(
     ensures canonical { IfOk result (λ returned. returned.is_canonical ≡ true) }
     ensures same { IfOk result (λ returned. numbers_of returned.again.items ≡ numbers_of returned.words.items) }
     ensures kinds { let pointer = root_of S.segments (record { segments = segments; options = options }) in
-        IfErr result (λ error. LacksForm pointer error.kind ⊎ (error.kind ≡ OutOfMemory)) }
+        IfErr result (λ error. CanonicalFormError pointer error.kind ⊎ (error.kind ≡ OutOfMemory)) }
 {
     let reader = Reader::new(segments, options);
     let words = reader.canonicalize(alloc)?;

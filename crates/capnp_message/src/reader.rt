@@ -5,9 +5,9 @@ ghost use Rattle.capnp_frame.specs.Prelude.{IsWholeWords, size_in_words};
 ghost use Rattle.capnp_frame.specs.declared.error.ErrorKind.{ErrorKind};
 ghost use Rattle.capnp_frame.specs.declared.error.ErrorKind.TheVariants.{ReadLimitExceeded, OutOfMemory};
 ghost use Rattle.capnp_layout.specs.Prelude.{root, words_of, Trees, numbers_of};
-ghost use Rattle.capnp_wire.specs.Prelude.{IsCanonical, RejectsCanonicity, LeadsToTree, StopsWalkFrom, IsCanonicalForm};
+ghost use Rattle.capnp_wire.specs.Prelude.{IsCanonical, CanonicityError, LeadsToTree, WalkErrorFrom, IsCanonicalForm};
 ghost use Rattle.capnp_message.specs.Seen.{root_of};
-ghost use Rattle.capnp_message.specs.Canonical.{HasForm, LacksForm, ReturnsForm};
+ghost use Rattle.capnp_message.specs.Canonical.{HasForm, CanonicalFormError, ReturnsForm};
 ghost use Rattle.capnp_message.specs.Roots.{ReadsRoot};
 
 use crate::typed_reader::TypedReader;
@@ -57,8 +57,8 @@ impl<S: ReaderSegments> Reader<S> {
     /// the root pointer.
     pub fn get_root<'a, T: FromPointerReader<'a, S>>(&'a self) -> Result<T>
         ensures { let pointer = root_of S.segments self.now in
-            ReadsRoot pointer (T.shows pointer) (T.accepts pointer) (T.refuses pointer)
-            (T.declines pointer) result }
+            ReadsRoot pointer (T.shows pointer) (T.accepts pointer) (T.fails pointer)
+            (T.form_error pointer) result }
     {
         self.arena.get_root()?.get_as()
     }
@@ -75,13 +75,13 @@ impl<S: ReaderSegments> Reader<S> {
     pub fn is_canonical(&self) -> Result<bool>
         ensures returned { let pointer = root_of S.segments self.now in
             MatchResult result (λ is. IsTrue is ↔ IsCanonical pointer.message)
-            (λ error. RejectsCanonicity pointer.message pointer.nesting pointer.limit error.kind) }
+            (λ error. CanonicityError pointer.message pointer.nesting pointer.limit error.kind) }
         ensures exact { let pointer = root_of S.segments self.now in
-            (kind : ErrorKind) → RejectsCanonicity pointer.message pointer.nesting pointer.limit kind →
+            (kind : ErrorKind) → CanonicityError pointer.message pointer.nesting pointer.limit kind →
             IsErrAnd result (λ error. error.kind ≡ kind) }
         ensures found { (trees : Trees) → LeadsToTree (root_of S.segments self.now) trees → IsOk result }
-        ensures stops { IfErr result (λ error.
-            StopsWalkFrom (root_of S.segments self.now) error.kind) }
+        ensures walk_error { IfErr result (λ error.
+            WalkErrorFrom (root_of S.segments self.now) error.kind) }
     {
         self.arena.is_canonical()
     }
@@ -96,11 +96,11 @@ impl<S: ReaderSegments> Reader<S> {
     pub fn canonical_segment(&self, alloc: Global) -> Result<Vec<u8>>
         ensures returned { let pointer = root_of S.segments self.now in MatchResult result
             (λ bytes. IsCanonicalForm pointer (words_of bytes.items))
-            (λ error. LacksForm pointer error.kind ⊎ (error.kind ≡ OutOfMemory)) }
+            (λ error. CanonicalFormError pointer error.kind ⊎ (error.kind ≡ OutOfMemory)) }
         ensures whole { IfOk result (λ bytes. IsWholeWords bytes.items) }
         ensures found { HasForm (root_of S.segments self.now) →
             IfErr result (λ error. error.kind ≡ OutOfMemory) }
-        ensures exact { (kind : ErrorKind) → LacksForm (root_of S.segments self.now) kind →
+        ensures exact { (kind : ErrorKind) → CanonicalFormError (root_of S.segments self.now) kind →
             IsErrAnd result (λ error. error.kind ≡ kind) }
     {
         let root = self.arena.get_root()?;

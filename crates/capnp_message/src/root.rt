@@ -55,7 +55,7 @@ impl<A: Allocator> Builder<A> {
 
     /// Makes the root a new object of length `n`, all zero, and returns a view that writes it.
     ///
-    /// Fails as the allocator does to hand out the first segment; with a kind that `refuses` of the
+    /// Fails as the allocator does to hand out the first segment; with a kind that `fails` of the
     /// type names, where the type has no object of this length (the types of `capnp_build` with
     /// `AllocationTooLarge`); and for want of room as `set_root` does. The root is then null.
     ///
@@ -91,7 +91,7 @@ impl<A: Allocator> Builder<A> {
 
     /// The object at the root, as a view that writes it.
     ///
-    /// Fails as the allocator does to hand out the first segment, and with a kind that `declines`
+    /// Fails as the allocator does to hand out the first segment, and with a kind that `form_error`
     /// of the type names, where the type doesn't accept the object (the types of `capnp_build` with
     /// `WrongPointerKind` or `TextNotTerminated`, as their reading views do). The root stays as it
     /// is.

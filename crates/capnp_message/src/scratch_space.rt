@@ -138,7 +138,7 @@ impl<'a> Allocator for ScratchSpaceHeapAllocator<'a> {
 
     ghost grants = { λ allocator. GrantsRegion allocator.region allocator.size };
 
-    ghost refuses = { λ allocator asked kind. kind ≡ OutOfMemory };
+    ghost fails = { λ allocator asked kind. kind ≡ OutOfMemory };
 
     // The region is available again, or the heap is as after taking back one of its segments.
     ghost returns = { λ old segment words new. ReturnsTo segment.is_provided old new };

@@ -4,7 +4,7 @@ ghost use Rattle.std.specs.Option.{ForSome};
 ghost use Rattle.std.specs.Result.{IsErrAnd};
 ghost use Rattle.capnp_frame.specs.declared.error.ErrorKind.TheVariants.{AllocationTooLarge, SegmentTaken};
 ghost use Rattle.capnp_build.specs.Prelude.{ZeroFrom, TakesOff, IsOut, HandsOut};
-ghost use Rattle.capnp_message.specs.Region.{IsOutAlone, GrantsRegion, RefusesRegion, region_out, HoldsRegion};
+ghost use Rattle.capnp_message.specs.Region.{IsOutAlone, GrantsRegion, RegionError, region_out, HoldsRegion};
 
 use capnp_build::allocator::Allocator;
 use capnp_frame::{Error, ErrorKind, Result};
@@ -54,7 +54,7 @@ impl<'a> Allocator for SingleSegmentAllocator<'a> {
 
     ghost grants = { λ allocator. GrantsRegion allocator.region allocator.size };
 
-    ghost refuses = { λ allocator. RefusesRegion allocator.region allocator.size };
+    ghost fails = { λ allocator. RegionError allocator.region allocator.size };
 
     ghost returns = { λ old segment words new. IsAvailable new.region old.size };
 
@@ -63,7 +63,7 @@ impl<'a> Allocator for SingleSegmentAllocator<'a> {
         ensures hands_out { HandsOut (λ allocator. IsOutAlone allocator.region allocator.size)
             (λ old new. new.size ≡ old.size)
             (λ allocator. GrantsRegion allocator.region allocator.size)
-            (λ allocator. RefusesRegion allocator.region allocator.size) (λ s. s.now) (λ s. true)
+            (λ allocator. RegionError allocator.region allocator.size) (λ s. s.now) (λ s. true)
             minimum_size self.old self.new result }
         ensures too_large { self.old.size / 8 < minimum_size →
             IsErrAnd result (λ error. error.kind ≡ AllocationTooLarge minimum_size) }

@@ -88,7 +88,7 @@ impl<T, A: Allocator> TypedBuilder<T, A> {
 
     /// Sets the root to a value. It fails as `set_root` of the message does.
     pub fn set_root<V: SetterInput<T> + Drop>(&mut self, value: V) -> Result<()>
-        ensures { SetsRoot A.Allocator (V.has_tree value) (V.refuses value)
+        ensures { SetsRoot A.Allocator (V.has_tree value) (V.fails value)
             self.old self.new result }
     {
         self.message.set_root::<T, V>(value)
@@ -101,7 +101,7 @@ impl<T, A: Allocator> TypedBuilder<T, A> {
         T: Owned<'a, BuilderArena<A>>,
         ensures { let pointer = unlimited_root (map used_of self.now.spaces) in
             IsViewOf pointer (T.Reader.shows pointer) (T.Reader.accepts pointer)
-            (T.Reader.refuses pointer) (T.Reader.declines pointer) result }
+            (T.Reader.fails pointer) (T.Reader.form_error pointer) result }
     {
         self.message.get_root_as_reader()
     }

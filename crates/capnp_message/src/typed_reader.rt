@@ -46,7 +46,7 @@ impl<S: ReaderSegments, T> TypedReader<S, T> {
         T: Owned<'a, S>,
         ensures { let pointer = root_of S.segments self.now in
             ReadsRoot pointer (T.Reader.shows pointer) (T.Reader.accepts pointer)
-            (T.Reader.refuses pointer) (T.Reader.declines pointer) result }
+            (T.Reader.fails pointer) (T.Reader.form_error pointer) result }
     {
         self.message.get_root()
     }

@@ -23,8 +23,8 @@ fn what_is_read_is_counted(rt: HostRuntime) -> Result<()> {
     let text = root_as_text(&arena)?;
     expect(&rt, "a text", text, b"Hello, World!".as_slice());
     for _ in 0..3 {
-        let refused = kind_of(root_as_text(&arena));
-        expect(&rt, "again", refused, Some(ErrorKind::ReadLimitExceeded));
+        let failed = kind_of(root_as_text(&arena));
+        expect(&rt, "again", failed, Some(ErrorKind::ReadLimitExceeded));
     }
     expect(&rt, "a walk", size_of(&arena), Ok(2));
     Ok(())

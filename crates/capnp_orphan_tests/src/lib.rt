@@ -13,7 +13,7 @@ mod kept_memory;
 #[cfg(test)]
 mod printed_capnp;
 #[cfg(test)]
-mod refusals;
+mod errors;
 #[cfg(test)]
 mod regions;
 mod uses;

@@ -1,11 +1,11 @@
 //! Regions that are too short, full or used again.
 use crate::fixtures::expect;
-use crate::refusals::refusal;
+use crate::errors::error_of;
 use capnp_frame::{ErrorKind, Result};
 use capnp_orphans::{Orphanage, Region};
 use std::process::Abort;
 
-fn lacks_words(words: u32) -> Option<ErrorKind> {
+fn too_many_words(words: u32) -> Option<ErrorKind> {
     Some(ErrorKind::AllocationTooLarge(words))
 }
 
@@ -13,8 +13,8 @@ fn lacks_words(words: u32) -> Option<ErrorKind> {
 fn fewer_than_8_bytes_have_no_root(rt: HostRuntime) {
     let mut region = [7; 7];
     for len in 0..8 {
-        let refused = Orphanage::in_region(&mut region[..len]);
-        expect(&rt, len, refusal(refused), lacks_words(1));
+        let failed = Orphanage::in_region(&mut region[..len]);
+        expect(&rt, len, error_of(failed), too_many_words(1));
     }
 }
 
@@ -25,24 +25,24 @@ const BOTH: &[u8] = b"\0\0\0\0\0\0\0\0\x01\0\0\0\0\0\0\0\
     \x02\x02\x02\x02\x02\x02\x02\x02\x02\x02\x02\x02\x02\x02\x02\x02";
 
 // How data fails in a region.
-fn data_refusal(objects: &mut Orphanage<Region<'_>>, bytes: &[u8]) -> Option<ErrorKind> {
-    refusal(objects.data(bytes))
+fn data_error(objects: &mut Orphanage<Region<'_>>, bytes: &[u8]) -> Option<ErrorKind> {
+    error_of(objects.data(bytes))
 }
 
 // After the root's word and one of data there is room for two words, and for no words.
 fn is_filled(rt: &impl Abort, objects: &mut Orphanage<Region<'_>>) -> Result<()> {
-    expect(rt, "one", data_refusal(objects, &[1]), None);
+    expect(rt, "one", data_error(objects, &[1]), None);
     expect(
         rt,
         "17 bytes",
-        data_refusal(objects, &[3; 17]),
-        lacks_words(3),
+        data_error(objects, &[3; 17]),
+        too_many_words(3),
     );
     expect(rt, "one", objects.bytes(), ONE);
-    expect(rt, "16 bytes", data_refusal(objects, &[2; 16]), None);
+    expect(rt, "16 bytes", data_error(objects, &[2; 16]), None);
     expect(rt, "both", objects.bytes().len(), 32);
     objects.numbers(&[(), ()])?;
-    expect(rt, "a byte", data_refusal(objects, &[3]), lacks_words(1));
+    expect(rt, "a byte", data_error(objects, &[3]), too_many_words(1));
     expect(rt, "both, and no words", objects.bytes(), BOTH);
     Ok(())
 }

@@ -6,7 +6,7 @@ use Rattle.capnp_layout.specs.Prelude.{words_of, Root}
 use Rattle.capnp_layout.proofs.words.WordLemmas.{length-words_of}
 use Rattle.capnp_layout.proofs.words.PutLemmas.{words_split}
 use Rattle.capnp_orphans.specs.Orphans.{link, IsOrphan}
-use Rattle.capnp_orphans.specs.Segments.{Segment, IsSegment, body_of, Appends, AppendsObject, ExceedsMost, PutsRoot, IsWrittenOver}
+use Rattle.capnp_orphans.specs.Segments.{Segment, IsSegment, body_of, Appends, AppendsObject, IsPastMost, PutsRoot, IsWrittenOver}
 use Rattle.capnp_orphans.specs.Adding.{Keeps, Adds, SetsRoot, AddsRoot}
 use Rattle.capnp_orphans.specs.OrphanLaws.{still_orphan}
 
@@ -62,7 +62,7 @@ adds_one holds words old new word number object is appends same = record {
 
 -- an object is appended
 pub appended : (holds : List ℕ → List ℕ → ℕ → Type 0) (words : ℕ) (old new : Segment) (block : List ℕ) (word : ℕ) → IsSegment old → new.bytes ≡ old.bytes ++ block → length block ≡ 8 * words
-    → new.most ≡ old.most → ¬ (ExceedsMost words old) → old.capacity ≤ new.capacity → length new.bytes ≤ new.capacity
+    → new.most ≡ old.most → ¬ (IsPastMost words old) → old.capacity ≤ new.capacity → length new.bytes ≤ new.capacity
     → ((body : List ℕ) → length old.bytes / 8 ≡ 1 + length body → holds body (body ++ words_of block) word) → AppendsObject holds words old new (Ok word)
 appended holds words old new block word is bytes_are len most room memory fits h = record {
   appended = record { block = block; len = len; bytes_are = bytes_are; body_is = body_after old block new.bytes is bytes_are };
@@ -70,7 +70,7 @@ appended holds words old new block word is bytes_are len most room memory fits h
   unchanged = tt;
   kind = tt;
   granted = λ room. refl;
-  lacks = room;
+  past_most = room;
   most = most;
   memory = memory;
   within_memory = fits;
@@ -78,7 +78,7 @@ appended holds words old new block word is bytes_are len most room memory fits h
 
 -- over the bytes after the used ones
 pub over_appended : (holds : List ℕ → List ℕ → ℕ → Type 0) (words used : ℕ) (old new : Segment) (bytes over : List ℕ) (word : ℕ) → IsSegment old → take used bytes ≡ old.bytes → used ≤ length bytes
-    → IsWrittenOver used words holds word bytes over → new.bytes ≡ take (used + 8 * words) over → new.most ≡ old.most → ¬ (ExceedsMost words old) → old.capacity ≤ new.capacity
+    → IsWrittenOver used words holds word bytes over → new.bytes ≡ take (used + 8 * words) over → new.most ≡ old.most → ¬ (IsPastMost words old) → old.capacity ≤ new.capacity
     → length bytes ≤ new.capacity → AppendsObject holds words old new (Ok word)
 over_appended holds words used old new bytes over word is old_is within written new_is most room memory fits =
     let used_long : length old.bytes ≡ used = omega (arith, ap (λ (l : List ℕ). length l) old_is, length-take used bytes, within) in
@@ -96,7 +96,7 @@ pub region_appended : (holds : List ℕ → List ℕ → ℕ → Type 0) (words 
     → used + 8 * words ≤ length region → IsWrittenOver used words holds word region new → AppendsObject holds words old (grown_region (used + 8 * words) new) (Ok word)
 region_appended holds words used old region new word is old_is within written =
     let capacity_is : old.capacity ≡ length region = sym (ap (λ (s : Segment). s.capacity) old_is) in
-    let room : ¬ (ExceedsMost words old) = subst (λ (s : Segment). ¬ (ExceedsMost words s)) old_is (λ no. absurd (omega (arith, no, within, length-take used region))) in
+    let room : ¬ (IsPastMost words old) = subst (λ (s : Segment). ¬ (IsPastMost words s)) old_is (λ no. absurd (omega (arith, no, within, length-take used region))) in
     over_appended holds words used old (grown_region (used + 8 * words) new) region new word is (ap (λ (s : Segment). s.bytes) old_is) (omega (arith, within)) written refl
     (ap (λ (n : ℕ). Some n) written.len ∙ ap (λ (s : Segment). s.most) old_is) room (omega (arith, capacity_is, written.len)) (omega (arith, written.len))
 
@@ -111,7 +111,7 @@ pub heap_appended : (holds : List ℕ → List ℕ → ℕ → Type 0) (words us
 heap_appended holds words used size capacity more old bytes longer seen new word is old_is front within room grows seen_is size_is written =
     let capacity_is : old.capacity ≡ capacity = sym (ap (λ (s : Segment). s.capacity) old_is) in
     let seen_long : length seen ≡ length longer = ap (λ (l : List ℕ). length l) seen_is in
-    let free : ¬ (ExceedsMost words old) = subst (λ (s : Segment). ¬ (ExceedsMost words s)) old_is (λ no. no) in
+    let free : ¬ (IsPastMost words old) = subst (λ (s : Segment). ¬ (IsPastMost words s)) old_is (λ no. no) in
     let kept : take size (new ++ drop (length new) longer) ≡ new =
     ap (λ (k : ℕ). take k (new ++ drop (length new) longer)) (size_is ∙ sym written.len) ∙ take-append_seam new (drop (length new) longer) in
     subst (λ (l : List ℕ). AppendsObject holds words old (grown_heap (used + 8 * words) l more) (Ok word)) (sym kept)

@@ -12,16 +12,16 @@ use Rattle.capnp_layout.specs.Prelude.{words_of, Form, Trees, none, tree, total_
 use Rattle.capnp_layout.specs.Tree.{is_null}
 use Rattle.capnp_layout.specs.declared.place.Place.{Place}
 use Rattle.capnp_wire.specs.Prelude.{LeadsToTree, starts_with_null, Struct, Pointer, Denotes, pointer_in}
-use Rattle.capnp_layout.proofs.pointers.FaultLemmas.{not_null}
+use Rattle.capnp_layout.proofs.pointers.PointerErrorLemmas.{not_null}
 use Rattle.capnp_layout.proofs.layouts.LayoutLemmas.{if_positive}
 use Rattle.capnp_wire.proofs.views.OneValueLemmas.{one_of_pointer}
-use Rattle.capnp_wire.proofs.views.PartWordLemmas.{null_declared}
+use Rattle.capnp_wire.proofs.views.PartWordLemmas.{null_reported}
 use Rattle.capnp_layout.proofs.words.PutLemmas.{words_split}
 use Rattle.capnp_orphans.specs.Orphans.{link, IsOrphan}
-use Rattle.capnp_orphans.specs.Segments.{Segment, body_of, Appends, ExceedsMost}
+use Rattle.capnp_orphans.specs.Segments.{Segment, body_of, Appends, IsPastMost}
 use Rattle.capnp_orphans.specs.Held.{HoldsValue}
 use Rattle.capnp_orphans.specs.Adding.{Fails}
-use Rattle.capnp_orphans.specs.Copied.{TakesCopy, RefusesCopy, TakesCopies}
+use Rattle.capnp_orphans.specs.Copied.{TakesCopy, CopyError, TakesCopies}
 
 -- a word of what is filled up with zeros
 zero_word : (count i : ℕ) → slice_index (replicate count 0) i ≡ 0
@@ -95,20 +95,20 @@ length-appended words old new appends =
     ap (λ (l : List ℕ). length l) appends.bytes_are ∙ length-append old.bytes appends.block ∙ ap (λ (n : ℕ). length old.bytes + n) appends.len
 
 -- a pointer that can't be copied after some words
-abbrev pub Stops : Pointer → ℕ → Segment → ErrorKind → Type 0
-Stops pointer before segment kind = RefusesCopy pointer kind
+abbrev pub PointerCopyError : Pointer → ℕ → Segment → ErrorKind → Type 0
+PointerCopyError pointer before segment kind = CopyError pointer kind
     ⊎ ((words : ℕ) × TakesCopy pointer words × (kind ≡ AllocationTooLarge words)
-    × ((2 ^ 29 ≤ length segment.bytes / 8 + before + words) ⊎ ExceedsMost (before + words) segment))
+    × ((2 ^ 29 ≤ length segment.bytes / 8 + before + words) ⊎ IsPastMost (before + words) segment))
 
 -- it can't be
-pub stopped : {T : Type 0} (pointer : Pointer) (before : ℕ) (kind : ErrorKind) (old between : Segment) (result : Result T Error) → Appends before old between → between.most ≡ old.most
-    → Fails (TakesCopy pointer) (RefusesCopy pointer) between result → Stops pointer before old kind → IsErrAnd result (λ error. error.kind ≡ kind)
-stopped pointer before kind old between result appends most fails (inl refused) = fails.exact kind refused
-stopped pointer before kind old between result appends most fails (inr (words, takes, is, inl long)) =
+pub copy_fails : {T : Type 0} (pointer : Pointer) (before : ℕ) (kind : ErrorKind) (old between : Segment) (result : Result T Error) → Appends before old between → between.most ≡ old.most
+    → Fails (TakesCopy pointer) (CopyError pointer) between result → PointerCopyError pointer before old kind → IsErrAnd result (λ error. error.kind ≡ kind)
+copy_fails pointer before kind old between result appends most fails (inl errors) = fails.exact kind errors
+copy_fails pointer before kind old between result appends most fails (inr (words, takes, is, inl long)) =
     subst (λ (k : ErrorKind). IsErrAnd result (λ error. error.kind ≡ k)) (sym is) (fails.long words takes (omega (arith, length-appended before old between appends, long)))
-stopped pointer before kind old between result appends most fails (inr (words, takes, is, inr full)) =
+copy_fails pointer before kind old between result appends most fails (inr (words, takes, is, inr full)) =
     let grown : length old.bytes + 8 * (before + words) ≡ length between.bytes + 8 * words = omega (arith, length-appended before old between appends) in
-    let there : ExceedsMost words between = subst (λ (n : ℕ). MatchOption between.most ⊥ (λ most. most < n)) grown
+    let there : IsPastMost words between = subst (λ (n : ℕ). MatchOption between.most ⊥ (λ most. most < n)) grown
     (subst (λ (o : Option ℕ). MatchOption o ⊥ (λ most. most < length old.bytes + 8 * (before + words))) (sym most) full) in
     subst (λ (k : ErrorKind). IsErrAnd result (λ error. error.kind ≡ k)) (sym is) (fails.full words takes there)
 
@@ -141,4 +141,4 @@ null_word body word form children is null_is =
 
 pub null_copied : (pointer : Pointer) (body : List ℕ) (word : ℕ) → Denotes pointer nothing → HoldsValue (LeadsToTree pointer) body word → word ≡ 0
 null_copied pointer body word null_is holds =
-    null_word body word holds.0 holds.1 holds.3 (sym (null_declared pointer (tree holds.0 holds.1 none) true ((λ yes. null_is), (λ there. refl)) holds.2))
+    null_word body word holds.0 holds.1 holds.3 (sym (null_reported pointer (tree holds.0 holds.1 none) true ((λ yes. null_is), (λ there. refl)) holds.2))

@@ -11,10 +11,10 @@ use Rattle.capnp_layout.specs.Prelude.{Trees, total_words, nothing, output, too_
 use Rattle.capnp_wire.specs.Prelude.{LeadsToTree, Struct, Pointer, Denotes, pointer_in}
 use Rattle.capnp_orphans.specs.Segments.{Segment, body_of, Appends}
 use Rattle.capnp_orphans.specs.Held.{AreValues, HoldsValue}
-use Rattle.capnp_orphans.specs.Adding.{Keeps, Adds, Fails, Writes, HasRoom, LacksRoom}
-use Rattle.capnp_orphans.specs.Copied.{pointers_in, TakesCopy, RefusesCopy, TakesCopies, Copies}
+use Rattle.capnp_orphans.specs.Adding.{Keeps, Adds, Fails, Writes, HasRoom, RoomError}
+use Rattle.capnp_orphans.specs.Copied.{pointers_in, TakesCopy, CopyError, TakesCopies, Copies}
 use Rattle.capnp_orphans.specs.OrphanLaws.{one_value_more, keeps_on}
-use Rattle.capnp_orphans.proofs.CopyLemmas.{Stops, stopped, same_copies, copy_at, appends_none, appends_both, length-appended, null_copied}
+use Rattle.capnp_orphans.proofs.CopyLemmas.{PointerCopyError, copy_fails, same_copies, copy_at, appends_none, appends_both, length-appended, null_copied}
 
 -- The first pointers are copied.
 pub record IsCopied (fields : Struct) (count : ℕ) (old new : Segment) (pointers : List ℕ) : Type 0 where
@@ -24,7 +24,7 @@ pub record IsCopied (fields : Struct) (count : ℕ) (old new : Segment) (pointer
   pub keeps : Keeps old new
   pub copies : AreValues LeadsToTree (body_of new) (pointers_in fields count) (take count pointers)
   pub nulls : (index : ℕ) → index < count → Denotes (pointer_in fields index) nothing → get_or pointers index 0 ≡ 0
-  pub unstopped : (index before : ℕ) (kind : ErrorKind) → index < count → TakesCopies fields index before → Stops (pointer_in fields index) before old kind → ⊥
+  pub unfailed : (index before : ℕ) (kind : ErrorKind) → index < count → TakesCopies fields index before → PointerCopyError (pointer_in fields index) before old kind → ⊥
   pub most : new.most ≡ old.most
   pub memory : old.capacity ≤ new.capacity
   pub within_memory : 0 < count → length new.bytes ≤ new.capacity
@@ -39,7 +39,7 @@ none_copied fields old pointers = record {
   keeps = λ word form children h. h;
   copies = tt;
   nulls = λ index low null_is. absurd (omega (arith, low));
-  unstopped = λ index before kind low taken stops. absurd (omega (arith, low));
+  unfailed = λ index before kind low taken copy_error. absurd (omega (arith, low));
   most = refl;
   memory = omega arith;
   within_memory = λ some. absurd (omega (arith, some));
@@ -49,14 +49,14 @@ none_copied fields old pointers = record {
 -- one more is
 pub one_copied : {T : Type 0} (fields : Struct) (count : ℕ) (old between new : Segment) (pointers : List ℕ) (pointer : Pointer) (word : T → ℕ) (object : T) → pointer ≡ pointer_in fields count
     → count < length pointers → IsCopied fields count old between pointers → Adds (HoldsValue (LeadsToTree pointer)) between new word (Ok object)
-    → Writes (TakesCopy pointer) (RefusesCopy pointer) between new (Ok object) → IsCopied fields (count + 1) old new (slice_set pointers count (word object))
+    → Writes (TakesCopy pointer) (CopyError pointer) between new (Ok object) → IsCopied fields (count + 1) old new (slice_set pointers count (word object))
 one_copied {T} fields count old between new pointers pointer word object same within so adds writes =
     let next : suc count ≡ count + 1 = omega arith in
     let takes : TakesCopy (pointer_in fields count) writes.appended.0 = subst (λ (p : Pointer). TakesCopy p writes.appended.0) same writes.appended.1 in
     let holds : HoldsValue (LeadsToTree (pointer_in fields count)) (body_of new) (word object) = subst (λ (p : Pointer). HoldsValue (LeadsToTree p) (body_of new) (word object)) same adds.orphan in
     let added : Result T Error = Ok object in
-    let fails : Fails (TakesCopy (pointer_in fields count)) (RefusesCopy (pointer_in fields count)) between added =
-    subst (λ (p : Pointer). Fails (TakesCopy p) (RefusesCopy p) between added) same writes.fails in
+    let fails : Fails (TakesCopy (pointer_in fields count)) (CopyError (pointer_in fields count)) between added =
+    subst (λ (p : Pointer). Fails (TakesCopy p) (CopyError p) between added) same writes.failing in
     record {
       words = so.words + writes.appended.0;
       taken = subst (λ (n : ℕ). TakesCopies fields n (so.words + writes.appended.0)) next (so.words, writes.appended.0, so.taken, takes, refl);
@@ -71,12 +71,12 @@ one_copied {T} fields count old between new pointers pointer word object same wi
             ap (λ (n : ℕ). get_or (slice_set pointers count (word object)) n 0) here ∙ get_or-set_same pointers count (word object) 0 within
             ∙ null_copied (pointer_in fields count) (body_of new) (word object) (subst (λ (n : ℕ). Denotes (pointer_in fields n) nothing) here null_is) holds)
       ];
-      unstopped = λ index before kind low taken stops. elim (cases_lt index count) [
-        | inl less ↦ so.unstopped index before kind less taken stops
+      unfailed = λ index before kind low taken copy_error. elim (cases_lt index count) [
+        | inl less ↦ so.unfailed index before kind less taken copy_error
         | inr more ↦ (let here : index ≡ count = omega (arith, low, more) in
             let words_are : so.words ≡ before = same_copies fields count so.words before so.taken (subst (λ (n : ℕ). TakesCopies fields n before) here taken) in
-            stopped (pointer_in fields count) before kind old between added (subst (λ (n : ℕ). Appends n old between) words_are so.appended) so.most fails
-            (subst (λ (n : ℕ). Stops (pointer_in fields n) before old kind) here stops))
+            copy_fails (pointer_in fields count) before kind old between added (subst (λ (n : ℕ). Appends n old between) words_are so.appended) so.most fails
+            (subst (λ (n : ℕ). PointerCopyError (pointer_in fields n) before old kind) here copy_error))
       ];
       most = writes.most ∙ so.most;
       memory = omega (arith, so.memory, writes.memory);
@@ -101,10 +101,10 @@ all_copied fields count old new pointers made object long same so = record {
   appended = (so.words, so.taken, so.appended);
   kind = tt;
   fits = λ words takes room. refl;
-  exact = λ index before kind low taken room refused. so.unstopped index before kind low taken (inl (inl refused));
-  large = λ index before trees low taken room leads many. so.unstopped index before (AllocationTooLarge (min (total_words trees) (2 ^ 32 - 1))) low taken (inl (inr (large_copy (pointer_in fields index) trees leads many)));
-  long = λ index before words low taken room takes many. so.unstopped index before (AllocationTooLarge words) low taken (inr (words, takes, refl, inl many));
-  full = λ index before words low taken room takes many. so.unstopped index before (AllocationTooLarge words) low taken (inr (words, takes, refl, inr many));
+  exact = λ index before kind low taken room errors. so.unfailed index before kind low taken (inl (inl errors));
+  large = λ index before trees low taken room leads many. so.unfailed index before (AllocationTooLarge (min (total_words trees) (2 ^ 32 - 1))) low taken (inl (inr (large_copy (pointer_in fields index) trees leads many)));
+  long = λ index before words low taken room takes many. so.unfailed index before (AllocationTooLarge words) low taken (inr (words, takes, refl, inl many));
+  full = λ index before words low taken room takes many. so.unfailed index before (AllocationTooLarge words) low taken (inr (words, takes, refl, inr many));
   most = so.most;
   memory = so.memory;
   within_memory = so.within_memory;
@@ -117,13 +117,13 @@ room_at words before last old between room appends memory fits =
     (omega (arith, room.0, length-appended before old between appends, fits), omega (arith, room.1, length-appended before old between appends, fits, memory))
 
 -- it fails before a pointer that can't be copied only where that is the one
-stops_there : {T : Type 0} (fields : Struct) (at_index : ℕ) (old between : Segment) (pointers : List ℕ) (error : Error) (index before : ℕ) (kind : ErrorKind)
-    → IsCopied fields at_index old between pointers → Fails {T = T} (TakesCopy (pointer_in fields at_index)) (RefusesCopy (pointer_in fields at_index)) between (Err error)
-    → TakesCopies fields index before → HasRoom before old → Stops (pointer_in fields index) before old kind → error.kind ≡ kind
-stops_there {T} fields at_index old between pointers error index before kind so fails taken room stops =
+error_there : {T : Type 0} (fields : Struct) (at_index : ℕ) (old between : Segment) (pointers : List ℕ) (error : Error) (index before : ℕ) (kind : ErrorKind)
+    → IsCopied fields at_index old between pointers → Fails {T = T} (TakesCopy (pointer_in fields at_index)) (CopyError (pointer_in fields at_index)) between (Err error)
+    → TakesCopies fields index before → HasRoom before old → PointerCopyError (pointer_in fields index) before old kind → error.kind ≡ kind
+error_there {T} fields at_index old between pointers error index before kind so fails taken room copy_error =
     let failed : Result T Error = Err error in
     elim (cases_lt index at_index) [
-      | inl less ↦ absurd (so.unstopped index before kind less taken stops)
+      | inl less ↦ absurd (so.unfailed index before kind less taken copy_error)
       | inr more ↦ elim (cases_lt at_index index) [
         | inl less ↦ (let c = copy_at fields index at_index before less taken in
             let words_are : c.before ≡ so.words = same_copies fields at_index c.before so.words c.taken so.taken in
@@ -131,18 +131,18 @@ stops_there {T} fields at_index old between pointers error index before kind so 
             absurd (cc))
         | inr most ↦ (let here : index ≡ at_index = omega (arith, more, most) in
             let words_are : so.words ≡ before = same_copies fields at_index so.words before so.taken (subst (λ (n : ℕ). TakesCopies fields n before) here taken) in
-            stopped (pointer_in fields at_index) before kind old between failed (subst (λ (n : ℕ). Appends n old between) words_are so.appended) so.most fails
-            (subst (λ (n : ℕ). Stops (pointer_in fields n) before old kind) here stops))
+            copy_fails (pointer_in fields at_index) before kind old between failed (subst (λ (n : ℕ). Appends n old between) words_are so.appended) so.most fails
+            (subst (λ (n : ℕ). PointerCopyError (pointer_in fields n) before old kind) here copy_error))
       ]
     ]
 
 -- one of them is not
 pub copy_failed : {T U : Type 0} (fields : Struct) (count index : ℕ) (old between new : Segment) (pointers : List ℕ) (pointer : Pointer) (made : U → List ℕ) (error : Error)
     (result : Result U Error) → result ≡ Err error → pointer ≡ pointer_in fields index → index < count → IsCopied fields index old between pointers → Keeps between new
-    → Writes {T = T} (TakesCopy pointer) (RefusesCopy pointer) between new (Err error) → Copies {T = U} fields count old new made result
+    → Writes {T = T} (TakesCopy pointer) (CopyError pointer) between new (Err error) → Copies {T = U} fields count old new made result
 copy_failed {T} {U} fields count index old between new pointers pointer made error result failed same within so keeps writes =
-    let fails : Fails {T = T} (TakesCopy (pointer_in fields index)) (RefusesCopy (pointer_in fields index)) between (Err error) =
-    subst (λ (p : Pointer). Fails {T = T} (TakesCopy p) (RefusesCopy p) between (Err error)) same writes.fails in
+    let fails : Fails {T = T} (TakesCopy (pointer_in fields index)) (CopyError (pointer_in fields index)) between (Err error) =
+    subst (λ (p : Pointer). Fails {T = T} (TakesCopy p) (CopyError p) between (Err error)) same writes.failing in
     let stays : between ≡ new = sym writes.unchanged in
     subst (λ (r : Result U Error). Copies fields count old new made r) (sym failed) (record {
       copies = tt;
@@ -155,20 +155,20 @@ copy_failed {T} {U} fields count index old between new pointers pointer made err
         within = within;
         taken = so.taken;
         appended = subst (λ (s : Segment). Appends so.words old s) stays so.appended;
-        cause = subst (λ (s : Segment). RefusesCopy (pointer_in fields index) error.kind ⊎ ((words : ℕ) × TakesCopy (pointer_in fields index) words × LacksRoom words s error.kind)) stays fails.kind;
+        cause = subst (λ (s : Segment). CopyError (pointer_in fields index) error.kind ⊎ ((words : ℕ) × TakesCopy (pointer_in fields index) words × RoomError words s error.kind)) stays fails.kind;
       };
       fits = λ words takes room.
           (let c = copy_at fields count index words within takes in
           let words_are : c.before ≡ so.words = same_copies fields index c.before so.words c.taken so.taken in
           fails.fits c.last c.one (room_at words so.words c.last old between room so.appended so.memory (omega (arith, c.fits, words_are))));
-      exact = λ at before kind low taken room refused. stops_there fields index old between pointers error at before kind so fails taken room (inl (inl refused));
+      exact = λ at before kind low taken room errors. error_there fields index old between pointers error at before kind so fails taken room (inl (inl errors));
       large = λ at before trees low taken room leads many.
-          stops_there fields index old between pointers error at before (AllocationTooLarge (min (total_words trees) (2 ^ 32 - 1))) so fails taken room
+          error_there fields index old between pointers error at before (AllocationTooLarge (min (total_words trees) (2 ^ 32 - 1))) so fails taken room
           (inl (inr (large_copy (pointer_in fields at) trees leads many)));
       long = λ at before words low taken room takes many.
-          stops_there fields index old between pointers error at before (AllocationTooLarge words) so fails taken room (inr (words, takes, refl, inl many));
+          error_there fields index old between pointers error at before (AllocationTooLarge words) so fails taken room (inr (words, takes, refl, inl many));
       full = λ at before words low taken room takes many.
-          stops_there fields index old between pointers error at before (AllocationTooLarge words) so fails taken room (inr (words, takes, refl, inr many));
+          error_there fields index old between pointers error at before (AllocationTooLarge words) so fails taken room (inr (words, takes, refl, inr many));
       most = writes.most ∙ so.most;
       memory = omega (arith, so.memory, writes.memory);
       within_memory = tt;

@@ -7,7 +7,7 @@ use Rattle.capnp_frame.specs.declared.error.ErrorKind.{ErrorKind}
 use Rattle.capnp_frame.specs.declared.error.ErrorKind.TheVariants.{AllocationTooLarge}
 use Rattle.capnp_layout.specs.Prelude.{words_of, message_of, Form, Trees, Root}
 use Rattle.capnp_orphans.specs.Orphans.{link, IsOrphan}
-use Rattle.capnp_orphans.specs.Segments.{Segment, body_of, Appends, GrantsWords, ExceedsMost, RefusesWords}
+use Rattle.capnp_orphans.specs.Segments.{Segment, body_of, Appends, GrantsWords, IsPastMost, AppendingError}
 
 -- the orphans of trees are still orphans of these trees
 abbrev pub Keeps : Segment → Segment → Type 0
@@ -22,34 +22,34 @@ pub record Adds {T : Type 0} (holds : List ℕ → ℕ → Type 0) (old new : Se
   pub orphan : IfOk result (λ object. holds (body_of new) (word object))
 
 -- there is no room for this many words: a segment has fewer than 2 ^ 29, or no memory for as many
-abbrev pub LacksRoom : ℕ → Segment → ErrorKind → Type 0
-LacksRoom words segment kind = ((2 ^ 29 ≤ length segment.bytes / 8 + words) × (kind ≡ AllocationTooLarge words))
-    ⊎ ((length segment.bytes / 8 + words < 2 ^ 29) × RefusesWords words segment kind)
+abbrev pub RoomError : ℕ → Segment → ErrorKind → Type 0
+RoomError words segment kind = ((2 ^ 29 ≤ length segment.bytes / 8 + words) × (kind ≡ AllocationTooLarge words))
+    ⊎ ((length segment.bytes / 8 + words < 2 ^ 29) × AppendingError words segment kind)
 
 -- there is room for this many words for sure
 abbrev pub HasRoom : ℕ → Segment → Type 0
 HasRoom words segment = (length segment.bytes / 8 + words < 2 ^ 29) × GrantsWords words segment
 
--- When a call fails that writes an object: `takes` says how many words it has, and `refuses` with
+-- When a call fails that writes an object: `takes` says how many words it has, and `fails` with
 -- which kinds it fails.
-pub record Fails {T : Type 0} (takes : ℕ → Type 0) (refuses : ErrorKind → Type 0) (old : Segment) (result : Result T Error) : Type 0 where
+pub record Fails {T : Type 0} (takes : ℕ → Type 0) (fails : ErrorKind → Type 0) (old : Segment) (result : Result T Error) : Type 0 where
   -- it fails with a kind of the object, or for want of room for its words
-  pub kind : IfErr result (λ error. refuses error.kind ⊎ ((words : ℕ) × takes words × LacksRoom words old error.kind))
+  pub kind : IfErr result (λ error. fails error.kind ⊎ ((words : ℕ) × takes words × RoomError words old error.kind))
   -- an object that fails is not written
-  pub exact : (kind : ErrorKind) → refuses kind → IsErrAnd result (λ error. error.kind ≡ kind)
+  pub exact : (kind : ErrorKind) → fails kind → IsErrAnd result (λ error. error.kind ≡ kind)
   -- an object is written where there is room in the memory that is there
   pub fits : (words : ℕ) → takes words → HasRoom words old → IsOk result
   -- it fails by its words where a segment would have 2 ^ 29, or a region more than it has room for
   pub long : (words : ℕ) → takes words → 2 ^ 29 ≤ length old.bytes / 8 + words → IsErrAnd result (λ error. error.kind ≡ AllocationTooLarge words)
-  pub full : (words : ℕ) → takes words → ExceedsMost words old → IsErrAnd result (λ error. error.kind ≡ AllocationTooLarge words)
+  pub full : (words : ℕ) → takes words → IsPastMost words old → IsErrAnd result (λ error. error.kind ≡ AllocationTooLarge words)
 
 -- What one call writes that adds an object.
-pub record Writes {T : Type 0} (takes : ℕ → Type 0) (refuses : ErrorKind → Type 0) (old new : Segment) (result : Result T Error) : Type 0 where
+pub record Writes {T : Type 0} (takes : ℕ → Type 0) (fails : ErrorKind → Type 0) (old new : Segment) (result : Result T Error) : Type 0 where
   -- exactly the object's words are appended, and no other word changes
   pub appended : OnOk result ((words : ℕ) × takes words × Appends words old new)
   -- after a failure nothing has changed
   pub unchanged : OnErr result (new ≡ old)
-  pub fails : Fails takes refuses old result
+  pub failing : Fails takes fails old result
   pub most : new.most ≡ old.most
   -- the memory stays, and the bytes are in it
   pub memory : old.capacity ≤ new.capacity

@@ -5,10 +5,10 @@ use Rattle.capnp_frame.specs.declared.error.Error.{Error}
 use Rattle.capnp_frame.specs.declared.error.ErrorKind.{ErrorKind}
 use Rattle.capnp_frame.specs.declared.error.ErrorKind.TheVariants.{AllocationTooLarge}
 use Rattle.capnp_layout.specs.Prelude.{nothing, Trees, total_words}
-use Rattle.capnp_wire.specs.Prelude.{HasWords, LacksWords, LeadsToTree, StopsWalkFrom, Struct, Pointer, Denotes, pointer_in}
-use Rattle.capnp_orphans.specs.Segments.{Segment, body_of, Appends, ExceedsMost}
+use Rattle.capnp_wire.specs.Prelude.{HasWords, WordsError, LeadsToTree, WalkErrorFrom, Struct, Pointer, Denotes, pointer_in}
+use Rattle.capnp_orphans.specs.Segments.{Segment, body_of, Appends, IsPastMost}
 use Rattle.capnp_orphans.specs.Held.{AreValues}
-use Rattle.capnp_orphans.specs.Adding.{Keeps, LacksRoom, HasRoom}
+use Rattle.capnp_orphans.specs.Adding.{Keeps, RoomError, HasRoom}
 
 -- the data words of a struct, cut to this many or filled up with zeros
 abbrev pub words_in : Struct → ℕ → List ℕ
@@ -23,8 +23,8 @@ pointers_in fields (suc count) = pointers_in fields count ++ pointer_in fields c
 abbrev pub TakesCopy : Pointer → ℕ → Type 0
 TakesCopy pointer words = HasWords (LeadsToTree pointer) false words
 
-abbrev pub RefusesCopy : Pointer → ErrorKind → Type 0
-RefusesCopy pointer kind = LacksWords (LeadsToTree pointer) (StopsWalkFrom pointer) false kind
+abbrev pub CopyError : Pointer → ErrorKind → Type 0
+CopyError pointer kind = WordsError (LeadsToTree pointer) (WalkErrorFrom pointer) false kind
 
 -- how many words the copies of what its first pointers lead to have
 abbrev pub TakesCopies : Struct → ℕ → ℕ → Type 0
@@ -34,13 +34,13 @@ TakesCopies fields (suc count) words =
 
 -- Where copying fails: the pointers before this one are copied, and this one can't be, or there is
 -- no room for its words.
-pub record StopsAt (fields : Struct) (count : ℕ) (old new : Segment) (kind : ErrorKind) : Type 0 where
+pub record CopyFailsAt (fields : Struct) (count : ℕ) (old new : Segment) (kind : ErrorKind) : Type 0 where
   pub index : ℕ
   pub before : ℕ
   pub within : index < count
   pub taken : TakesCopies fields index before
   pub appended : Appends before old new
-  pub cause : RefusesCopy (pointer_in fields index) kind ⊎ ((words : ℕ) × TakesCopy (pointer_in fields index) words × LacksRoom words new kind)
+  pub cause : CopyError (pointer_in fields index) kind ⊎ ((words : ℕ) × TakesCopy (pointer_in fields index) words × RoomError words new kind)
 
 -- What copying the first pointers of a struct keeps. `old` and `new` are the segment before and after it.
 pub record Copies {T : Type 0} (fields : Struct) (count : ℕ) (old new : Segment) (pointers : T → List ℕ) (result : Result T Error) : Type 0 where
@@ -52,19 +52,19 @@ pub record Copies {T : Type 0} (fields : Struct) (count : ℕ) (old new : Segmen
   -- exactly the copies are appended
   pub appended : OnOk result ((words : ℕ) × TakesCopies fields count words × Appends words old new)
   -- it fails at the first pointer that can't be copied, or whose copy there is no room for
-  pub kind : IfErr result (λ error. StopsAt fields count old new error.kind)
+  pub kind : IfErr result (λ error. CopyFailsAt fields count old new error.kind)
   -- it succeeds where there is room for the copies in the memory that is there
   pub fits : (words : ℕ) → TakesCopies fields count words → HasRoom words old → IsOk result
   -- a pointer that can't be read, or leads to 2 ^ 29 words and more, is not copied, where there is room for the copies before it
   pub exact : (index before : ℕ) (kind : ErrorKind) → index < count → TakesCopies fields index before → HasRoom before old
-      → StopsWalkFrom (pointer_in fields index) kind → IsErrAnd result (λ error. error.kind ≡ kind)
+      → WalkErrorFrom (pointer_in fields index) kind → IsErrAnd result (λ error. error.kind ≡ kind)
   pub large : (index before : ℕ) (trees : Trees) → index < count → TakesCopies fields index before → HasRoom before old → LeadsToTree (pointer_in fields index) trees
       → 2 ^ 29 ≤ total_words trees → IsErrAnd result (λ error. error.kind ≡ AllocationTooLarge (min (total_words trees) (2 ^ 32 - 1)))
   -- nor is one with which a segment would have 2 ^ 29 words, or a region more than it has room for
   pub long : (index before words : ℕ) → index < count → TakesCopies fields index before → HasRoom before old → TakesCopy (pointer_in fields index) words
       → 2 ^ 29 ≤ length old.bytes / 8 + before + words → IsErrAnd result (λ error. error.kind ≡ AllocationTooLarge words)
   pub full : (index before words : ℕ) → index < count → TakesCopies fields index before → HasRoom before old → TakesCopy (pointer_in fields index) words
-      → ExceedsMost (before + words) old → IsErrAnd result (λ error. error.kind ≡ AllocationTooLarge words)
+      → IsPastMost (before + words) old → IsErrAnd result (λ error. error.kind ≡ AllocationTooLarge words)
   pub most : new.most ≡ old.most
   -- the memory that is there stays, and the bytes are in it, after a failure, too, where they were in it before
   pub memory : old.capacity ≤ new.capacity

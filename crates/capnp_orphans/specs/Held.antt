@@ -80,8 +80,8 @@ AreTrees has_tree (value ∷ values) (tree form children rest) = has_tree value 
 abbrev pub FitsPointer : ℕ → ℕ → Type 0
 FitsPointer d p = (d < 2 ^ 16) × (p < 2 ^ 16)
 
-abbrev pub ExceedsPointer : ℕ → ℕ → ErrorKind → Type 0
-ExceedsPointer d p kind = (2 ^ 16 ≤ d ⊎ 2 ^ 16 ≤ p) × (kind ≡ AllocationTooLarge (2 ^ 16))
+abbrev pub StructSizeError : ℕ → ℕ → ErrorKind → Type 0
+StructSizeError d p kind = (2 ^ 16 ≤ d ⊎ 2 ^ 16 ≤ p) × (kind ≡ AllocationTooLarge (2 ^ 16))
 
 -- how many words a struct has, and why it can't be written
 abbrev pub TakesStruct : ℕ → ℕ → ℕ → Type 0
@@ -99,6 +99,6 @@ abbrev pub TakesStructs : ℕ → ℕ → ℕ → ℕ → Type 0
 TakesStructs d p n words = FitsPointer d p × (n < 2 ^ 29) × (words ≡ 1 + n * (d + p)) × (words < 2 ^ 29)
 
 abbrev pub ManyStructs : ℕ → ℕ → ℕ → ErrorKind → Type 0
-ManyStructs d p n kind = ExceedsPointer d p kind
+ManyStructs d p n kind = StructSizeError d p kind
     ⊎ (FitsPointer d p × (2 ^ 29 ≤ n) × (kind ≡ AllocationTooLarge (min n (2 ^ 32 - 1))))
     ⊎ (FitsPointer d p × (n < 2 ^ 29) × (2 ^ 29 ≤ 1 + n * (d + p)) × (kind ≡ AllocationTooLarge (min (1 + n * (d + p)) (2 ^ 32 - 1))))

@@ -39,13 +39,13 @@ abbrev pub GrantsWords : ℕ → Segment → Type 0
 GrantsWords words segment = length segment.bytes + 8 * words ≤ segment.capacity
 
 -- it can't have this many more words
-abbrev pub ExceedsMost : ℕ → Segment → Type 0
-ExceedsMost words segment = MatchOption segment.most ⊥ (λ most. most < length segment.bytes + 8 * words)
+abbrev pub IsPastMost : ℕ → Segment → Type 0
+IsPastMost words segment = MatchOption segment.most ⊥ (λ most. most < length segment.bytes + 8 * words)
 
 -- why this many more words can't be appended: a region is full, or on the heap more memory is
 -- needed and can't be had
-abbrev pub RefusesWords : ℕ → Segment → ErrorKind → Type 0
-RefusesWords words segment kind = (segment.capacity < length segment.bytes + 8 * words)
+abbrev pub AppendingError : ℕ → Segment → ErrorKind → Type 0
+AppendingError words segment kind = (segment.capacity < length segment.bytes + 8 * words)
     × MatchOption segment.most (kind ≡ OutOfMemory) (λ most. (most < length segment.bytes + 8 * words) × (kind ≡ AllocationTooLarge words))
 
 -- An object of this many words is appended; `holds` says what it is, by the bodies before and after
@@ -54,9 +54,9 @@ pub record AppendsObject (holds : List ℕ → List ℕ → ℕ → Type 0) (wor
   pub appended : OnOk result (Appends words old new)
   pub holds_is : IfOk result (λ word. holds (body_of old) (body_of new) word)
   pub unchanged : OnErr result (new ≡ old)
-  pub kind : IfErr result (λ error. RefusesWords words old error.kind)
+  pub kind : IfErr result (λ error. AppendingError words old error.kind)
   pub granted : GrantsWords words old → IsOk result
-  pub lacks : ExceedsMost words old → IsErrAnd result (λ error. error.kind ≡ AllocationTooLarge words)
+  pub past_most : IsPastMost words old → IsErrAnd result (λ error. error.kind ≡ AllocationTooLarge words)
   pub most : new.most ≡ old.most
   pub memory : old.capacity ≤ new.capacity
   pub within_memory : OnOk result (length new.bytes ≤ new.capacity)

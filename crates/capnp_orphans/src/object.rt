@@ -16,17 +16,17 @@ pub trait Object {
     ghost takes: { Self → ℕ → Type 0 };
 
     /// Why it can't be written: this is the error.
-    ghost refuses: { Self → ErrorKind → Type 0 };
+    ghost fails: { Self → ErrorKind → Type 0 };
 
     /// It has to be written over zeros, and not over any bytes.
     ghost wants_zeros: { Self → Bool };
 
-    /// How many words it has. Fails with a kind that `refuses` names.
+    /// How many words it has. Fails with a kind that `fails` names.
     fn measure(&self) -> Result<u32>
         ensures returned { MatchResult result (takes self.now)
-            (λ error. refuses self.now error.kind) }
+            (λ error. fails self.now error.kind) }
         ensures found { (words : ℕ) → takes self.now words → result ≡ Ok words }
-        ensures exact { (kind : ErrorKind) → refuses self.now kind →
+        ensures exact { (kind : ErrorKind) → fails self.now kind →
             IsErrAnd result (λ error. error.kind ≡ kind) };
 
     /// Whether it has to be written over zeros. An object that writes all its words does not.

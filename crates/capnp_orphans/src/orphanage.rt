@@ -1,10 +1,10 @@
 //! The segment in which objects are written.
 ghost use Rattle.std.specs.Prelude.{◌≡◌, ◌<◌, None, Some, length, map, replicate, MatchResult, false};
 ghost use Rattle.capnp_frame.specs.declared.error.ErrorKind.TheVariants.{OutOfMemory, AllocationTooLarge};
-ghost use Rattle.capnp_wire.specs.Prelude.{HasWords, LacksWords, IsTextTree, LongText, IsBytes, ManyBytes};
+ghost use Rattle.capnp_wire.specs.Prelude.{HasWords, WordsError, IsTextTree, LongText, IsBytes, ManyBytes};
 ghost use Rattle.capnp_values.specs.NumberLists.{IsNumberList, ManyNumbers};
 ghost use Rattle.capnp_orphans.specs.Segments.{body_of, with_root_alone};
-ghost use Rattle.capnp_orphans.specs.Held.{word_of, HoldsValue, HoldsStruct, HoldsPointers, HoldsStructs, TakesStruct, ExceedsPointer, TakesPointers, ManyPointers, TakesStructs, ManyStructs};
+ghost use Rattle.capnp_orphans.specs.Held.{word_of, HoldsValue, HoldsStruct, HoldsPointers, HoldsStructs, TakesStruct, StructSizeError, TakesPointers, ManyPointers, TakesStructs, ManyStructs};
 ghost use Rattle.capnp_orphans.specs.Adding.{Adds, Writes, Fails, SetsRoot, AddsRoot};
 
 mod built;
@@ -129,7 +129,7 @@ impl<S: GrowingSegment> Orphanage<S> {
     pub(crate) fn write<T, O: Object>(&mut self, object: &O) -> Result<Orphan<T>>
         ensures adds { Adds (O.holds object.now (body_of self.old)) self.old self.new
             word_of result }
-        ensures writes { Writes (O.takes object.now) (O.refuses object.now) self.old self.new
+        ensures writes { Writes (O.takes object.now) (O.fails object.now) self.old self.new
             result }
     {
         let words = object.measure()?;
@@ -145,7 +145,7 @@ impl<S: GrowingSegment> Orphanage<S> {
     fn write_anew<T, O: Object>(&mut self, object: &O) -> Result<Orphan<T>>
         ensures adds { Adds (O.holds object.now (body_of self.old)) self.old self.new
             word_of result }
-        ensures writes { Writes (O.takes object.now) (O.refuses object.now) self.old self.new
+        ensures writes { Writes (O.takes object.now) (O.fails object.now) self.old self.new
             result }
     {
         let words = object.measure()?;
@@ -170,7 +170,7 @@ impl<S: GrowingSegment> Orphanage<S> {
     pub fn set<T, V: SetterInput<T>>(&mut self, value: &V) -> Result<Orphan<T>>
         ensures adds { Adds (HoldsValue (V.has_tree value.now)) self.old self.new word_of result }
         ensures writes { Writes (HasWords (V.has_tree value.now) false)
-            (LacksWords (V.has_tree value.now) (V.refuses value.now) false) self.old self.new
+            (WordsError (V.has_tree value.now) (V.fails value.now) false) self.old self.new
             result }
     {
         self.write(&Value::<T, V>::new(value))
@@ -184,7 +184,7 @@ impl<S: GrowingSegment> Orphanage<S> {
     pub fn text(&mut self, text: &str) -> Result<Orphan<text::Owned>>
         ensures adds { Adds (HoldsValue (IsTextTree text.now)) self.old self.new word_of result }
         ensures writes { Writes (HasWords (IsTextTree text.now) false)
-            (LacksWords (IsTextTree text.now) (LongText text.now) false) self.old self.new result }
+            (WordsError (IsTextTree text.now) (LongText text.now) false) self.old self.new result }
     {
         self.write(&TextObject::new(text))
     }
@@ -196,7 +196,7 @@ impl<S: GrowingSegment> Orphanage<S> {
     pub fn data(&mut self, bytes: &[u8]) -> Result<Orphan<data::Owned>>
         ensures adds { Adds (HoldsValue (IsBytes bytes.now)) self.old self.new word_of result }
         ensures writes { Writes (HasWords (IsBytes bytes.now) false)
-            (LacksWords (IsBytes bytes.now) (ManyBytes bytes.now) false) self.old self.new result }
+            (WordsError (IsBytes bytes.now) (ManyBytes bytes.now) false) self.old self.new result }
     {
         self.set::<data::Owned, &[u8]>(&bytes)
     }
@@ -212,7 +212,7 @@ impl<S: GrowingSegment> Orphanage<S> {
         ensures adds { Adds (HoldsValue (IsNumberList N.code (map N.bits_of items.now)))
             self.old self.new word_of result }
         ensures writes { Writes (HasWords (IsNumberList N.code (map N.bits_of items.now)) false)
-            (LacksWords (IsNumberList N.code (map N.bits_of items.now))
+            (WordsError (IsNumberList N.code (map N.bits_of items.now))
             (ManyNumbers (length items.now)) false) self.old self.new result }
     {
         let list = NumberList::new(items);
@@ -230,7 +230,7 @@ impl<S: GrowingSegment> Orphanage<S> {
     ) -> Result<Orphan<T>>
         ensures adds { Adds (HoldsStruct (body_of self.old) draft.now.words draft.now.pointers)
             self.old self.new word_of result }
-        ensures writes { Writes (TakesStruct D P) (ExceedsPointer D P) self.old self.new result }
+        ensures writes { Writes (TakesStruct D P) (StructSizeError D P) self.old self.new result }
     {
         // Speed: as `write`. For all else the draft is copied, so that it need not be in memory itself
         // (`tools/time-building built`, `tree`).
@@ -301,7 +301,7 @@ impl<S: GrowingSegment> Orphanage<S> {
         ensures adds { AddsRoot (TakesStruct D P)
             (HoldsStruct (body_of self.old) draft.now.words draft.now.pointers) self.old self.new
             result }
-        ensures fails { Fails (TakesStruct D P) (ExceedsPointer D P) self.old result }
+        ensures fails { Fails (TakesStruct D P) (StructSizeError D P) self.old result }
     {
         let root = self.add(draft)?;
         self.set_root(root);

@@ -32,7 +32,7 @@ impl<'a, T> Object for PointerList<'a, T> {
 
     ghost takes = { λ list words. TakesPointers (length list.items.now) words };
 
-    ghost refuses = { λ list kind. ManyPointers (length list.items.now) kind };
+    ghost fails = { λ list kind. ManyPointers (length list.items.now) kind };
 
     ghost wants_zeros = { λ object. false };
 

@@ -43,7 +43,7 @@ impl<'a, T, const D: usize, const P: usize, S: DraftSource<T, D, P>> Object
 
     ghost takes = { λ list words. TakesStructs D P (length (S.drafts list.source.now)) words };
 
-    ghost refuses = { λ list kind. ManyStructs D P (length (S.drafts list.source.now)) kind };
+    ghost fails = { λ list kind. ManyStructs D P (length (S.drafts list.source.now)) kind };
 
     ghost wants_zeros = { λ object. false };
 

@@ -27,15 +27,15 @@ impl<'a> TextObject<'a> {
 
 impl<'a> Object for TextObject<'a> {
     ghost use Rattle.std.specs.Prelude.{false, true};
-    ghost use Rattle.capnp_wire.specs.Values.{HasWords, LacksWords, IsTextTree, LongText};
+    ghost use Rattle.capnp_wire.specs.Values.{HasWords, WordsError, IsTextTree, LongText};
     ghost use Rattle.capnp_orphans.specs.Held.{HoldsValue};
 
     ghost holds = { λ object old new word. HoldsValue (IsTextTree object.text.now) new word };
 
     ghost takes = { λ object words. HasWords (IsTextTree object.text.now) false words };
 
-    ghost refuses = { λ object kind.
-        LacksWords (IsTextTree object.text.now) (LongText object.text.now) false kind };
+    ghost fails = { λ object kind.
+        WordsError (IsTextTree object.text.now) (LongText object.text.now) false kind };
 
     ghost wants_zeros = { λ object. false };
 

@@ -28,15 +28,15 @@ impl<'a, T, V> Value<'a, T, V> {
 
 impl<'a, T, V: SetterInput<T>> Object for Value<'a, T, V> {
     ghost use Rattle.std.specs.Prelude.{false, true};
-    ghost use Rattle.capnp_wire.specs.Values.{HasWords, LacksWords};
+    ghost use Rattle.capnp_wire.specs.Values.{HasWords, WordsError};
     ghost use Rattle.capnp_orphans.specs.Held.{HoldsValue};
 
     ghost holds = { λ object old new word. HoldsValue (V.has_tree object.value.now) new word };
 
     ghost takes = { λ object words. HasWords (V.has_tree object.value.now) false words };
 
-    ghost refuses = { λ object kind.
-        LacksWords (V.has_tree object.value.now) (V.refuses object.value.now) false kind };
+    ghost fails = { λ object kind.
+        WordsError (V.has_tree object.value.now) (V.fails object.value.now) false kind };
 
     ghost wants_zeros = { λ object. true };
 

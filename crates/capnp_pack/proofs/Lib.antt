@@ -2,7 +2,7 @@
 pub mod words
 pub mod tables
 pub mod unpacking
-pub mod faults
+pub mod errors
 pub mod packing
 pub mod encodings
 pub mod WorkedRows

@@ -2,7 +2,7 @@
 use Rattle.std.proofs.Common.{inl, inr, subst, ◌-◌, ◌%◌, ◌≡◌, ℕ, ◌<◌, List, [], ◌∷◌, ◌++◌, refl, replicate, lit<, lit≤, arith}
 use Rattle.capnp_frame.specs.declared.error.ErrorKind.{ErrorKind}
 use Rattle.capnp_frame.specs.declared.error.ErrorKind.TheVariants.{FailedToFillTheWholeBuffer, PrematureEndOfPackedInput, PackedInputDidNotEndCleanlyOnASegmentBoundary, NotWholeWords}
-use Rattle.capnp_pack.specs.Prelude.{Group, tagged, zeros, literal, zero_word, IsChunk, Packs, IsPackedFrame, IsGroupFault, RefusesChunk, zero_words}
+use Rattle.capnp_pack.specs.Prelude.{Group, tagged, zeros, literal, zero_word, IsChunk, Packs, IsPackedFrame, GroupError, ChunkError, zero_words}
 use Rattle.capnp_frame.specs.declared.serialize.segment_table.Padding.TheVariants.{Zero}
 
 abbrev eight : List ℕ
@@ -70,38 +70,38 @@ five_packed = record {
 
 -- the error table of a chunk
 
--- a fault in the first group
-first : (raw : List ℕ) (n : ℕ) (kind : ErrorKind) → n % 8 ≡ 0 → (raw ≡ [] → ⊥) → 0 < n → IsGroupFault raw n kind → RefusesChunk raw n kind
-first raw n kind whole more some fault =
+-- an error in the first group
+first : (raw : List ℕ) (n : ℕ) (kind : ErrorKind) → n % 8 ≡ 0 → (raw ≡ [] → ⊥) → 0 < n → GroupError raw n kind → ChunkError raw n kind
+first raw n kind whole more some error =
     let same : n ≡ n - 0 = omega arith in
-    inr (λ part. part whole, inr (more, record { groups = []; each = tt; left = raw; spelled = refl; fewer = some; fault = subst (λ k. IsGroupFault raw k kind) same fault }))
+    inr (λ part. part whole, inr (more, record { groups = []; each = tt; left = raw; spelled = refl; fewer = some; error = subst (λ k. GroupError raw k kind) same error }))
 
-pub run_cut : RefusesChunk (255 ∷ eight ++ 1 ∷ 1 ∷ 2 ∷ []) 16 FailedToFillTheWholeBuffer
+pub run_cut : ChunkError (255 ∷ eight ++ 1 ∷ 1 ∷ 2 ∷ []) 16 FailedToFillTheWholeBuffer
 run_cut = first (255 ∷ eight ++ 1 ∷ 1 ∷ 2 ∷ []) 16 _ refl (λ e. cc) (lit< tt) (inr (inr (
   record { group = literal eight (eight ∷ []); following = 1 ∷ 2 ∷ []; head = record { is = (refl, (refl, tt), lit< tt); spelled = refl }; fits = lit≤ tt; short = lit< tt },
   refl,
 )))
 
-pub run_long : RefusesChunk (255 ∷ eight ++ 37 ∷ 1 ∷ 2 ∷ []) 200 PackedInputDidNotEndCleanlyOnASegmentBoundary
+pub run_long : ChunkError (255 ∷ eight ++ 37 ∷ 1 ∷ 2 ∷ []) 200 PackedInputDidNotEndCleanlyOnASegmentBoundary
 run_long = first (255 ∷ eight ++ 37 ∷ 1 ∷ 2 ∷ []) 200 _ refl (λ e. cc) (lit< tt) (inr (inl (
   record { group = literal eight (replicate 37 zero_word); following = 1 ∷ 2 ∷ []; head = record { is = (refl, zero_words 37, lit< tt); spelled = refl }; long = lit< tt },
   refl,
 )))
 
-pub byte_missing : RefusesChunk (0xf0 ∷ 1 ∷ 2 ∷ []) 200 PrematureEndOfPackedInput
+pub byte_missing : ChunkError (0xf0 ∷ 1 ∷ 2 ∷ []) 200 PrematureEndOfPackedInput
 byte_missing = first (0xf0 ∷ 1 ∷ 2 ∷ []) 200 _ refl (λ e. cc) (lit< tt) (inl (
   record { group = tagged 0xf0 (0 ∷ 0 ∷ 0 ∷ 0 ∷ 1 ∷ 2 ∷ 0 ∷ 0 ∷ []); is = (lit< tt, lit< tt, refl, (refl, (refl, (refl, (refl, tt))))); missing = 0 ∷ 0 ∷ []; some = lit< tt; spelled = refl },
   refl,
 ))
 
-pub count_missing : RefusesChunk (0 ∷ []) 200 PrematureEndOfPackedInput
+pub count_missing : ChunkError (0 ∷ []) 200 PrematureEndOfPackedInput
 count_missing = first (0 ∷ []) 200 _ refl (λ e. cc) (lit< tt) (inl (record { group = zeros 0; is = lit< tt; missing = 0 ∷ []; some = lit< tt; spelled = refl }, refl))
 
-pub run_count_missing : RefusesChunk (255 ∷ eight) 200 PrematureEndOfPackedInput
+pub run_count_missing : ChunkError (255 ∷ eight) 200 PrematureEndOfPackedInput
 run_count_missing = first (255 ∷ eight) 200 _ refl (λ e. cc) (lit< tt) (inl (record { group = literal eight []; is = (refl, tt, lit< tt); missing = 0 ∷ []; some = lit< tt; spelled = refl }, refl))
 
 -- a later group is missing
-pub group_missing : RefusesChunk (1 ∷ 1 ∷ []) 200 PrematureEndOfPackedInput
+pub group_missing : ChunkError (1 ∷ 1 ∷ []) 200 PrematureEndOfPackedInput
 group_missing = inr (
   λ part. part refl,
   inr (
@@ -112,13 +112,13 @@ group_missing = inr (
       left = [];
       spelled = refl;
       fewer = lit< tt;
-      fault = inl (record { group = zeros 0; is = lit< tt; missing = 0 ∷ 0 ∷ []; some = lit< tt; spelled = refl }, refl);
+      error = inl (record { group = zeros 0; is = lit< tt; missing = 0 ∷ 0 ∷ []; some = lit< tt; spelled = refl }, refl);
     },
   ),
 )
 
-pub start_missing : RefusesChunk [] 8 FailedToFillTheWholeBuffer
+pub start_missing : ChunkError [] 8 FailedToFillTheWholeBuffer
 start_missing = inr (λ part. part refl, inl (refl, (lit< tt, refl)))
 
-pub part_words : RefusesChunk [] 12 NotWholeWords
+pub part_words : ChunkError [] 12 NotWholeWords
 part_words = inl (λ e. absurd (omega arith), refl)

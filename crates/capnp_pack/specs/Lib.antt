@@ -7,7 +7,7 @@ pub mod PackedSource
 pub mod PackedSink
 pub mod Steps
 pub mod UnpackingLaws
-pub mod RefusingLaws
+pub mod PackedErrorLaws
 pub mod PackedStreams
 pub mod Calls
 pub mod Prelude

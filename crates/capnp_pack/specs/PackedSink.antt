@@ -2,7 +2,7 @@
 use Rattle.std.specs.Prelude.{◌≡◌, ℕ, ◌⊎◌, List, []}
 use Rattle.std.specs.List.{concat}
 use Rattle.capnp_frame.specs.declared.error.ErrorKind.TheVariants.{NotWholeWords}
-use Rattle.capnp_frame.specs.Prelude.{IsWholeWords, Unless, Appending, Leaving, Declining, DeclinesAny, AppendsAll, LeavesSome}
+use Rattle.capnp_frame.specs.Prelude.{IsWholeWords, Unless, Appending, Leaving, Declining, AnyChunkError, AppendsAll, LeavesSome}
 use Rattle.capnp_pack.specs.Packed.{Packs}
 
 -- what the sink adds for the parts of the packed encoding, however that is cut into parts
@@ -14,5 +14,5 @@ abbrev pub LeavesPacked : Appending → Leaving → Leaving
 LeavesPacked appends leaves chunk text = (text ≡ []) ⊎ ((parts : List (List ℕ)) × Packs chunk (concat parts) × LeavesSome appends leaves parts text)
 
 -- it isn't whole words, or the sink fails for some chunk
-abbrev pub DeclinesPacked : Declining → Declining
-DeclinesPacked refuses chunk kind = Unless (IsWholeWords chunk → ⊥) (kind ≡ NotWholeWords) (DeclinesAny refuses kind)
+abbrev pub PackedChunkError : Declining → Declining
+PackedChunkError refuses chunk kind = Unless (IsWholeWords chunk → ⊥) (kind ≡ NotWholeWords) (AnyChunkError refuses kind)

@@ -56,19 +56,19 @@ pub record IsRunCut (n : ℕ) (left : List ℕ) : Type 0 where
   pub short : length following < length (run_encoding group)
 
 -- no group can be taken here, where n bytes are still asked for
-abbrev pub IsGroupFault : List ℕ → ℕ → ErrorKind → Type 0
-IsGroupFault left n kind = (IsHeadCut left × (kind ≡ PrematureEndOfPackedInput))
+abbrev pub GroupError : List ℕ → ℕ → ErrorKind → Type 0
+GroupError left n kind = (IsHeadCut left × (kind ≡ PrematureEndOfPackedInput))
     ⊎ (Overruns n left × (kind ≡ PackedInputDidNotEndCleanlyOnASegmentBoundary))
     ⊎ (IsRunCut n left × (kind ≡ FailedToFillTheWholeBuffer))
 
--- The first fault: the groups before it are whole, and have fewer bytes than are asked for.
-pub record MeetsFault (raw : List ℕ) (n : ℕ) (kind : ErrorKind) : Type 0 where
+-- The first error: the groups before it are whole, and have fewer bytes than are asked for.
+pub record PackedError (raw : List ℕ) (n : ℕ) (kind : ErrorKind) : Type 0 where
   pub groups : List Group
   pub each : AllByRecursion IsGroup groups
   pub left : List ℕ
   pub spelled : raw ≡ text_of groups ++ left
   pub fewer : length (concat (words_of_groups groups)) < n
-  pub fault : IsGroupFault left (n - length (concat (words_of_groups groups))) kind
+  pub error : GroupError left (n - length (concat (words_of_groups groups))) kind
 
 -- Where a count is larger than what is still asked for of n bytes, only the groups before it and
 -- the head of its group are consumed.
@@ -86,8 +86,8 @@ abbrev pub Overran : {X : Type 0} → Result X Error → Option (List ℕ) → O
 Overran result old new leaves = IfErr result (λ error. error.kind ≡ PackedInputDidNotEndCleanlyOnASegmentBoundary → IfKnown old new leaves)
 
 -- a packed request fails: the lines of the table of a chunk (docs/FORMAT.md, "Packed requests")
-abbrev pub RefusesChunk : Refusing
-RefusesChunk raw n kind =
+abbrev pub ChunkError : Refusing
+ChunkError raw n kind =
     Unless (n % 8 ≢ 0) (kind ≡ NotWholeWords) (
     Unless (raw ≡ []) ((0 < n) × (kind ≡ FailedToFillTheWholeBuffer)) (
-    MeetsFault raw n kind))
+    PackedError raw n kind))

@@ -5,11 +5,11 @@ use Rattle.capnp_frame.specs.declared.io.Read.{Ghosts}
 use Rattle.capnp_frame.specs.declared.serialize.segment_table.Padding.{Padding}
 use Rattle.capnp_frame.specs.Prelude.{Outgrows, TakesForLengths, StreamRules, framed_rules}
 use Rattle.capnp_pack.specs.PackedFrame.{PackedStands}
-use Rattle.capnp_pack.specs.PackedSource.{Unpacks, RefusesChunk}
+use Rattle.capnp_pack.specs.PackedSource.{Unpacks, ChunkError}
 
 -- Packed messages, whose padding the rule accepts: each request is a packed chunk.
 abbrev pub packed_rules : Padding → StreamRules
-packed_rules rule = record (framed_rules rule Unpacks RefusesChunk) { stands = PackedStands rule }
+packed_rules rule = record (framed_rules rule Unpacks ChunkError) { stands = PackedStands rule }
 
 -- Packed messages that are read into the memory of the message `kept`: none is taken for as many segments as it has, or for one, and
 -- for as many bytes.
@@ -26,6 +26,6 @@ packed_source source = record {
   unread = source.unread;
   failures = source.failures;
   gives = Unpacks;
-  refuses = RefusesChunk;
+  refuses = ChunkError;
   same = source.same;
 }

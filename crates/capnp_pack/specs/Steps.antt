@@ -7,7 +7,7 @@ use Rattle.capnp_frame.specs.Prelude.{Appending, Leaving, AppendsAll, LeavesSome
 use Rattle.capnp_pack.specs.Group.{Group, IsGroup, AreZero, group_encoding, group_words, marked, unmarked, zero_bytes, zero_word}
 use Rattle.capnp_pack.specs.Chunk.{IsChunk, text_of, words_of_groups}
 use Rattle.capnp_pack.specs.Packed.{IfFirst, IsLongest}
-use Rattle.capnp_pack.specs.PackedSource.{Unpacks, IsGroupFault, MeetsFault, head_encoding, group_size}
+use Rattle.capnp_pack.specs.PackedSource.{Unpacks, GroupError, PackedError, head_encoding, group_size}
 
 -- Reading
 
@@ -16,12 +16,12 @@ abbrev pub GroupAt : ℕ → List ℕ → List ℕ → List ℕ → Type 0
 GroupAt tag bytes raw left = (group : Group) × IsGroup group × (bytes ≡ concat (group_words group)) × (tag ∷ raw ≡ group_encoding group ++ left)
 
 -- the first group can't be taken, where n bytes are asked for
-abbrev pub FirstGroupFails : Refusing
-FirstGroupFails raw n kind = (0 < n) × IsGroupFault raw n kind
+abbrev pub FirstGroupError : Refusing
+FirstGroupError raw n kind = (0 < n) × GroupError raw n kind
 
 -- the same, where its tag has been read
-abbrev pub FaultAfter : ℕ → Refusing
-FaultAfter tag raw n kind = FirstGroupFails (tag ∷ raw) n kind
+abbrev pub ErrorAfter : ℕ → Refusing
+ErrorAfter tag raw n kind = FirstGroupError (tag ∷ raw) n kind
 
 -- the bytes of a word that a tag marks are at the front, and its others are zero
 abbrev pub MarkedAt : ℕ → List ℕ → List ℕ → List ℕ → Type 0
@@ -37,16 +37,16 @@ abbrev pub marked_count : ℕ → ℕ → ℕ
 marked_count tag n = length (marked tag (replicate n 0))
 
 -- fewer bytes than n are unread
-abbrev pub Lacks : ℕ → Option (List ℕ) → ErrorKind → Type 0
-Lacks n unread kind = IfSome unread (λ raw. length raw < n) × (kind ≡ PrematureEndOfPackedInput)
+abbrev pub CutError : ℕ → Option (List ℕ) → ErrorKind → Type 0
+CutError n unread kind = IfSome unread (λ raw. length raw < n) × (kind ≡ PrematureEndOfPackedInput)
 
 -- a count of words and their bytes are at the front
 abbrev pub RunAt : List ℕ → List ℕ → List ℕ → Type 0
 RunAt run raw left = (further : ℕ) × (further < 256) × (length run ≡ 8 * further) × (raw ≡ further ∷ run ++ left)
 
 -- the count is missing, or larger than what is asked for, or its words are cut
-abbrev pub RefusesRun : Refusing
-RefusesRun raw n kind = ((raw ≡ []) × (kind ≡ PrematureEndOfPackedInput))
+abbrev pub CountedRunError : Refusing
+CountedRunError raw n kind = ((raw ≡ []) × (kind ≡ PrematureEndOfPackedInput))
     ⊎ ((further : ℕ) × (left : List ℕ) × (further < 256) × (raw ≡ further ∷ left)
     × (((n < 8 * further) × (kind ≡ PackedInputDidNotEndCleanlyOnASegmentBoundary)) ⊎ ((8 * further ≤ n) × RunsShort left (8 * further) kind)))
 
@@ -85,7 +85,7 @@ abbrev pub TakesGroups : Option (List ℕ) → Option (List ℕ) → List ℕ �
 TakesGroups old new buffer count = (0 < count) × (count ≤ length buffer) × (count % 8 ≡ 0)
     × IfSome old (λ raw. raw ≡ [] → ⊥)
     × IfKnown old new (HasProgress count)
-    × IfKnown old new (ReturnsPart Unpacks MeetsFault (length buffer) (take count buffer))
+    × IfKnown old new (ReturnsPart Unpacks PackedError (length buffer) (take count buffer))
 
 -- The first `used` bytes are groups, whose words have `filled` bytes, at most a given number.
 pub record Passes (text : List ℕ) (most used filled : ℕ) : Type 0 where

@@ -4,10 +4,10 @@
 //! is read byte by byte, so no more than its own bytes are consumed, wherever the cut is.
 ghost use Rattle.std.specs.Prelude.{◌≡◌, ◌<◌, ◌≤◌, ◌%◌, [], ◌∷◌, ◌++◌, length, take, Option, Some, IfOk, IfErr, IfSome, ◌⊎◌, ◌↔◌};
 ghost use Rattle.capnp_frame.specs.declared.error.ErrorKind.{ErrorKind};
-ghost use Rattle.capnp_frame.specs.Prelude.{IsWholeWords, IfKnown, IsRefused, ReturnsPart, RunsShort, Asked, FailsOr};
+ghost use Rattle.capnp_frame.specs.Prelude.{IsWholeWords, IfKnown, RequestError, ReturnsPart, RunsShort, Asked, FailsOr};
 ghost use Rattle.capnp_pack.specs.Calls.{TakesFrom, TakesNext};
-ghost use Rattle.capnp_pack.specs.PackedSource.{Unpacks, RefusesChunk, LeavesOverrun, Overran};
-ghost use Rattle.capnp_pack.specs.Steps.{TakesGroups, HeadOver, CountOver, GroupAt, FirstGroupFails, FaultAfter, MarkedAt, marked_count, Lacks, RunAt, RefusesRun};
+ghost use Rattle.capnp_pack.specs.PackedSource.{Unpacks, ChunkError, LeavesOverrun, Overran};
+ghost use Rattle.capnp_pack.specs.Steps.{TakesGroups, HeadOver, CountOver, GroupAt, FirstGroupError, ErrorAfter, MarkedAt, marked_count, CutError, RunAt, CountedRunError};
 
 use crate::copies::copy_front;
 use crate::lanes::unpack_word;
@@ -20,14 +20,14 @@ pub(crate) fn read_chunk<R: BufRead>(source: &mut R, buffer: &mut [u8]) -> Resul
     requires { IsWholeWords buffer.old }
     ensures whole { IfOk result (λ count. (count ≡ 0) ⊎ (count ≡ length buffer.new)) }
     ensures taken { IfOk result (λ count. IfKnown (R.unread source.old) (R.unread source.new)
-        (ReturnsPart Unpacks RefusesChunk (length buffer.new) (take count buffer.new))) }
+        (ReturnsPart Unpacks ChunkError (length buffer.new) (take count buffer.new))) }
     ensures end { IfOk result (λ count. IfSome (R.unread source.old)
         (λ raw. 0 < length buffer.new → (count ≡ 0) ↔ (raw ≡ []))) }
     ensures spent { IfOk result (λ count. count ≡ 0 → 0 < length buffer.new →
-        IsRefused RefusesChunk (length buffer.new) (R.unread source.old)
+        RequestError ChunkError (length buffer.new) (R.unread source.old)
         ErrorKind.FailedToFillTheWholeBuffer) }
-    ensures refused { FailsOr result
-        (IsRefused RefusesChunk (length buffer.new) (R.unread source.old)) }
+    ensures errors { FailsOr result
+        (RequestError ChunkError (length buffer.new) (R.unread source.old)) }
     ensures overrun { Overran result (R.unread source.old) (R.unread source.new)
         (LeavesOverrun (length buffer.new)) }
     ensures at_end { IfErr result (λ error. R.unread source.old ≡ Some [] →
@@ -51,7 +51,7 @@ fn read_groups<R: BufRead>(source: &mut R, buffer: &mut [u8]) -> Result<Option<u
     requires { 8 ≤ length buffer.old }
     ensures takes { TakesNext R.Read source.old source.new
         (TakesGroups (R.unread source.old) (R.unread source.new) buffer.new)
-        (IsRefused FirstGroupFails (length buffer.new) (R.unread source.old)) result }
+        (RequestError FirstGroupError (length buffer.new) (R.unread source.old)) result }
     ensures overrun { Overran result (R.unread source.old) (R.unread source.new)
         (LeavesOverrun (length buffer.new)) }
 {
@@ -69,7 +69,7 @@ pub(crate) fn read_group<R: BufRead>(source: &mut R, buffer: &mut [u8]) -> Resul
     requires { 8 ≤ length buffer.old }
     ensures takes { TakesNext R.Read source.old source.new
         (TakesGroups (R.unread source.old) (R.unread source.new) buffer.new)
-        (IsRefused FirstGroupFails (length buffer.new) (R.unread source.old)) result }
+        (RequestError FirstGroupError (length buffer.new) (R.unread source.old)) result }
     ensures overrun { Overran result (R.unread source.old) (R.unread source.new)
         (LeavesOverrun (length buffer.new)) }
 {
@@ -90,7 +90,7 @@ fn read_zeros<R: BufRead>(source: &mut R, buffer: &mut [u8]) -> Result<usize>
         × (count % 8 ≡ 0)) }
     ensures takes { TakesFrom R.Read source.old source.new (λ count.
         IfKnown (R.unread source.old) (R.unread source.new) (GroupAt 0 (take count buffer.new)))
-        (IsRefused (FaultAfter 0) (length buffer.new) (R.unread source.old)) result }
+        (RequestError (ErrorAfter 0) (length buffer.new) (R.unread source.old)) result }
     ensures overrun { Overran result (R.unread source.old) (R.unread source.new)
         (HeadOver 0 (length buffer.new)) }
 {
@@ -113,7 +113,7 @@ fn read_words<R: BufRead>(source: &mut R, tag: u8, buffer: &mut [u8]) -> Result<
         × (count % 8 ≡ 0)) }
     ensures takes { TakesFrom R.Read source.old source.new (λ count.
         IfKnown (R.unread source.old) (R.unread source.new) (GroupAt tag (take count buffer.new)))
-        (IsRefused (FaultAfter tag) (length buffer.new) (R.unread source.old)) result }
+        (RequestError (ErrorAfter tag) (length buffer.new) (R.unread source.old)) result }
     ensures overrun { Overran result (R.unread source.old) (R.unread source.new)
         (HeadOver tag (length buffer.new)) }
 {
@@ -130,7 +130,7 @@ fn read_word<R: BufRead>(source: &mut R, tag: u8, word: &mut [u8]) -> Result<()>
     requires { length word.old ≡ 8 }
     ensures { TakesFrom R.Read source.old source.new (λ _.
         IfKnown (R.unread source.old) (R.unread source.new) (MarkedAt tag word.new))
-        (Lacks (marked_count tag (length word.new)) (R.unread source.old)) result }
+        (CutError (marked_count tag (length word.new)) (R.unread source.old)) result }
 {
     let shown = source.fill_buf()?;
     if shown.len() < 8 {
@@ -145,7 +145,7 @@ fn read_word<R: BufRead>(source: &mut R, tag: u8, word: &mut [u8]) -> Result<()>
 fn read_marked<R: BufRead>(source: &mut R, tag: u8, word: &mut [u8]) -> Result<()>
     ensures { TakesFrom R.Read source.old source.new (λ _.
         IfKnown (R.unread source.old) (R.unread source.new) (MarkedAt tag word.new))
-        (Lacks (marked_count tag (length word.new)) (R.unread source.old)) result }
+        (CutError (marked_count tag (length word.new)) (R.unread source.old)) result }
 {
     let mut bits = tag;
     for byte in word.iter_mut() {
@@ -159,7 +159,7 @@ fn read_marked<R: BufRead>(source: &mut R, tag: u8, word: &mut [u8]) -> Result<(
 fn read_byte<R: BufRead>(source: &mut R, bits: u8) -> Result<u8>
     ensures { TakesFrom R.Read source.old source.new (λ byte.
         IfKnown (R.unread source.old) (R.unread source.new) (MarkedAt bits (byte ∷ [])))
-        (Lacks (marked_count bits 1) (R.unread source.old)) result }
+        (CutError (marked_count bits 1) (R.unread source.old)) result }
 {
     if bits % 2 == 0 {
         return Ok(0);
@@ -172,7 +172,7 @@ fn read_run<R: BufRead>(source: &mut R, buffer: &mut [u8]) -> Result<usize>
     ensures within { IfOk result (λ count. (count ≤ length buffer.new) × (count % 8 ≡ 0)) }
     ensures takes { TakesFrom R.Read source.old source.new (λ count.
         IfKnown (R.unread source.old) (R.unread source.new) (RunAt (take count buffer.new)))
-        (IsRefused RefusesRun (length buffer.new) (R.unread source.old)) result }
+        (RequestError CountedRunError (length buffer.new) (R.unread source.old)) result }
     ensures overrun { Overran result (R.unread source.old) (R.unread source.new)
         (CountOver (length buffer.new)) }
 {
@@ -190,7 +190,7 @@ fn read_run<R: BufRead>(source: &mut R, buffer: &mut [u8]) -> Result<usize>
 fn read_stored<R: BufRead>(source: &mut R, buffer: &mut [u8]) -> Result<()>
     ensures { TakesFrom R.Read source.old source.new (λ _.
         IfKnown (R.unread source.old) (R.unread source.new) (λ raw left. raw ≡ buffer.new ++ left))
-        (IsRefused RunsShort (length buffer.new) (R.unread source.old)) result }
+        (RequestError RunsShort (length buffer.new) (R.unread source.old)) result }
 {
     if buffer.is_empty() {
         return Ok(());
@@ -221,7 +221,7 @@ fn copy_shown<R: BufRead>(source: &mut R, buffer: &mut [u8]) -> Result<usize>
 fn required_byte<R: BufRead>(source: &mut R) -> Result<u8>
     ensures { TakesFrom R.Read source.old source.new (λ byte.
         IfKnown (R.unread source.old) (R.unread source.new) (λ raw left. raw ≡ byte ∷ left))
-        (Lacks 1 (R.unread source.old)) result }
+        (CutError 1 (R.unread source.old)) result }
 {
     match next_byte(source)? {
         Some(byte) => Ok(byte),

@@ -2,10 +2,10 @@
 ghost use Rattle.std.specs.Prelude.{◌≡◌, ◌<◌, ◌≤◌, ◌↔◌, ◌⊎◌, Some, [], IfOk, IfErr, IfSome, OnOk, length, take, refl};
 ghost use Rattle.std.specs.Result.{IsErrAnd};
 ghost use Rattle.std.proofs.Common.{◌∙◌};
-ghost use Rattle.capnp_frame.specs.Prelude.{IsWholeWords, IfKnown, ReturnsPart, IsRefused, IsPlain, Advances, Fails};
+ghost use Rattle.capnp_frame.specs.Prelude.{IsWholeWords, IfKnown, ReturnsPart, RequestError, IsPlain, Advances, Fails};
 ghost use Rattle.capnp_frame.specs.declared.error.ErrorKind.{ErrorKind};
-ghost use Rattle.capnp_pack.specs.PackedSource.{Unpacks, RefusesChunk, LeavesOverrun, Overran};
-ghost use Rattle.capnp_pack.specs.RefusingLaws.{unpacking};
+ghost use Rattle.capnp_pack.specs.PackedSource.{Unpacks, ChunkError, LeavesOverrun, Overran};
+ghost use Rattle.capnp_pack.specs.PackedErrorLaws.{unpacking};
 
 use crate::group::read_chunk;
 use capnp_frame::io::{BufRead, Read};
@@ -17,7 +17,7 @@ use capnp_frame::{Error, ErrorKind, Result};
 /// consumes just these.
 ///
 /// Fails with `NotWholeWords` for a request that isn't whole words, with nothing read. Else the
-/// first of these faults decides, however the source cuts its bytes: `PrematureEndOfPackedInput`
+/// first of these errors decides, however the source cuts its bytes: `PrematureEndOfPackedInput`
 /// where a byte of a group, or a later group of the chunk, is missing; `FailedToFillTheWholeBuffer`
 /// where the words of a literal run are cut; and `PackedInputDidNotEndCleanlyOnASegmentBoundary`
 /// where a run goes past the end of the chunk.
@@ -51,7 +51,7 @@ impl<'a, R: BufRead> Read for PackedRead<'a, R> {
 
     ghost gives = { Unpacks };
 
-    ghost refuses = { RefusesChunk };
+    ghost refuses = { ChunkError };
 
     ghost same = { λ old new. (new.source.ghost_name ≡ old.source.ghost_name)
         × R.same old.source.now new.source.now };
@@ -62,18 +62,18 @@ impl<'a, R: BufRead> Read for PackedRead<'a, R> {
         ensures whole { IfOk result (λ count. (count ≡ 0) ⊎ (count ≡ length buffer.new)) }
         ensures taken { IfOk result (λ count.
             IfKnown (R.unread self.old.source.now) (R.unread self.new.source.now)
-            (ReturnsPart Unpacks RefusesChunk (length buffer.new) (take count buffer.new))) }
+            (ReturnsPart Unpacks ChunkError (length buffer.new) (take count buffer.new))) }
         ensures end { IfOk result (λ count. IfSome (R.unread self.old.source.now)
             (λ raw. 0 < length buffer.new → (count ≡ 0) ↔ (raw ≡ []))) }
         ensures spent { IfOk result (λ count. count ≡ 0 → 0 < length buffer.new →
-            IsRefused RefusesChunk (length buffer.new) (R.unread self.old.source.now)
+            RequestError ChunkError (length buffer.new) (R.unread self.old.source.now)
             ErrorKind.FailedToFillTheWholeBuffer) }
 
         // With which kinds it fails.
         ensures failed { IfErr result (λ error. error.kind ≡ ErrorKind.DeviceFailed →
             Fails (R.failures self.old.source.now) (R.failures self.new.source.now)) }
-        ensures refused { IfErr result (λ error. (error.kind ≡ ErrorKind.DeviceFailed)
-            ⊎ IsRefused RefusesChunk (length buffer.new) (R.unread self.old.source.now) error.kind) }
+        ensures errors { IfErr result (λ error. (error.kind ≡ ErrorKind.DeviceFailed)
+            ⊎ RequestError ChunkError (length buffer.new) (R.unread self.old.source.now) error.kind) }
         ensures at_end { IfErr result (λ error. R.unread self.old.source.now ≡ Some [] →
             IsWholeWords buffer.new → error.kind ≡ ErrorKind.DeviceFailed) }
         ensures plain { IfErr result (λ error. IsPlain Unpacks → error.kind ≡ ErrorKind.DeviceFailed) }
@@ -105,8 +105,8 @@ impl<'a, R: BufRead> Read for PackedRead<'a, R> {
         // With which kinds it fails.
         ensures failed { IfErr result (λ error. error.kind ≡ ErrorKind.DeviceFailed →
             Fails (R.failures self.old.source.now) (R.failures self.new.source.now)) }
-        ensures refused { IfErr result (λ error. (error.kind ≡ ErrorKind.DeviceFailed)
-            ⊎ IsRefused RefusesChunk (length buffer.new) (R.unread self.old.source.now) error.kind) }
+        ensures errors { IfErr result (λ error. (error.kind ≡ ErrorKind.DeviceFailed)
+            ⊎ RequestError ChunkError (length buffer.new) (R.unread self.old.source.now) error.kind) }
         ensures plain { IfErr result (λ error. IsPlain Unpacks →
             (error.kind ≡ ErrorKind.DeviceFailed)
             ⊎ (error.kind ≡ ErrorKind.FailedToFillTheWholeBuffer)) }

@@ -4,12 +4,12 @@ ghost use Rattle.std.specs.List.{concat};
 ghost use Rattle.std.specs.Result.{IsErrAnd};
 ghost use Rattle.std.proofs.Common.{◌∙◌};
 ghost use Rattle.capnp_frame.specs.declared.error.ErrorKind.{ErrorKind};
-ghost use Rattle.capnp_frame.specs.Prelude.{IsWholeWords, IfKnown, Fails, DeclinesAny, Adds, Grows, WritesTo};
+ghost use Rattle.capnp_frame.specs.Prelude.{IsWholeWords, IfKnown, Fails, AnyChunkError, Adds, Grows, WritesTo};
 ghost use Rattle.capnp_pack.specs.Calls.{HandsOn};
 ghost use Rattle.capnp_pack.specs.Group.{Group, group_encoding};
 ghost use Rattle.capnp_pack.specs.Packed.{IfFirst, Packs};
 ghost use Rattle.capnp_pack.specs.PackedWords.{PacksWords, PacksFront, HandsTo, RestAfter, GrantsTo};
-ghost use Rattle.capnp_pack.specs.PackedSink.{AppendsPacked, LeavesPacked, DeclinesPacked};
+ghost use Rattle.capnp_pack.specs.PackedSink.{AppendsPacked, LeavesPacked, PackedChunkError};
 ghost use Rattle.capnp_pack.specs.Steps.{IsRun, IsZero, HasFewZeros, Hands, IsGroupOf, GroupAfter, LiteralAfter, tag_of};
 
 use crate::buffer::{BUFFER_BYTES, MOST_USED, flush, push, push_run, push_word};
@@ -55,7 +55,7 @@ impl<'a, W: Write> Write for PackedWrite<'a, W> {
 
     ghost grants = { λ _ _. ⊥ };
 
-    ghost refuses = { DeclinesPacked W.refuses };
+    ghost refuses = { PackedChunkError W.refuses };
 
     ghost same = { λ old new. (new.sink.ghost_name ≡ old.sink.ghost_name)
         × W.same old.sink.now new.sink.now };
@@ -69,8 +69,8 @@ impl<'a, W: Write> Write for PackedWrite<'a, W> {
             (Adds (LeavesPacked W.appends W.leaves chunk.now))) }
         ensures failed { IfErr result (λ error. error.kind ≡ ErrorKind.DeviceFailed →
             Fails (W.failures self.old.sink.now) (W.failures self.new.sink.now)) }
-        ensures refused { IfErr result (λ error. (error.kind ≡ ErrorKind.DeviceFailed)
-            ⊎ DeclinesPacked W.refuses chunk.now error.kind) }
+        ensures errors { IfErr result (λ error. (error.kind ≡ ErrorKind.DeviceFailed)
+            ⊎ PackedChunkError W.refuses chunk.now error.kind) }
         ensures grows { Grows (λ packed. W.written packed.sink.now) (λ packed. W.failures packed.sink.now)
             (λ old new. (new.sink.ghost_name ≡ old.sink.ghost_name) × W.same old.sink.now new.sink.now)
             self.old self.new }
@@ -106,7 +106,7 @@ struct Packed {
 fn pack<W: Write>(sink: &mut W, chunk: &[u8]) -> Result<()>
     requires { IsWholeWords chunk.now }
     ensures writes { WritesTo W.Write sink.old sink.new (AppendsPacked W.appends chunk.now)
-        (LeavesPacked W.appends W.leaves chunk.now) (DeclinesAny W.refuses) result }
+        (LeavesPacked W.appends W.leaves chunk.now) (AnyChunkError W.refuses) result }
     ensures granted { (text : List ℕ) (more : ℕ) → Packs chunk.now text →
         W.grants sink.old (length text + more) → IsOk result × W.grants sink.new more }
 {

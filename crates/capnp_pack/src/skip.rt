@@ -3,10 +3,10 @@
 //! Groups that the source shows whole are passed over: of each the tag is looked at, and the count
 //! after tags 0 and 255. A group that the source cuts is read as `group.rt` reads it.
 ghost use Rattle.std.specs.Prelude.{◌≡◌, ℕ, List, ◌-◌, ◌%◌, ◌<◌, ◌≤◌, IfSome, OnOk};
-ghost use Rattle.capnp_frame.specs.Prelude.{IfKnown, IsRefused, Asked, FailsOr};
+ghost use Rattle.capnp_frame.specs.Prelude.{IfKnown, RequestError, Asked, FailsOr};
 ghost use Rattle.capnp_pack.specs.Calls.{TakesNext};
-ghost use Rattle.capnp_pack.specs.PackedSource.{Unpacks, RefusesChunk, LeavesOverrun, Overran};
-ghost use Rattle.capnp_pack.specs.Steps.{FirstGroupFails, Passes, PassesGroups};
+ghost use Rattle.capnp_pack.specs.PackedSource.{Unpacks, ChunkError, LeavesOverrun, Overran};
+ghost use Rattle.capnp_pack.specs.Steps.{FirstGroupError, Passes, PassesGroups};
 
 use crate::group::read_group;
 use crate::sizes::group_bytes;
@@ -22,7 +22,7 @@ pub(crate) fn skip_chunk<R: BufRead>(source: &mut R, count: usize) -> Result<()>
     requires { count % 8 ≡ 0 }
     ensures skipped { OnOk result (IfKnown (R.unread source.old) (R.unread source.new)
         (λ raw rest. (words : List ℕ) × Unpacks raw count words rest)) }
-    ensures refused { FailsOr result (IsRefused RefusesChunk count (R.unread source.old)) }
+    ensures errors { FailsOr result (RequestError ChunkError count (R.unread source.old)) }
     ensures overrun { Overran result (R.unread source.old) (R.unread source.new)
         (LeavesOverrun count) }
     ensures asked { Asked R.unread R.failures R.same source.old source.new result }
@@ -46,7 +46,7 @@ fn skip_groups<R: BufRead>(source: &mut R, most: usize) -> Result<Option<usize>>
     requires { 8 ≤ most }
     ensures takes { TakesNext R.Read source.old source.new
         (PassesGroups (R.unread source.old) (R.unread source.new) most)
-        (IsRefused FirstGroupFails most (R.unread source.old)) result }
+        (RequestError FirstGroupError most (R.unread source.old)) result }
     ensures overrun { Overran result (R.unread source.old) (R.unread source.new)
         (LeavesOverrun most) }
 {
@@ -65,7 +65,7 @@ fn skip_group<R: BufRead>(source: &mut R, most: usize) -> Result<Option<usize>>
     requires { 8 ≤ most }
     ensures takes { TakesNext R.Read source.old source.new
         (PassesGroups (R.unread source.old) (R.unread source.new) most)
-        (IsRefused FirstGroupFails most (R.unread source.old)) result }
+        (RequestError FirstGroupError most (R.unread source.old)) result }
     ensures overrun { Overran result (R.unread source.old) (R.unread source.new)
         (LeavesOverrun most) }
 {

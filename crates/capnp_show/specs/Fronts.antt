@@ -5,7 +5,7 @@ use Rattle.capnp.specs.Prelude.{ErrorKind, Zero}
 use Rattle.capnp.specs.declared.streams.Format.{Format}
 use Rattle.capnp.specs.declared.streams.Format.TheVariants.{Framed, Packed}
 use Rattle.capnp_frame.specs.declared.error.ErrorKind.TheVariants.{EmptyBuffer, MessageEndsPrematurely}
-use Rattle.capnp_frame.specs.Prelude.{FlatRules, no_alloc_rules, StandsBy, RefusesBy}
+use Rattle.capnp_frame.specs.Prelude.{FlatRules, no_alloc_rules, StandsBy, RulesError}
 use Rattle.capnp_show.specs.declared.detected.Look.{Look}
 use Rattle.capnp_show.specs.declared.detected.Look.TheVariants.{Is, More}
 
@@ -26,13 +26,13 @@ pub record Stands (limit : Option ℕ) (front : List ℕ) : Type 0 where
 -- the bytes end within what may be a framed message
 pub record Ends (limit : Option ℕ) (front : List ℕ) : Type 0 where
   pub kind : ErrorKind
-  pub refused : RefusesBy (framed_within limit) kind front
+  pub errors : RulesError (framed_within limit) kind front
   pub cut : IsCut kind
 
 -- no framed message begins so
 pub record Differs (limit : Option ℕ) (front : List ℕ) : Type 0 where
   pub kind : ErrorKind
-  pub refused : RefusesBy (framed_within limit) kind front
+  pub errors : RulesError (framed_within limit) kind front
   pub whole : IsCut kind → ⊥
 
 -- the bytes begin a framed message: one is at their front, or they end within one

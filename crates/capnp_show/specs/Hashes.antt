@@ -2,12 +2,12 @@
 use Rattle.std.specs.Prelude.{◌≡◌, ⊤, ℕ, List, string_bytes}
 use Rattle.sha2.specs.Sha256.{sha256}
 use Rattle.hex.specs.Hex.{encode_lower}
-use Rattle.capnp.specs.Prelude.{Pointer, LacksForm}
+use Rattle.capnp.specs.Prelude.{Pointer, CanonicalFormError}
 use Rattle.capnp_frame.specs.Prelude.{IsWholeWords}
 use Rattle.capnp_layout.specs.Prelude.{words_of}
 use Rattle.capnp_wire.specs.Prelude.{IsCanonicalForm}
 use Rattle.capnp_show.specs.declared.hash.Hash.{Hash}
-use Rattle.capnp_show.specs.declared.hash.Hash.TheVariants.{Of, Lacking}
+use Rattle.capnp_show.specs.declared.hash.Hash.TheVariants.{Of, WithoutForm}
 
 -- some bytes hash to this, which are the words of the canonical form, and no more
 pub record IsHashOf (pointer : Pointer) (hash : List ℕ) : Type 0 where
@@ -19,9 +19,9 @@ pub record IsHashOf (pointer : Pointer) (hash : List ℕ) : Type 0 where
 -- the hash in hexadecimal digits, or the reason why there is no canonical form
 abbrev pub ShowsHash : Pointer → Hash → Type 0
 ShowsHash pointer (Of text) = (hash : List ℕ) × IsHashOf pointer hash × (string_bytes text ≡ encode_lower hash)
-ShowsHash pointer (Lacking kind) = LacksForm pointer kind
+ShowsHash pointer (WithoutForm kind) = CanonicalFormError pointer kind
 
 -- a fact about the text of a hash, where there is one
 abbrev pub IfHash : Hash → (List ℕ → Type 0) → Type 0
 IfHash (Of text) fact = fact (string_bytes text)
-IfHash (Lacking kind) fact = ⊤
+IfHash (WithoutForm kind) fact = ⊤

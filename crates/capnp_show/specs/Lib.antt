@@ -6,7 +6,7 @@ pub mod Objects
 pub mod Rows
 pub mod Words
 pub mod Arguments
-pub mod Refusals
+pub mod ErrorLines
 pub mod Arrows
 pub mod Plain
 pub mod Shown

@@ -1,7 +1,7 @@
 -- What the program finds at pointers (src/objects.rt), in the terms of the crate that reads objects.
 use Rattle.std.specs.Prelude.{◌≡◌, ℕ, ◌+◌, ◌-◌, ◌^◌, ◌<◌, min, if◌then◌else◌, List, Option, Some, None, slice_get, IfSome}
 use Rattle.capnp.specs.Prelude.{ErrorKind}
-use Rattle.capnp_layout.specs.Prelude.{message_of, word_at, Lands, Target, IsStart, ShapeStands, IsFarPointer, shape_of, traversed_of, Fault}
+use Rattle.capnp_layout.specs.Prelude.{message_of, word_at, Lands, Target, IsStart, ShapeStands, IsFarPointer, shape_of, traversed_of, PointerError}
 use Rattle.capnp_layout.specs.declared.place.Place.{Place}
 use Rattle.capnp_layout.specs.declared.pointer.FarPointer.{FarPointer}
 use Rattle.capnp_layout.specs.declared.pointer.StructSize.{StructSize}
@@ -43,5 +43,5 @@ pub record IsObject (segments : List (List ℕ)) (place : Place) (object : Objec
   pub far_pointer : IfSome object.far (λ far. (word : ℕ) × (word_at (message_of segments) place ≡ Some word) × IsFarPointer word far)
 
 -- the pointer at a place leads to no object, for this reason, at whatever nesting depth left
-abbrev pub IsRefused : List (List ℕ) → Place → ErrorKind → Type 0
-IsRefused segments place kind = (nesting : ℕ) → 0 < nesting → Fault (message_of segments) place nesting kind
+abbrev pub PlaceError : List (List ℕ) → Place → ErrorKind → Type 0
+PlaceError segments place kind = (nesting : ℕ) → 0 < nesting → PointerError (message_of segments) place nesting kind

@@ -11,11 +11,11 @@ use Rattle.capnp_show.specs.declared.tree.Label.{Label}
 use Rattle.capnp_show.specs.declared.tree.Label.TheVariants.{Root as RootLabel, Pointer as PointerLabel, Element as ElementLabel}
 use Rattle.capnp_show.specs.declared.tree.Node.{Node}
 use Rattle.capnp_show.specs.declared.tree.Found.{Found}
-use Rattle.capnp_show.specs.declared.tree.Found.TheVariants.{Null, Object as AnObject, Element, Refused}
+use Rattle.capnp_show.specs.declared.tree.Found.TheVariants.{Null, Object as AnObject, Element, Unread}
 use Rattle.capnp_show.specs.declared.tree.Row.{Row}
 use Rattle.capnp_show.specs.declared.tree.RowKind.{RowKind}
 use Rattle.capnp_show.specs.declared.tree.RowKind.TheVariants.{Root, Pointers, Elements}
-use Rattle.capnp_show.specs.Objects.{counted, further, size_of, IsObject, IsRefused}
+use Rattle.capnp_show.specs.Objects.{counted, further, size_of, IsObject, PlaceError}
 
 -- how many words the next node of a row comes after this one
 abbrev pub step_of : RowKind → ℕ
@@ -78,7 +78,7 @@ Finds segments place nesting left Null = word_at (message_of segments) place ≡
 Finds segments place nesting left (AnObject object) = IsObject segments place object × (0 < nesting)
     × IfSome left (λ most. counted object ≤ most)
 Finds segments place nesting left (Element start size) = ⊥
-Finds segments place nesting left (Refused kind) = IsRefused segments place kind
+Finds segments place nesting left (Unread kind) = PlaceError segments place kind
     ⊎ ((object : Object) × IsObject segments place object × (nesting ≡ 0) × (kind ≡ NestingLimitExceeded))
     ⊎ ((object : Object) × (most : ℕ) × IsObject segments place object × (left ≡ Some most) × (0 < nesting)
     × (most < counted object) × (kind ≡ ReadLimitExceeded))
@@ -97,14 +97,14 @@ abbrev pub LeavesRows : Row → Found → List Row → List Row → Type 0
 LeavesRows row Null rows left = left ≡ rows
 LeavesRows row (AnObject object) rows left = (below : Option Row) × IsBelow row object below × (left ≡ rows ++ option_to_list below)
 LeavesRows row (Element start size) rows left = left ≡ rows ++ pointers_row row start size row.nesting ∷ []
-LeavesRows row (Refused kind) rows left = (kind ≡ ReadLimitExceeded → left ≡ []) × (kind ≢ ReadLimitExceeded → left ≡ rows)
+LeavesRows row (Unread kind) rows left = (kind ≡ ReadLimitExceeded → left ≡ []) × (kind ≢ ReadLimitExceeded → left ≡ rows)
 
 -- and the words that are left: an object's are taken off
 abbrev pub LeavesWords : Found → Option ℕ → Option ℕ → Type 0
 LeavesWords Null words left = left ≡ words
 LeavesWords (AnObject object) words left = left ≡ option_map (λ most. most - counted object) words
 LeavesWords (Element start size) words left = left ≡ words
-LeavesWords (Refused kind) words left = kind ≢ ReadLimitExceeded → left ≡ words
+LeavesWords (Unread kind) words left = kind ≢ ReadLimitExceeded → left ≡ words
 
 -- A node comes of some rows: the next one of the last row of which one is left. Of the rows and words before it leaves some.
 pub record Comes (segments : List (List ℕ)) (rows : List Row) (words : Option ℕ) (node : Node) (rows_left : List Row)

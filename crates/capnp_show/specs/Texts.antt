@@ -149,12 +149,12 @@ null_class Root Null = codes " null"
 null_class (Object number PointerRole) Null = codes " null"
 null_class owner lead = []
 
-abbrev pub refused_class : Option ErrorKind → List ℕ
-refused_class None = []
-refused_class (Some kind) = codes " refused"
+abbrev pub error_class : Option ErrorKind → List ℕ
+error_class None = []
+error_class (Some kind) = codes " refused"
 
 abbrev pub word_classes : Word → List ℕ
-word_classes word = owner_classes word.owner ++ (null_class word.owner word.lead ++ refused_class word.refusal)
+word_classes word = owner_classes word.owner ++ (null_class word.owner word.lead ++ error_class word.error)
 
 -- what is said of a word whose pointer is followed: where it is, and its role in which object
 abbrev pub role_name : Role → List ℕ

@@ -58,7 +58,7 @@ IsDrawnAsPointer (Object number role) = role ≡ Pointer
 
 -- a word of some bytes before a walk
 abbrev pub free_word : List ℕ → Word
-free_word bytes = record { bytes = bytes; owner = Free; lead = Nowhere; refusal = None }
+free_word bytes = record { bytes = bytes; owner = Free; lead = Nowhere; error = None }
 
 -- the word at a place
 abbrev pub word_in : Owners → Place → Option Word

@@ -67,5 +67,5 @@ impl<R: BufRead + Drop> BufRead for Counted<R> {
 
     ghost plain = { R.plain };
 
-    ghost plain_refusals = { R.plain_refusals };
+    ghost plain_errors = { R.plain_errors };
 }

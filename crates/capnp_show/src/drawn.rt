@@ -1,12 +1,12 @@
 //! The words of a segment, as rows of a table.
 ghost use Rattle.std.specs.Prelude.{◌≡◌, ◌%◌, ◌++◌, None, OnOk, codes, string_bytes};
-ghost use Rattle.capnp_show.specs.Texts.{counted, message_name, word_name, null_class, owner_classes, refused_class, word_classes, where_of, owner_name, drawn_lead, title_of};
+ghost use Rattle.capnp_show.specs.Texts.{counted, message_name, word_name, null_class, owner_classes, error_class, word_classes, where_of, owner_name, drawn_lead, title_of};
 
 use crate::arrows::Grid;
 use crate::numbers::{push_counted, push_hexadecimal};
 use crate::objects::moved;
 use crate::owners::{Lead, Owner, Owners, Role, Word};
-use crate::refusals::push_refusal;
+use crate::errors::push_error;
 use capnp::layout::Place;
 use std::alloc::AllocError;
 
@@ -132,7 +132,7 @@ fn push_classes(text: &mut String, word: &Word) -> Result<(), AllocError>
 {
     push_owner(text, word.owner)?;
     push_null(text, word)?;
-    push_refused(text, word)
+    push_not_followed(text, word)
 }
 
 // Adds the role of a word in the object that it belongs to.
@@ -168,11 +168,11 @@ fn push_null(text: &mut String, word: &Word) -> Result<(), AllocError>
 }
 
 // Adds that the pointer at a word is not followed.
-fn push_refused(text: &mut String, word: &Word) -> Result<(), AllocError>
+fn push_not_followed(text: &mut String, word: &Word) -> Result<(), AllocError>
     ensures { OnOk result (string_bytes text.new
-        ≡ string_bytes text.old ++ refused_class word.now.refusal) }
+        ≡ string_bytes text.old ++ error_class word.now.error) }
 {
-    if word.refusal.is_some() {
+    if word.error.is_some() {
         text.push_str(" refused")?;
     }
     Ok(())
@@ -181,11 +181,11 @@ fn push_refused(text: &mut String, word: &Word) -> Result<(), AllocError>
 // Adds what is said of a word: why its pointer is not followed, or where it is, and its role in
 // which object.
 fn push_title(text: &mut String, place: Place, word: &Word) -> Result<(), AllocError>
-    ensures { word.now.refusal ≡ None → OnOk result
+    ensures { word.now.error ≡ None → OnOk result
         (string_bytes text.new ≡ string_bytes text.old ++ title_of place word.now) }
 {
-    match word.refusal {
-        Some(kind) => push_refusal(text, kind),
+    match word.error {
+        Some(kind) => push_error(text, kind),
         None => {
             push_where(text, place)?;
             push_owner_name(text, word.owner)?;

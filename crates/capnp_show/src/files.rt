@@ -4,7 +4,7 @@ use crate::detected::detect;
 use crate::html::{push_end, push_input, push_page};
 use crate::messages::show_messages;
 use crate::progress::Progress;
-use crate::refusals::{Stop, fault_line, input_line, refused_line, unopened_line};
+use crate::errors::{Stop, device_error_line, input_line, message_error_line, unopened_line};
 use crate::settings::{Form, Reading, Settings};
 use crate::shown::Showing;
 use capnp::devices::{Input, Watched};
@@ -190,15 +190,15 @@ fn show_input<D: Read + Drop, W: Write>(
     let mut device = Watched::new(device);
     let source = Input::new(rt.alloc(), &mut device)?;
     let is_whole = show_source(rt, showing, progress, source, sink)?;
-    if let Some(fault) = device.fault() {
-        say_fault(rt, showing.name, &fault)?;
+    if let Some(error) = device.last_error() {
+        say_device_error(rt, showing.name, &error)?;
     }
     Ok(is_whole)
 }
 
 // Says on standard error why a device failed.
-fn say_fault(rt: HostRuntime, name: &str, fault: &io::Error) -> Result<()> {
-    let line = fault_line(rt.alloc(), name, fault)?;
+fn say_device_error(rt: HostRuntime, name: &str, error: &io::Error) -> Result<()> {
+    let line = device_error_line(rt.alloc(), name, error)?;
     let _ = eprint!(rt; "{line}");
     Ok(())
 }
@@ -216,13 +216,13 @@ fn show_source<R: BufRead + Drop, W: Write>(
     match show_messages(rt, showing, &mut progress, &mut source, sink) {
         Ok(()) => Ok(true),
         Err(
-            Stop::Refused {
+            Stop::Unread {
                 index,
                 offset,
                 error,
             },
         ) => {
-            say_refused(rt, showing.name, index, offset, &error)?;
+            say_message_error(rt, showing.name, index, offset, &error)?;
             Ok(false)
         }
         Err(Stop::Unwritten(error)) => Err(error),
@@ -230,8 +230,8 @@ fn show_source<R: BufRead + Drop, W: Write>(
 }
 
 // Says on standard error which message was not shown, and why.
-fn say_refused(rt: HostRuntime, name: &str, index: u64, offset: u64, error: &Error) -> Result<()> {
-    let line = refused_line(rt.alloc(), name, index, offset, error)?;
+fn say_message_error(rt: HostRuntime, name: &str, index: u64, offset: u64, error: &Error) -> Result<()> {
+    let line = message_error_line(rt.alloc(), name, index, offset, error)?;
     let _ = eprint!(rt; "{line}");
     Ok(())
 }

@@ -1,6 +1,6 @@
 //! The hash of a message's canonical form.
 ghost use Rattle.std.specs.Prelude.{◌≡◌, ◌⊎◌, MatchResult};
-ghost use Rattle.capnp.specs.Prelude.{ErrorKind, LacksForm};
+ghost use Rattle.capnp.specs.Prelude.{ErrorKind, CanonicalFormError};
 ghost use Rattle.capnp_message.specs.Seen.{root_of};
 ghost use Rattle.capnp_show.specs.Hashes.{IsHashOf, ShowsHash};
 
@@ -13,7 +13,7 @@ use std::alloc::Global;
 pub fn canonical_hash<S: ReaderSegments>(alloc: Global, message: &Reader<S>) -> Result<[u8; 32]>
     ensures { let pointer = root_of S.segments message.now in MatchResult result
         (λ hash. IsHashOf pointer hash)
-        (λ error. LacksForm pointer error.kind ⊎ (error.kind ≡ ErrorKind.OutOfMemory)) }
+        (λ error. CanonicalFormError pointer error.kind ⊎ (error.kind ≡ ErrorKind.OutOfMemory)) }
 {
     let bytes = message.canonical_segment(alloc)?;
     Ok(Sha256::digest(bytes.as_slice()))
@@ -25,7 +25,7 @@ pub enum Hash {
     /// Its hash, in hexadecimal digits.
     Of(String),
     /// The message has none, for this reason.
-    Lacking(ErrorKind),
+    WithoutForm(ErrorKind),
 }
 
 /// The hash of a message's canonical form, or why the message has none. It fails with `OutOfMemory`
@@ -38,7 +38,7 @@ pub fn hash_of<S: ReaderSegments>(alloc: Global, message: &Reader<S>) -> Result<
         Ok(hash) => Ok(Hash::Of(hex::encode(alloc, hash.as_slice())?)),
         Err(error) => match error.kind {
             ErrorKind::OutOfMemory => Err(error),
-            kind => Ok(Hash::Lacking(kind)),
+            kind => Ok(Hash::WithoutForm(kind)),
         },
     }
 }

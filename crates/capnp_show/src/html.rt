@@ -6,7 +6,7 @@ ghost use Rattle.capnp_show.specs.Texts.{AddsMarked, counted, message_name, obje
 use crate::arrows::{part_height, push_sizes};
 use crate::drawn::{Anchor, push_object_classes};
 use crate::markup::push_markup;
-use crate::refusals::push_refusal;
+use crate::errors::push_error;
 use crate::style::{LEGEND, STYLE};
 use capnp::ErrorKind;
 use std::alloc::AllocError;
@@ -65,7 +65,7 @@ pub fn push_large(text: &mut String) -> Result<(), AllocError>
 /// Adds why a root pointer for which there is no word is not followed.
 pub fn push_no_root(text: &mut String, kind: ErrorKind) -> Result<(), AllocError> {
     text.push_str("<p class=\"refused\">root: ")?;
-    push_refusal(text, kind)?;
+    push_error(text, kind)?;
     text.push_str("</p>\n")
 }
 

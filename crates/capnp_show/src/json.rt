@@ -7,7 +7,7 @@ use crate::hash::Hash;
 use crate::listing::{Listed, name_of};
 use crate::numbers::push_counted;
 use crate::objects::{Object, bytes_of, words_of_landing_pad};
-use crate::refusals::sentence;
+use crate::errors::sentence;
 use crate::text::{push_quoted, text_in};
 use crate::tree::{Found, Label, Node};
 use capnp::layout::{Body, Place, StructSize};
@@ -44,7 +44,7 @@ pub fn push_hash(text: &mut String, hash: &Hash) -> Result<(), AllocError>
 {
     match hash {
         Hash::Of(hash) => write!(text, ",\"sha256\":\"{hash}\""),
-        Hash::Lacking(kind) => {
+        Hash::WithoutForm(kind) => {
             let said = sentence(*kind);
             write!(
                 text,
@@ -93,7 +93,7 @@ fn push_found<S: ReaderSegments>(
             push_size(text, size)?;
             push_place(text, place)
         }
-        Found::Refused(kind) => {
+        Found::Invalid(kind) => {
             let said = sentence(kind);
             write!(text, ",\"kind\":\"refused\",\"why\":\"{said} ({kind})\"")
         }

@@ -6,7 +6,7 @@ ghost use Rattle.capnp_show.specs.Texts.{AddsEscaped, element_name, number_name,
 use crate::hash::Hash;
 use crate::numbers::{push_counted, push_decimal};
 use crate::objects::{Object, bytes_of, words_of_landing_pad};
-use crate::refusals::{push_refusal, sentence};
+use crate::errors::{push_error, sentence};
 use crate::text::{push_escaped, push_quoted, text_in};
 use crate::tree::{Found, Label, Node};
 use capnp::layout::{Body, ElementSize, Place, StructSize};
@@ -59,7 +59,7 @@ pub fn push_hash(text: &mut String, hash: &Hash) -> Result<(), AllocError>
 {
     match hash {
         Hash::Of(hash) => write!(text, ", sha256 {hash}"),
-        Hash::Lacking(kind) => {
+        Hash::WithoutForm(kind) => {
             let said = sentence(*kind);
             write!(text, ", no canonical form: {said} ({kind})")
         }
@@ -119,7 +119,7 @@ fn push_found<S: ReaderSegments>(
             push_size(text, size)?;
             push_place(text, place)
         }
-        Found::Refused(kind) => push_refusal(text, kind),
+        Found::Invalid(kind) => push_error(text, kind),
     }
 }
 

@@ -21,7 +21,7 @@ mod numbers;
 mod objects;
 mod owners;
 mod progress;
-mod refusals;
+mod errors;
 mod runs;
 mod settings;
 mod shown;
@@ -30,7 +30,7 @@ mod text;
 mod tree;
 
 use crate::files::show_files;
-use crate::refusals::unwritten_line;
+use crate::errors::unwritten_line;
 use capnp::devices::Output;
 use clap::ArgMatches;
 use std::env;

@@ -2,13 +2,13 @@
 ghost use Rattle.std.specs.Prelude.{◌≡◌, ◌-◌, ◌^◌, None, IfErr, OnOk, OnErr, length, min, take};
 ghost use Rattle.std.specs.List.{AllByRecursion};
 ghost use Rattle.capnp_frame.specs.Prelude.{IsWithin, IsWholeWords, size_in_words, Adds, IfKnown, Fails};
-ghost use Rattle.capnp.specs.Prelude.{by_format, ReadsMessage, ErrorKind, Zero, DecliningWriting, IsWritingFault, Transcodes, DeclinesTranscoded};
+ghost use Rattle.capnp.specs.Prelude.{by_format, ReadsMessage, ErrorKind, Zero, WritingErrors, WritingError, Transcodes, TranscodedErrors};
 ghost use Rattle.capnp_show.specs.Shown.{Lists};
 
 use crate::counted::Counted;
 use crate::listing::Listed;
 use crate::progress::Progress;
-use crate::refusals::Stop;
+use crate::errors::Stop;
 use crate::settings::Form;
 use crate::shown::{Showing, show_count, show_message};
 use capnp::io::{BufRead, Write};
@@ -47,7 +47,7 @@ pub fn show_messages<R: BufRead + Drop, W: Write>(
                 say_progress(rt, showing.name, progress, taken, count).map_err(Stop::Unwritten)?;
             }
             Err(error) => {
-                outcome = Err(Stop::Refused {
+                outcome = Err(Stop::Unread {
                     index,
                     offset,
                     error,
@@ -93,12 +93,12 @@ fn convert<W: Write>(
     ensures written { OnOk result (IfKnown (W.written sink.old) (W.written sink.new)
         (Adds (Transcodes way W.appends index message.now))) }
     // It fails only as the writer of that format does, and leaves of the message what that leaves.
-    ensures refused { IfErr result (λ error. IsWritingFault
-        (DeclinesTranscoded way W.appends W.leaves W.refuses) index message.now error.kind) }
+    ensures errors { IfErr result (λ error. WritingError
+        (TranscodedErrors way W.appends W.leaves W.refuses) index message.now error.kind) }
     ensures failed { IfErr result (λ error. error.kind ≡ ErrorKind.DeviceFailed →
         Fails (W.failures sink.old) (W.failures sink.new)) }
     ensures left { OnErr result (IfKnown (W.written sink.old) (W.written sink.new) (Adds
-        (DecliningWriting.leaves (DeclinesTranscoded way W.appends W.leaves W.refuses)
+        (WritingErrors.leaves (TranscodedErrors way W.appends W.leaves W.refuses)
         index message.now))) }
 {
     let mut memory = Vec::new(alloc);

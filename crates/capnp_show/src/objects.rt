@@ -5,7 +5,7 @@
 ghost use Rattle.std.specs.Prelude.{◌≡◌, ◌<◌, ◌+◌, ◌*◌, ℕ, List, Some, length, slice_get, slice_range, IfOk, IfErr, MatchOption};
 ghost use Rattle.capnp_layout.specs.Prelude.{room_of, message_of, word_at, words_of};
 ghost use Rattle.capnp_layout.specs.declared.pointer.FarPointer.{FarPointer};
-ghost use Rattle.capnp_show.specs.Objects.{counted, further, landing_pad_words, IsFarIn, IsObject, IsRefused};
+ghost use Rattle.capnp_show.specs.Objects.{counted, further, landing_pad_words, IsFarIn, IsObject, PlaceError};
 
 use capnp::layout::{
     Body, ElementSize, FarPointer, Place, PointerWord, body_at, resolve, segment, word,
@@ -29,8 +29,8 @@ pub fn object_at<S: ReaderSegments>(segments: &S, place: Place) -> Result<Option
     ensures found { let there = S.segments segments.now in IfOk result (λ found.
         MatchOption found (word_at (message_of there) place ≡ Some 0)
         (λ object. IsObject there place object)) }
-    ensures refused { IfErr result (λ error.
-        IsRefused (S.segments segments.now) place error.kind) }
+    ensures errors { IfErr result (λ error.
+        PlaceError (S.segments segments.now) place error.kind) }
 {
     let pointers = segment(segments, place.segment)?;
     let Some(landing) = resolve(segments, pointers, place)? else {

@@ -67,7 +67,7 @@ pub struct Word {
     pub owner: Owner,
     pub lead: Lead,
     /// Why the pointer there is not followed, if it is not.
-    pub refusal: Option<ErrorKind>,
+    pub error: Option<ErrorKind>,
 }
 
 impl Word {
@@ -172,7 +172,7 @@ impl Owners {
                 self.objects = self.objects.saturating_add(1);
             }
             Found::Element(_, _) => {}
-            Found::Refused(kind) => self.refuse(node.place, kind),
+            Found::Invalid(kind) => self.note_error(node.place, kind),
         }
     }
 
@@ -212,9 +212,9 @@ impl Owners {
     }
 
     // Says why the pointer at a word is not followed; the first reason is kept.
-    fn refuse(&mut self, place: Place, kind: ErrorKind) {
+    fn note_error(&mut self, place: Place, kind: ErrorKind) {
         match self.word_mut(place) {
-            Some(word) => word.refusal = word.refusal.or(Some(kind)),
+            Some(word) => word.error = word.error.or(Some(kind)),
             None => self.no_root = Some(kind),
         }
     }
@@ -237,7 +237,7 @@ fn free_words(alloc: Global, segment: &[u8]) -> Result<Vec<Word>, AllocError>
             bytes: *word,
             owner: Owner::Free,
             lead: Lead::Nowhere,
-            refusal: None,
+            error: None,
         })?;
     }
     Ok(free)

@@ -2,7 +2,7 @@
 ghost use Rattle.std.specs.Prelude.{[], IfOk, codes, string_bytes, ◌≡◌, ◌≤◌, ◌<◌, ◌+◌, ◌*◌, ◌/◌, ◌↔◌, ℕ, IfSome, IsSome, IsSomeAnd, IsTrue, None};
 ghost use Rattle.capnp_show.specs.Texts.{AddsEscaped, progress_of};
 
-use crate::refusals::named_line;
+use crate::errors::named_line;
 use std::alloc::{AllocError, Global};
 use std::fmt::Write;
 

@@ -179,7 +179,7 @@ pub fn write_full<W: Write>(text: &mut String, sink: &mut W) -> Result<()>
     ensures writes { OnOk result (WritesFull TEXT_BYTES W.appends (string_bytes text.old)
         (string_bytes text.new) (W.written sink.old) (W.written sink.new)) }
     ensures fits { string_len text.old < TEXT_BYTES → IsOk result }
-    ensures refused { IfErr result (λ error. (error.kind ≡ ErrorKind.DeviceFailed)
+    ensures errors { IfErr result (λ error. (error.kind ≡ ErrorKind.DeviceFailed)
         ⊎ W.refuses (string_bytes text.old) error.kind) }
     ensures failed { IfErr result (λ error. error.kind ≡ ErrorKind.DeviceFailed →
         Fails (W.failures sink.old) (W.failures sink.new)) }

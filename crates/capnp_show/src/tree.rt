@@ -29,7 +29,7 @@ pub enum Found {
     /// A struct of a list of structs.
     Element(Place, StructSize),
     /// Nothing that could be shown, with this error.
-    Refused(ErrorKind),
+    Invalid(ErrorKind),
 }
 
 /// A pointer of a message, or an element of a list of structs.
@@ -159,14 +159,14 @@ impl Walk {
         let object = match object_at(segments, row.next) {
             Ok(Some(object)) => object,
             Ok(None) => return Ok(Found::Null),
-            Err(error) => return Ok(Found::Refused(error.kind)),
+            Err(error) => return Ok(Found::Invalid(error.kind)),
         };
         if row.nesting == 0 {
-            return Ok(Found::Refused(ErrorKind::NestingLimitExceeded));
+            return Ok(Found::Invalid(ErrorKind::NestingLimitExceeded));
         }
         if !self.take(object.traversed()) {
             self.rows.clear();
-            return Ok(Found::Refused(ErrorKind::ReadLimitExceeded));
+            return Ok(Found::Invalid(ErrorKind::ReadLimitExceeded));
         }
         if let Some(below) = row.below(&object) {
             self.rows.push(below)?;

@@ -1,6 +1,6 @@
 //! Messages that are written one after the other and read back.
 use crate::assertions::{At, assert_bytes, assert_calls, assert_count, assert_holds, assert_kind};
-use crate::faults::FORMATS;
+use crate::failures::FORMATS;
 use crate::readers::with_limit;
 use crate::samples::{ONE_AND_TWO, TWO};
 use crate::streams::{PACKED_THREE, THREE};
@@ -12,9 +12,9 @@ use capnp_frame::serialize::{OwnedSegments, is_writable};
 use capnp_frame::{ErrorKind, Result};
 use capnp_frame_tests::limits::{DEFAULT_LIMIT, NO_LIMIT};
 use capnp_frame_tests::messages::has_segments;
-use capnp_frame_tests::refusals::kind_of;
+use capnp_frame_tests::errors::kind_of;
 use capnp_frame_tests::retried;
-use capnp_frame_tests::sinks::FaultySink;
+use capnp_frame_tests::sinks::FailingSink;
 use std::process::Abort;
 
 const EMPTY: &[&[u8]] = &[&[]];
@@ -127,10 +127,10 @@ fn write_none(rt: &(impl Abort + AllocGlobal), format: Format) -> Result<()> {
 
 // A limit, how many messages are asked for, and the error with what is unread then, framed and
 // packed.
-type Refusal = (Option<usize>, usize, ErrorKind, usize, usize);
+type Failure = (Option<usize>, usize, ErrorKind, usize, usize);
 
 #[rattlefmt::skip]
-const REFUSALS: [Refusal; 4] = [
+const ERRORS: [Failure; 4] = [
     (Some(2), 3, ErrorKind::MessageTooLarge(3), 56, 22),
     (Some(0), 1, ErrorKind::MessageTooLarge(3), 56, 22),
     (NO_LIMIT, 4, ErrorKind::PrematureEndOfFile, 0, 0),
@@ -139,7 +139,7 @@ const REFUSALS: [Refusal; 4] = [
 
 #[test]
 fn messages_that_are_not_there(rt: HostRuntime) -> Result<()> {
-    for (number, row) in (0..).zip(&REFUSALS) {
+    for (number, row) in (0..).zip(&ERRORS) {
         for format in &FORMATS {
             let at = At::new(name_of(*format).row, number);
             retried!(read_too_many(&rt, *format, row, at))?;
@@ -151,7 +151,7 @@ fn messages_that_are_not_there(rt: HostRuntime) -> Result<()> {
 fn read_too_many(
     rt: &(impl Abort + AllocGlobal),
     format: Format,
-    &(limit, count, kind, framed, packed): &Refusal,
+    &(limit, count, kind, framed, packed): &Failure,
     at: At<'_>,
 ) -> Result<()> {
     let unread = match format {
@@ -169,7 +169,7 @@ fn read_too_many(
 // Framed they have ten chunks: four of each of the first two, of which one is of no bytes, and two
 // of the last.
 #[test]
-fn no_chunk_follows_a_refused_one(rt: HostRuntime) -> Result<()> {
+fn no_chunk_follows_a_failed_one(rt: HostRuntime) -> Result<()> {
     for format in &FORMATS {
         let mut chunks = 0;
         for fails_at in 1..=20 {
@@ -185,10 +185,10 @@ fn no_chunk_follows_a_refused_one(rt: HostRuntime) -> Result<()> {
     Ok(())
 }
 
-// Whether the run meets no fault.
+// Whether the run meets no failure.
 fn write_to(rt: &(impl Abort + AllocGlobal), format: Format, fails_at: u64) -> Result<bool> {
     let at = At::new(name_of(format).row, fails_at);
-    let mut sink = FaultySink::new(Vec::new(rt.alloc()), fails_at);
+    let mut sink = FailingSink::new(Vec::new(rt.alloc()), fails_at);
     let returned = kind_of(write_three(rt, format, &mut sink))?;
     let text = text_of(format);
     let written = sink.written.as_slice();

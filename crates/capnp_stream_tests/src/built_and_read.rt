@@ -1,7 +1,7 @@
 //! Messages that are built, written and read back.
 use crate::assertions::{At, assert_bytes, assert_count, assert_kind};
 use crate::built_messages::{size_of, words_of, write};
-use crate::faults::FORMATS;
+use crate::failures::FORMATS;
 use capnp::any_struct::{self, StructBuilder, StructReader};
 use capnp::message::{
     AllocationStrategy, Builder, DEFAULT_READER_OPTIONS, HeapAllocator, ReaderSegments,
@@ -10,7 +10,7 @@ use capnp::message::{
 use capnp::streams::{Format, read_messages};
 use capnp::{primitive_list, serialize, serialize_packed, text};
 use capnp_frame::{ErrorKind, Result};
-use capnp_frame_tests::refusals::kind_of;
+use capnp_frame_tests::errors::kind_of;
 use capnp_frame_tests::retried;
 use std::alloc::Global;
 use std::process::Abort;
@@ -71,7 +71,7 @@ fn read_struct(rt: &(impl Abort + AllocGlobal)) -> Result<()> {
 #[test]
 fn more_segments_than_a_reader_accepts(rt: HostRuntime) -> Result<()> {
     retried!(write_many(&rt))?;
-    retried!(refuse_more(&rt))
+    retried!(fail_more(&rt))
 }
 
 // A message of the root's segment and of a given number of others.
@@ -109,18 +109,18 @@ fn write_many(rt: &(impl Abort + AllocGlobal)) -> Result<()> {
     Ok(())
 }
 
-fn refuse_more(rt: &(impl Abort + AllocGlobal)) -> Result<()> {
+fn fail_more(rt: &(impl Abort + AllocGlobal)) -> Result<()> {
     let at = At::row("512 segments");
-    let refused = Some(ErrorKind::InvalidNumberOfSegments(512));
+    let failed = Some(ErrorKind::InvalidNumberOfSegments(512));
     let message = build_many(rt.alloc(), 511)?;
     assert_count(rt, size_of(rt, &message)?, 257 + 1 + 511 * 3, at);
     let returned = kind_of(read_back(rt, Format::Framed, &message))?;
-    assert_kind(rt, returned, refused, at);
-    assert_kind(rt, kind_of(words_of(rt, &message))?, refused, at);
+    assert_kind(rt, returned, failed, at);
+    assert_kind(rt, kind_of(words_of(rt, &message))?, failed, at);
     for format in &FORMATS {
         let mut sink = [9].to_vec(rt.alloc())?;
         let returned = kind_of(write(rt, *format, &mut sink, &message))?;
-        assert_kind(rt, returned, refused, at);
+        assert_kind(rt, returned, failed, at);
         assert_bytes(rt, sink.as_slice(), &[9], at);
     }
     Ok(())

@@ -6,9 +6,9 @@ use capnp::streams::Format;
 use capnp::{serialize, serialize_packed, text};
 use capnp_frame::io::Write;
 use capnp_frame::{ErrorKind, Result};
-use capnp_frame_tests::refusals::kind_of;
+use capnp_frame_tests::errors::kind_of;
 use capnp_frame_tests::retried;
-use capnp_frame_tests::sinks::FaultySink;
+use capnp_frame_tests::sinks::FailingSink;
 use std::alloc::Global;
 use std::process::Abort;
 
@@ -178,9 +178,9 @@ fn write_far(
     rt: &(impl Abort + AllocGlobal),
     format: Format,
     fails_at: u64,
-) -> Result<(FaultySink, Option<ErrorKind>)> {
+) -> Result<(FailingSink, Option<ErrorKind>)> {
     let message = build(rt.alloc(), &FAR)?;
-    let mut sink = FaultySink::new(Vec::new(rt.alloc()), fails_at);
+    let mut sink = FailingSink::new(Vec::new(rt.alloc()), fails_at);
     let returned = kind_of(write(rt, format, &mut sink, &message))?;
     Ok((sink, returned))
 }

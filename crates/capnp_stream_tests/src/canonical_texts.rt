@@ -8,7 +8,7 @@ use capnp::serialize_packed;
 use capnp_frame::io::Write;
 use capnp_frame::message::ReaderSegments;
 use capnp_frame::{ErrorKind, Result};
-use capnp_frame_tests::refusals::kind_of;
+use capnp_frame_tests::errors::kind_of;
 use capnp_frame_tests::retried;
 use std::process::Abort;
 
@@ -55,11 +55,11 @@ fn write_form(
     let reader = Reader::new(SegmentArray::new(segments), DEFAULT_READER_OPTIONS);
     let mut sink = b"before".to_vec(rt.alloc())?;
     let returned = write(rt, &mut sink, &reader)?;
-    let (form, refusal): (&[u8], Option<ErrorKind>) = match wanted {
+    let (form, error): (&[u8], Option<ErrorKind>) = match wanted {
         Ok(form) => (form, None),
         Err(kind) => (&[], Some(kind)),
     };
-    assert_kind(rt, returned, refusal, at);
+    assert_kind(rt, returned, error, at);
     assert_bytes(
         rt,
         sink.as_slice().strip_prefix(b"before").unwrap_or(&[1; 99]),

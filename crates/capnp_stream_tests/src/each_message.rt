@@ -2,11 +2,11 @@
 use crate::assertions::{At, assert_bytes, assert_count, assert_kind};
 use crate::transcodings::transcoded;
 use capnp::message::DEFAULT_READER_OPTIONS;
-use capnp::streams::{StoppedAt, write_each_message};
+use capnp::streams::{FailedAt, write_each_message};
 use capnp::{Way, transcode_lenient};
 use capnp_frame::serialize::{Padding, TableRules};
 use capnp_frame::{ErrorKind, Result};
-use capnp_frame_tests::refusals::kind_of;
+use capnp_frame_tests::errors::kind_of;
 use capnp_frame_tests::retried;
 use std::process::Abort;
 
@@ -14,7 +14,7 @@ use std::process::Abort;
 // what is written.
 #[derive(Clone, Copy)]
 struct Ended {
-    stop: Option<(u64, ErrorKind)>,
+    failure: Option<(u64, ErrorKind)>,
     unread: usize,
     written: &'static [u8],
 }
@@ -57,7 +57,7 @@ const FRAMED: &[u8] = &[
 const PACKED: &[u8] = &[0, 0, 1, 1, 1, 1, 0xff, 1, 2, 3, 4, 5, 6, 7, 8, 0];
 
 const AFTER_TWO: Ended = Ended {
-    stop: Some((2, ErrorKind::FailedToFillTheWholeBuffer)),
+    failure: Some((2, ErrorKind::FailedToFillTheWholeBuffer)),
     unread: 0,
     written: PACKED_TWICE,
 };
@@ -78,15 +78,15 @@ const ROWS: [Row; 3] = [
         name: "another padding after a message, packed",
         way: Way::Pack,
         text: PADDED,
-        strict: Ended { stop: Some((1, ErrorKind::NonZeroPadding)), unread: 8, written: &[0, 0] },
-        lenient: Ended { stop: None, unread: 0, written: PACKED },
+        strict: Ended { failure: Some((1, ErrorKind::NonZeroPadding)), unread: 8, written: &[0, 0] },
+        lenient: Ended { failure: None, unread: 0, written: PACKED },
     },
     Row {
         name: "another padding after a message, unpacked",
         way: Way::Unpack,
         text: PACKED_PADDED,
-        strict: Ended { stop: Some((1, ErrorKind::NonZeroPadding)), unread: 10, written: &[0; 8] },
-        lenient: Ended { stop: None, unread: 0, written: FRAMED },
+        strict: Ended { failure: Some((1, ErrorKind::NonZeroPadding)), unread: 10, written: &[0; 8] },
+        lenient: Ended { failure: None, unread: 0, written: FRAMED },
     },
 ];
 
@@ -107,11 +107,11 @@ fn at(row: &Row, padding: Padding) -> At<'static> {
 }
 
 // A stop for want of memory is handed back.
-fn stop_of(returned: std::result::Result<(), StoppedAt>) -> Result<Option<(u64, ErrorKind)>> {
+fn failure_of(returned: std::result::Result<(), FailedAt>) -> Result<Option<(u64, ErrorKind)>> {
     match returned {
         Ok(()) => Ok(None),
-        Err(stop) if stop.error.kind == ErrorKind::OutOfMemory => Err(stop.error),
-        Err(stop) => Ok(Some((stop.message, stop.error.kind))),
+        Err(failure) if failure.error.kind == ErrorKind::OutOfMemory => Err(failure.error),
+        Err(failure) => Ok(Some((failure.message, failure.error.kind))),
     }
 }
 
@@ -123,7 +123,7 @@ fn write_each(
 ) -> Result<()> {
     let mut source = row.text;
     let mut sink: Vec<u8> = Vec::new(rt.alloc());
-    let stop = stop_of(write_each_message(
+    let failure = failure_of(write_each_message(
         rt.alloc(),
         &mut source,
         &mut sink,
@@ -132,7 +132,7 @@ fn write_each(
         &row.way,
     ))?;
     let at = at(row, padding);
-    assert!(rt; stop == ended.stop, "{stop:?} at {}, {}", at.row, at.number);
+    assert!(rt; failure == ended.failure, "{stop:?} at {}, {}", at.row, at.number);
     assert_count(rt, source.len(), ended.unread, at);
     assert_bytes(rt, sink.as_slice(), ended.written, at);
     Ok(())
@@ -152,7 +152,7 @@ fn transcode_row(
         transcoded(rt, row.way, &mut source, &mut sink)?
     };
     let at = at(row, padding);
-    let wanted = match ended.stop {
+    let wanted = match ended.failure {
         Some((_, kind)) => Some(kind),
         None => None,
     };

@@ -2,7 +2,7 @@
 //! they find it where memory is there. What else the bytes may be, and the calls that take none, are
 //! in `conformance/`.
 use crate::assertions::At;
-use crate::calls_declared::{assert_form, assert_left};
+use crate::calls_reported::{assert_form, assert_left};
 use crate::samples::{ONE_AND_TWO, SAMPLES};
 use crate::streams::THREE;
 use capnp::message::Reader;

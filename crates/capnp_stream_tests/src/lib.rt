@@ -13,7 +13,7 @@ mod built_messages;
 #[cfg(test)]
 mod calls;
 #[cfg(test)]
-mod calls_declared;
+mod calls_reported;
 #[cfg(test)]
 mod canonical_texts;
 #[cfg(test)]
@@ -21,7 +21,7 @@ mod devices;
 #[cfg(test)]
 mod each_message;
 #[cfg(test)]
-mod faults;
+mod failures;
 #[cfg(test)]
 mod flat;
 #[cfg(test)]

@@ -220,7 +220,7 @@ fn needed_segments_of<S: ReaderSegments + Drop>(
 // What is returned where a message has to be there: at the end it is missed.
 fn needed(wanted: Wanted<'_>) -> Wanted<'_> {
     match wanted {
-        Wanted::End => Wanted::Refused(ErrorKind::PrematureEndOfFile),
+        Wanted::End => Wanted::Fails(ErrorKind::PrematureEndOfFile),
         _ => wanted,
     }
 }
@@ -234,7 +234,7 @@ fn is_wanted<S: ReaderSegments + Drop>(
         Ok(found) => found,
         Err(error) if error.kind == ErrorKind::OutOfMemory => return Err(error),
         Err(error) => {
-            return Ok(matches!(wanted, Wanted::Refused(kind) if kind == error.kind));
+            return Ok(matches!(wanted, Wanted::Fails(kind) if kind == error.kind));
         }
     };
     Ok(match (&found, wanted) {

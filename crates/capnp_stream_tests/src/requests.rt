@@ -1,6 +1,6 @@
 //! What the readers of framed messages ask their source for.
 use crate::assertions::{At, assert_calls};
-use crate::calls_declared::assert_call;
+use crate::calls_reported::assert_call;
 use crate::readers::{READERS, is_read};
 use crate::streams::Wanted;
 use capnp::streams::Format;

@@ -1,5 +1,5 @@
 //! Roots of messages that are read in place.
-use crate::assertions::{At, assert_refused};
+use crate::assertions::{At, assert_fails};
 use crate::samples::TEXT_FRAMED;
 use capnp::message::{Reader, ReaderOptions, ReaderSegments};
 use capnp::{ErrorKind, Result, data, serialize, text};
@@ -25,7 +25,7 @@ fn a_root_past_the_limit(rt: HostRuntime) -> Result<()> {
     let reader = serialize::read_message_from_flat_slice_no_alloc(&mut slice, limited)?;
     assert_text(&rt, &reader, b"Hello, World!")?;
     let again = reader.get_root::<data::Reader>();
-    assert_refused(
+    assert_fails(
         &rt,
         again,
         ErrorKind::ReadLimitExceeded,

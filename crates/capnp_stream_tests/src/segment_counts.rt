@@ -1,10 +1,10 @@
 //! Lists of messages of as many segments as a reader accepts, and of more.
 use crate::appended::{are_read, read_back};
 use crate::assertions::{At, assert_holds, assert_kind};
-use crate::faults::FORMATS;
+use crate::failures::FORMATS;
 use capnp::streams::Format;
 use capnp_frame::{ErrorKind, Result};
-use capnp_frame_tests::refusals::kind_of;
+use capnp_frame_tests::errors::kind_of;
 use capnp_frame_tests::retried;
 use std::process::Abort;
 
@@ -24,7 +24,7 @@ const WORDS: [&[u8]; 511] = [WORD; 511];
 fn lists_of_many_segments(rt: HostRuntime) -> Result<()> {
     for format in &FORMATS {
         retried!(read_many(&rt, *format))?;
-        retried!(refuse_in_a_list(&rt, *format))?;
+        retried!(fail_in_a_list(&rt, *format))?;
     }
     Ok(())
 }
@@ -39,7 +39,7 @@ fn read_many(rt: &(impl Abort + AllocGlobal), format: Format) -> Result<()> {
     Ok(())
 }
 
-fn refuse_in_a_list(rt: &(impl Abort + AllocGlobal), format: Format) -> Result<()> {
+fn fail_in_a_list(rt: &(impl Abort + AllocGlobal), format: Format) -> Result<()> {
     let returned = kind_of(read_back(rt, format, &[WORD], &MANY))?;
     let kind = ErrorKind::InvalidNumberOfSegments(600);
     let at = At::row(match format {

@@ -46,7 +46,7 @@ fn is_skipped<R: BufRead>(
         Ok(found) => found,
         Err(error) if error.kind == ErrorKind::OutOfMemory => return Err(error),
         Err(error) => {
-            return Ok(matches!(wanted, Wanted::Refused(kind) if kind == error.kind));
+            return Ok(matches!(wanted, Wanted::Fails(kind) if kind == error.kind));
         }
     };
     Ok(match (&found, wanted) {
@@ -59,15 +59,15 @@ fn is_skipped<R: BufRead>(
 // Framed messages that fail: for their number of segments, for their words, for their padding, and
 // where a segment is cut. Packed ones are in `capnp_frame_tests`.
 #[rattlefmt::skip]
-const REFUSED: [(&[u8], Expected); 4] = [
+const FAILING: [(&[u8], Expected); 4] = [
     (&[255, 1, 0, 0, 0, 0, 0, 0, 1, 2, 3, 4, 5],
-        (Wanted::Refused(ErrorKind::InvalidNumberOfSegments(512)), 5)),
+        (Wanted::Fails(ErrorKind::InvalidNumberOfSegments(512)), 5)),
     (&[1, 0, 0, 0, 255, 255, 255, 255, 2, 0, 0, 0, 0, 0, 0, 0],
-        (Wanted::Refused(ErrorKind::MessageTooLarge(4294967297)), 0)),
+        (Wanted::Fails(ErrorKind::MessageTooLarge(4294967297)), 0)),
     (&[1, 0, 0, 0, 0, 0, 0, 0, 1, 0, 0, 0, 9, 9, 9, 9, 1, 2, 3, 4, 5, 6, 7, 8],
-        (Wanted::Refused(ErrorKind::NonZeroPadding), 8)),
+        (Wanted::Fails(ErrorKind::NonZeroPadding), 8)),
     (&[0, 0, 0, 0, 2, 0, 0, 0, 1, 2, 3, 4, 5, 6, 7, 8, 9, 10, 11],
-        (Wanted::Refused(ErrorKind::FailedToFillTheWholeBuffer), 0)),
+        (Wanted::Fails(ErrorKind::FailedToFillTheWholeBuffer), 0)),
 ];
 
 #[test]
@@ -77,7 +77,7 @@ fn messages_are_skipped(rt: HostRuntime) -> Result<()> {
             let call = (stream.format, Padding::Zero);
             retried!(skip_each(&rt, call, (stream.name, stream.bytes), stream.returns, most))?;
         }
-        for (bytes, returned) in &REFUSED {
+        for (bytes, returned) in &FAILING {
             let call = (Format::Framed, Padding::Zero);
             retried!(skip_each(&rt, call, ("a refusal", *bytes), &[*returned], most))?;
         }

@@ -1,7 +1,7 @@
 //! Messages after one another, by each call that reads the next one of a stream: they are read where
 //! memory is there. What else the bytes of a stream may be is in `conformance/`.
 use crate::assertions::At;
-use crate::calls_declared::{assert_call, assert_unread};
+use crate::calls_reported::{assert_call, assert_unread};
 use crate::flat::RULES;
 use crate::readers::{Call, READERS, is_returned};
 use crate::samples::{ONE_AND_TWO, TEXT, TEXT_FRAMED, TEXT_PACKED, TWO};
@@ -19,7 +19,7 @@ pub enum Wanted<'a> {
     End,
     /// A message of these segments.
     Segments(&'a [&'a [u8]]),
-    Refused(ErrorKind),
+    Fails(ErrorKind),
 }
 
 /// What a call returns, and how many bytes stay unread.

@@ -5,10 +5,10 @@ use capnp::message::DEFAULT_READER_OPTIONS;
 use capnp::{Way, transcode};
 use capnp_frame::io::{BufRead, Write};
 use capnp_frame::{ErrorKind, Result};
-use capnp_frame_tests::refusals::kind_of;
+use capnp_frame_tests::errors::kind_of;
 use capnp_frame_tests::retried;
-use capnp_frame_tests::sinks::FaultySink;
-use capnp_frame_tests::sources::{Faulty, Trickle};
+use capnp_frame_tests::sinks::FailingSink;
+use capnp_frame_tests::sources::{Failing, Trickle};
 use std::alloc::Global;
 use std::process::Abort;
 
@@ -67,7 +67,7 @@ fn name_of(way: Way) -> &'static str {
 // What is written already.
 const FRONT: [u8; 3] = [7, 7, 7];
 
-// A sink that fails at its nth call, until a run meets no fault.
+// A sink that fails at its nth call, until a run meets no failure.
 #[test]
 fn a_sink_that_fails(rt: HostRuntime) -> Result<()> {
     for way in &WAYS {
@@ -87,14 +87,14 @@ fn a_sink_that_fails(rt: HostRuntime) -> Result<()> {
     Ok(())
 }
 
-// How many bytes are in the sink where the run meets the fault. The encodings of the messages
-// before the fault are whole, and a front of the next one follows: only the message that was read
+// How many bytes are in the sink where the run meets the failure. The encodings of the messages
+// before the failure are whole, and a front of the next one follows: only the message that was read
 // last is not written completely.
 fn write_to(rt: &(impl Abort + AllocGlobal), way: Way, at: At<'_>) -> Result<Option<usize>> {
     let packs = way == Way::Pack;
     let input = texts_of(rt.alloc(), !packs)?;
     let mut source = Trickle::new(&input, 5);
-    let mut sink = FaultySink::new(FRONT.to_vec(rt.alloc())?, at.number);
+    let mut sink = FailingSink::new(FRONT.to_vec(rt.alloc())?, at.number);
     let returned = transcoded(rt, way, &mut source, &mut sink)?;
     let written = sink
         .written
@@ -154,11 +154,11 @@ fn a_source_that_fails(rt: HostRuntime) -> Result<()> {
     Ok(())
 }
 
-// Whether the run meets no fault.
+// Whether the run meets no failure.
 fn read_from(rt: &(impl Abort + AllocGlobal), way: Way, most: usize, at: At<'_>) -> Result<bool> {
     let packs = way == Way::Pack;
     let input = texts_of(rt.alloc(), !packs)?;
-    let mut source = Faulty::new(Trickle::new(&input, most), at.number);
+    let mut source = Failing::new(Trickle::new(&input, most), at.number);
     let mut written: Vec<u8> = Vec::new(rt.alloc());
     let returned = transcoded(rt, way, &mut source, &mut written)?;
     assert_is_front(rt, &written, packs, at)?;

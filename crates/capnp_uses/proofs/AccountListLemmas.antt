@@ -7,16 +7,16 @@ use Rattle.std.proofs.lemmas.List.Sums.{sum_by_more, sum_by_more_le}
 use Rattle.capnp_frame.specs.declared.error.Error.{Error}
 use Rattle.capnp_frame.specs.declared.error.ErrorKind.{ErrorKind}
 use Rattle.capnp_frame.specs.declared.error.ErrorKind.TheVariants.{OutOfMemory, AllocationTooLarge}
-use Rattle.capnp_wire.specs.Prelude.{structs, Trees, none, tree, total_words, IsTextTree, LongText, HasWords, LacksWords}
+use Rattle.capnp_wire.specs.Prelude.{structs, Trees, none, tree, total_words, IsTextTree, LongText, HasWords, WordsError}
 use Rattle.capnp_values.specs.DataSections.{with_bits, with_field}
 use Rattle.capnp_orphans.specs.declared.draft.StructDraft.{StructDraft}
 use Rattle.capnp_orphans.specs.Segments.{Segment, body_of, Appends}
 use Rattle.capnp_orphans.specs.Held.{HoldsValue, HoldsStructs, AreValues, TakesStructs, ManyStructs, rows_of, adopted_by}
-use Rattle.capnp_orphans.specs.Adding.{Keeps, Adds, LacksRoom}
+use Rattle.capnp_orphans.specs.Adding.{Keeps, Adds, RoomError}
 use Rattle.capnp_orphans.specs.OrphanLaws.{keeps_on, one_value_more, their_trees, structs_value}
 use Rattle.capnp_uses.specs.declared.account.Owned.{Owned}
 use Rattle.capnp_uses.specs.declared.account_list.NewAccount.{NewAccount}
-use Rattle.capnp_uses.specs.AccountLists.{IsName, IsAccountList, name_words, list_words, IsFullFor, RefusesAccounts}
+use Rattle.capnp_uses.specs.AccountLists.{IsName, IsAccountList, name_words, list_words, IsFullFor, AccountsError}
 
 -- a number fills its word
 pub whole_word : (words : List ℕ) (id : ℕ) → words ≡ 0 ∷ [] → id < 2 ^ 64 → with_field words 64 0 id ≡ id ∷ []
@@ -107,7 +107,7 @@ region_full None (Some n) kind needs whole words same within is = absurd (cc)
 region_full (Some m) None kind needs whole words same within is = absurd (cc)
 
 full_for : (total words done : ℕ) (old new : Segment) (kind : ErrorKind) → length new.bytes ≡ length old.bytes + 8 * done → new.most ≡ old.most → done + words ≤ total
-    → LacksRoom words new kind → (kind ≡ OutOfMemory) ⊎ (IsFullFor total old × ((many : ℕ) × (kind ≡ AllocationTooLarge many)))
+    → RoomError words new kind → (kind ≡ OutOfMemory) ⊎ (IsFullFor total old × ((many : ℕ) × (kind ≡ AllocationTooLarge many)))
 full_for total words done old new kind bytes same within (inl (full, is)) = inr (inl (omega (arith, bytes, full, within)), (words, is))
 full_for total words done old new kind bytes same within (inr (few, (needs, is))) =
     elim (region_full old.most new.most kind (length new.bytes + 8 * words) (length old.bytes + 8 * total) words same (omega (arith, bytes, within)) is) [
@@ -115,47 +115,47 @@ full_for total words done old new kind bytes same within (inr (few, (needs, is))
       | inr full ↦ inr (inr full.0, (words, full.1))
     ]
 
-refused_room : (accounts : List NewAccount) (old : Segment) (kind : ErrorKind) → (kind ≡ OutOfMemory) ⊎ (IsFullFor (list_words accounts) old × ((many : ℕ) × (kind ≡ AllocationTooLarge many)))
-    → RefusesAccounts accounts old kind
-refused_room accounts old kind (inl memory) = inl memory
-refused_room accounts old kind (inr full) = inr (inr full)
+list_room_error : (accounts : List NewAccount) (old : Segment) (kind : ErrorKind) → (kind ≡ OutOfMemory) ⊎ (IsFullFor (list_words accounts) old × ((many : ℕ) × (kind ≡ AllocationTooLarge many)))
+    → AccountsError accounts old kind
+list_room_error accounts old kind (inl memory) = inl memory
+list_room_error accounts old kind (inr full) = inr (inr full)
 
 -- why a name is not written
-pub name_refused : (accounts : List NewAccount) (i : ℕ) (d : NewAccount) (old new : Segment) (drafts : List Drafted) (kind : ErrorKind) → i < length accounts
+pub name_error : (accounts : List NewAccount) (i : ℕ) (d : NewAccount) (old new : Segment) (drafts : List Drafted) (kind : ErrorKind) → i < length accounts
     → AreDrafted (take i accounts) old new drafts
-    → LacksWords (IsTextTree (slice_index_or accounts i d).name.now) (LongText (slice_index_or accounts i d).name.now) false kind
-    ⊎ ((words : ℕ) × HasWords (IsTextTree (slice_index_or accounts i d).name.now) false words × LacksRoom words new kind)
-    → RefusesAccounts accounts old kind
-name_refused accounts i d old new drafts kind within are (inl (inl long)) =
+    → WordsError (IsTextTree (slice_index_or accounts i d).name.now) (LongText (slice_index_or accounts i d).name.now) false kind
+    ⊎ ((words : ℕ) × HasWords (IsTextTree (slice_index_or accounts i d).name.now) false words × RoomError words new kind)
+    → AccountsError accounts old kind
+name_error accounts i d old new drafts kind within are (inl (inl long)) =
     let there = Contains-get_or accounts i d within in
     inr (inl (there.0, slice_index_or accounts i d, there.1, there.2, long))
-name_refused accounts i d old new drafts kind within are (inl (inr (trees, is, many, declared))) =
+name_error accounts i d old new drafts kind within are (inl (inr (trees, is, many, reported))) =
     let name : List ℕ = (slice_index_or accounts i d).name.now in
     let len : length (name ++ 0 ∷ []) ≡ length name + 1 = length-append name (0 ∷ []) in
     let few = is.0 in
     let total : total_words trees ≡ (length (name ++ 0 ∷ []) * 8 + 63) / 64 + 0 + 0 = ap (λ (t : Trees). total_words t) is.1 in
     absurd (omega (arith, many, total, few, len))
-name_refused accounts i d old new drafts kind within are (inr (words, has, lacks)) =
+name_error accounts i d old new drafts kind within are (inr (words, has, room_error)) =
     let sum : sum_by name_words (take i accounts) + name_words (slice_index_or accounts i d) ≤ sum_by name_words accounts = sum_by_more_le name_words accounts i d within in
     let one = text_words (slice_index_or accounts i d).name.now words has in
-    refused_room accounts old kind (full_for (list_words accounts) words (sum_by name_words (take i accounts)) old new kind are.bytes are.most (omega (arith, sum, one)) lacks)
+    list_room_error accounts old kind (full_for (list_words accounts) words (sum_by name_words (take i accounts)) old new kind are.bytes are.most (omega (arith, sum, one)) room_error)
 
 -- why the list is not
-pub list_refused : (accounts : List NewAccount) (old new : Segment) (drafts : List Drafted) (kind : ErrorKind) → AreDrafted accounts old new drafts
-    → ManyStructs 1 1 (length drafts) kind ⊎ ((words : ℕ) × TakesStructs 1 1 (length drafts) words × LacksRoom words new kind) → RefusesAccounts accounts old kind
-list_refused accounts old new drafts kind are (inl (inl (inl large, is))) = absurd (omega (arith, large))
-list_refused accounts old new drafts kind are (inl (inl (inr large, is))) = absurd (omega (arith, large))
-list_refused accounts old new drafts kind are (inl (inr (inl (fits, many, is)))) = inr (inr (inl (omega (arith, many, are.count)), (_, is)))
-list_refused accounts old new drafts kind are (inl (inr (inr (fits, few, many, is)))) = inr (inr (inl (omega (arith, many, are.count)), (_, is)))
-list_refused accounts old new drafts kind are (inr (words, takes, lacks)) =
-    refused_room accounts old kind
-    (full_for (list_words accounts) words (sum_by name_words accounts) old new kind are.bytes are.most (omega (arith, takes.2, are.count)) lacks)
+pub list_error : (accounts : List NewAccount) (old new : Segment) (drafts : List Drafted) (kind : ErrorKind) → AreDrafted accounts old new drafts
+    → ManyStructs 1 1 (length drafts) kind ⊎ ((words : ℕ) × TakesStructs 1 1 (length drafts) words × RoomError words new kind) → AccountsError accounts old kind
+list_error accounts old new drafts kind are (inl (inl (inl large, is))) = absurd (omega (arith, large))
+list_error accounts old new drafts kind are (inl (inl (inr large, is))) = absurd (omega (arith, large))
+list_error accounts old new drafts kind are (inl (inr (inl (fits, many, is)))) = inr (inr (inl (omega (arith, many, are.count)), (_, is)))
+list_error accounts old new drafts kind are (inl (inr (inr (fits, few, many, is)))) = inr (inr (inl (omega (arith, many, are.count)), (_, is)))
+list_error accounts old new drafts kind are (inr (words, takes, room_error)) =
+    list_room_error accounts old kind
+    (full_for (list_words accounts) words (sum_by name_words accounts) old new kind are.bytes are.most (omega (arith, takes.2, are.count)) room_error)
 
 pub list_kind : {T : Type 0} (accounts : List NewAccount) (old new : Segment) (drafts : List Drafted) (result : Result T Error) → AreDrafted accounts old new drafts
-    → IfErr result (λ error. ManyStructs 1 1 (length drafts) error.kind ⊎ ((words : ℕ) × TakesStructs 1 1 (length drafts) words × LacksRoom words new error.kind))
-    → IfErr result (λ error. RefusesAccounts accounts old error.kind)
+    → IfErr result (λ error. ManyStructs 1 1 (length drafts) error.kind ⊎ ((words : ℕ) × TakesStructs 1 1 (length drafts) words × RoomError words new error.kind))
+    → IfErr result (λ error. AccountsError accounts old error.kind)
 list_kind accounts old new drafts (Ok x) are kind = tt
-list_kind accounts old new drafts (Err e) are kind = list_refused accounts old new drafts e.kind are kind
+list_kind accounts old new drafts (Err e) are kind = list_error accounts old new drafts e.kind are kind
 
 -- all of them, once the loop ends
 pub all_drafted : (accounts : List NewAccount) (i : ℕ) (old new : Segment) (drafts shown : List Drafted) → length accounts ≤ i → shown ≡ drafts

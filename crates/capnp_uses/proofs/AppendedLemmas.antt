@@ -10,7 +10,7 @@ use Rattle.capnp_frame.specs.Prelude.{Adds, ByKind, KeepsLimit, lengths, Giving,
 use Rattle.capnp_frame.proofs.sources.SourceLemmas.{IfKnown-weaker}
 use Rattle.capnp_frame.proofs.encodings.TextLemmas.{PartsStreams}
 use Rattle.capnp.specs.declared.streams.Format.{Format}
-use Rattle.capnp.specs.Prelude.{grammar_of, rules_of, IsTextOf, DeclinesAs, AppendsEach, RefusesManyOf, RefusesOneOf}
+use Rattle.capnp.specs.Prelude.{grammar_of, rules_of, IsTextOf, ErrorsAs, AppendsEach, SegmentCountErrorIn, OneOfError}
 use Rattle.capnp.proofs.ChunkLemmas.{format_memory}
 use Rattle.capnp.proofs.RunLemmas.{format_lawful, format_requested, format_parts}
 use Rattle.capnp.proofs.ReaderLemmas.{nothing_stands}
@@ -62,9 +62,9 @@ none_left rule format limit segments (Some x) source old new none reads = absurd
 
 -- what is appended to a vector fails for too many segments, or for want of memory
 pub appending_memory : (format : Format) (ms : List (List (List ℕ))) (kind : ErrorKind) → AllByRecursion IsWritable ms → (kind ≡ DeviceFailed → Fails 0 0)
-    → RefusesOneOf (DeclinesAs format (ByKind OutOfMemory)) ms kind → RefusesManyOf ms kind ⊎ (kind ≡ OutOfMemory)
-appending_memory format [] kind writable failed refused = absurd refused
-appending_memory format (m ∷ ms) kind writable failed (inl refused) = elim (format_memory format m kind writable.0 refused failed) [
+    → OneOfError (ErrorsAs format (ByKind OutOfMemory)) ms kind → SegmentCountErrorIn ms kind ⊎ (kind ≡ OutOfMemory)
+appending_memory format [] kind writable failed errors = absurd errors
+appending_memory format (m ∷ ms) kind writable failed (inl errors) = elim (format_memory format m kind writable.0 errors failed) [
   | inl many ↦ inl (inl many)
   | inr memory ↦ inr memory
 ]

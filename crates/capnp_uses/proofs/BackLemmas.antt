@@ -26,5 +26,5 @@ text_read spaces bytes shown set reads =
 
 -- equal bytes are found equal
 pub bytes_same : (xs ys : List ℕ) (r : Bool) → r ≡ pointwise nat_eq xs ys → xs ≡ ys → r ≡ true
-bytes_same xs ys true declared same = refl
-bytes_same xs ys false declared same = absurd (told_text xs ys false declared same)
+bytes_same xs ys true reported same = refl
+bytes_same xs ys false reported same = absurd (told_text xs ys false reported same)

@@ -8,7 +8,7 @@ use Rattle.capnp_frame.specs.declared.io.Read.{Ghosts}
 use Rattle.capnp_frame.specs.declared.serialize.segment_table.Padding.TheVariants.{Zero}
 use Rattle.capnp_frame.specs.Prelude.{IfKnown, Fails, next_in, ReadsStream, AreEncodings, TakesMemory}
 use Rattle.capnp.specs.declared.streams.Format.{Format}
-use Rattle.capnp.specs.Prelude.{IsFault, ReturnsEncodings, grammar_of, gives_of, rules_of, StandsNext, RefusesNext, IsStream}
+use Rattle.capnp.specs.Prelude.{ExternalError, ReturnsEncodings, grammar_of, gives_of, rules_of, StandsNext, NextError, IsStream}
 use Rattle.capnp.proofs.EndLemmas.{stream_once}
 use Rattle.capnp.proofs.RunLemmas.{format_parts}
 use Rattle.capnp_uses.specs.Devices.{ReadsFirst, ReadsAll}
@@ -37,10 +37,10 @@ reasons kind old new bytes T P is (inl device) = inl device
 reasons kind old new bytes T P is (inr (inl (memory, taken))) = inr (inl (memory, rest_after T old new bytes is taken))
 reasons kind old new bytes T P is (inr (inr line)) = inr (inr (rest_after P old new bytes is line))
 
-fault_or : {T : Type 0} (kind : ErrorKind) → (kind ≡ DeviceFailed) ⊎ (kind ≡ OutOfMemory) ⊎ T → IsFault kind ⊎ T
-fault_or kind (inl device) = inl (inl device)
-fault_or kind (inr (inl memory)) = inl (inr memory)
-fault_or kind (inr (inr other)) = inr other
+external_or : {T : Type 0} (kind : ErrorKind) → (kind ≡ DeviceFailed) ⊎ (kind ≡ OutOfMemory) ⊎ T → ExternalError kind ⊎ T
+external_or kind (inl device) = inl (inl device)
+external_or kind (inr (inl memory)) = inl (inr memory)
+external_or kind (inr (inr other)) = inr other
 
 -- What the reader of the next message returns of these bytes, it returns of the first message.
 first_of_bytes : {S : Type 0} (source : Ghosts S) (old new : S) (format : Format) (limit : Option ℕ) (r : Result (Option (List (List ℕ))) Error) (bytes : List ℕ)
@@ -53,7 +53,7 @@ first_of_bytes source old new format limit (Ok None) bytes is texts reads =
       none = none;
       accepted = λ message rest begins. absurd (never format limit message bytes rest none begins);
       end = λ empty. refl;
-      refused = tt;
+      errors = tt;
       exact = λ kind (left, line). at_known _ (source.unread old) bytes is reads.exact kind left line;
     }
 first_of_bytes source old new format limit (Ok (Some first)) bytes is texts reads =
@@ -64,7 +64,7 @@ first_of_bytes source old new format limit (Ok (Some first)) bytes is texts read
       none = tt;
       accepted = λ message rest begins. ap Some ((format_parts Zero format limit).begins_once first message bytes found.0 rest found.1 begins).0;
       end = λ empty. absurd (never format limit first bytes found.0 empty found.1);
-      refused = tt;
+      errors = tt;
       exact = λ kind (left, line). at_known _ (source.unread old) bytes is reads.exact kind left line;
     }
 first_of_bytes source old new format limit (Err error) bytes is texts reads = record {
@@ -72,9 +72,9 @@ first_of_bytes source old new format limit (Err error) bytes is texts reads = re
   none = tt;
   accepted = at_known _ (source.unread old) bytes is texts.accepted;
   end = λ empty. let unread : source.unread old ≡ Some [] = cc in reads.end unread;
-  refused = reasons error.kind (source.unread old) (source.unread new) bytes (TakesMemory Zero (gives_of format) limit)
-      (RefusesNext Zero format limit error.kind) is reads.refused;
-  exact = λ kind (left, line). fault_or error.kind (at_known _ (source.unread old) bytes is reads.exact kind left line);
+  errors = reasons error.kind (source.unread old) (source.unread new) bytes (TakesMemory Zero (gives_of format) limit)
+      (NextError Zero format limit error.kind) is reads.errors;
+  exact = λ kind (left, line). external_or error.kind (at_known _ (source.unread old) bytes is reads.exact kind left line);
 }
 
 pub reads_first : {S : Type 0} (source : Ghosts S) (old new : S) (format : Format) (limit : Option ℕ) (r : Result (Option (List (List ℕ))) Error) (known : Option (List ℕ))
@@ -109,13 +109,13 @@ nothing_listed : (format : Format) (limit : Option ℕ) (ms : List (List (List �
 nothing_listed format limit [] bytes rest texts none = (refl, texts ∙ none)
 nothing_listed format limit (m ∷ ms) bytes rest (between, begins, texts) none = absurd (never format limit m bytes between none begins)
 
--- All messages are read, or the reader fails after some, or there is a fault.
+-- All messages are read, or the reader fails after some, or there is an external error.
 all_read : {X : Type 0} (format : Format) (limit : Option ℕ) (messages : X → List (List (List ℕ))) (read : X) (bytes : List ℕ)
     → IsStream Zero format limit (messages read) None bytes → ReadsAll format limit messages (Ok read) bytes
 all_read format limit messages read bytes stream = record {
   found = stream;
   end = λ none. (nothing_listed format limit (messages read) bytes stream.rest stream.texts none).0;
-  refused = tt;
+  errors = tt;
   accepted = λ listed also. (stream_once Zero format limit (messages read) listed None None bytes stream also).0;
   exact = λ before kind also.
       let other : None ≡ Some kind = (stream_once Zero format limit (messages read) before None (Some kind) bytes stream also).1 in
@@ -124,19 +124,19 @@ all_read format limit messages read bytes stream = record {
 
 all_fail : {X : Type 0} (format : Format) (limit : Option ℕ) (messages : X → List (List (List ℕ))) (error : Error) (bytes : List ℕ)
     → (bytes ≡ [] → error.kind ≡ DeviceFailed)
-    → IsFault error.kind ⊎ ((before : List (List (List ℕ))) × IsStream Zero format limit before (Some error.kind) bytes)
+    → ExternalError error.kind ⊎ ((before : List (List (List ℕ))) × IsStream Zero format limit before (Some error.kind) bytes)
     → ReadsAll format limit messages (Err error) bytes
-all_fail format limit messages error bytes end (inl fault) = record {
+all_fail format limit messages error bytes end (inl external) = record {
   found = tt;
   end = end;
-  refused = inl fault;
-  accepted = λ listed also. fault;
-  exact = λ before kind also. inl fault;
+  errors = inl external;
+  accepted = λ listed also. external;
+  exact = λ before kind also. inl external;
 }
 all_fail format limit messages error bytes end (inr (before, stream)) = record {
   found = tt;
   end = end;
-  refused = inr (before, stream);
+  errors = inr (before, stream);
   accepted = λ listed also.
       let other : Some error.kind ≡ None = (stream_once Zero format limit before listed (Some error.kind) None bytes stream also).1 in
       cc;
@@ -146,7 +146,7 @@ all_fail format limit messages error bytes end (inr (before, stream)) = record {
       inr kinds;
 }
 
--- What is returned where the reading stops: at the end of the bytes, where the reader fails, or for a fault.
+-- What is returned where the reading stops: at the end of the bytes, where the reader fails, or for an external error.
 
 pub reads_all : {X : Type 0} (format : Format) (limit : Option ℕ) (messages : X → List (List (List ℕ))) (read : X) (known unread : Option (List ℕ))
     → IfKnown known unread (AreEncodings (grammar_of Zero format) limit (messages read)) → IfSome unread (λ raw. raw ≡ [])
@@ -164,13 +164,13 @@ all_of_bytes format limit messages r known unread same reads = subst (λ (o : Op
 pub fails_after : {X : Type 0} (format : Format) (limit : Option ℕ) (messages : X → List (List (List ℕ))) (error : Error) (before : List (List (List ℕ)))
     (known unread new : Option (List ℕ)) (T : List ℕ → List ℕ → Type 0) → IfKnown known unread (AreEncodings (grammar_of Zero format) limit before)
     → (unread ≡ Some [] → error.kind ≡ DeviceFailed)
-    → (error.kind ≡ DeviceFailed) ⊎ ((error.kind ≡ OutOfMemory) × IfKnown unread new T) ⊎ IfKnown unread new (RefusesNext Zero format limit error.kind)
+    → (error.kind ≡ DeviceFailed) ⊎ ((error.kind ≡ OutOfMemory) × IfKnown unread new T) ⊎ IfKnown unread new (NextError Zero format limit error.kind)
     → IfSome known (ReadsAll format limit messages (Err error))
-fails_after format limit messages error before None unread new T texts end refused = tt
-fails_after format limit messages error before (Some bytes) None new T texts end refused = absurd texts
-fails_after format limit messages error before (Some bytes) (Some rest) new T texts end refused =
+fails_after format limit messages error before None unread new T texts end errors = tt
+fails_after format limit messages error before (Some bytes) None new T texts end errors = absurd texts
+fails_after format limit messages error before (Some bytes) (Some rest) new T texts end errors =
     all_fail format limit messages error bytes (λ none. end (ap Some (nothing_listed format limit before bytes rest texts none).1))
-    (elim (reasons error.kind (Some rest) new rest T (RefusesNext Zero format limit error.kind) refl refused) [
+    (elim (reasons error.kind (Some rest) new rest T (NextError Zero format limit error.kind) refl errors) [
       | inl device ↦ inl (inl device)
       | inr (inl memory) ↦ inl (inr memory.0)
       | inr (inr ends) ↦ inr (before, record { rest = rest; texts = texts; ends = ends })
@@ -179,20 +179,20 @@ fails_after format limit messages error before (Some bytes) (Some rest) new T te
 -- A message that was read is not listed for want of memory.
 pub fails_to_list : {X : Type 0} (format : Format) (limit : Option ℕ) (messages : X → List (List (List ℕ))) (error : Error) (before : List (List (List ℕ))) (message : List (List ℕ))
     (known unread new : Option (List ℕ)) → IfKnown known unread (AreEncodings (grammar_of Zero format) limit before)
-    → IfKnown unread new (StandsNext Zero format limit message) → IsFault error.kind → IfSome known (ReadsAll format limit messages (Err error))
-fails_to_list format limit messages error before message None unread new texts stands fault = tt
-fails_to_list format limit messages error before message (Some bytes) None new texts stands fault = absurd texts
-fails_to_list format limit messages error before message (Some bytes) (Some rest) None texts stands fault = absurd stands
-fails_to_list format limit messages error before message (Some bytes) (Some rest) (Some left) texts stands fault =
+    → IfKnown unread new (StandsNext Zero format limit message) → ExternalError error.kind → IfSome known (ReadsAll format limit messages (Err error))
+fails_to_list format limit messages error before message None unread new texts stands external = tt
+fails_to_list format limit messages error before message (Some bytes) None new texts stands external = absurd texts
+fails_to_list format limit messages error before message (Some bytes) (Some rest) None texts stands external = absurd stands
+fails_to_list format limit messages error before message (Some bytes) (Some rest) (Some left) texts stands external =
     all_fail format limit messages error bytes
-    (λ none. absurd (never format limit message rest left (nothing_listed format limit before bytes rest texts none).1 stands)) (inl fault)
+    (λ none. absurd (never format limit message rest left (nothing_listed format limit before bytes rest texts none).1 stands)) (inl external)
 
 -- Nor is the message past a full list.
 pub fails_past_full : {X : Type 0} (format : Format) (limit : Option ℕ) (messages : X → List (List (List ℕ))) (error : Error) (before : List (List (List ℕ)))
     (known unread : Option (List ℕ)) → IfKnown known unread (AreEncodings (grammar_of Zero format) limit before) → 0 < length before
-    → IsFault error.kind → IfSome known (ReadsAll format limit messages (Err error))
-fails_past_full format limit messages error before None unread texts many fault = tt
-fails_past_full format limit messages error before (Some bytes) None texts many fault = absurd texts
-fails_past_full format limit messages error before (Some bytes) (Some rest) texts many fault =
+    → ExternalError error.kind → IfSome known (ReadsAll format limit messages (Err error))
+fails_past_full format limit messages error before None unread texts many external = tt
+fails_past_full format limit messages error before (Some bytes) None texts many external = absurd texts
+fails_past_full format limit messages error before (Some bytes) (Some rest) texts many external =
     all_fail format limit messages error bytes
-    (λ none. absurd (omega (arith, many, ap length (nothing_listed format limit before bytes rest texts none).0))) (inl fault)
+    (λ none. absurd (omega (arith, many, ap length (nothing_listed format limit before bytes rest texts none).0))) (inl external)

@@ -4,13 +4,13 @@ use Rattle.std.specs.Prelude.{Any}
 use Rattle.std.proofs.lemmas.List.{length-map}
 use Rattle.capnp_frame.specs.declared.error.Error.{Error}
 use Rattle.capnp_frame.specs.declared.error.ErrorKind.{ErrorKind}
-use Rattle.capnp_wire.specs.Prelude.{Trees, struct, structs, none, tree, total_words, HasWords, LacksWords, IsTextTree, LongText}
-use Rattle.capnp_values.specs.Fields.{IsRow, RefusesRow}
-use Rattle.capnp_values.specs.Structs.{IsStruct, RefusesStruct}
-use Rattle.capnp_values.specs.StructLists.{RefusesRows, IsStructList, RefusesStructList}
-use Rattle.capnp_build.specs.Prelude.{Space, Built, FindsNoRoom, StopsFirst, RefusesCanonical}
+use Rattle.capnp_wire.specs.Prelude.{Trees, struct, structs, none, tree, total_words, HasWords, WordsError, IsTextTree, LongText}
+use Rattle.capnp_values.specs.Fields.{IsRow, FieldsError}
+use Rattle.capnp_values.specs.Structs.{IsStruct, StructError}
+use Rattle.capnp_values.specs.StructLists.{ElementsError, IsStructList, StructListError}
+use Rattle.capnp_build.specs.Prelude.{Space, Built, FindsNoRoom, FailsFirstSegment, ClearedRootError}
 use Rattle.capnp_build.specs.declared.allocator.Allocator.{Ghosts}
-use Rattle.capnp_uses.specs.Roots.{RefusesForm, StaysUnset, StaysUnread}
+use Rattle.capnp_uses.specs.Roots.{SetCanonicalError, StaysUnset, StaysUnread}
 use Rattle.capnp_uses.specs.People.{text_tree, texts, person_tree, phones_tree, contact_tree, IsTooLarge}
 use Rattle.capnp_uses.proofs.ContactLemmas.{whole_address, whole_list}
 
@@ -22,45 +22,45 @@ any_next P x xs (k, y, below, is, holds) = (suc k, y, omega (arith, below), is, 
 
 -- each of these failures is one of those
 abbrev pub Blames : (ErrorKind → Type 0) → (ErrorKind → Type 0) → Type 0
-Blames refuses fact = (kind : ErrorKind) → refuses kind → fact kind
+Blames fails fact = (kind : ErrorKind) → fails kind → fact kind
 
 -- Parts of a value whose tree is `whole`: what is too large there is too large in all.
 
-lacks_blames : (found : List (List ℕ)) (whole : Trees) (has : Trees → Type 0) (refuses : ErrorKind → Type 0) → Blames refuses (IsTooLarge found whole)
-    → ((t : Trees) → has t → total_words t ≤ total_words whole) → Blames (λ kind. LacksWords has refuses false kind) (IsTooLarge found whole)
-lacks_blames found whole has refuses blames within kind (inl refused) = blames kind refused
-lacks_blames found whole has refuses blames within kind (inr (t, is, many, kind_is)) = inr (omega (arith, within t is, many), (_, kind_is))
+words_error_blames : (found : List (List ℕ)) (whole : Trees) (has : Trees → Type 0) (fails : ErrorKind → Type 0) → Blames fails (IsTooLarge found whole)
+    → ((t : Trees) → has t → total_words t ≤ total_words whole) → Blames (λ kind. WordsError has fails false kind) (IsTooLarge found whole)
+words_error_blames found whole has fails blames within kind (inl errors) = blames kind errors
+words_error_blames found whole has fails blames within kind (inr (t, is, many, kind_is)) = inr (omega (arith, within t is, many), (_, kind_is))
 
-row_blames : (found : List (List ℕ)) (whole : Trees) (has : Trees → Type 0) (refuses others : ErrorKind → Type 0) → Blames refuses (IsTooLarge found whole)
-    → ((t : Trees) → has t → total_words t ≤ total_words whole) → Blames others (IsTooLarge found whole) → Blames (λ kind. RefusesRow has refuses others kind) (IsTooLarge found whole)
-row_blames found whole has refuses others blames within rest kind (inl lacks) = lacks_blames found whole has refuses blames within kind lacks
-row_blames found whole has refuses others blames within rest kind (inr refused) = rest kind refused.2
+row_blames : (found : List (List ℕ)) (whole : Trees) (has : Trees → Type 0) (fails others : ErrorKind → Type 0) → Blames fails (IsTooLarge found whole)
+    → ((t : Trees) → has t → total_words t ≤ total_words whole) → Blames others (IsTooLarge found whole) → Blames (λ kind. FieldsError has fails others kind) (IsTooLarge found whole)
+row_blames found whole has fails others blames within rest kind (inl words_error) = words_error_blames found whole has fails blames within kind words_error
+row_blames found whole has fails others blames within rest kind (inr errors) = rest kind errors.2
 
-struct_blames : (words size : ℕ) (refuses fact : ErrorKind → Type 0) → words < 2 ^ 16 → size < 2 ^ 16 → Blames refuses fact → Blames (λ kind. RefusesStruct words size refuses kind) fact
-struct_blames words size refuses fact few few_pointers blames kind (inl (inl many, kind_is)) = absurd (omega (arith, many, few))
-struct_blames words size refuses fact few few_pointers blames kind (inl (inr many, kind_is)) = absurd (omega (arith, many, few_pointers))
-struct_blames words size refuses fact few few_pointers blames kind (inr refused) = blames kind refused.2
+struct_blames : (words size : ℕ) (fails fact : ErrorKind → Type 0) → words < 2 ^ 16 → size < 2 ^ 16 → Blames fails fact → Blames (λ kind. StructError words size fails kind) fact
+struct_blames words size fails fact few few_pointers blames kind (inl (inl many, kind_is)) = absurd (omega (arith, many, few))
+struct_blames words size fails fact few few_pointers blames kind (inl (inr many, kind_is)) = absurd (omega (arith, many, few_pointers))
+struct_blames words size fails fact few few_pointers blames kind (inr errors) = blames kind errors.2
 
 none_blames : (fact : ErrorKind → Type 0) → Blames (λ kind. ⊥) fact
-none_blames fact kind refused = absurd refused
+none_blames fact kind errors = absurd errors
 
 -- one text in a struct, in front of other trees or none
 text_blames : (bytes : List ℕ) (found : List (List ℕ)) (whole : Trees) (others : ErrorKind → Type 0) → Blames (LongText bytes) (λ kind. Any (λ b. LongText b kind) found)
     → total_words (text_tree bytes none) ≤ total_words whole → Blames others (IsTooLarge found whole)
-    → Blames (λ kind. RefusesRow (λ t. IsTextTree bytes t) (λ k. LongText bytes k) others kind) (IsTooLarge found whole)
+    → Blames (λ kind. FieldsError (λ t. IsTextTree bytes t) (λ k. LongText bytes k) others kind) (IsTooLarge found whole)
 text_blames bytes found whole others listed within rest = row_blames found whole (λ t. IsTextTree bytes t) (λ k. LongText bytes k) others (λ kind long. inl (listed kind long))
     (λ t is. subst (λ (x : Trees). total_words x ≤ total_words whole) (sym is.1) within) rest
 
 -- the texts of some structs
 rows_blame : {V : Type 0} (f : V → List ℕ) (found : List (List ℕ)) (whole : Trees) (values : List V)
     → Blames (λ kind. Any (λ b. LongText b kind) (map f values)) (λ kind. Any (λ b. LongText b kind) found) → total_words (texts (map f values)) ≤ total_words whole
-    → Blames (λ kind. RefusesRows (λ v u. IsRow (λ x. IsTextTree (f v) x) (λ x. x ≡ none) u) (λ v m. RefusesRow (λ x. IsTextTree (f v) x) (λ n. LongText (f v) n) (λ n. ⊥) m) values kind)
+    → Blames (λ kind. ElementsError (λ v u. IsRow (λ x. IsTextTree (f v) x) (λ x. x ≡ none) u) (λ v m. FieldsError (λ x. IsTextTree (f v) x) (λ n. LongText (f v) n) (λ n. ⊥) m) values kind)
     (IsTooLarge found whole)
-rows_blame f found whole [] listed within kind refused = absurd refused
-rows_blame f found whole (value ∷ values) listed within kind (inl refused) =
-    text_blames (f value) found whole (λ n. ⊥) (λ k long. listed k (any_here (λ b. LongText b k) (f value) (map f values) long)) (omega (arith, within)) (none_blames (IsTooLarge found whole)) kind refused
-rows_blame f found whole (value ∷ values) listed within kind (inr refused) =
-    rows_blame f found whole values (λ k long. listed k (any_next (λ b. LongText b k) (f value) (map f values) long)) (omega (arith, within)) kind refused.2
+rows_blame f found whole [] listed within kind errors = absurd errors
+rows_blame f found whole (value ∷ values) listed within kind (inl errors) =
+    text_blames (f value) found whole (λ n. ⊥) (λ k long. listed k (any_here (λ b. LongText b k) (f value) (map f values) long)) (omega (arith, within)) (none_blames (IsTooLarge found whole)) kind errors
+rows_blame f found whole (value ∷ values) listed within kind (inr errors) =
+    rows_blame f found whole values (λ k long. listed k (any_next (λ b. LongText b k) (f value) (map f values) long)) (omega (arith, within)) kind errors.2
 
 -- the words of a list of structs of a word and a pointer
 list_words : (words : List (List ℕ)) (bytes : List (List ℕ)) → total_words (phones_tree words bytes) ≡ 1 + length words * 2 + total_words (texts bytes)
@@ -69,22 +69,22 @@ list_words words bytes = omega arith
 -- a list of such structs
 list_blames : {V : Type 0} (w f : V → List ℕ) (found : List (List ℕ)) (whole : Trees) (values : List V)
     → Blames (λ kind. Any (λ b. LongText b kind) (map f values)) (λ kind. Any (λ b. LongText b kind) found) → total_words (phones_tree (map w values) (map f values)) ≤ total_words whole
-    → Blames (λ kind. RefusesStructList (λ v u. IsRow (λ x. IsTextTree (f v) x) (λ x. x ≡ none) u)
-    (λ v m. RefusesRow (λ x. IsTextTree (f v) x) (λ n. LongText (f v) n) (λ n. ⊥) m) 1 1 values kind) (IsTooLarge found whole)
+    → Blames (λ kind. StructListError (λ v u. IsRow (λ x. IsTextTree (f v) x) (λ x. x ≡ none) u)
+    (λ v m. FieldsError (λ x. IsTextTree (f v) x) (λ n. LongText (f v) n) (λ n. ⊥) m) 1 1 values kind) (IsTooLarge found whole)
 list_blames w f found whole values listed within kind (inl (inl (inl many, kind_is))) = absurd (omega (arith, many))
 list_blames w f found whole values listed within kind (inl (inl (inr many, kind_is))) = absurd (omega (arith, many))
 list_blames w f found whole values listed within kind (inl (inr (inl (d, p, many, kind_is)))) =
     inr (omega (arith, many, within, list_words (map w values) (map f values), length-map values w), (_, kind_is))
 list_blames w f found whole values listed within kind (inl (inr (inr (d, p, few, many, kind_is)))) =
     inr (omega (arith, many, within, list_words (map w values) (map f values), length-map values w), (_, kind_is))
-list_blames w f found whole values listed within kind (inr refused) =
-    rows_blame f found whole values listed (omega (arith, within, list_words (map w values) (map f values))) kind refused.4
+list_blames w f found whole values listed within kind (inr errors) =
+    rows_blame f found whole values listed (omega (arith, within, list_words (map w values) (map f values))) kind errors.4
 
 -- a person
 person_blames : (words name address city : List ℕ) → length words < 2 ^ 16 → length address < 2 ^ 16
-    → Blames (λ kind. RefusesStruct (length words) 2 (λ k. RefusesRow (λ t. IsTextTree name t) (λ j. LongText name j)
-    (λ j. RefusesRow (λ t. IsStruct address 1 (λ u. IsRow (λ v. IsTextTree city v) (λ v. v ≡ none) u) t)
-    (λ i. RefusesStruct (length address) 1 (λ h. RefusesRow (λ t. IsTextTree city t) (λ g. LongText city g) (λ g. ⊥) h) i) (λ i. ⊥) j) k) kind)
+    → Blames (λ kind. StructError (length words) 2 (λ k. FieldsError (λ t. IsTextTree name t) (λ j. LongText name j)
+    (λ j. FieldsError (λ t. IsStruct address 1 (λ u. IsRow (λ v. IsTextTree city v) (λ v. v ≡ none) u) t)
+    (λ i. StructError (length address) 1 (λ h. FieldsError (λ t. IsTextTree city t) (λ g. LongText city g) (λ g. ⊥) h) i) (λ i. ⊥) j) k) kind)
     (IsTooLarge (name ∷ city ∷ []) (tree (struct words) (text_tree name (tree (struct address) (text_tree city none) none)) none))
 person_blames words name address city few none_few =
     let home = tree (struct address) (text_tree city none) none in
@@ -100,12 +100,12 @@ person_blames words name address city few none_few =
     (text_blames name found whole _ (λ k long. any_here (λ b. LongText b k) name (city ∷ []) long) (omega arith) home_blames)
 
 pub person_fails : (words : List ℕ) (id : ℕ) (n address c name city : List ℕ) → words ≡ id ∷ [] → n ≡ name → address ≡ [] → c ≡ city
-    → Blames (λ kind. RefusesStruct (length words) 2 (λ k. RefusesRow (λ t. IsTextTree n t) (λ j. LongText n j)
-    (λ j. RefusesRow (λ t. IsStruct address 1 (λ u. IsRow (λ v. IsTextTree c v) (λ v. v ≡ none) u) t)
-    (λ i. RefusesStruct (length address) 1 (λ h. RefusesRow (λ t. IsTextTree c t) (λ g. LongText c g) (λ g. ⊥) h) i) (λ i. ⊥) j) k) kind)
+    → Blames (λ kind. StructError (length words) 2 (λ k. FieldsError (λ t. IsTextTree n t) (λ j. LongText n j)
+    (λ j. FieldsError (λ t. IsStruct address 1 (λ u. IsRow (λ v. IsTextTree c v) (λ v. v ≡ none) u) t)
+    (λ i. StructError (length address) 1 (λ h. FieldsError (λ t. IsTextTree c t) (λ g. LongText c g) (λ g. ⊥) h) i) (λ i. ⊥) j) k) kind)
     (IsTooLarge (name ∷ city ∷ []) (person_tree id name city))
-person_fails words id n address c name city words_are n_is address_is c_is kind refused =
-    let here = person_blames words n address c (omega (arith, ap length words_are)) (omega (arith, ap length address_is)) kind refused in
+person_fails words id n address c name city words_are n_is address_is c_is kind errors =
+    let here = person_blames words n address c (omega (arith, ap length words_are)) (omega (arith, ap length address_is)) kind errors in
     let numbered = subst (λ (l : List ℕ). IsTooLarge (n ∷ c ∷ []) (tree (struct l) (text_tree n (tree (struct address) (text_tree c none) none)) none) kind) words_are here in
     let housed = subst (λ (l : List ℕ). IsTooLarge (n ∷ c ∷ []) (tree (struct (id ∷ [])) (text_tree n (tree (struct l) (text_tree c none) none)) none) kind) address_is numbered in
     let named = subst (λ (l : List ℕ). IsTooLarge (l ∷ c ∷ []) (person_tree id l c) kind) n_is housed in
@@ -113,11 +113,11 @@ person_fails words id n address c name city words_are n_is address_is c_is kind 
 
 -- a contact
 contact_blames : {V : Type 0} (w f : V → List ℕ) (phones : List V) (words name mail : List ℕ) → length words < 2 ^ 16
-    → Blames (λ kind. RefusesStruct (length words) 3 (λ k. RefusesRow (λ t. IsTextTree name t) (λ j. LongText name j)
-    (λ j. RefusesRow (λ t. IsTextTree mail t) (λ h. LongText mail h)
-    (λ h. RefusesRow (λ t. IsStructList w (λ v u. IsRow (λ x. IsTextTree (f v) x) (λ x. x ≡ none) u) 1 1 phones t)
-    (λ g. RefusesStructList (λ v u. IsRow (λ x. IsTextTree (f v) x) (λ x. x ≡ none) u)
-    (λ v m. RefusesRow (λ x. IsTextTree (f v) x) (λ n. LongText (f v) n) (λ n. ⊥) m) 1 1 phones g) (λ g. ⊥) h) j) k) kind)
+    → Blames (λ kind. StructError (length words) 3 (λ k. FieldsError (λ t. IsTextTree name t) (λ j. LongText name j)
+    (λ j. FieldsError (λ t. IsTextTree mail t) (λ h. LongText mail h)
+    (λ h. FieldsError (λ t. IsStructList w (λ v u. IsRow (λ x. IsTextTree (f v) x) (λ x. x ≡ none) u) 1 1 phones t)
+    (λ g. StructListError (λ v u. IsRow (λ x. IsTextTree (f v) x) (λ x. x ≡ none) u)
+    (λ v m. FieldsError (λ x. IsTextTree (f v) x) (λ n. LongText (f v) n) (λ n. ⊥) m) 1 1 phones g) (λ g. ⊥) h) j) k) kind)
     (IsTooLarge (name ∷ mail ∷ map f phones) (tree (struct words) (text_tree name (text_tree mail (phones_tree (map w phones) (map f phones)))) none))
 contact_blames w f phones words name mail few =
     let list = phones_tree (map w phones) (map f phones) in
@@ -133,14 +133,14 @@ contact_blames w f phones words name mail few =
     (text_blames mail found whole _ (λ k long. any_next (λ b. LongText b k) name (mail ∷ others) (any_here (λ b. LongText b k) mail others long)) (omega arith) phones_blame))
 
 pub contact_fails : {V : Type 0} (w f : V → List ℕ) (vs phones : List V) (words : List ℕ) (id : ℕ) (n m name mail : List ℕ) → words ≡ id ∷ [] → n ≡ name → m ≡ mail → vs ≡ phones
-    → Blames (λ kind. RefusesStruct (length words) 3 (λ k. RefusesRow (λ t. IsTextTree n t) (λ j. LongText n j)
-    (λ j. RefusesRow (λ t. IsTextTree m t) (λ h. LongText m h)
-    (λ h. RefusesRow (λ t. IsStructList w (λ v u. IsRow (λ x. IsTextTree (f v) x) (λ x. x ≡ none) u) 1 1 vs t)
-    (λ g. RefusesStructList (λ v u. IsRow (λ x. IsTextTree (f v) x) (λ x. x ≡ none) u)
-    (λ v m. RefusesRow (λ x. IsTextTree (f v) x) (λ n. LongText (f v) n) (λ n. ⊥) m) 1 1 vs g) (λ g. ⊥) h) j) k) kind)
+    → Blames (λ kind. StructError (length words) 3 (λ k. FieldsError (λ t. IsTextTree n t) (λ j. LongText n j)
+    (λ j. FieldsError (λ t. IsTextTree m t) (λ h. LongText m h)
+    (λ h. FieldsError (λ t. IsStructList w (λ v u. IsRow (λ x. IsTextTree (f v) x) (λ x. x ≡ none) u) 1 1 vs t)
+    (λ g. StructListError (λ v u. IsRow (λ x. IsTextTree (f v) x) (λ x. x ≡ none) u)
+    (λ v m. FieldsError (λ x. IsTextTree (f v) x) (λ n. LongText (f v) n) (λ n. ⊥) m) 1 1 vs g) (λ g. ⊥) h) j) k) kind)
     (IsTooLarge (name ∷ mail ∷ map f phones) (contact_tree id name mail (map w phones) (map f phones)))
-contact_fails {V = V} w f vs phones words id n m name mail words_are n_is m_is vs_are kind refused =
-    let here = contact_blames w f vs words n m (omega (arith, ap length words_are)) kind refused in
+contact_fails {V = V} w f vs phones words id n m name mail words_are n_is m_is vs_are kind errors =
+    let here = contact_blames w f vs words n m (omega (arith, ap length words_are)) kind errors in
     let numbered = subst (λ (l : List ℕ). IsTooLarge (n ∷ m ∷ map f vs) (tree (struct l) (text_tree n (text_tree m (phones_tree (map w vs) (map f vs)))) none) kind) words_are here in
     let named = subst (λ (l : List ℕ). IsTooLarge (l ∷ m ∷ map f vs) (contact_tree id l m (map w vs) (map f vs)) kind) n_is numbered in
     let mailed = subst (λ (l : List ℕ). IsTooLarge (name ∷ l ∷ map f vs) (contact_tree id name l (map w vs) (map f vs)) kind) m_is named in
@@ -152,22 +152,22 @@ words_as : (has : Trees → Type 0) (whole : Trees) → ((t : Trees) → has t �
     → HasWords (λ t. t ≡ whole) canonical words
 words_as has whole one canonical words w = record { trees = w.trees; tree_is = one w.trees w.tree_is; rooms = w.rooms; words_are = w.words_are; few = w.few }
 
-lacks_as : (has : Trees → Type 0) (refuses fact : ErrorKind → Type 0) (whole : Trees) → ((t : Trees) → has t → t ≡ whole) → Blames refuses fact → (canonical : Bool) (kind : ErrorKind)
-    → LacksWords has refuses canonical kind → LacksWords (λ t. t ≡ whole) fact canonical kind
-lacks_as has refuses fact whole one blames canonical kind (inl refused) = inl (blames kind refused)
-lacks_as has refuses fact whole one blames canonical kind (inr (t, is, many, kind_is)) = inr (t, one t is, many, kind_is)
+words_error_as : (has : Trees → Type 0) (fails fact : ErrorKind → Type 0) (whole : Trees) → ((t : Trees) → has t → t ≡ whole) → Blames fails fact → (canonical : Bool) (kind : ErrorKind)
+    → WordsError has fails canonical kind → WordsError (λ t. t ≡ whole) fact canonical kind
+words_error_as has fails fact whole one blames canonical kind (inl errors) = inl (blames kind errors)
+words_error_as has fails fact whole one blames canonical kind (inr (t, is, many, kind_is)) = inr (t, one t is, many, kind_is)
 
-unset_as : {A S : Type 0} (alloc : Ghosts A S) (has : Trees → Type 0) (refuses fact : ErrorKind → Type 0) (whole : Trees) → ((t : Trees) → has t → t ≡ whole) → Blames refuses fact
-    → (old : Built A) (new : List Space) (kind : ErrorKind) → LacksWords has refuses false kind ⊎ StopsFirst alloc old new kind ⊎ FindsNoRoom alloc (HasWords has false) old new kind
-    → LacksWords (λ t. t ≡ whole) fact false kind ⊎ StopsFirst alloc old new kind ⊎ FindsNoRoom alloc (HasWords (λ t. t ≡ whole) false) old new kind
-unset_as alloc has refuses fact whole one blames old new kind (inl lacks) = inl (lacks_as has refuses fact whole one blames false kind lacks)
-unset_as alloc has refuses fact whole one blames old new kind (inr (inl first)) = inr (inl first)
-unset_as alloc has refuses fact whole one blames old new kind (inr (inr no_room)) = inr (inr (record {
+unset_as : {A S : Type 0} (alloc : Ghosts A S) (has : Trees → Type 0) (fails fact : ErrorKind → Type 0) (whole : Trees) → ((t : Trees) → has t → t ≡ whole) → Blames fails fact
+    → (old : Built A) (new : List Space) (kind : ErrorKind) → WordsError has fails false kind ⊎ FailsFirstSegment alloc old new kind ⊎ FindsNoRoom alloc (HasWords has false) old new kind
+    → WordsError (λ t. t ≡ whole) fact false kind ⊎ FailsFirstSegment alloc old new kind ⊎ FindsNoRoom alloc (HasWords (λ t. t ≡ whole) false) old new kind
+unset_as alloc has fails fact whole one blames old new kind (inl words_error) = inl (words_error_as has fails fact whole one blames false kind words_error)
+unset_as alloc has fails fact whole one blames old new kind (inr (inl first)) = inr (inl first)
+unset_as alloc has fails fact whole one blames old new kind (inr (inr no_room)) = inr (inr (record {
   words = no_room.words;
   words_are = words_as has whole one false no_room.words no_room.words_are;
   full = no_room.full;
   asked = no_room.asked;
-  lacks = no_room.lacks;
+  segment_error = no_room.segment_error;
   stays = no_room.stays;
   same = no_room.same;
 }))
@@ -190,28 +190,28 @@ unread_as alloc has whole one limit old new kind unread =
         zero = put.zero;
         outside = put.outside;
       };
-      refused = unread.refused;
+      errors = unread.errors;
     }
 
 -- why it is not read back
-pub back_as : {A S X : Type 0} (alloc : Ghosts A S) (has : Trees → Type 0) (refuses fact : ErrorKind → Type 0) (whole : Trees) → ((t : Trees) → has t → t ≡ whole) → Blames refuses fact
-    → (limit : Option ℕ) (old new : Built A) (r : Result X Error) → IfErr r (λ e. StaysUnset alloc has refuses old new e.kind ⊎ StaysUnread alloc has limit old new e.kind)
+pub back_as : {A S X : Type 0} (alloc : Ghosts A S) (has : Trees → Type 0) (fails fact : ErrorKind → Type 0) (whole : Trees) → ((t : Trees) → has t → t ≡ whole) → Blames fails fact
+    → (limit : Option ℕ) (old new : Built A) (r : Result X Error) → IfErr r (λ e. StaysUnset alloc has fails old new e.kind ⊎ StaysUnread alloc has limit old new e.kind)
     → IfErr r (λ e. StaysUnset alloc (λ t. t ≡ whole) fact old new e.kind ⊎ StaysUnread alloc (λ t. t ≡ whole) limit old new e.kind)
-back_as alloc has refuses fact whole one blames limit old new (Ok x) refused = tt
-back_as alloc has refuses fact whole one blames limit old new (Err e) (inl unset) =
-    inl (record { cleared = unset.cleared; refused = unset_as alloc has refuses fact whole one blames old new.spaces e.kind unset.refused })
-back_as alloc has refuses fact whole one blames limit old new (Err e) (inr unread) = inr (unread_as alloc has whole one limit old new e.kind unread)
+back_as alloc has fails fact whole one blames limit old new (Ok x) errors = tt
+back_as alloc has fails fact whole one blames limit old new (Err e) (inl unset) =
+    inl (record { cleared = unset.cleared; errors = unset_as alloc has fails fact whole one blames old new.spaces e.kind unset.errors })
+back_as alloc has fails fact whole one blames limit old new (Err e) (inr unread) = inr (unread_as alloc has whole one limit old new e.kind unread)
 
 -- and why its canonical form does not become the one segment
-canonical_as : (has : Trees → Type 0) (refuses fact : ErrorKind → Type 0) (whole : Trees) → ((t : Trees) → has t → t ≡ whole) → Blames refuses fact → (spaces : List Space) (kind : ErrorKind)
-    → RefusesCanonical has refuses spaces kind → RefusesCanonical (λ t. t ≡ whole) fact spaces kind
-canonical_as has refuses fact whole one blames spaces kind (inl more) = inl more
-canonical_as has refuses fact whole one blames spaces kind (inr (inl (alone, lacks))) = inr (inl (alone, lacks_as has refuses fact whole one blames true kind lacks))
-canonical_as has refuses fact whole one blames spaces kind (inr (inr (alone, kind_is, (words, measured, full)))) =
+canonical_as : (has : Trees → Type 0) (fails fact : ErrorKind → Type 0) (whole : Trees) → ((t : Trees) → has t → t ≡ whole) → Blames fails fact → (spaces : List Space) (kind : ErrorKind)
+    → ClearedRootError has fails spaces kind → ClearedRootError (λ t. t ≡ whole) fact spaces kind
+canonical_as has fails fact whole one blames spaces kind (inl more) = inl more
+canonical_as has fails fact whole one blames spaces kind (inr (inl (alone, words_error))) = inr (inl (alone, words_error_as has fails fact whole one blames true kind words_error))
+canonical_as has fails fact whole one blames spaces kind (inr (inr (alone, kind_is, (words, measured, full)))) =
     inr (inr (alone, kind_is, (words, words_as has whole one true words measured, full)))
 
-pub alone_as : {A S X : Type 0} (alloc : Ghosts A S) (has : Trees → Type 0) (refuses fact : ErrorKind → Type 0) (whole : Trees) → ((t : Trees) → has t → t ≡ whole) → Blames refuses fact
-    → (old new : Built A) (r : Result X Error) → IfErr r (λ e. RefusesForm alloc has refuses old new e.kind) → IfErr r (λ e. RefusesForm alloc (λ t. t ≡ whole) fact old new e.kind)
-alone_as alloc has refuses fact whole one blames old new (Ok x) refused = tt
-alone_as alloc has refuses fact whole one blames old new (Err e) (inl first) = inl first
-alone_as alloc has refuses fact whole one blames old new (Err e) (inr refused) = inr (canonical_as has refuses fact whole one blames new.spaces e.kind refused)
+pub alone_as : {A S X : Type 0} (alloc : Ghosts A S) (has : Trees → Type 0) (fails fact : ErrorKind → Type 0) (whole : Trees) → ((t : Trees) → has t → t ≡ whole) → Blames fails fact
+    → (old new : Built A) (r : Result X Error) → IfErr r (λ e. SetCanonicalError alloc has fails old new e.kind) → IfErr r (λ e. SetCanonicalError alloc (λ t. t ≡ whole) fact old new e.kind)
+alone_as alloc has fails fact whole one blames old new (Ok x) errors = tt
+alone_as alloc has fails fact whole one blames old new (Err e) (inl first) = inl first
+alone_as alloc has fails fact whole one blames old new (Err e) (inr errors) = inr (canonical_as has fails fact whole one blames new.spaces e.kind errors)

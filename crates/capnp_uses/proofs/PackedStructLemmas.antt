@@ -11,12 +11,12 @@ use Rattle.capnp_frame.proofs.encodings.SizeLemmas.{HasTable-writable}
 use Rattle.capnp_frame.proofs.encodings.TextLemmas.{texts_part}
 use Rattle.capnp_pack.specs.Prelude.{unpacking}
 use Rattle.capnp_pack.proofs.encodings.PackedFrameLemmas.{packed_requests, packed_text_is}
-use Rattle.capnp_wire.specs.Prelude.{default_root, Form, root, NoWord, Pointer, Struct, HasData, IsStruct, Reads, Refuses, DeclinesStruct}
+use Rattle.capnp_wire.specs.Prelude.{default_root, Form, root, NoWord, Pointer, Struct, HasData, IsStruct, Reads, ViewError, StructFormError}
 use Rattle.capnp.specs.declared.streams.Format.TheVariants.{Packed}
-use Rattle.capnp.specs.Prelude.{gives_of, BeginsPacked, RefusesNext, IsPackedEncodingOf}
+use Rattle.capnp.specs.Prelude.{gives_of, BeginsPacked, NextError, IsPackedEncodingOf}
 use Rattle.capnp_uses.specs.Reading.{ShowsPackedStruct}
-use Rattle.capnp_uses.specs.Roots.{HasPlainRoot, RefusesPackedStruct}
-use Rattle.capnp.proofs.StreamLemmas.{slice_refuses}
+use Rattle.capnp_uses.specs.Roots.{HasPlainRoot, PackedStructError}
+use Rattle.capnp.proofs.StreamLemmas.{slice_error}
 use Rattle.capnp.proofs.WriterLemmas.{IsWithin-written}
 
 packed_read : (limit : Option ℕ) (read message : List (List ℕ)) (text left : List ℕ) → BeginsPacked Zero limit read text left → IsWritable message → IsPackedEncodingOf message text → read ≡ message
@@ -38,26 +38,26 @@ pub shown_text : (message : List (List ℕ)) (text shown : List ℕ) → shown �
 shown_text message text shown same packed = subst (λ l. IsPackedEncodingOf message l) (sym same) packed
 
 -- why a reader of a packed encoding stops
-pub packed_stops : (kind : ErrorKind) (old new : List ℕ) → (kind ≡ DeviceFailed → Fails 0 0)
+pub packed_fails : (kind : ErrorKind) (old new : List ℕ) → (kind ≡ DeviceFailed → Fails 0 0)
     → (kind ≡ DeviceFailed) ⊎ ((kind ≡ OutOfMemory) × TakesMemory Zero (gives_of Packed) default_limit old new)
-    ⊎ RefusesNext Zero Packed default_limit kind old new → RefusesPackedStruct old kind
-packed_stops kind old new failed refused = elim (slice_refuses Zero Packed default_limit kind old new failed refused) [
+    ⊎ NextError Zero Packed default_limit kind old new → PackedStructError old kind
+packed_fails kind old new failed errors = elim (slice_error Zero Packed default_limit kind old new failed errors) [
   | inl memory ↦ inl memory
   | inr ends ↦ inr (inl ends)
 ]
 
 -- why no struct is read from a text
-pub packed_refused : {X : Type 0} (A B C : ErrorKind → Type 0) (message : List (List ℕ)) (text : List ℕ) (r : Result X Error) → IsPackedEncodingOf message text
-    → IfErr r (λ e. RefusesPackedStruct text e.kind)
-    → IfErr r (λ e. A e.kind ⊎ B e.kind ⊎ C e.kind ⊎ ((spelled : List ℕ) × IsPackedEncodingOf message spelled × RefusesPackedStruct spelled e.kind))
-packed_refused A B C message text (Ok x) is refused = tt
-packed_refused A B C message text (Err e) is refused = inr (inr (inr (text, is, refused)))
+pub packed_struct_error : {X : Type 0} (A B C : ErrorKind → Type 0) (message : List (List ℕ)) (text : List ℕ) (r : Result X Error) → IsPackedEncodingOf message text
+    → IfErr r (λ e. PackedStructError text e.kind)
+    → IfErr r (λ e. A e.kind ⊎ B e.kind ⊎ C e.kind ⊎ ((spelled : List ℕ) × IsPackedEncodingOf message spelled × PackedStructError spelled e.kind))
+packed_struct_error A B C message text (Ok x) is errors = tt
+packed_struct_error A B C message text (Err e) is errors = inr (inr (inr (text, is, errors)))
 
 -- or no struct is at the root
-pub lacks_struct : (text : List ℕ) (segments : List (List ℕ)) (left : List ℕ) (pointer : Pointer) (kind : ErrorKind) → pointer ≡ default_root segments
-    → BeginsPacked Zero default_limit segments text left → NoWord pointer.message root kind ⊎ Refuses pointer DeclinesStruct kind → RefusesPackedStruct text kind
-lacks_struct text segments left pointer kind same begins declined =
-    let at_root = subst (λ (p : Pointer). NoWord p.message root kind ⊎ Refuses p DeclinesStruct kind) same declined in
+pub no_struct_error : (text : List ℕ) (segments : List (List ℕ)) (left : List ℕ) (pointer : Pointer) (kind : ErrorKind) → pointer ≡ default_root segments
+    → BeginsPacked Zero default_limit segments text left → NoWord pointer.message root kind ⊎ ViewError pointer StructFormError kind → PackedStructError text kind
+no_struct_error text segments left pointer kind same begins form_errors =
+    let at_root = subst (λ (p : Pointer). NoWord p.message root kind ⊎ ViewError p StructFormError kind) same form_errors in
     inr (inr (inr (segments, left, begins, at_root)))
 
 -- and is at the front of its encoding

@@ -7,7 +7,7 @@ use Rattle.capnp_frame.specs.declared.error.ErrorKind.{ErrorKind}
 use Rattle.capnp_frame.specs.declared.error.ErrorKind.TheVariants.{DeviceFailed}
 use Rattle.capnp_frame.specs.Prelude.{Fails}
 use Rattle.capnp_frame.proofs.sources.AskLemmas.{never_fails}
-use Rattle.capnp_pack.specs.Prelude.{Packs, Unpacks, RefusesChunk, unpacking}
+use Rattle.capnp_pack.specs.Prelude.{Packs, Unpacks, ChunkError, unpacking}
 
 -- a buffer that is filled with what was packed
 pub filled_same : (words text shown filled following : List ℕ) (n : ℕ)
@@ -21,15 +21,15 @@ filled_same words text shown filled following n alone packed same room many (res
     ap (λ k. take k (filled ++ following)) many ∙ take-append_seam filled following ∙ (alone words text [] filled rest packed there).0
 
 -- where a packed encoding is there, a request of a slice does not fail
-not_refused : (raw : List ℕ) (n : ℕ) (bytes rest : List ℕ) (kind : ErrorKind) → Unpacks raw n bytes rest → (kind ≡ DeviceFailed → Fails 0 0)
-    → (kind ≡ DeviceFailed) ⊎ RefusesChunk raw n kind → ⊥
-not_refused raw n bytes rest kind given failed (inl device) = never_fails kind failed device
-not_refused raw n bytes rest kind given failed (inr line) = unpacking.apart raw n bytes rest kind given line
+never_errs : (raw : List ℕ) (n : ℕ) (bytes rest : List ℕ) (kind : ErrorKind) → Unpacks raw n bytes rest → (kind ≡ DeviceFailed → Fails 0 0)
+    → (kind ≡ DeviceFailed) ⊎ ChunkError raw n kind → ⊥
+never_errs raw n bytes rest kind given failed (inl device) = never_fails kind failed device
+never_errs raw n bytes rest kind given failed (inr line) = unpacking.apart raw n bytes rest kind given line
 
 pub unpack_succeeds : {X : Type 0} (raw : List ℕ) (n : ℕ) (r : Result X Error) → IfErr r (λ e. e.kind ≡ DeviceFailed → Fails 0 0)
-    → IfErr r (λ e. (e.kind ≡ DeviceFailed) ⊎ RefusesChunk raw n e.kind) → (bytes rest : List ℕ) → Unpacks raw n bytes rest → IsOk r
-unpack_succeeds raw n (Ok x) failed refused bytes rest given = refl
-unpack_succeeds raw n (Err e) failed refused bytes rest given = absurd (not_refused raw n bytes rest e.kind given failed refused)
+    → IfErr r (λ e. (e.kind ≡ DeviceFailed) ⊎ ChunkError raw n e.kind) → (bytes rest : List ℕ) → Unpacks raw n bytes rest → IsOk r
+unpack_succeeds raw n (Ok x) failed errors bytes rest given = refl
+unpack_succeeds raw n (Err e) failed errors bytes rest given = absurd (never_errs raw n bytes rest e.kind given failed errors)
 
 -- what was packed is at the front of its encoding
 pub unpacks_whole : (words text shown : List ℕ) (n : ℕ) → ((bytes text rest : List ℕ) → Packs bytes text → Unpacks (text ++ rest) (length bytes) bytes rest)

@@ -5,24 +5,24 @@ use Rattle.capnp_frame.specs.declared.serialize.segment_table.Padding.TheVariant
 use Rattle.capnp_frame.specs.declared.error.Error.{Error}
 use Rattle.capnp_frame.specs.declared.error.ErrorKind.{ErrorKind}
 use Rattle.capnp_frame.specs.declared.error.ErrorKind.TheVariants.{DeviceFailed, OutOfMemory}
-use Rattle.capnp_frame.specs.Prelude.{default_limit, Fails, Splits, RunsShort, RefusesBy, no_alloc_rules, next_in, TakesMemory}
+use Rattle.capnp_frame.specs.Prelude.{default_limit, Fails, Splits, RunsShort, RulesError, no_alloc_rules, next_in, TakesMemory}
 use Rattle.capnp_frame.specs.declared.message.options.ReaderOptions.{ReaderOptions}
 use Rattle.capnp_frame.specs.declared.message.options.TheConstants.{DEFAULT_READER_OPTIONS}
 use Rattle.capnp_wire.specs.Prelude.{nesting_of, default_root, Pointer, IsCanonicalForm}
 use Rattle.capnp_message.specs.Seen.{root_of}
-use Rattle.capnp_message.specs.Canonical.{LacksForm}
+use Rattle.capnp_message.specs.Canonical.{CanonicalFormError}
 use Rattle.capnp.specs.declared.streams.Format.{Format}
-use Rattle.capnp.specs.Prelude.{grammar_of, gives_of, BeginsFramed, StandsNext, RefusesNext, TakesForNext, EndsBy, IsPlainSource, ReturnsEncodings}
+use Rattle.capnp.specs.Prelude.{grammar_of, gives_of, BeginsFramed, StandsNext, NextError, TakesForNext, EndsBy, IsPlainSource, ReturnsEncodings}
 use Rattle.capnp.proofs.RunLemmas.{format_lawful, format_requested, format_parts}
 use Rattle.capnp.proofs.ReaderLemmas.{nothing_begins}
 use Rattle.capnp_uses.proofs.AppendedLemmas.{memory_only}
-use Rattle.capnp.proofs.StreamLemmas.{slice_refuses}
+use Rattle.capnp.proofs.StreamLemmas.{slice_error}
 use Rattle.capnp_frame.proofs.sources.AskLemmas.{never_fails}
 use Rattle.capnp_uses.specs.Reading.{ReturnsCanonical}
 
 -- a slice is a plain source
 pub slices_are_plain : IsPlainSource Splits RunsShort
-slices_are_plain = record { given = λ raw n bytes rest. (λ p. p, λ p. p); refused = λ raw n kind. (λ p. p, λ p. p) }
+slices_are_plain = record { given = λ raw n bytes rest. (λ p. p, λ p. p); errors = λ raw n kind. (λ p. p, λ p. p) }
 
 -- a reader that asks for memory, or returns that there is nothing
 pub exactly : {X : Type 0} (segments : X → List (List ℕ)) (format : Format) (limit : Option ℕ) (bytes left : List ℕ) (r : Result (Option X) Error)
@@ -46,13 +46,13 @@ succeeds_at_none segments bytes (Ok found) end failed empty = refl
 succeeds_at_none segments bytes (Err e) end failed empty = absurd (never_fails e.kind failed (end (ap Some empty)))
 
 -- and else lacks memory where it takes some, or fails by a line
-pub refuses_next : {X : Type 0} (segments : X → List (List ℕ)) (format : Format) (limit : Option ℕ) (bytes left : List ℕ) (r : Result (Option X) Error)
+pub next_error : {X : Type 0} (segments : X → List (List ℕ)) (format : Format) (limit : Option ℕ) (bytes left : List ℕ) (r : Result (Option X) Error)
     → IfErr (next_in segments r) (λ e. e.kind ≡ DeviceFailed → Fails 0 0)
     → IfErr (next_in segments r) (λ e. (e.kind ≡ DeviceFailed) ⊎ ((e.kind ≡ OutOfMemory) × TakesMemory Zero (gives_of format) limit bytes left)
-    ⊎ RefusesNext Zero format limit e.kind bytes left)
+    ⊎ NextError Zero format limit e.kind bytes left)
     → IfErr r (λ e. ((e.kind ≡ OutOfMemory) × TakesForNext Zero format limit bytes) ⊎ EndsBy Zero format limit (Some e.kind) bytes)
-refuses_next segments format limit bytes left (Ok found) failed refused = tt
-refuses_next segments format limit bytes left (Err e) failed refused = slice_refuses Zero format limit e.kind bytes left failed refused
+next_error segments format limit bytes left (Ok found) failed errors = tt
+next_error segments format limit bytes left (Err e) failed errors = slice_error Zero format limit e.kind bytes left failed errors
 
 -- and one that asks for none
 pub exactly_provided : {X : Type 0} (segments : X → List (List ℕ)) (format : Format) (limit : Option ℕ) (bytes left : List ℕ) (r : Result X Error)
@@ -84,24 +84,24 @@ form_stands numbers_of m bytes (Err e) begins form = tt
 
 -- where no message is there
 pub no_form : {X : Type 0} (numbers_of : X → List ℕ) (bytes : List ℕ) (error : Error) → ((message : List (List ℕ)) (rest : List ℕ) → BeginsFramed Zero default_limit message bytes rest → ⊥)
-    → RefusesBy (no_alloc_rules Zero default_limit) error.kind bytes → ReturnsCanonical bytes numbers_of (Err error)
-no_form numbers_of bytes error none refused = record {
+    → RulesError (no_alloc_rules Zero default_limit) error.kind bytes → ReturnsCanonical bytes numbers_of (Err error)
+no_form numbers_of bytes error none errors = record {
   stands = tt;
   form = λ message rest begins. tt;
   found = λ message rest begins form. absurd (none message rest begins);
-  refused = inl refused;
+  errors = inl errors;
 }
 
 -- why it has none
-pub form_refused : {X : Type 0} (is_form : X → Type 0) (pointer : Pointer) (m : List (List ℕ)) (bytes : List ℕ) (Q : ErrorKind → Type 0) (r : Result X Error)
+pub no_form_error : {X : Type 0} (is_form : X → Type 0) (pointer : Pointer) (m : List (List ℕ)) (bytes : List ℕ) (Q : ErrorKind → Type 0) (r : Result X Error)
     → pointer ≡ default_root m → (rest : List ℕ) × BeginsFramed Zero default_limit m bytes rest
-    → MatchResult r is_form (λ e. LacksForm pointer e.kind ⊎ (e.kind ≡ OutOfMemory))
+    → MatchResult r is_form (λ e. CanonicalFormError pointer e.kind ⊎ (e.kind ≡ OutOfMemory))
     → IfErr r (λ e. Q e.kind ⊎ ((message : List (List ℕ)) × (rest : List ℕ) × BeginsFramed Zero default_limit message bytes rest
-    × (LacksForm (default_root message) e.kind ⊎ (e.kind ≡ OutOfMemory))))
-form_refused is_form pointer m bytes Q (Ok x) same begins returned = tt
-form_refused is_form pointer m bytes Q (Err e) same begins (inl lacks) =
-    inr (m, begins.0, begins.1, inl (subst (λ p. LacksForm p e.kind) same lacks))
-form_refused is_form pointer m bytes Q (Err e) same begins (inr memory) = inr (m, begins.0, begins.1, inr memory)
+    × (CanonicalFormError (default_root message) e.kind ⊎ (e.kind ≡ OutOfMemory))))
+no_form_error is_form pointer m bytes Q (Ok x) same begins returned = tt
+no_form_error is_form pointer m bytes Q (Err e) same begins (inl form_error) =
+    inr (m, begins.0, begins.1, inl (subst (λ p. CanonicalFormError p e.kind) same form_error))
+no_form_error is_form pointer m bytes Q (Err e) same begins (inr memory) = inr (m, begins.0, begins.1, inr memory)
 
 -- an object may be at that root
 pub default_depth : (options : ReaderOptions) → options ≡ DEFAULT_READER_OPTIONS → 0 < nesting_of options.nesting_limit

@@ -3,21 +3,21 @@ use Rattle.std.proofs.Common.{◌≡◌, inl, inr, ℕ, ◌+◌, ◌/◌, ◌≤
 use Rattle.std.specs.Prelude.{IsSome}
 use Rattle.capnp_frame.specs.declared.error.ErrorKind.{ErrorKind}
 use Rattle.capnp_frame.specs.declared.error.ErrorKind.TheVariants.{AllocationTooLarge}
-use Rattle.capnp_message.specs.Region.{IsOutAlone, RefusesRegion}
+use Rattle.capnp_message.specs.Region.{IsOutAlone, RegionError}
 
 pub available_alone : {X : Type 0} (region : Option X) (size : ℕ) → IsSome region → IsOutAlone region size []
 available_alone None size available = absurd (cc)
 available_alone (Some x) size available = refl
 
 -- an available region fails for the root's word where it has no room for it
-pub first_refused : {X : Type 0} (region : Option X) (size n : ℕ) (kind : ErrorKind) → IsSome region → size ≡ n → RefusesRegion region size 1 kind
+pub first_error : {X : Type 0} (region : Option X) (size n : ℕ) (kind : ErrorKind) → IsSome region → size ≡ n → RegionError region size 1 kind
     → (n / 8 ≡ 0) × (kind ≡ AllocationTooLarge 1)
-first_refused region size n kind available same (inl small) = (omega (arith, small.0, same), small.1)
-first_refused None size n kind available same (inr away) = absurd (cc)
-first_refused (Some x) size n kind available same (inr away) = let none : Some x ≡ None = away.1 in absurd (cc)
+first_error region size n kind available same (inl small) = (omega (arith, small.0, same), small.1)
+first_error None size n kind available same (inr away) = absurd (cc)
+first_error (Some x) size n kind available same (inr away) = let none : Some x ≡ None = away.1 in absurd (cc)
 
 -- and a further segment, which would be larger
-pub further_refused : {X : Type 0} (region : Option X) (size n words : ℕ) (kind : ErrorKind) → size ≡ n → n / 8 ≤ words → RefusesRegion region size (words + 1) kind
+pub further_error : {X : Type 0} (region : Option X) (size n words : ℕ) (kind : ErrorKind) → size ≡ n → n / 8 ≤ words → RegionError region size (words + 1) kind
     → kind ≡ AllocationTooLarge (words + 1)
-further_refused region size n words kind same full (inl small) = small.1
-further_refused region size n words kind same full (inr away) = absurd (omega (arith, away.0, same, full))
+further_error region size n words kind same full (inl small) = small.1
+further_error region size n words kind same full (inr away) = absurd (omega (arith, away.0, same, full))

@@ -3,10 +3,10 @@ use Rattle.std.proofs.Common.{◌≡◌, ◌⊎◌, inl, inr, ℕ, ◌<◌, List
 use Rattle.std.proofs.lemmas.List.{append_cancel_right}
 use Rattle.capnp_frame.specs.declared.error.Error.{Error}
 use Rattle.capnp_frame.specs.declared.error.ErrorKind.{ErrorKind}
-use Rattle.capnp_wire.specs.Prelude.{Form, null, struct, numbers, none, Shape, PointsTo, nothing, word_at, at, root, Root, NoWord, Fault, Pointer, Denotes, nowhere, at_place, Shows, Accepts, Reads, Refuses, MeetsLimit, IsText, DeclinesText, DeclinesStruct, Within, unlimited_root}
+use Rattle.capnp_wire.specs.Prelude.{Form, null, struct, numbers, none, Shape, PointsTo, nothing, word_at, at, root, Root, NoWord, PointerError, Pointer, Denotes, nowhere, at_place, Shows, Accepts, Reads, ViewError, MeetsLimit, IsText, TextFormError, StructFormError, Within, unlimited_root}
 use Rattle.capnp_layout.proofs.objects.ObjectLemmas.{one_object}
 use Rattle.capnp_wire.proofs.views.ViewLemmas.{one_denoted}
-use Rattle.capnp_layout.proofs.pointers.FaultLemmas.{word_of_object, no_word_there, invalid_pointer_has_no_object}
+use Rattle.capnp_layout.proofs.pointers.PointerErrorLemmas.{word_of_object, no_word_there, invalid_pointer_has_no_object}
 use Rattle.capnp_wire.proofs.forms.FullLemmas.{null_is_zero}
 use Rattle.capnp_wire.proofs.pointers.NullLemmas.{null_by_word}
 use Rattle.capnp_build.specs.Prelude.{Space, used_of, message}
@@ -44,11 +44,11 @@ pub read_at_root : (pointer : Pointer) (form : Form) (fact : Shape → Type 0) �
 read_at_root pointer form fact is (traversed, at {shape = shape} points inside others) (other, denotes, holds) =
     (shape, refl, subst fact (denotes_root pointer shape other is denotes points) holds)
 
-pub root_text_is : {X : Type 0} (refuses : Error → Type 0) (bytes_of : X → List ℕ) (pointer : Pointer) (bytes : List ℕ) (r : Result X Error) → pointer.place ≡ Some root
+pub root_text_is : {X : Type 0} (fails : Error → Type 0) (bytes_of : X → List ℕ) (pointer : Pointer) (bytes : List ℕ) (r : Result X Error) → pointer.place ≡ Some root
     → (traversed : ℕ) × Root pointer.message (numbers 2 (bytes ++ 0 ∷ [])) none traversed
-    → MatchResult r (λ view. Reads pointer (λ form. IsText form (bytes_of view))) refuses → IfOk r (λ view. bytes_of view ≡ bytes)
-root_text_is refuses bytes_of pointer bytes (Err e) is stands returned = tt
-root_text_is refuses bytes_of pointer bytes (Ok view) is stands returned =
+    → MatchResult r (λ view. Reads pointer (λ form. IsText form (bytes_of view))) fails → IfOk r (λ view. bytes_of view ≡ bytes)
+root_text_is fails bytes_of pointer bytes (Err e) is stands returned = tt
+root_text_is fails bytes_of pointer bytes (Ok view) is stands returned =
     let shown = read_at_root pointer (numbers 2 (bytes ++ 0 ∷ [])) _ is stands returned in
     let text : IsText (numbers 2 (bytes ++ 0 ∷ [])) (bytes_of view) = subst (λ form. IsText form (bytes_of view)) shown.1 shown.2.0 in
     sym (append_cancel_right bytes (bytes_of view) (0 ∷ []) text.1)
@@ -65,28 +65,28 @@ null_is_read (space ∷ spaces) (traversed, stands) =
     null_by_word (unlimited_root (map used_of (space ∷ spaces))) root 0 refl (null_at (message (space ∷ spaces)) null traversed refl stands) refl
 
 -- A view that accepts what is at the root fails only at the traversal limit.
-pub root_meets_limit : (pointer : Pointer) (form : Form) (declines : Form → ErrorKind → Type 0) (kind : ErrorKind) → pointer.place ≡ Some root
-    → (traversed : ℕ) × Root pointer.message form none traversed → 0 < pointer.nesting → (declines form kind → ⊥) → NoWord pointer.message root kind ⊎ Refuses pointer declines kind
+pub root_meets_limit : (pointer : Pointer) (form : Form) (form_error : Form → ErrorKind → Type 0) (kind : ErrorKind) → pointer.place ≡ Some root
+    → (traversed : ℕ) × Root pointer.message form none traversed → 0 < pointer.nesting → (form_error form kind → ⊥) → NoWord pointer.message root kind ⊎ ViewError pointer form_error kind
     → MeetsLimit pointer kind
-root_meets_limit pointer form declines kind is (traversed, at {shape = shape} points inside others) deep takes (inl absent) =
+root_meets_limit pointer form form_error kind is (traversed, at {shape = shape} points inside others) deep takes (inl absent) =
     absurd (word_of_object pointer.message root shape (no_word_there pointer.message root kind absent) points)
-root_meets_limit pointer form declines kind is (traversed, at {shape = shape} points inside others) deep takes (inr (inl (inl (place, there, fault)))) =
+root_meets_limit pointer form form_error kind is (traversed, at {shape = shape} points inside others) deep takes (inr (inl (inl (place, there, invalid)))) =
     let same : place ≡ root = cc in
-    absurd (invalid_pointer_has_no_object pointer.message root pointer.nesting kind shape (subst (λ at. Fault pointer.message at pointer.nesting kind) same fault) points (λ some. deep))
-root_meets_limit pointer form declines kind is stands deep takes (inr (inl (inr limit))) = limit
-root_meets_limit pointer form declines kind is (traversed, at {shape = shape} points inside others) deep takes (inr (inr (other, denotes, declined))) =
-    absurd (takes (subst (λ s. declines s.form kind) (denotes_root pointer shape other is denotes points) declined))
+    absurd (invalid_pointer_has_no_object pointer.message root pointer.nesting kind shape (subst (λ at. PointerError pointer.message at pointer.nesting kind) same invalid) points (λ some. deep))
+root_meets_limit pointer form form_error kind is stands deep takes (inr (inl (inr limit))) = limit
+root_meets_limit pointer form form_error kind is (traversed, at {shape = shape} points inside others) deep takes (inr (inr (other, denotes, form_errors))) =
+    absurd (takes (subst (λ s. form_error s.form kind) (denotes_root pointer shape other is denotes points) form_errors))
 
-text_is_taken : (bytes : List ℕ) (kind : ErrorKind) → DeclinesText (numbers 2 (bytes ++ 0 ∷ [])) kind → ⊥
+text_is_taken : (bytes : List ℕ) (kind : ErrorKind) → TextFormError (numbers 2 (bytes ++ 0 ∷ [])) kind → ⊥
 text_is_taken bytes kind (inl (other, is)) = other refl
 text_is_taken bytes kind (inr (takes, cut, is)) = cut (refl, (bytes, refl))
 
 pub text_meets_limit : {X : Type 0} (shows : X → Type 0) (pointer : Pointer) (bytes : List ℕ) (r : Result X Error) → pointer.place ≡ Some root
     → (traversed : ℕ) × Root pointer.message (numbers 2 (bytes ++ 0 ∷ [])) none traversed → 0 < pointer.nesting
-    → MatchResult r shows (λ e. NoWord pointer.message root e.kind ⊎ Refuses pointer DeclinesText e.kind) → IfErr r (λ e. MeetsLimit pointer e.kind)
+    → MatchResult r shows (λ e. NoWord pointer.message root e.kind ⊎ ViewError pointer TextFormError e.kind) → IfErr r (λ e. MeetsLimit pointer e.kind)
 text_meets_limit shows pointer bytes (Ok view) is stands deep returned = tt
 text_meets_limit shows pointer bytes (Err e) is stands deep returned =
-    root_meets_limit pointer (numbers 2 (bytes ++ 0 ∷ [])) DeclinesText e.kind is stands deep (text_is_taken bytes e.kind) returned
+    root_meets_limit pointer (numbers 2 (bytes ++ 0 ∷ [])) TextFormError e.kind is stands deep (text_is_taken bytes e.kind) returned
 
-pub struct_is_taken : (words : List ℕ) (kind : ErrorKind) → DeclinesStruct (struct words) kind → ⊥
+pub struct_is_taken : (words : List ℕ) (kind : ErrorKind) → StructFormError (struct words) kind → ⊥
 struct_is_taken words kind (other, is) = other tt

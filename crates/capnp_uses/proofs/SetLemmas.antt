@@ -3,15 +3,15 @@ use Rattle.std.proofs.Common.{◌≡◌, ◌⊎◌, inl, inr, ℕ, List, [], ◌
 use Rattle.capnp_frame.specs.declared.error.Error.{Error}
 use Rattle.capnp_frame.specs.declared.error.ErrorKind.{ErrorKind}
 use Rattle.capnp_frame.specs.declared.error.ErrorKind.TheVariants.{DeviceFailed, OutOfMemory}
-use Rattle.capnp_frame.specs.Prelude.{Fails, RefusesMany, Adds, ByKind}
-use Rattle.capnp_wire.specs.Prelude.{Form, null, struct, numbers, pointers, structs, Trees, none, tree, At, at, root, Root, canon, Pointer, HasData, TakesStruct, DeclinesStruct, LeadsToTree}
+use Rattle.capnp_frame.specs.Prelude.{Fails, SegmentCountError, Adds, ByKind}
+use Rattle.capnp_wire.specs.Prelude.{Form, null, struct, numbers, pointers, structs, Trees, none, tree, At, at, root, Root, canon, Pointer, HasData, TakesStruct, StructFormError, LeadsToTree}
 use Rattle.capnp_wire.specs.Reached.{nowhere}
-use Rattle.capnp_layout.proofs.pointers.FaultLemmas.{word_of_object}
+use Rattle.capnp_layout.proofs.pointers.PointerErrorLemmas.{word_of_object}
 use Rattle.capnp_wire.proofs.views.OneValueLemmas.{one_there}
-use Rattle.capnp_build.specs.Prelude.{Space, Built, message, IsSet, IsWhole, DeclinesRoot, IsFieldSet, LacksFirst}
+use Rattle.capnp_build.specs.Prelude.{Space, Built, message, IsSet, IsWhole, RootFormError, IsFieldSet, FirstSegmentError}
 use Rattle.capnp_build.specs.declared.allocator.Allocator.{Ghosts}
 use Rattle.capnp.proofs.ChunkLemmas.{framed_memory}
-use Rattle.capnp.specs.Prelude.{IsFrameEncoding, RefusesWriter}
+use Rattle.capnp.specs.Prelude.{IsFrameEncoding, WriterError}
 use Rattle.capnp_uses.specs.Roots.{IsSetWithWord}
 
 leads_one : (p : Pointer) (a b : Trees) → LeadsToTree p a → LeadsToTree p b → a ≡ b
@@ -65,22 +65,22 @@ word_kept p word n spaces (numbers code values) children traversed leads there t
 word_kept p word n spaces pointers children traversed leads there taken counted gone = absurd taken
 word_kept p word n spaces (structs d m rows) children traversed leads there taken counted gone = absurd taken
 
--- a type that declines the root declines the tree that was set
-declined_at : {A S : Type 0} (alloc : Ghosts A S) (p : Pointer) (old : Built A) (spaces : List Space) (kind : ErrorKind) (trees : Trees) (traversed : ℕ) → LeadsToTree p trees → At (message spaces) (root ∷ []) trees traversed
-    → old.spaces ≡ spaces → LacksFirst alloc old kind ⊎ DeclinesRoot DeclinesStruct spaces kind → (form : Form) × (children : Trees) × LeadsToTree p (tree form children none) × DeclinesStruct form kind
-declined_at alloc p old [] kind trees traversed leads (at {shape = shape} points inside others) same declined = absurd (word_of_object [] root shape refl points)
-declined_at alloc p old (space ∷ spaces) kind trees traversed leads (at points inside nowhere) same (inl lacks) = absurd (omega (arith, ap length same, lacks.0))
-declined_at alloc p old (space ∷ spaces) kind trees traversed leads (at points inside nowhere) same (inr declined) = (_, _, leads, declined _ _ _ (at points inside nowhere))
+-- a type that rejects the root rejects the tree that was set
+form_error_at : {A S : Type 0} (alloc : Ghosts A S) (p : Pointer) (old : Built A) (spaces : List Space) (kind : ErrorKind) (trees : Trees) (traversed : ℕ) → LeadsToTree p trees → At (message spaces) (root ∷ []) trees traversed
+    → old.spaces ≡ spaces → FirstSegmentError alloc old kind ⊎ RootFormError StructFormError spaces kind → (form : Form) × (children : Trees) × LeadsToTree p (tree form children none) × StructFormError form kind
+form_error_at alloc p old [] kind trees traversed leads (at {shape = shape} points inside others) same form_errors = absurd (word_of_object [] root shape refl points)
+form_error_at alloc p old (space ∷ spaces) kind trees traversed leads (at points inside nowhere) same (inl first_error) = absurd (omega (arith, ap length same, first_error.0))
+form_error_at alloc p old (space ∷ spaces) kind trees traversed leads (at points inside nowhere) same (inr form_errors) = (_, _, leads, form_errors _ _ _ (at points inside nowhere))
 
-pub declined_tree : {A S : Type 0} (alloc : Ghosts A S) (p : Pointer) (old : Built A) (kind : ErrorKind) → IsSet (LeadsToTree p) false old.spaces
-    → LacksFirst alloc old kind ⊎ DeclinesRoot DeclinesStruct old.spaces kind
-    → (form : Form) × (children : Trees) × LeadsToTree p (tree form children none) × DeclinesStruct form kind
-declined_tree alloc p old kind set declined = declined_at alloc p old old.spaces kind set.trees set.traversed set.tree_is set.stands refl declined
+pub form_error_tree : {A S : Type 0} (alloc : Ghosts A S) (p : Pointer) (old : Built A) (kind : ErrorKind) → IsSet (LeadsToTree p) false old.spaces
+    → FirstSegmentError alloc old kind ⊎ RootFormError StructFormError old.spaces kind
+    → (form : Form) × (children : Trees) × LeadsToTree p (tree form children none) × StructFormError form kind
+form_error_tree alloc p old kind set form_errors = form_error_at alloc p old old.spaces kind set.trees set.traversed set.tree_is set.stands refl form_errors
 
 -- why what was set is not written to memory
-pub not_written : (message : List (List ℕ)) (error : Error) → RefusesWriter (ByKind OutOfMemory) message error.kind → (error.kind ≡ DeviceFailed → Fails 0 0)
-    → RefusesMany message error.kind ⊎ (error.kind ≡ OutOfMemory)
-not_written message error refused failed = framed_memory message error.kind refused failed
+pub not_written : (message : List (List ℕ)) (error : Error) → WriterError (ByKind OutOfMemory) message error.kind → (error.kind ≡ DeviceFailed → Fails 0 0)
+    → SegmentCountError message error.kind ⊎ (error.kind ≡ OutOfMemory)
+not_written message error errors failed = framed_memory message error.kind errors failed
 
 -- what is added to nothing
 pub added_frame : (segments : List (List ℕ)) (old new : List ℕ) → old ≡ [] → Adds (IsFrameEncoding segments) old new → IsFrameEncoding segments new

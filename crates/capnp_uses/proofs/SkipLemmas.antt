@@ -18,28 +18,28 @@ of_known None P all = tt
 of_known (Some x) P all = all x
 
 pub skips : {S X : Type 0} (source : Ghosts S) (old new : S) (format : Format) (limit : Option ℕ) (segments : X → List (List ℕ))
-    (found : Option X) (declared : Bool) → declared ≡ is_some found
+    (found : Option X) (reported : Bool) → reported ≡ is_some found
     → ReturnsEncodings (grammar_of Zero format) limit (source.unread old) (source.unread new) (Ok (option_map segments found))
     → ReadsStream source old new (rules_of Zero format) limit (Ok (option_map segments found))
-    → SkipsMessage source old new format limit (Ok declared)
-skips source old new format limit segments None declared is texts reads = record {
+    → SkipsMessage source old new format limit (Ok reported)
+skips source old new format limit segments None reported is texts reads = record {
   passed = λ yes. let never : false ≡ true = sym is ∙ yes in cc;
   none = λ no. reads.none;
-  accepted = nothing_begins Zero (format_lawful format) (format_requested Zero format) limit (λ m. IsTrue declared) (source.unread old) reads.none;
+  accepted = nothing_begins Zero (format_lawful format) (format_requested Zero format) limit (λ m. IsTrue reported) (source.unread old) reads.none;
   end = λ empty. is;
-  refused = tt;
+  errors = tt;
   exact = reads.exact;
   kinds = tt;
   failed = tt;
   advances = reads.advances;
 }
-skips source old new format limit segments (Some x) declared is texts reads = record {
+skips source old new format limit segments (Some x) reported is texts reads = record {
   passed = λ yes. (segments x, reads.within, texts.found);
   none = λ no. let never : true ≡ false = sym is ∙ no in cc;
   accepted = of_known (source.unread old) _ (λ raw message rest begins. is);
   end = λ empty. absurd (nothing_begins_known Zero (format_lawful format) (format_requested Zero format) limit (segments x) (source.unread old)
       (source.unread new) empty texts.found);
-  refused = tt;
+  errors = tt;
   exact = reads.exact;
   kinds = tt;
   failed = tt;
@@ -55,7 +55,7 @@ skip_fails source old new format limit error texts reads = record {
   none = tt;
   accepted = texts.accepted;
   end = reads.end;
-  refused = reads.refused;
+  errors = reads.errors;
   exact = reads.exact;
   kinds = reads.kinds;
   failed = reads.failed;

@@ -14,7 +14,7 @@ use Rattle.capnp.specs.Prelude.{source_of, messages_left, HasSettings, IsNewStre
 use Rattle.capnp.proofs.FormatLemmas.{stands_next}
 use Rattle.capnp.proofs.ReaderLemmas.{nothing_begins}
 use Rattle.capnp.proofs.RunLemmas.{format_lawful, format_requested, format_parts}
-use Rattle.capnp_uses.specs.Streaming.{BeginWith, FailsNext, ReadsTwo}
+use Rattle.capnp_uses.specs.Streaming.{BeginWith, NextMessageError, ReadsTwo}
 
 -- while it has not ended, an iterator reads by its settings
 reads_by : {S X : Type 0} (source : Ghosts S) (segments : X → List (List ℕ)) (options_of : X → ReaderOptions) (old new : MessageStream S) (given : Option (Result X Error))
@@ -83,20 +83,20 @@ none_at_all format stream segments none = record {
   none = inl none;
   accepted = λ first second rest (between, begins, others). absurd (never format default_limit first stream between none begins);
   empty = λ is. refl;
-  refused = tt;
+  errors = tt;
 }
 
 pub fails_at_once : {X : Type 0} (format : Format) (stream : List ℕ) (segments : X → List (List ℕ)) (error : Error)
     → (error.kind ≡ DeviceFailed → Fails 0 0) → (Some stream ≡ Some [] → error.kind ≡ DeviceFailed)
-    → FailsNext format error.kind stream
+    → NextMessageError format error.kind stream
     → ((message : List (List ℕ)) (rest : List ℕ) → StandsNext Zero format default_limit message stream rest → error.kind ≡ OutOfMemory)
     → ReadsTwo format stream segments (Err error)
-fails_at_once format stream segments error failed end stops memory = record {
+fails_at_once format stream segments error failed end fails memory = record {
   found = tt;
   none = tt;
   accepted = λ first second rest (between, begins, others). memory first between begins;
   empty = λ none. absurd (never_fails error.kind failed (end (ap Some none)));
-  refused = inl stops;
+  errors = inl fails;
 }
 
 pub none_after : {X : Type 0} (format : Format) (stream mid : List ℕ) (segments : X → List (List ℕ)) (one : X) → StandsNext Zero format default_limit (segments one) stream mid → mid ≡ []
@@ -108,21 +108,21 @@ none_after format stream mid segments one stands none = record {
       let next = first_is format (segments one) first second stream mid rest stands begin in
       absurd (never format default_limit second mid next.1.0 none next.1.1);
   empty = λ is. refl;
-  refused = tt;
+  errors = tt;
 }
 
 pub fails_after : {X : Type 0} (format : Format) (stream mid : List ℕ) (segments : X → List (List ℕ)) (one : X) (error : Error) → StandsNext Zero format default_limit (segments one) stream mid
-    → FailsNext format error.kind mid
+    → NextMessageError format error.kind mid
     → ((message : List (List ℕ)) (rest : List ℕ) → StandsNext Zero format default_limit message mid rest → error.kind ≡ OutOfMemory)
     → ReadsTwo format stream segments (Err error)
-fails_after format stream mid segments one error stands stops memory = record {
+fails_after format stream mid segments one error stands fails memory = record {
   found = tt;
   none = tt;
   accepted = λ first second rest begin.
       let next = first_is format (segments one) first second stream mid rest stands begin in
       memory second next.1.0 next.1.1;
   empty = λ none. absurd (never format default_limit (segments one) stream mid none stands);
-  refused = inr (segments one, mid, stands, stops);
+  errors = inr (segments one, mid, stands, fails);
 }
 
 pub both : {X : Type 0} (format : Format) (stream mid left : List ℕ) (segments : X → List (List ℕ)) (one other : X) → StandsNext Zero format default_limit (segments one) stream mid
@@ -135,5 +135,5 @@ both format stream mid left segments one other stands follows = record {
       let same = (format_parts Zero format default_limit).begins_once (segments other) second mid left next.1.0 follows next.1.1 in
       (next.0, same.0);
   empty = λ is. refl;
-  refused = tt;
+  errors = tt;
 }

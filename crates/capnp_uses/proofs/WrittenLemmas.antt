@@ -18,12 +18,12 @@ use Rattle.capnp_build.specs.declared.allocator.Allocator as allocator
 use Rattle.capnp_build.proofs.roots.NullLemmas.{root_stands}
 use Rattle.capnp_message.specs.Seen.{ReadMessage}
 use Rattle.capnp.specs.declared.streams.Format.{Format}
-use Rattle.capnp.specs.Prelude.{IsFault, by_format, ReadsMessage, OrFailsAtEnd, rules_of, StandsNext, IsTextOf, output_of}
+use Rattle.capnp.specs.Prelude.{ExternalError, by_format, ReadsMessage, OrFailsAtEnd, rules_of, StandsNext, IsTextOf, output_of}
 use Rattle.capnp.proofs.AppendedLemmas.{text_stands}
 use Rattle.capnp.proofs.FormatLemmas.{or_fails_failed}
 use Rattle.capnp.proofs.ReaderLemmas.{or_fails_accepted, or_fails_reads}
 use Rattle.capnp.proofs.RunLemmas.{format_lawful, format_requested, format_parts}
-use Rattle.capnp_uses.specs.Roots.{HasRootOf, ReadsWritten, RefusesAgain, StaysUnset, StaysUnread}
+use Rattle.capnp_uses.specs.Roots.{HasRootOf, ReadsWritten, ReadAgainError, StaysUnset, StaysUnread}
 use Rattle.capnp_uses.proofs.AppendedLemmas.{memory_only}
 
 -- where there is a tree at the root, there is a segment
@@ -69,20 +69,20 @@ reads_too_many rule format limit source old new m e shown stands unread over rea
     let requested = (format_requested rule format m shown []).1 (stands.text, stands.is_text, stands.spelled) in
     let (left, line) = past_limit rule (format_lawful format) limit m shown [] requested (few_segments stands.within) over in
     elim reads [
-      | inl declared ↦ (rw unread at declared.exact) (MessageTooLarge (size_in_words m)) left line
-      | inr (end, declared) ↦ absurd ((rw unread at declared.exact) (MessageTooLarge (size_in_words m)) left line)
+      | inl reported ↦ (rw unread at reported.exact) (MessageTooLarge (size_in_words m)) left line
+      | inr (end, reported) ↦ absurd ((rw unread at reported.exact) (MessageTooLarge (size_in_words m)) left line)
     ]
   where
     few_segments : AreWithin (lengths m) None → length m < 512
     few_segments within = let few = within.few in omega (arith, few, length-map m word_count)
 
 -- so of what is written and read nothing else comes than the limit and want of memory
-refused_again : {S : Type 0} (rule : Padding) (format : Format) (limit : Option ℕ) (source : Ghosts S) (old new : S) (m : List (List ℕ)) (e : Error) (shown : List ℕ)
+again_error : {S : Type 0} (rule : Padding) (format : Format) (limit : Option ℕ) (source : Ghosts S) (old new : S) (m : List (List ℕ)) (e : Error) (shown : List ℕ)
     → IsTextOf format m shown → IsWritable m → IsWithinSegmentLimit m → source.unread old ≡ Some shown → source.failures old ≡ 0 → source.failures new ≡ 0
-    → (StandsNext rule format limit m shown [] → IsFault e.kind)
+    → (StandsNext rule format limit m shown [] → ExternalError e.kind)
     → OrFailsAtEnd (ReadsStream source old new (rules_of rule format) limit) (Err e)
-    → RefusesAgain m limit e.kind
-refused_again rule format limit source old new m e shown here writable few unread none still accepted reads = elim (limit_cases (lengths m) limit) [
+    → ReadAgainError m limit e.kind
+again_error rule format limit source old new m e shown here writable few unread none still accepted reads = elim (limit_cases (lengths m) limit) [
   | inr keeps ↦ inr (inr (memory_only e.kind (accepted (added_stands rule format limit m shown writable here few keeps)) never))
   | inl over ↦ elim (reads_too_many rule format limit source old new m e shown (added_stands rule format None m shown writable here few tt) unread over reads) [
     | inl device ↦ inr (inr (memory_only e.kind (inl device) never))
@@ -103,17 +103,17 @@ pub written_and_read : {S : Type 0} (rule : Padding) (format : Format) (options 
 written_and_read rule format options source old new m (Ok x) shown here writable few unread none still reads =
     let limit = options.traversal_limit_in_words in
     let again = read_again rule format limit x.segments m shown (source.unread new) (added_stands rule format None m shown writable here few tt) (rw unread at (reads.texts tt).found) in
-    record { back = again.0; size = again.1; few = few; options_are = reads.options_are; refused = tt }
+    record { back = again.0; size = again.1; few = few; options_are = reads.options_are; errors = tt }
 written_and_read rule format options source old new m (Err e) shown here writable few unread none still reads =
     let accepted : (raw : List ℕ) → source.unread old ≡ Some raw → (message : List (List ℕ)) (rest : List ℕ)
-    → StandsNext rule format options.traversal_limit_in_words message raw rest → IsFault e.kind
+    → StandsNext rule format options.traversal_limit_in_words message raw rest → ExternalError e.kind
     = λ raw is. rw is at (or_fails_accepted source old new (by_format rule format) options e tt reads) in
     record {
       back = tt;
       size = tt;
       few = tt;
       options_are = tt;
-      refused = refused_again rule format options.traversal_limit_in_words source old new m e shown here writable few unread none still (accepted shown unread m [])
+      errors = again_error rule format options.traversal_limit_in_words source old new m e shown here writable few unread none still (accepted shown unread m [])
           (or_fails_reads source old new (by_format rule format) options e reads);
     }
 
@@ -124,11 +124,11 @@ tree_again has_tree segments (Err e) m stands back = tt
 tree_again has_tree segments (Ok x) m stands back = subst (HasRootOf has_tree) (sym back) stands
 
 -- a message whose root is set, and that is not read back
-pub unread : {A S X : Type 0} (alloc : allocator.Ghosts A S) (has_tree : Trees → Type 0) (refuses : ErrorKind → Type 0) (limit : Option ℕ) (old new : Built A) (r : Result X Error) → IsSet has_tree false new.spaces
-    → IsPut alloc (HasWords has_tree false) old new → IfErr r (λ error. RefusesAgain (output_of new) limit error.kind)
-    → IfErr r (λ error. StaysUnset alloc has_tree refuses old new error.kind ⊎ StaysUnread alloc has_tree limit old new error.kind)
-unread alloc has_tree refuses limit old new (Ok x) set placed refused = tt
-unread alloc has_tree refuses limit old new (Err error) set placed refused = inr (record { set = set; placed = placed; refused = refused })
+pub unread : {A S X : Type 0} (alloc : allocator.Ghosts A S) (has_tree : Trees → Type 0) (fails : ErrorKind → Type 0) (limit : Option ℕ) (old new : Built A) (r : Result X Error) → IsSet has_tree false new.spaces
+    → IsPut alloc (HasWords has_tree false) old new → IfErr r (λ error. ReadAgainError (output_of new) limit error.kind)
+    → IfErr r (λ error. StaysUnset alloc has_tree fails old new error.kind ⊎ StaysUnread alloc has_tree limit old new error.kind)
+unread alloc has_tree fails limit old new (Ok x) set placed errors = tt
+unread alloc has_tree fails limit old new (Err error) set placed errors = inr (record { set = set; placed = placed; errors = errors })
 
 -- what holds either way
 pub holds_at_ok : {X E P : Type 0} (r : Result X E) → P → OnOk r P

@@ -4,7 +4,7 @@ use Rattle.capnp_frame.specs.declared.error.ErrorKind.{ErrorKind}
 use Rattle.capnp_frame.specs.declared.error.ErrorKind.TheVariants.{OutOfMemory, AllocationTooLarge, MessageTooLarge}
 use Rattle.capnp_wire.specs.Prelude.{structs, Trees, none, tree, IsTextTree, LongText}
 use Rattle.capnp_orphans.specs.Held.{AreTrees}
-use Rattle.capnp_orphans.specs.Segments.{Segment, ExceedsMost}
+use Rattle.capnp_orphans.specs.Segments.{Segment, IsPastMost}
 use Rattle.capnp_uses.specs.declared.account_list.NewAccount.{NewAccount}
 
 -- the tree of a name, a text
@@ -26,7 +26,7 @@ list_words accounts = sum_by name_words accounts + 1 + 2 * length accounts
 
 -- a segment has no room for this many more words
 abbrev pub IsFullFor : ℕ → Segment → Type 0
-IsFullFor words segment = (2 ^ 29 ≤ length segment.bytes / 8 + words) ⊎ ExceedsMost words segment
+IsFullFor words segment = (2 ^ 29 ≤ length segment.bytes / 8 + words) ⊎ IsPastMost words segment
 
 -- the segment of a new message on the heap: the word of its root, which is null
 abbrev pub new_segment : Segment
@@ -34,11 +34,11 @@ new_segment = record { bytes = replicate 8 0; most = None; capacity = 0 }
 
 -- No list of these accounts is added: memory is lacking, a name is too long for a text, or with the
 -- words of the list the segment would have 2 ^ 29, or a region more than it has room for.
-abbrev pub RefusesAccounts : List NewAccount → Segment → ErrorKind → Type 0
-RefusesAccounts accounts segment kind = (kind ≡ OutOfMemory)
+abbrev pub AccountsError : List NewAccount → Segment → ErrorKind → Type 0
+AccountsError accounts segment kind = (kind ≡ OutOfMemory)
     ⊎ Any (λ account. LongText account.name.now kind) accounts
     ⊎ (IsFullFor (list_words accounts) segment × ((words : ℕ) × (kind ≡ AllocationTooLarge words)))
 
 -- The message of such a list has more words than the limit, and the failure carries their number.
-abbrev pub ExceedsLimit : List NewAccount → Option ℕ → ErrorKind → Type 0
-ExceedsLimit accounts limit kind = IsSomeAnd limit (λ most. most < 1 + list_words accounts) × (kind ≡ MessageTooLarge (1 + list_words accounts))
+abbrev pub AccountsLimitError : List NewAccount → Option ℕ → ErrorKind → Type 0
+AccountsLimitError accounts limit kind = IsSomeAnd limit (λ most. most < 1 + list_words accounts) × (kind ≡ MessageTooLarge (1 + list_words accounts))

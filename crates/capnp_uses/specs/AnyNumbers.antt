@@ -26,5 +26,5 @@ TakesAnyNumbers (numbers code values) = ⊤
 TakesAnyNumbers _ = ⊥
 
 -- and the errors of other forms
-abbrev pub DeclinesAnyNumbers : Form → ErrorKind → Type 0
-DeclinesAnyNumbers form kind = (TakesAnyNumbers form → ⊥) × (kind ≡ WrongPointerKind)
+abbrev pub AnyNumbersFormError : Form → ErrorKind → Type 0
+AnyNumbersFormError form kind = (TakesAnyNumbers form → ⊥) × (kind ≡ WrongPointerKind)

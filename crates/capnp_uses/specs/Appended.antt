@@ -7,7 +7,7 @@ use Rattle.capnp_frame.specs.declared.message.options.ReaderOptions.{ReaderOptio
 use Rattle.capnp_frame.specs.declared.serialize.segment_table.Padding.TheVariants.{Zero}
 use Rattle.capnp_frame.specs.Prelude.{AreEncodings, IsWithinSegmentLimit}
 use Rattle.capnp.specs.declared.streams.Format.{Format}
-use Rattle.capnp.specs.Prelude.{grammar_of, IsTextOf, AppendsEach, RefusesManyOf}
+use Rattle.capnp.specs.Prelude.{grammar_of, IsTextOf, AppendsEach, SegmentCountErrorIn}
 
 -- What a call returns that writes messages and reads them back. `text`, `readers` and `end` are
 -- what is seen of what it returns.
@@ -25,4 +25,4 @@ pub record ReadsBack {V X : Type 0} (format : Format) (options : ReaderOptions) 
   pub ends : IfOk result (λ done. end done ≡ None)
   -- one with more segments than a reader accepts is not written
   pub few : OnOk result (AllByRecursion IsWithinSegmentLimit messages)
-  pub refused : IfErr result (λ error. RefusesManyOf messages error.kind ⊎ (error.kind ≡ OutOfMemory))
+  pub errors : IfErr result (λ error. SegmentCountErrorIn messages error.kind ⊎ (error.kind ≡ OutOfMemory))

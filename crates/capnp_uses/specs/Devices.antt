@@ -6,7 +6,7 @@ use Rattle.capnp_frame.specs.declared.error.ErrorKind.{ErrorKind}
 use Rattle.capnp_frame.specs.declared.error.ErrorKind.TheVariants.{DeviceFailed, OutOfMemory}
 use Rattle.capnp_frame.specs.declared.serialize.segment_table.Padding.TheVariants.{Zero}
 use Rattle.capnp.specs.declared.streams.Format.{Format}
-use Rattle.capnp.specs.Prelude.{IsFault, StandsNext, TakesForNext, EndsBy, IsStream}
+use Rattle.capnp.specs.Prelude.{ExternalError, StandsNext, TakesForNext, EndsBy, IsStream}
 
 -- What is returned of the first message of a device that gives these bytes.
 pub record ReadsFirst (format : Format) (limit : Option ℕ) (result : Result (Option (List (List ℕ))) Error) (bytes : List ℕ) : Type 0 where
@@ -14,16 +14,16 @@ pub record ReadsFirst (format : Format) (limit : Option ℕ) (result : Result (O
   pub found : IfOk result (λ found. IfSome found (λ message. (rest : List ℕ) × StandsNext Zero format limit message bytes rest))
   -- None is returned only where there are no bytes
   pub none : IfOk result (λ found. IfNone found (bytes ≡ []))
-  -- where they begin with an encoding of a message within the limit, that message is returned, except for a fault
+  -- where they begin with an encoding of a message within the limit, that message is returned, except for an external error
   pub accepted : (message : List (List ℕ)) (rest : List ℕ) → StandsNext Zero format limit message bytes rest → MatchResult result
-      (λ found. found ≡ Some message) (λ error. IsFault error.kind)
+      (λ found. found ≡ Some message) (λ error. ExternalError error.kind)
   -- and where there are none None, except for the device's failure
   pub end : bytes ≡ [] → MatchResult result (λ found. found ≡ None) (λ error. error.kind ≡ DeviceFailed)
   -- it fails with the device's failure, for want of memory where memory is taken, or as the reader of the message does
-  pub refused : IfErr result (λ error. (error.kind ≡ DeviceFailed) ⊎ ((error.kind ≡ OutOfMemory) × TakesForNext Zero format limit bytes)
+  pub errors : IfErr result (λ error. (error.kind ≡ DeviceFailed) ⊎ ((error.kind ≡ OutOfMemory) × TakesForNext Zero format limit bytes)
       ⊎ EndsBy Zero format limit (Some error.kind) bytes)
-  -- and where that fails with this kind, with no other one, except for a fault
-  pub exact : (kind : ErrorKind) → EndsBy Zero format limit (Some kind) bytes → IsErrAnd result (λ error. IsFault error.kind ⊎ (error.kind ≡ kind))
+  -- and where that fails with this kind, with no other one, except for an external error
+  pub exact : (kind : ErrorKind) → EndsBy Zero format limit (Some kind) bytes → IsErrAnd result (λ error. ExternalError error.kind ⊎ (error.kind ≡ kind))
 
 -- What is returned of all messages of a device that gives these bytes; `messages` is what is seen of the list that is returned.
 pub record ReadsAll {X : Type 0} (format : Format) (limit : Option ℕ) (messages : X → List (List (List ℕ))) (result : Result X Error) (bytes : List ℕ)
@@ -32,11 +32,11 @@ pub record ReadsAll {X : Type 0} (format : Format) (limit : Option ℕ) (message
   pub found : IfOk result (λ read. IsStream Zero format limit (messages read) None bytes)
   -- of no bytes none, except for the device's failure
   pub end : bytes ≡ [] → MatchResult result (λ read. messages read ≡ []) (λ error. error.kind ≡ DeviceFailed)
-  -- it fails for a fault, or as the reader does after the messages before
-  pub refused : IfErr result (λ error. IsFault error.kind ⊎ ((before : List (List (List ℕ))) × IsStream Zero format limit before (Some error.kind) bytes))
-  -- where the bytes are encodings of messages, just these are returned, except for a fault
+  -- it fails for an external error, or as the reader does after the messages before
+  pub errors : IfErr result (λ error. ExternalError error.kind ⊎ ((before : List (List (List ℕ))) × IsStream Zero format limit before (Some error.kind) bytes))
+  -- where the bytes are encodings of messages, just these are returned, except for an external error
   pub accepted : (listed : List (List (List ℕ))) → IsStream Zero format limit listed None bytes → MatchResult result
-      (λ read. messages read ≡ listed) (λ error. IsFault error.kind)
-  -- and where the reader fails after some with this kind, with no other one, except for a fault
+      (λ read. messages read ≡ listed) (λ error. ExternalError error.kind)
+  -- and where the reader fails after some with this kind, with no other one, except for an external error
   pub exact : (before : List (List (List ℕ))) (kind : ErrorKind) → IsStream Zero format limit before (Some kind) bytes
-      → IsErrAnd result (λ error. IsFault error.kind ⊎ (error.kind ≡ kind))
+      → IsErrAnd result (λ error. ExternalError error.kind ⊎ (error.kind ≡ kind))

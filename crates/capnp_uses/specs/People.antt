@@ -6,7 +6,7 @@ use Rattle.capnp_frame.specs.declared.error.ErrorKind.TheVariants.{AllocationToo
 use Rattle.capnp_wire.specs.Prelude.{Trees, struct, structs, numbers, none, tree, total_words, LongText}
 use Rattle.capnp_build.specs.declared.allocator.Allocator.{Ghosts}
 use Rattle.capnp_build.specs.Prelude.{Built}
-use Rattle.capnp_uses.specs.Roots.{RefusesForm, StaysUnset, StaysUnread}
+use Rattle.capnp_uses.specs.Roots.{SetCanonicalError, StaysUnset, StaysUnread}
 
 -- a text, with its zero byte, in front of other trees
 abbrev pub text_tree : List ℕ → Trees → Trees
@@ -38,11 +38,11 @@ IsTooLarge texts trees kind = Any (λ bytes. LongText bytes kind) texts
 -- Why a message in which a value of these texts and this tree was to be the root is not read back, and what that leaves.
 -- The root is null: the value is too large, the first segment is not handed out, or no segment has room. Or the value is
 -- the root: the message has too many segments or words, or memory is lacking.
-abbrev pub RefusesBack : {A S : Type 0} → Ghosts A S → List (List ℕ) → Trees → Option ℕ → Built A → Built A → ErrorKind → Type 0
-RefusesBack alloc texts trees limit old new kind = StaysUnset alloc (λ found. found ≡ trees) (IsTooLarge texts trees) old new kind
+abbrev pub ReadBackError : {A S : Type 0} → Ghosts A S → List (List ℕ) → Trees → Option ℕ → Built A → Built A → ErrorKind → Type 0
+ReadBackError alloc texts trees limit old new kind = StaysUnset alloc (λ found. found ≡ trees) (IsTooLarge texts trees) old new kind
     ⊎ StaysUnread alloc (λ found. found ≡ trees) limit old new kind
 
 -- why the canonical form of such a value does not become the one segment of a new message: the first segment is not handed
 -- out, or it is, and the value is too large, its form is, or the form has no room there
-abbrev pub RefusesAlone : {A S : Type 0} → Ghosts A S → List (List ℕ) → Trees → Built A → Built A → ErrorKind → Type 0
-RefusesAlone alloc texts trees = RefusesForm alloc (λ found. found ≡ trees) (IsTooLarge texts trees)
+abbrev pub AloneError : {A S : Type 0} → Ghosts A S → List (List ℕ) → Trees → Built A → Built A → ErrorKind → Type 0
+AloneError alloc texts trees = SetCanonicalError alloc (λ found. found ≡ trees) (IsTooLarge texts trees)

@@ -3,9 +3,9 @@ use Rattle.std.specs.Prelude.{◌≡◌, ◌⊎◌, ℕ, List, Result, IfOk, IfE
 use Rattle.capnp_frame.specs.declared.error.Error.{Error}
 use Rattle.capnp_frame.specs.declared.error.ErrorKind.TheVariants.{OutOfMemory}
 use Rattle.capnp_frame.specs.declared.serialize.segment_table.Padding.TheVariants.{Zero}
-use Rattle.capnp_frame.specs.Prelude.{RefusesBy, no_alloc_rules, default_limit}
+use Rattle.capnp_frame.specs.Prelude.{RulesError, no_alloc_rules, default_limit}
 use Rattle.capnp_wire.specs.Prelude.{default_root, IsCanonicalForm, Pointer, HasData, Reads}
-use Rattle.capnp_message.specs.Canonical.{HasForm, LacksForm}
+use Rattle.capnp_message.specs.Canonical.{HasForm, CanonicalFormError}
 use Rattle.capnp.specs.declared.streams.Format.TheVariants.{Packed}
 use Rattle.capnp.specs.Prelude.{BeginsFramed, StandsNext}
 
@@ -21,9 +21,9 @@ pub record ReturnsCanonical {T : Type 0} (bytes : List ℕ) (words : T → List 
   pub found : (message : List (List ℕ)) (rest : List ℕ) → BeginsFramed Zero default_limit message bytes rest → HasForm (default_root message)
       → IfErr result (λ error. error.kind ≡ OutOfMemory)
   -- else it fails as the reader does, which takes no memory, or with the reason why the message has no form, or for want of memory
-  pub refused : IfErr result (λ error. RefusesBy (no_alloc_rules Zero default_limit) error.kind bytes
+  pub errors : IfErr result (λ error. RulesError (no_alloc_rules Zero default_limit) error.kind bytes
       ⊎ ((message : List (List ℕ)) × (rest : List ℕ) × BeginsFramed Zero default_limit message bytes rest
-      × (LacksForm (default_root message) error.kind ⊎ (error.kind ≡ OutOfMemory))))
+      × (CanonicalFormError (default_root message) error.kind ⊎ (error.kind ≡ OutOfMemory))))
 
 -- these are the first two data words of the struct that a pointer leads to, 0 past its last one
 abbrev pub AreFirstWords : Pointer → ℕ × ℕ → Type 0

@@ -12,6 +12,6 @@ StandsAlone message words = StandsAt message.location 0 1 words × (length messa
 
 -- a region of this many words has no room for the root, or for a value after it: one more segment
 -- is asked for, unless the list of segments can't grow
-abbrev pub LacksRegion : (Trees → Type 0) → ℕ → ErrorKind → Type 0
-LacksRegion has_tree room kind = ((room ≡ 0) × (kind ≡ AllocationTooLarge 1))
+abbrev pub RegionRoomError : (Trees → Type 0) → ℕ → ErrorKind → Type 0
+RegionRoomError has_tree room kind = ((room ≡ 0) × (kind ≡ AllocationTooLarge 1))
     ⊎ ((words : ℕ) × HasWords has_tree false words × (room ≤ words) × ((kind ≡ AllocationTooLarge (words + 1)) ⊎ (kind ≡ OutOfMemory)))

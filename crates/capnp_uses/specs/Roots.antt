@@ -5,10 +5,10 @@ use Rattle.capnp_frame.specs.declared.error.ErrorKind.{ErrorKind}
 use Rattle.capnp_frame.specs.declared.error.ErrorKind.TheVariants.{MessageTooLarge, OutOfMemory, PrematureEndOfFile}
 use Rattle.capnp_frame.specs.declared.message.options.ReaderOptions.{ReaderOptions}
 use Rattle.capnp_frame.specs.declared.serialize.segment_table.Padding.TheVariants.{Zero}
-use Rattle.capnp_frame.specs.Prelude.{KeepsLimit, default_limit, lengths, size_in_words, IsTooLarge, IsWithinSegmentLimit, RefusesMany}
-use Rattle.capnp_wire.specs.Prelude.{Form, struct, Trees, none, tree, message_of, root, Root, NoWord, default_root, Refuses, TakesStruct, DeclinesStruct, HasWords, LacksWords}
+use Rattle.capnp_frame.specs.Prelude.{KeepsLimit, default_limit, lengths, size_in_words, IsTooLarge, IsWithinSegmentLimit, SegmentCountError}
+use Rattle.capnp_wire.specs.Prelude.{Form, struct, Trees, none, tree, message_of, root, Root, NoWord, default_root, ViewError, TakesStruct, StructFormError, HasWords, WordsError}
 use Rattle.capnp_build.specs.declared.allocator.Allocator.{Ghosts}
-use Rattle.capnp_build.specs.Prelude.{Space, Built, message, IsSet, FindsNoRoom, FoundNoRoom, InitWords, IsCleared, IsPut, LacksFirst, StopsFirst, RefusesCanonical, used_of}
+use Rattle.capnp_build.specs.Prelude.{Space, Built, message, IsSet, FindsNoRoom, FoundNoRoom, InitWords, IsCleared, IsPut, FirstSegmentError, FailsFirstSegment, ClearedRootError, used_of}
 use Rattle.capnp.specs.declared.streams.Format.TheVariants.{Packed}
 use Rattle.capnp.specs.Prelude.{HasRootTree, StandsNext, TakesForNext, EndsBy, output_of}
 
@@ -26,44 +26,44 @@ HasRootOf has_tree segments = (trees : Trees) × has_tree trees × HasRootTree s
 
 -- An object of this form is not made the root: the request of the first segment fails, or no
 -- segment has room once the old root is cleared.
-abbrev pub LacksRoom : {A S : Type 0} → Ghosts A S → Form → Built A → ErrorKind → Type 0
-LacksRoom alloc form old kind = LacksFirst alloc old kind ⊎ FoundNoRoom alloc (InitWords (λ n made. made ≡ form) 0) old kind
+abbrev pub RootRoomError : {A S : Type 0} → Ghosts A S → Form → Built A → ErrorKind → Type 0
+RootRoomError alloc form old kind = FirstSegmentError alloc old kind ⊎ FoundNoRoom alloc (InitWords (λ n made. made ≡ form) 0) old kind
 
 -- The root is not set to a value: measuring it fails, the request of the first segment fails, or no
 -- segment has room.
-abbrev pub RefusesRoot : {A S : Type 0} → Ghosts A S → (Trees → Type 0) → (ErrorKind → Type 0) → Built A → Built A → ErrorKind → Type 0
-RefusesRoot alloc has_tree refuses old new kind =
-    LacksWords has_tree refuses false kind ⊎ StopsFirst alloc old new.spaces kind ⊎ FindsNoRoom alloc (HasWords has_tree false) old new.spaces kind
+abbrev pub SetRootError : {A S : Type 0} → Ghosts A S → (Trees → Type 0) → (ErrorKind → Type 0) → Built A → Built A → ErrorKind → Type 0
+SetRootError alloc has_tree fails old new kind =
+    WordsError has_tree fails false kind ⊎ FailsFirstSegment alloc old new.spaces kind ⊎ FindsNoRoom alloc (HasWords has_tree false) old new.spaces kind
 
 -- nor to its canonical form
-abbrev pub RefusesForm : {A S : Type 0} → Ghosts A S → (Trees → Type 0) → (ErrorKind → Type 0) → Built A → Built A → ErrorKind → Type 0
-RefusesForm alloc has_tree refuses old new kind = StopsFirst alloc old new.spaces kind ⊎ RefusesCanonical has_tree refuses new.spaces kind
+abbrev pub SetCanonicalError : {A S : Type 0} → Ghosts A S → (Trees → Type 0) → (ErrorKind → Type 0) → Built A → Built A → ErrorKind → Type 0
+SetCanonicalError alloc has_tree fails old new kind = FailsFirstSegment alloc old new.spaces kind ⊎ ClearedRootError has_tree fails new.spaces kind
 
 -- Why a value is not set, and what that leaves: a null root.
-pub record StaysUnset {A S : Type 0} (alloc : Ghosts A S) (has_tree : Trees → Type 0) (refuses : ErrorKind → Type 0) (old new : Built A) (kind : ErrorKind) : Type 0 where
+pub record StaysUnset {A S : Type 0} (alloc : Ghosts A S) (has_tree : Trees → Type 0) (fails : ErrorKind → Type 0) (old new : Built A) (kind : ErrorKind) : Type 0 where
   pub cleared : IsCleared alloc old new
   -- it fails as `set_root` does
-  pub refused : RefusesRoot alloc has_tree refuses old new kind
+  pub errors : SetRootError alloc has_tree fails old new kind
 
 -- Why a value's canonical form is not made the root, and what that leaves: a null root.
-pub record StaysWithoutForm {A S : Type 0} (alloc : Ghosts A S) (has_tree : Trees → Type 0) (refuses : ErrorKind → Type 0) (old new : Built A) (kind : ErrorKind) : Type 0 where
+pub record StaysWithoutForm {A S : Type 0} (alloc : Ghosts A S) (has_tree : Trees → Type 0) (fails : ErrorKind → Type 0) (old new : Built A) (kind : ErrorKind) : Type 0 where
   pub cleared : IsCleared alloc old new
-  pub refused : RefusesForm alloc has_tree refuses old new kind
+  pub errors : SetCanonicalError alloc has_tree fails old new kind
 
 -- Why a message whose root is set is not written, and what that leaves: the value at the root.
 pub record StaysUnwritten {A S : Type 0} (alloc : Ghosts A S) (has_tree : Trees → Type 0) (canonical : Bool) (old new : Built A) (kind : ErrorKind) : Type 0 where
   pub set : IsSet has_tree canonical new.spaces
   pub placed : IsPut alloc (HasWords has_tree canonical) old new
   -- it has too many segments, or memory is lacking
-  pub refused : RefusesMany (output_of new) kind ⊎ (kind ≡ OutOfMemory)
+  pub errors : SegmentCountError (output_of new) kind ⊎ (kind ≡ OutOfMemory)
 
 -- the message has more words than the limit, and the failure carries their number
-abbrev pub RefusesSize : List (List ℕ) → Option ℕ → ErrorKind → Type 0
-RefusesSize message limit kind = IsTooLarge (lengths message) limit × (kind ≡ MessageTooLarge (size_in_words message))
+abbrev pub MessageSizeError : List (List ℕ) → Option ℕ → ErrorKind → Type 0
+MessageSizeError message limit kind = IsTooLarge (lengths message) limit × (kind ≡ MessageTooLarge (size_in_words message))
 
 -- a message is not written and read back: for too many segments, for too many words, or for want of memory
-abbrev pub RefusesAgain : List (List ℕ) → Option ℕ → ErrorKind → Type 0
-RefusesAgain message limit kind = RefusesMany message kind ⊎ RefusesSize message limit kind ⊎ (kind ≡ OutOfMemory)
+abbrev pub ReadAgainError : List (List ℕ) → Option ℕ → ErrorKind → Type 0
+ReadAgainError message limit kind = SegmentCountError message kind ⊎ MessageSizeError message limit kind ⊎ (kind ≡ OutOfMemory)
 
 -- What a call returns that writes a message and reads it back with these options. `segments` and
 -- `options_of` are what is seen of a reader.
@@ -75,21 +75,21 @@ pub record ReadsWritten {X : Type 0} (message : List (List ℕ)) (options : Read
   pub size : OnOk result (KeepsLimit (lengths message) options.traversal_limit_in_words)
   pub few : OnOk result (IsWithinSegmentLimit message)
   pub options_are : IfOk result (λ reader. options_of reader ≡ options)
-  pub refused : IfErr result (λ error. RefusesAgain message options.traversal_limit_in_words error.kind)
+  pub errors : IfErr result (λ error. ReadAgainError message options.traversal_limit_in_words error.kind)
 
 -- Why a message whose root is set is not read back, and what that leaves: the value at the root.
 pub record StaysUnread {A S : Type 0} (alloc : Ghosts A S) (has_tree : Trees → Type 0) (limit : Option ℕ) (old new : Built A) (kind : ErrorKind) : Type 0 where
   pub set : IsSet has_tree false new.spaces
   pub placed : IsPut alloc (HasWords has_tree false) old new
-  pub refused : RefusesAgain (output_of new) limit kind
+  pub errors : ReadAgainError (output_of new) limit kind
 
 -- No struct is read at the root of a packed message: memory is taken and lacking, no message is there, or its root
 -- fails.
-abbrev pub RefusesPackedStruct : List ℕ → ErrorKind → Type 0
-RefusesPackedStruct text kind = ((kind ≡ OutOfMemory) × TakesForNext Zero Packed default_limit text) ⊎ EndsBy Zero Packed default_limit (Some kind) text
+abbrev pub PackedStructError : List ℕ → ErrorKind → Type 0
+PackedStructError text kind = ((kind ≡ OutOfMemory) × TakesForNext Zero Packed default_limit text) ⊎ EndsBy Zero Packed default_limit (Some kind) text
     ⊎ ((text ≡ []) × (kind ≡ PrematureEndOfFile))
     ⊎ ((segments : List (List ℕ)) × (rest : List ℕ) × StandsNext Zero Packed default_limit segments text rest
-    × (NoWord (message_of segments) root kind ⊎ Refuses (default_root segments) DeclinesStruct kind))
+    × (NoWord (message_of segments) root kind ⊎ ViewError (default_root segments) StructFormError kind))
 
 -- this word in the place of the first data word of a struct, where it has one
 abbrev pub with_first_word : ℕ → Form → Form

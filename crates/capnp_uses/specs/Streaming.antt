@@ -8,7 +8,7 @@ use Rattle.capnp_frame.specs.declared.io.Read.{Ghosts}
 use Rattle.capnp_frame.specs.declared.serialize.segment_table.Padding.TheVariants.{Zero}
 use Rattle.capnp_frame.specs.Prelude.{IsWithin, default_limit, TakesMemory, IsReaderKind, IfKnown, Advances, Fails, AreEncodings}
 use Rattle.capnp.specs.declared.streams.Format.{Format}
-use Rattle.capnp.specs.Prelude.{IsFault, LacksMemory, IsLog, grammar_of, gives_of, refuses_of, StandsNext, RefusesNext, TakesForNext, EndsBy}
+use Rattle.capnp.specs.Prelude.{ExternalError, IsMemoryError, IsLog, grammar_of, gives_of, refuses_of, StandsNext, NextError, TakesForNext, EndsBy}
 
 -- What a call returns that reads past the next message of a stream, of zero padding, and returns
 -- whether there was one. `source` is what is seen of the source (the members of the trait Read),
@@ -17,22 +17,22 @@ pub record SkipsMessage {S : Type 0} (source : Ghosts S) (old new : S) (format :
     : Type 0 where
   -- true is returned for a message within the limit whose encoding was next, and only that encoding
   -- is consumed
-  pub passed : IfOk result (λ declared. IsTrue declared → (message : List (List ℕ)) × IsWithin message limit
+  pub passed : IfOk result (λ reported. IsTrue reported → (message : List (List ℕ)) × IsWithin message limit
       × IfKnown (source.unread old) (source.unread new) (StandsNext Zero format limit message))
   -- false is returned only where nothing is unread
-  pub none : IfOk result (λ declared. IsFalse declared → IfSome (source.unread old) (λ raw. raw ≡ []))
-  -- where such an encoding is next, true is returned, except for a fault
+  pub none : IfOk result (λ reported. IsFalse reported → IfSome (source.unread old) (λ raw. raw ≡ []))
+  -- where such an encoding is next, true is returned, except for an external error
   pub accepted : IfSome (source.unread old) (λ raw. (message : List (List ℕ)) (rest : List ℕ) → StandsNext Zero format limit message raw rest
-      → MatchResult result IsTrue (λ error. IsFault error.kind))
+      → MatchResult result IsTrue (λ error. ExternalError error.kind))
   -- and where nothing is unread false, except for the device's failure
   pub end : source.unread old ≡ Some [] → MatchResult result IsFalse (λ error. error.kind ≡ DeviceFailed)
   -- it fails with the device's failure, for want of memory where memory is taken, or with a line of the table of errors
-  pub refused : IfErr result (λ error. (error.kind ≡ DeviceFailed)
+  pub errors : IfErr result (λ error. (error.kind ≡ DeviceFailed)
       ⊎ ((error.kind ≡ OutOfMemory) × IfKnown (source.unread old) (source.unread new) (TakesMemory Zero (gives_of format) limit))
-      ⊎ IfKnown (source.unread old) (source.unread new) (RefusesNext Zero format limit error.kind))
+      ⊎ IfKnown (source.unread old) (source.unread new) (NextError Zero format limit error.kind))
   -- where a line is the first to hold, it fails with that line's kind, unless the device fails or
   -- memory is lacking
-  pub exact : IfSome (source.unread old) (λ raw. (kind : ErrorKind) (left : List ℕ) → RefusesNext Zero format limit kind raw left
+  pub exact : IfSome (source.unread old) (λ raw. (kind : ErrorKind) (left : List ℕ) → NextError Zero format limit kind raw left
       → IsErrAnd result (λ error. (error.kind ≡ DeviceFailed) ⊎ (error.kind ≡ OutOfMemory) ⊎ (error.kind ≡ kind)))
   pub kinds : IfErr result (λ error. IsReaderKind Zero (refuses_of format) error.kind)
   -- `DeviceFailed` is returned only where the device failed
@@ -45,8 +45,8 @@ abbrev pub BeginWith : Format → List (List ℕ) → List (List ℕ) → List �
 BeginWith format first second stream rest = AreEncodings (grammar_of Zero format) default_limit (first ∷ second ∷ []) stream rest
 
 -- no message of these bytes is returned: memory is taken and lacking, or the reader fails
-abbrev pub FailsNext : Format → ErrorKind → List ℕ → Type 0
-FailsNext format kind rest = ((kind ≡ OutOfMemory) × TakesForNext Zero format default_limit rest) ⊎ EndsBy Zero format default_limit (Some kind) rest
+abbrev pub NextMessageError : Format → ErrorKind → List ℕ → Type 0
+NextMessageError format kind rest = ((kind ≡ OutOfMemory) × TakesForNext Zero format default_limit rest) ⊎ EndsBy Zero format default_limit (Some kind) rest
 
 -- What is returned that reads the first two messages of a stream in memory, of zero padding and within the default limit of
 -- words. `segments` is what is seen of a message's reader.
@@ -62,12 +62,12 @@ pub record ReadsTwo {X : Type 0} (format : Format) (stream : List ℕ) (segments
   -- an empty stream takes no memory
   pub empty : stream ≡ [] → IsOk result
   -- it fails as the reader of the first message does, or of the second one
-  pub refused : IfErr result (λ error. FailsNext format error.kind stream
-      ⊎ ((message : List (List ℕ)) × (rest : List ℕ) × StandsNext Zero format default_limit message stream rest × FailsNext format error.kind rest))
+  pub errors : IfErr result (λ error. NextMessageError format error.kind stream
+      ⊎ ((message : List (List ℕ)) × (rest : List ℕ) × StandsNext Zero format default_limit message stream rest × NextMessageError format error.kind rest))
 
 -- What is read of a log of two records, unless memory is lacking: both, and the last one ends where
 -- the log does to which they were appended.
-pub record ReadsBoth (limit : Option ℕ) (first second : List (List ℕ)) (messages : List (List (List ℕ))) (end : ℕ) (refusal : Option Error)
+pub record ReadsBoth (limit : Option ℕ) (first second : List (List ℕ)) (messages : List (List (List ℕ))) (end : ℕ) (error : Option Error)
     : Type 0 where
-  pub back : LacksMemory refusal ⊎ (messages ≡ first ∷ second ∷ []) × (refusal ≡ None)
-  pub ends : LacksMemory refusal ⊎ (log : List ℕ) × IsLog limit (first ∷ second ∷ []) log × (end ≡ length log)
+  pub back : IsMemoryError error ⊎ (messages ≡ first ∷ second ∷ []) × (error ≡ None)
+  pub ends : IsMemoryError error ⊎ (log : List ℕ) × IsLog limit (first ∷ second ∷ []) log × (end ≡ length log)

@@ -5,7 +5,7 @@
 ghost use Rattle.std.specs.Prelude.{◌≡◌, ◌<◌, ◌==◌, length, slice_index, MatchResult};
 ghost use Rattle.std.specs.List.{find};
 ghost use Rattle.std.specs.Option.{option_map};
-ghost use Rattle.capnp_wire.specs.Prelude.{IsIterator, all_structs, struct_of, pointer_of, struct_list_of, element_of, IsStructList, TakesStructs, DeclinesStructs, Struct, IsViewOf, IsText, IsStruct, Accepts, Refuses, Declines, Reads, TakesStruct, DeclinesStruct, DeclinesText, pointer_in};
+ghost use Rattle.capnp_wire.specs.Prelude.{IsIterator, all_structs, struct_of, pointer_of, struct_list_of, element_of, IsStructList, TakesStructs, StructsFormError, Struct, IsViewOf, IsText, IsStruct, Accepts, ViewError, FormError, Reads, TakesStruct, StructFormError, TextFormError, pointer_in};
 
 use capnp::any_struct::StructReader;
 use capnp::message::ReaderSegments;
@@ -38,7 +38,7 @@ impl<'a, S: ReaderSegments> Reader<'a, S> {
     pub fn name(&self) -> Result<text::Reader<'a>>
         ensures { let pointer = pointer_in (struct_of S.segments self.now.fields) 0 in
             MatchResult result (λ name. Reads pointer (λ form. IsText form name.bytes.now))
-            (λ error. Refuses pointer DeclinesText error.kind) }
+            (λ error. ViewError pointer TextFormError error.kind) }
     {
         self.fields.get_pointer(0).get_as()
     }
@@ -52,17 +52,17 @@ impl<'a, S: ReaderSegments> FromPointerReader<'a, S> for Reader<'a, S> {
     ghost accepts = { λ pointer. Accepts pointer TakesStruct };
 
     // With which errors the view fails: no object is there, it may not be read, or it is no struct.
-    ghost refuses = { λ pointer kind. Refuses pointer DeclinesStruct kind };
+    ghost fails = { λ pointer kind. ViewError pointer StructFormError kind };
 
     // An object that is no struct fails with `WrongPointerKind`.
-    ghost declines = { λ pointer kind. Declines pointer DeclinesStruct kind };
+    ghost form_error = { λ pointer kind. FormError pointer StructFormError kind };
 
     // The trait's clause, with these members in it.
     fn get_from_pointer(reader: any_pointer::Reader<'a, S>) -> Result<Self>
         ensures { let pointer = pointer_of S.segments reader.entry in IsViewOf pointer
             (λ view. IsStruct pointer (struct_of S.segments view.fields))
-            (Accepts pointer TakesStruct) (Refuses pointer DeclinesStruct)
-            (Declines pointer DeclinesStruct) result }
+            (Accepts pointer TakesStruct) (ViewError pointer StructFormError)
+            (FormError pointer StructFormError) result }
     {
         match StructReader::get_from_pointer(reader) {
             Ok(fields) => Ok(Reader { fields }),
@@ -139,15 +139,15 @@ impl<'a, S: ReaderSegments> FromPointerReader<'a, S> for ListReader<'a, S> {
 
     ghost accepts = { λ pointer. Accepts pointer TakesStructs };
 
-    ghost refuses = { λ pointer kind. Refuses pointer DeclinesStructs kind };
+    ghost fails = { λ pointer kind. ViewError pointer StructsFormError kind };
 
-    ghost declines = { λ pointer kind. Declines pointer DeclinesStructs kind };
+    ghost form_error = { λ pointer kind. FormError pointer StructsFormError kind };
 
     fn get_from_pointer(reader: any_pointer::Reader<'a, S>) -> Result<Self>
         ensures { let pointer = pointer_of S.segments reader.entry in IsViewOf pointer
             (λ view. IsStructList pointer (struct_list_of S.segments view.accounts))
-            (Accepts pointer TakesStructs) (Refuses pointer DeclinesStructs)
-            (Declines pointer DeclinesStructs) result }
+            (Accepts pointer TakesStructs) (ViewError pointer StructsFormError)
+            (FormError pointer StructsFormError) result }
     {
         match struct_list::Reader::get_from_pointer(reader) {
             Ok(accounts) => Ok(ListReader { accounts }),

@@ -2,7 +2,7 @@
 ghost use Rattle.std.specs.Prelude.{◌≡◌, ◌⊎◌, ◌+◌, ◌*◌, ◌∷◌, [], length, OnOk, IfOk, IfErr};
 ghost use Rattle.capnp_orphans.specs.Adding.{Adds};
 ghost use Rattle.capnp_orphans.specs.Held.{HoldsValue, word_of};
-ghost use Rattle.capnp_uses.specs.AccountLists.{ExceedsLimit, IsAccountList, RefusesAccounts, list_words, new_segment};
+ghost use Rattle.capnp_uses.specs.AccountLists.{AccountsLimitError, IsAccountList, AccountsError, list_words, new_segment};
 ghost use Rattle.capnp_uses.specs.Roots.{HasRootOf};
 
 use crate::account;
@@ -45,8 +45,8 @@ pub fn list_of_accounts<S: GrowingSegment>(
         word_of result }
     ensures words { OnOk result (length objects.new.bytes
         ≡ length objects.old.bytes + 8 * list_words accounts.now) }
-    ensures refused { IfErr result (λ error.
-        RefusesAccounts accounts.now objects.old error.kind) }
+    ensures errors { IfErr result (λ error.
+        AccountsError accounts.now objects.old error.kind) }
 {
     let mut drafts = Vec::new(alloc);
     for account in accounts {
@@ -66,9 +66,9 @@ pub fn accounts_are_read_back(
     ensures back { IfOk result (λ reader.
         HasRootOf (IsAccountList accounts.now) reader.segments) }
     ensures options { IfOk result (λ reader. reader.options ≡ options) }
-    ensures refused { IfErr result (λ error.
-        RefusesAccounts accounts.now new_segment error.kind
-        ⊎ ExceedsLimit accounts.now options.traversal_limit_in_words error.kind) }
+    ensures errors { IfErr result (λ error.
+        AccountsError accounts.now new_segment error.kind
+        ⊎ AccountsLimitError accounts.now options.traversal_limit_in_words error.kind) }
 {
     let mut objects = Orphanage::new(alloc)?;
     let list = list_of_accounts(alloc, &mut objects, accounts)?;

@@ -4,7 +4,7 @@
 //! It asks for whatever the pointer leads to, which is read once, and keeps what it accepts of the
 //! kinds (Cap'n Proto's encoding, "Lists").
 ghost use Rattle.std.specs.Prelude.{◌≡◌, MatchResult};
-ghost use Rattle.capnp_wire.specs.Prelude.{pointer_of, IsViewOf, Accepts, Refuses, Declines, Reads};
+ghost use Rattle.capnp_wire.specs.Prelude.{pointer_of, IsViewOf, Accepts, ViewError, FormError, Reads};
 
 use capnp::message::ReaderSegments;
 use capnp::traits::FromPointerReader;
@@ -18,7 +18,7 @@ pub struct Reader<'a> {
 
 impl<'a> Reader<'a> {
     ghost use Rattle.std.specs.Prelude.{◌<◌, length, slice_index};
-    ghost use Rattle.capnp_uses.specs.AnyNumbers.{any_numbers_of, IsAnyNumbers, DeclinesAnyNumbers};
+    ghost use Rattle.capnp_uses.specs.AnyNumbers.{any_numbers_of, IsAnyNumbers, AnyNumbersFormError};
 
     /// The number of elements.
     pub fn len(&self) -> u32
@@ -45,7 +45,7 @@ impl<'a> Reader<'a> {
     fn read<S: ReaderSegments>(reader: &any_pointer::Reader<'a, S>) -> Result<Reader<'a>>
         ensures { let pointer = pointer_of S.segments reader.now in MatchResult result
             (λ view. Reads pointer (λ form. IsAnyNumbers form (any_numbers_of view)))
-            (λ error. Refuses pointer DeclinesAnyNumbers error.kind) }
+            (λ error. ViewError pointer AnyNumbersFormError error.kind) }
     {
         let object: any_object::Reader<'a, S> = reader.get_as()?;
         match object {
@@ -59,22 +59,22 @@ impl<'a> Reader<'a> {
 }
 
 impl<'a: 'v, 'v, S: ReaderSegments> FromPointerReader<'a, S> for Reader<'v> {
-    ghost use Rattle.capnp_uses.specs.AnyNumbers.{any_numbers_of, IsAnyNumbers, TakesAnyNumbers, DeclinesAnyNumbers};
+    ghost use Rattle.capnp_uses.specs.AnyNumbers.{any_numbers_of, IsAnyNumbers, TakesAnyNumbers, AnyNumbersFormError};
 
     ghost shows = { λ pointer view.
         Reads pointer (λ form. IsAnyNumbers form (any_numbers_of view)) };
 
     ghost accepts = { λ pointer. Accepts pointer TakesAnyNumbers };
 
-    ghost refuses = { λ pointer kind. Refuses pointer DeclinesAnyNumbers kind };
+    ghost fails = { λ pointer kind. ViewError pointer AnyNumbersFormError kind };
 
-    ghost declines = { λ pointer kind. Declines pointer DeclinesAnyNumbers kind };
+    ghost form_error = { λ pointer kind. FormError pointer AnyNumbersFormError kind };
 
     fn get_from_pointer(reader: any_pointer::Reader<'a, S>) -> Result<Self>
         ensures { let pointer = pointer_of S.segments reader.entry in IsViewOf pointer
             (λ view. Reads pointer (λ form. IsAnyNumbers form (any_numbers_of view)))
-            (Accepts pointer TakesAnyNumbers) (Refuses pointer DeclinesAnyNumbers)
-            (Declines pointer DeclinesAnyNumbers) result }
+            (Accepts pointer TakesAnyNumbers) (ViewError pointer AnyNumbersFormError)
+            (FormError pointer AnyNumbersFormError) result }
     {
         Reader::read(&reader)
     }

@@ -3,7 +3,7 @@ ghost use Rattle.std.specs.Prelude.{◌≡◌, ◌⊎◌, ◌+◌, ◌-◌, ◌/
 ghost use Rattle.capnp_frame.specs.declared.error.ErrorKind.{ErrorKind};
 ghost use Rattle.capnp_wire.specs.Prelude.{null, struct, numbers};
 ghost use Rattle.capnp_build.specs.Prelude.{IsCleared};
-ghost use Rattle.capnp_uses.specs.Roots.{HasRootForm, LacksRoom};
+ghost use Rattle.capnp_uses.specs.Roots.{HasRootForm, RootRoomError};
 
 use capnp::any_struct::{self, StructBuilder, StructReader};
 use capnp::message::{Allocator, Builder, BuilderArena};
@@ -15,9 +15,9 @@ pub fn write_text<A: Allocator>(message: &mut Builder<A>, bytes: &[u8]) -> Resul
     requires { length bytes.now < 2 ^ 29 }
     ensures stands { OnOk result (HasRootForm message.new.spaces (numbers 2 (bytes.now ++ 0 ∷ []))) }
     ensures cleared { OnErr result (IsCleared A.Allocator message.old message.new) }
-    ensures refused { IfErr result (λ error. ((2 ^ 29 - 2 < length bytes.now)
+    ensures errors { IfErr result (λ error. ((2 ^ 29 - 2 < length bytes.now)
         × (error.kind ≡ ErrorKind.AllocationTooLarge (length bytes.now / 8 + 1)))
-        ⊎ LacksRoom A.Allocator (numbers 2 (replicate (length bytes.now + 1) 0)) message.old
+        ⊎ RootRoomError A.Allocator (numbers 2 (replicate (length bytes.now + 1) 0)) message.old
         error.kind) }
 {
     let mut view: text::Builder<'_, Builder<A>> = message.initn_root::<text::Owned>(
@@ -36,10 +36,10 @@ pub fn text_is_read_back<A: Allocator>(
     requires { length bytes.now < 2 ^ 29 }
     ensures stands { OnOk result (HasRootForm message.new.spaces (numbers 2 (bytes.now ++ 0 ∷ []))) }
     ensures back { IfOk result (λ read. read.items ≡ bytes.now) }
-    ensures refused { IfErr result (λ error. (error.kind ≡ ErrorKind.OutOfMemory)
+    ensures errors { IfErr result (λ error. (error.kind ≡ ErrorKind.OutOfMemory)
         ⊎ ((2 ^ 29 - 2 < length bytes.now)
         × (error.kind ≡ ErrorKind.AllocationTooLarge (length bytes.now / 8 + 1)))
-        ⊎ LacksRoom A.Allocator (numbers 2 (replicate (length bytes.now + 1) 0)) message.old
+        ⊎ RootRoomError A.Allocator (numbers 2 (replicate (length bytes.now + 1) 0)) message.old
         error.kind) }
 {
     write_text(message, bytes)?;
@@ -52,7 +52,7 @@ pub fn write_data<A: Allocator>(message: &mut Builder<A>, bytes: &[u8]) -> Resul
     requires { length bytes.now < 2 ^ 29 }
     ensures stands { OnOk result (HasRootForm message.new.spaces (numbers 2 bytes.now)) }
     ensures cleared { OnErr result (IsCleared A.Allocator message.old message.new) }
-    ensures refused { IfErr result (λ error. LacksRoom A.Allocator
+    ensures errors { IfErr result (λ error. RootRoomError A.Allocator
         (numbers 2 (replicate (length bytes.now) 0)) message.old error.kind) }
 {
     let mut view: data::Builder<'_, Builder<A>> = message.initn_root::<data::Owned>(
@@ -71,8 +71,8 @@ pub fn data_is_read_back<A: Allocator>(
     requires { length bytes.now < 2 ^ 29 }
     ensures stands { OnOk result (HasRootForm message.new.spaces (numbers 2 bytes.now)) }
     ensures back { IfOk result (λ read. read.items ≡ bytes.now) }
-    ensures refused { IfErr result (λ error. (error.kind ≡ ErrorKind.OutOfMemory)
-        ⊎ LacksRoom A.Allocator
+    ensures errors { IfErr result (λ error. (error.kind ≡ ErrorKind.OutOfMemory)
+        ⊎ RootRoomError A.Allocator
         (numbers 2 (replicate (length bytes.now) 0)) message.old error.kind) }
 {
     write_data(message, bytes)?;
@@ -85,7 +85,7 @@ pub fn write_numbers<A: Allocator>(message: &mut Builder<A>, first: u64, second:
     ensures stands { OnOk result (HasRootForm message.new.spaces
         (numbers 5 (first ∷ second ∷ []))) }
     ensures cleared { OnErr result (IsCleared A.Allocator message.old message.new) }
-    ensures refused { IfErr result (λ error. LacksRoom A.Allocator
+    ensures errors { IfErr result (λ error. RootRoomError A.Allocator
         (numbers 5 (0 ∷ 0 ∷ [])) message.old error.kind) }
 {
     let mut view: primitive_list::Builder<'_, Builder<A>, u64> = message.initn_root::<
@@ -106,8 +106,8 @@ pub fn numbers_are_read_back<A: Allocator>(
     ensures stands { OnOk result (HasRootForm message.new.spaces
         (numbers 5 (first ∷ second ∷ []))) }
     ensures back { IfOk result (λ read. read.items ≡ first ∷ second ∷ []) }
-    ensures refused { IfErr result (λ error. (error.kind ≡ ErrorKind.OutOfMemory)
-        ⊎ LacksRoom A.Allocator
+    ensures errors { IfErr result (λ error. (error.kind ≡ ErrorKind.OutOfMemory)
+        ⊎ RootRoomError A.Allocator
         (numbers 5 (0 ∷ 0 ∷ [])) message.old error.kind) }
 {
     write_numbers(message, first, second)?;
@@ -123,7 +123,7 @@ pub fn numbers_are_read_back<A: Allocator>(
 pub fn write_struct<A: Allocator>(message: &mut Builder<A>, first: u64, second: u64) -> Result<()>
     ensures stands { OnOk result (HasRootForm message.new.spaces (struct (first ∷ second ∷ []))) }
     ensures cleared { OnErr result (IsCleared A.Allocator message.old message.new) }
-    ensures refused { IfErr result (λ error. LacksRoom A.Allocator
+    ensures errors { IfErr result (λ error. RootRoomError A.Allocator
         (struct (0 ∷ 0 ∷ [])) message.old error.kind) }
 {
     let mut view: StructBuilder<'_, Builder<A>> = message.initn_root::<any_struct::Owned>(2)?;
@@ -140,7 +140,7 @@ pub fn a_struct_is_read_back<A: Allocator>(
 ) -> Result<(u64, u64)>
     ensures stands { OnOk result (HasRootForm message.new.spaces (struct (first ∷ second ∷ []))) }
     ensures back { IfOk result (λ read. read ≡ (first, second)) }
-    ensures refused { IfErr result (λ error. LacksRoom A.Allocator
+    ensures errors { IfErr result (λ error. RootRoomError A.Allocator
         (struct (0 ∷ 0 ∷ [])) message.old error.kind) }
 {
     write_struct(message, first, second)?;
@@ -152,7 +152,7 @@ pub fn a_struct_is_read_back<A: Allocator>(
 pub fn write_null<A: Allocator>(message: &mut Builder<A>) -> Result<()>
     ensures stands { OnOk result (HasRootForm message.new.spaces null) }
     ensures cleared { OnErr result (IsCleared A.Allocator message.old message.new) }
-    ensures refused { IfErr result (λ error. LacksRoom A.Allocator
+    ensures errors { IfErr result (λ error. RootRoomError A.Allocator
         null message.old error.kind) }
 {
     message.init_root::<any_pointer::Owned>()?;
@@ -163,7 +163,7 @@ pub fn write_null<A: Allocator>(message: &mut Builder<A>) -> Result<()>
 pub fn null_is_read_back<A: Allocator>(message: &mut Builder<A>) -> Result<bool>
     ensures stands { OnOk result (HasRootForm message.new.spaces null) }
     ensures back { IfOk result (λ is_null. is_null ≡ true) }
-    ensures refused { IfErr result (λ error. LacksRoom A.Allocator
+    ensures errors { IfErr result (λ error. RootRoomError A.Allocator
         null message.old error.kind) }
 {
     write_null(message)?;

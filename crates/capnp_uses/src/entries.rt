@@ -5,7 +5,7 @@
 //! (Cap'n Proto's encoding, "Structs" and "Lists").
 ghost use Rattle.std.specs.Prelude.{◌≡◌, ◌<◌, ◌≤◌, ◌==◌, length, bit_xor, MatchOption, MatchResult};
 ghost use Rattle.std.specs.Int.{w32, cast_signed};
-ghost use Rattle.capnp_wire.specs.Prelude.{field, struct_list_of, element_of, IsText, Reads, Refuses, DeclinesText, pointer_in};
+ghost use Rattle.capnp_wire.specs.Prelude.{field, struct_list_of, element_of, IsText, Reads, ViewError, TextFormError, pointer_in};
 
 use capnp::message::ReaderSegments;
 use capnp::{Result, struct_list, text};
@@ -40,7 +40,7 @@ pub fn note_of<'a, S: ReaderSegments>(
     requires { index < length (struct_list_of S.segments entries.now).rows }
     ensures { let entry = element_of (struct_list_of S.segments entries.now) index in
         MatchResult result (λ note. Reads (pointer_in entry 0) (λ form. IsText form note.bytes.now))
-        (λ error. Refuses (pointer_in entry 0) DeclinesText error.kind) }
+        (λ error. ViewError (pointer_in entry 0) TextFormError error.kind) }
 {
     entries.get(index).get_pointer(0).get_as()
 }

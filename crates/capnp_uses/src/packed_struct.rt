@@ -1,11 +1,11 @@
 //! A struct that is built, written packed, and read back.
 ghost use Rattle.std.specs.Prelude.{◌≡◌, ◌⊎◌, ◌<◌, ◌∷◌, [], ℕ, List, length, OnOk, IfOk, IfErr};
 ghost use Rattle.capnp_frame.specs.declared.error.ErrorKind.{ErrorKind};
-ghost use Rattle.capnp_frame.specs.Prelude.{KeepsLimit, default_limit, lengths, IsWritable, IsWithinSegmentLimit, RefusesMany};
+ghost use Rattle.capnp_frame.specs.Prelude.{KeepsLimit, default_limit, lengths, IsWritable, IsWithinSegmentLimit, SegmentCountError};
 ghost use Rattle.capnp_wire.specs.Prelude.{struct};
 ghost use Rattle.capnp.specs.Prelude.{IsPackedEncodingOf, output_of};
 ghost use Rattle.capnp_uses.specs.Reading.{ShowsPackedStruct};
-ghost use Rattle.capnp_uses.specs.Roots.{HasPlainRoot, HasRootForm, LacksRoom, RefusesPackedStruct};
+ghost use Rattle.capnp_uses.specs.Roots.{HasPlainRoot, HasRootForm, RootRoomError, PackedStructError};
 
 use crate::building::write_struct;
 use capnp::any_struct::StructReader;
@@ -24,11 +24,11 @@ pub fn a_struct_is_read_packed<A: Allocator>(
 ) -> Result<(u64, u64)>
     ensures stands { OnOk result (HasRootForm message.new.spaces (struct (first ∷ second ∷ []))) }
     ensures back { IfOk result (λ read. read ≡ (first, second)) }
-    ensures refused { IfErr result (λ error. RefusesMany (output_of message.new) error.kind
+    ensures errors { IfErr result (λ error. SegmentCountError (output_of message.new) error.kind
         ⊎ (error.kind ≡ ErrorKind.OutOfMemory)
-        ⊎ LacksRoom A.Allocator (struct (0 ∷ 0 ∷ [])) message.old error.kind
+        ⊎ RootRoomError A.Allocator (struct (0 ∷ 0 ∷ [])) message.old error.kind
         ⊎ ((text : List ℕ) × IsPackedEncodingOf (output_of message.new) text
-        × RefusesPackedStruct text error.kind)) }
+        × PackedStructError text error.kind)) }
 {
     write_struct(message, first, second)?;
     let text = packed_text(alloc, message)?;
@@ -42,7 +42,7 @@ pub fn packed_text<A: Allocator>(alloc: Global, message: &Builder<A>) -> Result<
     ensures packed { IfOk result (λ text. IsWritable (output_of message.now)
         × IsWithinSegmentLimit (output_of message.now)
         × IsPackedEncodingOf (output_of message.now) text.items) }
-    ensures refused { IfErr result (λ error. RefusesMany (output_of message.now) error.kind
+    ensures errors { IfErr result (λ error. SegmentCountError (output_of message.now) error.kind
         ⊎ (error.kind ≡ ErrorKind.OutOfMemory)) }
 {
     let output = message.get_segments_for_output();
@@ -65,7 +65,7 @@ pub fn read_packed_words(alloc: Global, text: &[u8]) -> Result<(u64, u64)>
         IsPackedEncodingOf message text.now → HasPlainRoot message (struct (first ∷ second ∷ [])) →
         IfErr result (λ error. (error.kind ≡ ErrorKind.OutOfMemory)
         ⊎ (error.kind ≡ ErrorKind.ReadLimitExceeded)) }
-    ensures refused { IfErr result (λ error. RefusesPackedStruct text.now error.kind) }
+    ensures errors { IfErr result (λ error. PackedStructError text.now error.kind) }
 {
     let mut source = text;
     let message = serialize_packed::read_message(alloc, &mut source, DEFAULT_READER_OPTIONS)?;

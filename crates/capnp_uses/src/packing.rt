@@ -2,7 +2,7 @@
 ghost use Rattle.std.specs.Prelude.{◌≡◌, ◌⊎◌, ℕ, List, length, IfOk, IfErr, IsOk, OnOk};
 ghost use Rattle.capnp_frame.specs.declared.error.ErrorKind.{ErrorKind};
 ghost use Rattle.capnp_frame.specs.Prelude.{IsWholeWords, IfKnown, Fails, Adds};
-ghost use Rattle.capnp_pack.specs.Prelude.{Packs, AppendsPacked, DeclinesPacked, Unpacks, RefusesChunk};
+ghost use Rattle.capnp_pack.specs.Prelude.{Packs, AppendsPacked, PackedChunkError, Unpacks, ChunkError};
 
 use capnp::io::{Read, Write};
 use capnp::serialize_packed::{PackedRead, PackedWrite};
@@ -26,8 +26,8 @@ fn pack_into<W: Write>(sink: &mut W, words: &[u8]) -> Result<()>
     requires { IsWholeWords words.now }
     ensures packed { OnOk result (IfKnown (W.written sink.old) (W.written sink.new)
         (Adds (AppendsPacked W.appends words.now))) }
-    ensures refused { IfErr result (λ error. (error.kind ≡ ErrorKind.DeviceFailed)
-        ⊎ DeclinesPacked W.refuses words.now error.kind) }
+    ensures errors { IfErr result (λ error. (error.kind ≡ ErrorKind.DeviceFailed)
+        ⊎ PackedChunkError W.refuses words.now error.kind) }
     ensures failed { IfErr result (λ error. error.kind ≡ ErrorKind.DeviceFailed →
         Fails (W.failures sink.old) (W.failures sink.new)) }
 {
@@ -41,8 +41,8 @@ pub fn unpack_words(text: &[u8], words: &mut [u8]) -> Result<()>
         × Unpacks text.now (length words.new) words.new rest) }
     ensures found { (bytes rest : List ℕ) → Unpacks text.now (length words.new) bytes rest →
         IsOk result }
-    ensures refused { IfErr result (λ error.
-        RefusesChunk text.now (length words.new) error.kind) }
+    ensures errors { IfErr result (λ error.
+        ChunkError text.now (length words.new) error.kind) }
 {
     let mut source = text;
     let mut packed = PackedRead::new(&mut source);

@@ -3,10 +3,10 @@ ghost use Rattle.std.specs.Prelude.{◌≡◌, ◌⊎◌, ◌<◌, ◌++◌, ◌
 ghost use Rattle.capnp_frame.specs.declared.serialize.segment_table.Padding.TheVariants.{Zero};
 ghost use Rattle.capnp_frame.specs.declared.error.ErrorKind.{ErrorKind};
 ghost use Rattle.capnp_frame.specs.declared.message.options.TheConstants.{DEFAULT_READER_OPTIONS};
-ghost use Rattle.capnp_wire.specs.Prelude.{numbers, MeetsLimit, Accepts, Declines, Reads, Refuses, IsText, TakesText, DeclinesText};
+ghost use Rattle.capnp_wire.specs.Prelude.{numbers, MeetsLimit, Accepts, FormError, Reads, ViewError, IsText, TakesText, TextFormError};
 ghost use Rattle.capnp_message.specs.Roots.{ReadsRoot};
 ghost use Rattle.capnp_message.specs.Seen.{root_of};
-ghost use Rattle.capnp_frame.specs.Prelude.{RefusesBy, no_alloc_rules, default_limit};
+ghost use Rattle.capnp_frame.specs.Prelude.{RulesError, no_alloc_rules, default_limit};
 ghost use Rattle.capnp.specs.declared.streams.Format.{Format};
 ghost use Rattle.capnp.specs.Prelude.{BeginsFramed, TakesForNext, EndsBy};
 ghost use Rattle.capnp_uses.specs.Roots.{HasPlainRoot};
@@ -27,7 +27,7 @@ pub fn first_message(alloc: Global, bytes: &[u8]) -> Result<Option<Reader<OwnedS
         BeginsFramed Zero default_limit message bytes.now rest → MatchResult result
         (λ found. IsSomeAnd found (λ reader. reader.segments ≡ message))
         (λ error. error.kind ≡ ErrorKind.OutOfMemory) }
-    ensures refused { IfErr result (λ error. ((error.kind ≡ ErrorKind.OutOfMemory)
+    ensures errors { IfErr result (λ error. ((error.kind ≡ ErrorKind.OutOfMemory)
         × TakesForNext Zero Format.Framed default_limit bytes.now)
         ⊎ EndsBy Zero Format.Framed default_limit (Some error.kind) bytes.now) }
     ensures options { IfOk result (λ found. IfSome found (λ reader.
@@ -44,8 +44,8 @@ pub fn borrowed_message<'a>(bytes: &'a [u8]) -> Result<Reader<NoAllocSliceSegmen
     ensures exact { (message : List (List ℕ)) (rest : List ℕ) →
         BeginsFramed Zero default_limit message bytes.now rest →
         IsOkAnd result (λ reader. reader.segments.segments ≡ message) }
-    ensures refused { IfErr result (λ error.
-        RefusesBy (no_alloc_rules Zero default_limit) error.kind bytes.now) }
+    ensures errors { IfErr result (λ error.
+        RulesError (no_alloc_rules Zero default_limit) error.kind bytes.now) }
     ensures options { IfOk result (λ reader. reader.options ≡ DEFAULT_READER_OPTIONS) }
 {
     let mut source = bytes;
@@ -65,7 +65,7 @@ pub fn root_text<'a, S: ReaderSegments>(message: &'a Reader<S>) -> Result<text::
     // reason why there is none.
     ensures reads { let pointer = root_of S.segments message.now in ReadsRoot pointer
         (λ text. Reads pointer (λ form. IsText form text.bytes.now)) (Accepts pointer TakesText)
-        (Refuses pointer DeclinesText) (Declines pointer DeclinesText) result }
+        (ViewError pointer TextFormError) (FormError pointer TextFormError) result }
 {
     message.get_root()
 }

@@ -2,7 +2,7 @@
 ghost use Rattle.std.specs.Prelude.{◌≡◌, ◌⊎◌, map, IfOk, IfErr};
 ghost use Rattle.std.specs.List.{AllByRecursion};
 ghost use Rattle.capnp_frame.specs.declared.error.ErrorKind.{ErrorKind};
-ghost use Rattle.capnp_frame.specs.Prelude.{KeepsLimit, lengths, IsWritable, RefusesMany};
+ghost use Rattle.capnp_frame.specs.Prelude.{KeepsLimit, lengths, IsWritable, SegmentCountError};
 ghost use Rattle.capnp_uses.specs.Streaming.{ReadsBoth};
 
 use capnp::Result;
@@ -26,11 +26,11 @@ pub fn two_records_are_read_back<S: ReaderSegments, T: ReaderSegments>(
         options.traversal_limit_in_words }
     ensures read { IfOk result (λ read. ReadsBoth options.traversal_limit_in_words
         (S.segments first.now) (T.segments second.now)
-        (map (λ reader. reader.segments) read.messages.items) read.end read.refusal) }
+        (map (λ reader. reader.segments) read.messages.items) read.end read.error) }
     ensures options { IfOk result (λ read.
         AllByRecursion (λ reader. reader.options ≡ options) read.messages.items) }
-    ensures refused { IfErr result (λ error. RefusesMany (S.segments first.now) error.kind
-        ⊎ RefusesMany (T.segments second.now) error.kind
+    ensures errors { IfErr result (λ error. SegmentCountError (S.segments first.now) error.kind
+        ⊎ SegmentCountError (T.segments second.now) error.kind
         ⊎ (error.kind ≡ ErrorKind.OutOfMemory)) }
 {
     let mut log = Vec::new(alloc);

@@ -1,10 +1,10 @@
 //! Messages that are built in a region that the caller provides, which is zero again afterwards.
 ghost use Rattle.std.specs.Prelude.{◌≡◌, ◌⊎◌, ℕ, ◌+◌, ◌/◌, ◌^◌, ◌<◌, false, length, IfOk, IfErr, IsOk};
 ghost use Rattle.capnp_frame.specs.declared.error.ErrorKind.TheVariants.{SegmentTaken};
-ghost use Rattle.capnp_wire.specs.Prelude.{HasWords, LacksWords};
+ghost use Rattle.capnp_wire.specs.Prelude.{HasWords, WordsError};
 ghost use Rattle.capnp_build.specs.Prelude.{IsSet};
 ghost use Rattle.capnp_message.specs.Region.{IsAvailable};
-ghost use Rattle.capnp_uses.specs.Regions.{StandsAlone, LacksRegion};
+ghost use Rattle.capnp_uses.specs.Regions.{StandsAlone, RegionRoomError};
 
 use capnp::Result;
 use capnp::laws::a_single_region_comes_home;
@@ -26,11 +26,11 @@ pub fn set_in_region<'a, T, V: SetterInput<T> + Drop>(
     ensures stands { IfOk result (λ message. (words : ℕ) × HasWords (V.has_tree value) false words
         × (words < length region.old / 8 → StandsAlone message words)) }
     ensures available { IfErr result (λ error. error.kind ≡ SegmentTaken →
-        LacksWords (V.has_tree value) (V.refuses value) false error.kind) }
+        WordsError (V.has_tree value) (V.fails value) false error.kind) }
     // It fails as measuring the value does, or for want of room.
-    ensures refused { IfErr result (λ error.
-        LacksWords (V.has_tree value) (V.refuses value) false error.kind
-        ⊎ LacksRegion (V.has_tree value) (length region.old / 8) error.kind) }
+    ensures errors { IfErr result (λ error.
+        WordsError (V.has_tree value) (V.fails value) false error.kind
+        ⊎ RegionRoomError (V.has_tree value) (length region.old / 8) error.kind) }
 {
     let mut message = Builder::new(alloc, SingleSegmentAllocator::new(region));
     message.set_root::<T, V>(value)?;

@@ -1,11 +1,11 @@
 //! Roots that are copied from a message that is read, and values that are set and read back.
 ghost use Rattle.std.specs.Prelude.{◌≡◌, ◌⊎◌, false, true, IfOk, IfErr, OnOk, OnErr};
 ghost use Rattle.capnp_frame.specs.Prelude.{KeepsLimit, lengths, IsWritable, IsWithinSegmentLimit};
-ghost use Rattle.capnp_wire.specs.Prelude.{root, NoWord, HasWords, LeadsToTree, StopsWalkFrom, IsTextTree, LongText};
+ghost use Rattle.capnp_wire.specs.Prelude.{root, NoWord, HasWords, LeadsToTree, WalkErrorFrom, IsTextTree, LongText};
 ghost use Rattle.capnp_build.specs.Prelude.{KeepsOthers, IsSet, state_of, IsCleared, IsPut};
 ghost use Rattle.capnp_message.specs.Seen.{root_of};
 ghost use Rattle.capnp.specs.Prelude.{output_of};
-ghost use Rattle.capnp_uses.specs.Roots.{HasRootOf, ReadsWritten, RefusesRoot, StaysUnset, StaysUnread};
+ghost use Rattle.capnp_uses.specs.Roots.{HasRootOf, ReadsWritten, SetRootError, StaysUnset, StaysUnread};
 
 use capnp::message::{Allocator, Builder, Reader, ReaderOptions, ReaderSegments};
 use capnp::serialize::{OwnedSegments, Padding};
@@ -24,9 +24,9 @@ pub fn copy_root<S: ReaderSegments, A: Allocator>(
     ensures placed { OnOk result (IsPut A.Allocator
         (HasWords (LeadsToTree (root_of S.segments reader.now)) false) message.old message.new) }
     // The message stays as it was where the root's word can't be read, and else its root is null.
-    ensures refused { let pointer = root_of S.segments reader.now in IfErr result (λ error.
+    ensures errors { let pointer = root_of S.segments reader.now in IfErr result (λ error.
         NoWord pointer.message root error.kind × (message.new ≡ message.old)
-        ⊎ StaysUnset A.Allocator (LeadsToTree pointer) (StopsWalkFrom pointer)
+        ⊎ StaysUnset A.Allocator (LeadsToTree pointer) (WalkErrorFrom pointer)
         message.old message.new error.kind) }
 {
     let root: any_pointer::Reader<'_, S> = reader.get_root()?;
@@ -38,8 +38,8 @@ pub fn set_text_is_read_back<A: Allocator>(message: &mut Builder<A>, text: &str)
     ensures back { IfOk result (λ same. same ≡ true) }
     ensures set { OnOk result (IsSet (λ trees. IsTextTree text.now trees) false message.new.spaces) }
     ensures cleared { OnErr result (IsCleared A.Allocator message.old message.new) }
-    ensures refused { IfErr result (λ error.
-        RefusesRoot A.Allocator (IsTextTree text.now) (LongText text.now)
+    ensures errors { IfErr result (λ error.
+        SetRootError A.Allocator (IsTextTree text.now) (LongText text.now)
         message.old message.new error.kind) }
 {
     message.set_root::<text::Owned, &str>(text)?;
@@ -92,8 +92,8 @@ pub fn set_and_read_back<T, V: SetterInput<T> + Drop, A: Allocator>(
     ensures placed { OnOk result
         (IsPut A.Allocator (HasWords (V.has_tree value) false) message.old message.new) }
     // Nothing else is written; the root is null, or the value.
-    ensures refused { IfErr result (λ error.
-        StaysUnset A.Allocator (V.has_tree value) (V.refuses value) message.old message.new error.kind
+    ensures errors { IfErr result (λ error.
+        StaysUnset A.Allocator (V.has_tree value) (V.fails value) message.old message.new error.kind
         ⊎ StaysUnread A.Allocator (V.has_tree value) options.traversal_limit_in_words
         message.old message.new error.kind) }
     ensures others { KeepsOthers A.out (state_of message.old) (state_of message.new) }

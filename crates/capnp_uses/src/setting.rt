@@ -1,6 +1,6 @@
 //! Roots that are set to what another message holds, and messages that are written right after.
 ghost use Rattle.std.specs.Prelude.{◌≡◌, ◌⊎◌, ◌<◌, ◌∷◌, [], ℕ, List, length, slice_set, false, true, OnOk, IfOk, IfErr};
-ghost use Rattle.capnp_wire.specs.Prelude.{Form, Trees, none, tree, struct, Root, canon, pointer_of, DeclinesStruct, HasWords, LeadsToTree, StopsWalkFrom};
+ghost use Rattle.capnp_wire.specs.Prelude.{Form, Trees, none, tree, struct, Root, canon, pointer_of, StructFormError, HasWords, LeadsToTree, WalkErrorFrom};
 ghost use Rattle.capnp_build.specs.Prelude.{message, IsSet, SetsRoot, SetsRootCanonical, IsPut};
 ghost use Rattle.capnp.specs.Prelude.{IsFrameEncoding, output_of};
 ghost use Rattle.capnp_uses.specs.Roots.{IsSetWithWord, StaysUnset, StaysUnwritten, StaysWithoutForm};
@@ -20,7 +20,7 @@ pub fn set_tree<A: Allocator, S: ReaderSegments>(
         LeadsToTree (pointer_of S.segments source.entry) (tree form children none) →
         OnOk result ((traversed : ℕ) × Root (message built.new.spaces) form children traversed) }
     ensures root { let pointer = pointer_of S.segments source.entry in
-        SetsRoot A.Allocator (LeadsToTree pointer) (StopsWalkFrom pointer)
+        SetsRoot A.Allocator (LeadsToTree pointer) (WalkErrorFrom pointer)
         built.old built.new result }
 {
     built.set_root::<any_pointer::Owned, any_pointer::Reader<'_, S>>(source)
@@ -42,11 +42,11 @@ pub fn set_tree_and_word<A: Allocator, S: ReaderSegments>(
         word built.new.spaces) }
     // It fails as setting the root does, and then the root is null, or where what is set is no
     // struct.
-    ensures refused { let pointer = pointer_of S.segments source.entry in IfErr result (λ error.
-        StaysUnset A.Allocator (LeadsToTree pointer) (StopsWalkFrom pointer)
+    ensures errors { let pointer = pointer_of S.segments source.entry in IfErr result (λ error.
+        StaysUnset A.Allocator (LeadsToTree pointer) (WalkErrorFrom pointer)
         built.old built.new error.kind
         ⊎ ((form : Form) × (children : Trees) × LeadsToTree pointer (tree form children none)
-        × DeclinesStruct form error.kind)) }
+        × StructFormError form error.kind)) }
 {
     set_tree(built, source)?;
     let mut fields: StructBuilder<'_, Builder<A>> = built.get_root::<any_struct::Owned>()?;
@@ -65,7 +65,7 @@ pub fn set_canonical<A: Allocator, S: ReaderSegments>(
     ensures set { (trees : Trees) → LeadsToTree (pointer_of S.segments source.entry) trees →
         OnOk result (message built.new.spaces ≡ canon trees ∷ []) }
     ensures root { let pointer = pointer_of S.segments source.entry in
-        SetsRootCanonical A.Allocator (LeadsToTree pointer) (StopsWalkFrom pointer)
+        SetsRootCanonical A.Allocator (LeadsToTree pointer) (WalkErrorFrom pointer)
         built.old built.new result }
 {
     built.set_root_canonical::<any_pointer::Owned, any_pointer::Reader<'_, S>>(source)
@@ -82,8 +82,8 @@ pub fn set_and_write<T, V: SetterInput<T> + Drop, A: Allocator>(
         (IsPut A.Allocator (HasWords (V.has_tree value) false) built.old built.new) }
     ensures written { IfOk result (λ text. IsFrameEncoding (output_of built.new) text.items) }
     // The root is null, or the value.
-    ensures refused { IfErr result (λ error.
-        StaysUnset A.Allocator (V.has_tree value) (V.refuses value) built.old built.new error.kind
+    ensures errors { IfErr result (λ error.
+        StaysUnset A.Allocator (V.has_tree value) (V.fails value) built.old built.new error.kind
         ⊎ StaysUnwritten A.Allocator (V.has_tree value) false built.old built.new error.kind) }
 {
     built.set_root::<T, V>(value)?;
@@ -103,8 +103,8 @@ pub fn set_canonical_and_write<T, V: SetterInput<T> + Drop, A: Allocator>(
         (IsPut A.Allocator (HasWords (V.has_tree value) true) built.old built.new) }
     ensures written { IfOk result (λ text. IsFrameEncoding (output_of built.new) text.items) }
     // The root is null, or the value.
-    ensures refused { IfErr result (λ error.
-        StaysWithoutForm A.Allocator (V.has_tree value) (V.refuses value)
+    ensures errors { IfErr result (λ error.
+        StaysWithoutForm A.Allocator (V.has_tree value) (V.fails value)
         built.old built.new error.kind
         ⊎ StaysUnwritten A.Allocator (V.has_tree value) true built.old built.new error.kind) }
 {

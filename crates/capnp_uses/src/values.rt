@@ -3,7 +3,7 @@ ghost use Rattle.std.specs.Prelude.{◌≡◌, ◌∷◌, [], map, IfOk, IfErr, 
 ghost use Rattle.capnp_wire.specs.Prelude.{canon};
 ghost use Rattle.capnp_build.specs.Prelude.{message, IsCleared};
 ghost use Rattle.capnp.specs.Prelude.{HasRootTree, output_of};
-ghost use Rattle.capnp_uses.specs.People.{contact_tree, person_tree, RefusesAlone, RefusesBack};
+ghost use Rattle.capnp_uses.specs.People.{contact_tree, person_tree, AloneError, ReadBackError};
 
 use crate::roots::set_and_read_back;
 use capnp::message::{Allocator, Builder, Reader, ReaderOptions};
@@ -48,7 +48,7 @@ pub fn person_is_read_back<A: Allocator>(
         (person_tree id name.now city.now)) }
     ensures written { IfOk result (λ reader. reader.segments ≡ output_of message.new) }
     ensures options { IfOk result (λ reader. reader.options ≡ options) }
-    ensures refused { IfErr result (λ error. RefusesBack A.Allocator (name.now ∷ city.now ∷ [])
+    ensures errors { IfErr result (λ error. ReadBackError A.Allocator (name.now ∷ city.now ∷ [])
         (person_tree id name.now city.now) options.traversal_limit_in_words
         message.old message.new error.kind) }
 {
@@ -67,7 +67,7 @@ pub fn person_is_canonical<A: Allocator>(
     ensures form { OnOk result (message built.new.spaces
         ≡ canon (person_tree id name.now city.now) ∷ []) }
     ensures cleared { OnErr result (IsCleared A.Allocator built.old built.new) }
-    ensures refused { IfErr result (λ error. RefusesAlone A.Allocator (name.now ∷ city.now ∷ [])
+    ensures errors { IfErr result (λ error. AloneError A.Allocator (name.now ∷ city.now ∷ [])
         (person_tree id name.now city.now) built.old built.new error.kind) }
 {
     let value = person(id, name, city);
@@ -122,8 +122,8 @@ pub fn contact_is_read_back<'a, A: Allocator>(
         (map (λ phone. phone.fields.value.now) phones.now))) }
     ensures written { IfOk result (λ reader. reader.segments ≡ output_of message.new) }
     ensures options { IfOk result (λ reader. reader.options ≡ options) }
-    ensures refused { let texts = map (λ phone. phone.fields.value.now) phones.now in
-        IfErr result (λ error. RefusesBack A.Allocator (name.now ∷ mail.now ∷ texts)
+    ensures errors { let texts = map (λ phone. phone.fields.value.now) phones.now in
+        IfErr result (λ error. ReadBackError A.Allocator (name.now ∷ mail.now ∷ texts)
         (contact_tree id name.now mail.now (map (λ phone. phone.words) phones.now) texts)
         options.traversal_limit_in_words message.old message.new error.kind) }
 {

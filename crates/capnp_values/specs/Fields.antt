@@ -3,7 +3,7 @@ use Rattle.std.specs.Prelude.{◌≡◌, ◌⊎◌, ℕ, zero, suc, ◌+◌, ◌
 use Rattle.capnp_frame.specs.declared.error.ErrorKind.{ErrorKind}
 use Rattle.capnp_layout.specs.Tree.{is_null}
 use Rattle.capnp_layout.specs.Prelude.{Form, Trees, none, tree, count, total_words, cut_nulls, first, trim, run, output, AllHaveRoom, fill}
-use Rattle.capnp_wire.specs.Prelude.{HasWords, LacksWords}
+use Rattle.capnp_wire.specs.Prelude.{HasWords, WordsError}
 
 -- a value is this tree, which has room, and has fewer than 2 ^ 29 words as it is
 pub record IsPart (has_tree : Trees → Type 0) (form : Form) (children : Trees) : Type 0 where
@@ -22,10 +22,10 @@ pub record IsRow (has_tree has_trees : Trees → Type 0) (trees : Trees) : Type 
 
 -- its first value, or the first of the others that fails, has no tree, or one of too many words as
 -- it is
-abbrev pub RefusesRow : (Trees → Type 0) → (ErrorKind → Type 0) → (ErrorKind → Type 0) → ErrorKind → Type 0
-RefusesRow has_tree refuses refuses_rest kind =
-    LacksWords has_tree refuses false kind
-    ⊎ ((words : ℕ) × HasWords has_tree false words × refuses_rest kind)
+abbrev pub FieldsError : (Trees → Type 0) → (ErrorKind → Type 0) → (ErrorKind → Type 0) → ErrorKind → Type 0
+FieldsError has_tree fails rest_fails kind =
+    WordsError has_tree fails false kind
+    ⊎ ((words : ℕ) × HasWords has_tree false words × rest_fails kind)
 
 -- a row of this many trees
 pub record IsSettled (size : ℕ) (trees : Trees) : Type 0 where

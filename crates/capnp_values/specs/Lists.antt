@@ -4,7 +4,7 @@ use Rattle.std.specs.Prelude.{◌≡◌, ◌⊎◌, ℕ, ◌+◌, ◌-◌, ◌^�
 use Rattle.capnp_frame.specs.declared.error.ErrorKind.{ErrorKind}
 use Rattle.capnp_frame.specs.declared.error.ErrorKind.TheVariants.{AllocationTooLarge}
 use Rattle.capnp_layout.specs.Prelude.{pointers, Trees, none, tree, total_words, run, output, fill}
-use Rattle.capnp_values.specs.Fields.{IsRow, RefusesRow}
+use Rattle.capnp_values.specs.Fields.{IsRow, FieldsError}
 
 -- values in order have these trees, each with room and of fewer than 2 ^ 29 words as it is
 abbrev pub AreItems : {V : Type 0} → (V → Trees → Type 0) → List V → Trees → Type 0
@@ -12,10 +12,10 @@ AreItems has_tree [] trees = trees ≡ none
 AreItems has_tree (value ∷ values) trees = IsRow (has_tree value) (λ t. AreItems has_tree values t) trees
 
 -- the first value that fails, fails with this kind
-abbrev pub RefusesItems : {V : Type 0} → (V → Trees → Type 0) → (V → ErrorKind → Type 0) → List V → ErrorKind → Type 0
-RefusesItems has_tree refuses [] kind = ⊥
-RefusesItems has_tree refuses (value ∷ values) kind =
-    RefusesRow (has_tree value) (refuses value) (λ k. RefusesItems has_tree refuses values k) kind
+abbrev pub ValuesError : {V : Type 0} → (V → Trees → Type 0) → (V → ErrorKind → Type 0) → List V → ErrorKind → Type 0
+ValuesError has_tree fails [] kind = ⊥
+ValuesError has_tree fails (value ∷ values) kind =
+    FieldsError (has_tree value) (fails value) (λ k. ValuesError has_tree fails values k) kind
 
 -- trees have room in a block, from a word on
 pub record HasRoomForItems (has_trees : Trees → Type 0) (canonical : Bool) (next room : ℕ) : Type 0 where
@@ -37,7 +37,7 @@ pub record IsPointerList {V : Type 0} (has_tree : V → Trees → Type 0) (value
   pub whole : trees ≡ tree pointers children none
 
 -- a pointer can't say that there are this many values, or one of the values fails
-abbrev pub RefusesPointerList : {V : Type 0} → (V → Trees → Type 0) → (V → ErrorKind → Type 0) → List V → ErrorKind → Type 0
-RefusesPointerList has_tree refuses values kind =
+abbrev pub PointerListError : {V : Type 0} → (V → Trees → Type 0) → (V → ErrorKind → Type 0) → List V → ErrorKind → Type 0
+PointerListError has_tree fails values kind =
     ((2 ^ 29 ≤ length values) × (kind ≡ AllocationTooLarge (min (length values) (2 ^ 32 - 1))))
-    ⊎ ((length values < 2 ^ 29) × RefusesItems has_tree refuses values kind)
+    ⊎ ((length values < 2 ^ 29) × ValuesError has_tree fails values kind)

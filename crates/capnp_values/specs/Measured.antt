@@ -15,7 +15,7 @@ abbrev pub both_words : TreeWords → TreeWords → TreeWords
 both_words a b = record { as_is = a.as_is + b.as_is; output = a.output + b.output }
 
 -- what is measured of trees that have room, however many words they have, or why there are none
-pub record Measures (has_trees : Trees → Type 0) (refuses : ErrorKind → Type 0) (canonical : Bool) (result : Result TreeWords Error) : Type 0 where
-  pub returned : MatchResult result (λ words. (trees : Trees) × has_trees trees × AllHaveRoom trees × (words ≡ tree_words canonical trees)) (λ error. refuses error.kind)
+pub record Measures (has_trees : Trees → Type 0) (fails : ErrorKind → Type 0) (canonical : Bool) (result : Result TreeWords Error) : Type 0 where
+  pub returned : MatchResult result (λ words. (trees : Trees) × has_trees trees × AllHaveRoom trees × (words ≡ tree_words canonical trees)) (λ error. fails error.kind)
   pub found : (trees : Trees) → has_trees trees → result ≡ Ok (tree_words canonical trees)
-  pub exact : (kind : ErrorKind) → refuses kind → IsErrAnd result (λ error. error.kind ≡ kind)
+  pub exact : (kind : ErrorKind) → fails kind → IsErrAnd result (λ error. error.kind ≡ kind)

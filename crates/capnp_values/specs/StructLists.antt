@@ -22,10 +22,10 @@ AreRows has_trees [] trees = trees ≡ none
 AreRows has_trees (value ∷ values) trees = IsRowInFront (has_trees value) (λ t. AreRows has_trees values t) trees
 
 -- the first of the rows that fails, fails with this kind
-abbrev pub RefusesRows : {V : Type 0} → (V → Trees → Type 0) → (V → ErrorKind → Type 0) → List V → ErrorKind → Type 0
-RefusesRows has_trees refuses [] kind = ⊥
-RefusesRows has_trees refuses (value ∷ values) kind =
-    refuses value kind ⊎ ((row : Trees) × has_trees value row × RefusesRows has_trees refuses values kind)
+abbrev pub ElementsError : {V : Type 0} → (V → Trees → Type 0) → (V → ErrorKind → Type 0) → List V → ErrorKind → Type 0
+ElementsError has_trees fails [] kind = ⊥
+ElementsError has_trees fails (value ∷ values) kind =
+    fails value kind ⊎ ((row : Trees) × has_trees value row × ElementsError has_trees fails values kind)
 
 -- the list of some structs, each of d data words and p pointers
 pub record IsStructList {V : Type 0} (words : V → List ℕ) (has_trees : V → Trees → Type 0) (d p : ℕ) (values : List V) (trees : Trees) : Type 0 where
@@ -45,10 +45,10 @@ TooManyStructs n d p kind =
     ⊎ ((d < 2 ^ 16) × (p < 2 ^ 16) × (n < 2 ^ 29) × (2 ^ 29 ≤ n * (d + p)) × (kind ≡ AllocationTooLarge (min (n * (d + p)) (2 ^ 32 - 1))))
 
 -- there are too many of them, or one of their rows fails
-abbrev pub RefusesStructList : {V : Type 0} → (V → Trees → Type 0) → (V → ErrorKind → Type 0) → ℕ → ℕ → List V → ErrorKind → Type 0
-RefusesStructList has_trees refuses d p values kind =
+abbrev pub StructListError : {V : Type 0} → (V → Trees → Type 0) → (V → ErrorKind → Type 0) → ℕ → ℕ → List V → ErrorKind → Type 0
+StructListError has_trees fails d p values kind =
     TooManyStructs (length values) d p kind
-    ⊎ ((d < 2 ^ 16) × (p < 2 ^ 16) × (length values < 2 ^ 29) × (length values * (d + p) < 2 ^ 29) × RefusesRows has_trees refuses values kind)
+    ⊎ ((d < 2 ^ 16) × (p < 2 ^ 16) × (length values < 2 ^ 29) × (length values * (d + p) < 2 ^ 29) × ElementsError has_trees fails values kind)
 
 -- The data words and the pointers that each element keeps: in canonical form as much as the largest
 -- of them needs. And the trees that the first m of each p pointers lead to.
@@ -69,8 +69,8 @@ AreEven d rows = All (λ row. (length row ≡ d) × All (λ w. w < 2 ^ 64) row) 
 
 -- what is measured of some structs of d data words each: the words of all that they lead to, or why
 -- one of them fails
-pub record MeasuresRows {V : Type 0} (words : V → List ℕ) (has_trees : V → Trees → Type 0) (refuses : V → ErrorKind → Type 0) (canonical : Bool) (d : ℕ) (values : List V) (result : Result TreeWords Error) : Type 0 where
-  pub measured : Measures (λ t. AreRows has_trees values t) (λ k. RefusesRows has_trees refuses values k) canonical result
+pub record MeasuresRows {V : Type 0} (words : V → List ℕ) (has_trees : V → Trees → Type 0) (fails : V → ErrorKind → Type 0) (canonical : Bool) (d : ℕ) (values : List V) (result : Result TreeWords Error) : Type 0 where
+  pub measured : Measures (λ t. AreRows has_trees values t) (λ k. ElementsError has_trees fails values k) canonical result
   pub even : IfOk result (λ _. AreEven d (map words values))
 
 -- rows from this word of a block on, each in front of its p pointers, and what these lead to from

@@ -14,10 +14,10 @@ pub record IsStruct (words : List ℕ) (size : ℕ) (has_trees : Trees → Type 
   pub whole : trees ≡ tree (struct words) children none
 
 -- a pointer can't say that there are this many words or pointers, or the row fails
-abbrev pub RefusesStruct : ℕ → ℕ → (ErrorKind → Type 0) → ErrorKind → Type 0
-RefusesStruct words size refuses kind =
+abbrev pub StructError : ℕ → ℕ → (ErrorKind → Type 0) → ErrorKind → Type 0
+StructError words size fails kind =
     ((2 ^ 16 ≤ words ⊎ 2 ^ 16 ≤ size) × (kind ≡ AllocationTooLarge (2 ^ 16)))
-    ⊎ ((words < 2 ^ 16) × (size < 2 ^ 16) × refuses kind)
+    ⊎ ((words < 2 ^ 16) × (size < 2 ^ 16) × fails kind)
 
 -- the data words that are kept
 abbrev pub kept_words : Bool → List ℕ → List ℕ

@@ -26,7 +26,7 @@ impl<'a, V> Borrowed<'a, V> {
 impl<'a, T, V: SetterInput<T>> SetterInput<T> for Borrowed<'a, V> {
     ghost has_tree = { λ value trees. V.has_tree value.value.now trees };
 
-    ghost refuses = { λ value kind. V.refuses value.value.now kind };
+    ghost fails = { λ value kind. V.fails value.value.now kind };
 
     ghost one = { λ value trees is. V.one value.value.now trees is };
 

@@ -24,7 +24,7 @@ pub trait Fields {
     ghost has_trees: { Self → Trees → Type 0 };
 
     /// With which errors the row fails: a value has no tree, or a tree of 2^29 words or more.
-    ghost refuses: { Self → ErrorKind → Type 0 };
+    ghost fails: { Self → ErrorKind → Type 0 };
 
     /// The number of pointer fields; 2^16, more than a struct may have, where there are more than
     /// that.
@@ -33,21 +33,21 @@ pub trait Fields {
 
     /// The number of words of all that the row's pointers lead to.
     ///
-    /// Fails with a kind that `refuses` names.
+    /// Fails with a kind that `fails` names.
     fn measure(&self, canonical: bool) -> Result<TreeWords>
         requires { size < 2 ^ 16 }
-        ensures { Measures (has_trees self.now) (refuses self.now) canonical result };
+        ensures { Measures (has_trees self.now) (fails self.now) canonical result };
 
     /// The number of words of all that the row's pointers lead to, with each value as it is.
     ///
-    /// Fails with a kind that `refuses` names.
+    /// Fails with a kind that `fails` names.
     fn as_is(&self) -> Result<u64>
         requires { size < 2 ^ 16 }
         ensures returned { MatchResult result (λ words. HasTotal (has_trees self.now) words)
-            (λ error. refuses self.now error.kind) }
+            (λ error. fails self.now error.kind) }
         ensures found { (trees : Trees) → has_trees self.now trees →
             result ≡ Ok (total_words trees) }
-        ensures exact { (kind : ErrorKind) → refuses self.now kind →
+        ensures exact { (kind : ErrorKind) → fails self.now kind →
             IsErrAnd result (λ error. error.kind ≡ kind) }
     {
         let words = self.measure(false)?;

@@ -3,7 +3,7 @@ ghost use Rattle.std.specs.Prelude.{◌≡◌, ◌+◌, ◌<◌, ◌≤◌, ◌^
 ghost use Rattle.capnp_layout.specs.Prelude.{words_of};
 ghost use Rattle.capnp_wire.specs.Prelude.{IsFreeFrom};
 ghost use Rattle.capnp_values.specs.Measured.{Measures};
-ghost use Rattle.capnp_values.specs.Lists.{AreItems, RefusesItems, HasRoomForItems, AreItemsWritten};
+ghost use Rattle.capnp_values.specs.Lists.{AreItems, ValuesError, HasRoomForItems, AreItemsWritten};
 
 use crate::measured::both;
 use crate::sources::ValueSource;
@@ -17,7 +17,7 @@ use capnp_wire::traits::{SetterInput, TreeWords};
 pub(crate) fn measure_items<T, S: ValueSource<T>>(items: &S, canonical: bool) -> Result<TreeWords>
     requires { length (S.items items.now) < 2 ^ 29 }
     ensures { Measures (AreItems (S.has_tree items.now) (S.items items.now))
-        (RefusesItems (S.has_tree items.now) (S.refuses items.now) (S.items items.now)) canonical result }
+        (ValuesError (S.has_tree items.now) (S.fails items.now) (S.items items.now)) canonical result }
 {
     if !canonical {
         return as_is_items::<T, S>(items);
@@ -40,7 +40,7 @@ pub(crate) fn measure_items<T, S: ValueSource<T>>(items: &S, canonical: bool) ->
 fn as_is_items<T, S: ValueSource<T>>(items: &S) -> Result<TreeWords>
     requires { length (S.items items.now) < 2 ^ 29 }
     ensures { Measures (AreItems (S.has_tree items.now) (S.items items.now))
-        (RefusesItems (S.has_tree items.now) (S.refuses items.now) (S.items items.now)) false result }
+        (ValuesError (S.has_tree items.now) (S.fails items.now) (S.items items.now)) false result }
 {
     let mut words = 0;
     let count = items.len();

@@ -38,14 +38,14 @@ impl<T, S> LazyPointerList<T, S> {
 // The trees of the source's values, in order. It fails as a list of these values in memory does.
 impl<T, S: ValueSource<T>> SetterInput<Owned<T>> for LazyPointerList<T, S> {
     ghost use Rattle.capnp_layout.specs.Tree.{count};
-    ghost use Rattle.capnp_values.specs.Lists.{IsPointerList, RefusesPointerList};
+    ghost use Rattle.capnp_values.specs.Lists.{IsPointerList, PointerListError};
     ghost use Rattle.std.proofs.Common.{ap};
 
     ghost has_tree = { λ value trees.
         IsPointerList (S.has_tree value.source) (S.items value.source) trees };
 
-    ghost refuses = { λ value kind. RefusesPointerList (S.has_tree value.source)
-        (S.refuses value.source) (S.items value.source) kind };
+    ghost fails = { λ value kind. PointerListError (S.has_tree value.source)
+        (S.fails value.source) (S.items value.source) kind };
 
     ghost one = { λ value trees is. ap count is.whole };
 

@@ -32,14 +32,14 @@ impl<S> LazyStructList<S> {
 // list of these structs in memory does.
 impl<S: StructSource> SetterInput<Owned> for LazyStructList<S> {
     ghost use Rattle.capnp_layout.specs.Tree.{count};
-    ghost use Rattle.capnp_values.specs.StructLists.{IsStructList, RefusesStructList};
+    ghost use Rattle.capnp_values.specs.StructLists.{IsStructList, StructListError};
     ghost use Rattle.std.proofs.Common.{ap};
 
     ghost has_tree = { λ value trees. IsStructList (S.words value.source)
         (S.has_trees value.source) S.Value.data_words S.Value.size (S.items value.source) trees };
 
-    ghost refuses = { λ value kind. RefusesStructList (S.has_trees value.source)
-        (S.refuses value.source) S.Value.data_words S.Value.size (S.items value.source) kind };
+    ghost fails = { λ value kind. StructListError (S.has_trees value.source)
+        (S.fails value.source) S.Value.data_words S.Value.size (S.items value.source) kind };
 
     ghost one = { λ value trees is. ap count is.whole };
 

@@ -14,7 +14,7 @@ impl<T> SetterInput<T> for Null {
 
     ghost has_tree = { λ value trees. trees ≡ tree null none none };
 
-    ghost refuses = { λ value kind. ⊥ };
+    ghost fails = { λ value kind. ⊥ };
 
     ghost one = { λ value trees is. ap count is };
 

@@ -33,7 +33,7 @@ impl<'a, N: PrimitiveElement + Copy> SetterInput<Owned<N>> for NumberList<'a, N>
 
     ghost has_tree = { λ value trees. IsNumberList N.code (map N.bits_of value.items.now) trees };
 
-    ghost refuses = { λ value kind. ManyNumbers (length value.items.now) kind };
+    ghost fails = { λ value kind. ManyNumbers (length value.items.now) kind };
 
     ghost one = { λ value trees is. ap count is.1 };
 

@@ -1,7 +1,7 @@
 //! Lists of pointers as values.
 ghost use Rattle.std.specs.Prelude.{◌≡◌};
 ghost use Rattle.capnp_values.specs.Measured.{Measures};
-ghost use Rattle.capnp_values.specs.Lists.{IsPointerList, RefusesPointerList};
+ghost use Rattle.capnp_values.specs.Lists.{IsPointerList, PointerListError};
 
 use crate::items::{measure_items, write_items};
 use crate::measured::checked_part_words;
@@ -40,13 +40,13 @@ impl<'a, T, V> PointerList<'a, T, V> {
 // that fails as it is fails here, too.
 impl<'a, T, V: SetterInput<T>> SetterInput<Owned<T>> for PointerList<'a, T, V> {
     ghost use Rattle.capnp_layout.specs.Tree.{count};
-    ghost use Rattle.capnp_values.specs.Lists.{IsPointerList, RefusesPointerList};
+    ghost use Rattle.capnp_values.specs.Lists.{IsPointerList, PointerListError};
     ghost use Rattle.std.proofs.Common.{ap};
 
     ghost has_tree = { λ value trees. IsPointerList V.has_tree value.items.now trees };
 
-    ghost refuses = { λ value kind.
-        RefusesPointerList V.has_tree V.refuses value.items.now kind };
+    ghost fails = { λ value kind.
+        PointerListError V.has_tree V.fails value.items.now kind };
 
     ghost one = { λ value trees is. ap count is.whole };
 
@@ -76,7 +76,7 @@ impl<'a, T, V: SetterInput<T>> SetterInput<Owned<T>> for PointerList<'a, T, V> {
 /// The number of words of a list of pointers to some values.
 pub(crate) fn measure_list<T, S: ValueSource<T>>(items: &S, canonical: bool) -> Result<TreeWords>
     ensures { Measures (IsPointerList (S.has_tree items.now) (S.items items.now))
-        (RefusesPointerList (S.has_tree items.now) (S.refuses items.now) (S.items items.now))
+        (PointerListError (S.has_tree items.now) (S.fails items.now) (S.items items.now))
         canonical result }
 {
     let count = items.len() as u64;

@@ -19,7 +19,7 @@ use capnp_wire::traits::TreeWords;
 pub(crate) fn measure_rows<S: StructSource>(items: &S, canonical: bool) -> Result<TreeWords>
     requires pointers { S.Value.size < 2 ^ 16 }
     requires few { length (S.items items.now) * (S.Value.data_words + S.Value.size) < 2 ^ 29 }
-    ensures { MeasuresRows (S.words items.now) (S.has_trees items.now) (S.refuses items.now)
+    ensures { MeasuresRows (S.words items.now) (S.has_trees items.now) (S.fails items.now)
         canonical S.Value.data_words (S.items items.now) result }
 {
     if !canonical {
@@ -45,7 +45,7 @@ pub(crate) fn measure_rows<S: StructSource>(items: &S, canonical: bool) -> Resul
 fn as_is_rows<S: StructSource>(items: &S) -> Result<TreeWords>
     requires pointers { S.Value.size < 2 ^ 16 }
     requires few { length (S.items items.now) * (S.Value.data_words + S.Value.size) < 2 ^ 29 }
-    ensures { MeasuresRows (S.words items.now) (S.has_trees items.now) (S.refuses items.now)
+    ensures { MeasuresRows (S.words items.now) (S.has_trees items.now) (S.fails items.now)
         false S.Value.data_words (S.items items.now) result }
 {
     let mut words = 0;

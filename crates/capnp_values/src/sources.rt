@@ -26,7 +26,7 @@ pub trait ValueSource<T> {
     ghost has_tree: { Self → Self.Item → Trees → Type 0 };
 
     /// With which errors an item's value fails, which then has no tree.
-    ghost refuses: { Self → Self.Item → ErrorKind → Type 0 };
+    ghost fails: { Self → Self.Item → ErrorKind → Type 0 };
 
     /// How many values there are.
     fn len(&self) -> usize
@@ -37,7 +37,7 @@ pub trait ValueSource<T> {
         requires { index < length (items self.now) }
         ensures { (item : Self.Item) × (item ≡ get_or (items self.now) index item)
             × IsAsDeclared (Self.Value.has_tree result) (has_tree self.now item)
-            (Self.Value.refuses result) (refuses self.now item) };
+            (Self.Value.fails result) (fails self.now item) };
 }
 
 /// Structs of one size in order, each made only when it is needed: once to be measured, and once
@@ -59,7 +59,7 @@ pub trait StructSource {
     ghost has_trees: { Self → Self.Item → Trees → Type 0 };
 
     /// With which errors an item's struct fails: a field of it has no tree.
-    ghost refuses: { Self → Self.Item → ErrorKind → Type 0 };
+    ghost fails: { Self → Self.Item → ErrorKind → Type 0 };
 
     /// How many structs there are.
     fn len(&self) -> usize
@@ -71,7 +71,7 @@ pub trait StructSource {
         ensures { (item : Self.Item) × (item ≡ get_or (items self.now) index item)
             × (Self.Value.words result ≡ words self.now item)
             × IsAsDeclared (Self.Value.has_trees result) (has_trees self.now item)
-            (Self.Value.refuses result) (refuses self.now item) };
+            (Self.Value.fails result) (fails self.now item) };
 
     /// The trees have room, and each has fewer than 2^29 words.
     ghost settled: { (source : Self) (item : Self.Item) (trees : Trees) →
@@ -88,7 +88,7 @@ impl<'a, T, V: SetterInput<T>> ValueSource<T> for &'a [V] {
 
     ghost has_tree = { λ source item trees. V.has_tree item trees };
 
-    ghost refuses = { λ source item kind. V.refuses item kind };
+    ghost fails = { λ source item kind. V.fails item kind };
 
     fn len(&self) -> usize {
         <[V]>::len(*self)
@@ -112,7 +112,7 @@ impl<'a, E: Fields + Element> StructSource for &'a [E] {
 
     ghost has_trees = { λ source item trees. E.has_trees item trees };
 
-    ghost refuses = { λ source item kind. E.refuses item kind };
+    ghost fails = { λ source item kind. E.fails item kind };
 
     ghost settled = { λ source item trees is. E.settled item trees is };
 

@@ -1,7 +1,7 @@
 //! Structs as values.
 ghost use Rattle.std.specs.Prelude.{◌≡◌, length};
 ghost use Rattle.capnp_values.specs.Measured.{Measures};
-ghost use Rattle.capnp_values.specs.Structs.{IsStruct, RefusesStruct};
+ghost use Rattle.capnp_values.specs.Structs.{IsStruct, StructError};
 
 use crate::element::Element;
 use crate::fields::Fields;
@@ -37,14 +37,14 @@ impl<const D: usize, F> StructValue<D, F> {
 impl<const D: usize, F: Fields> SetterInput<Owned> for StructValue<D, F> {
     ghost use Rattle.std.specs.Prelude.{length};
     ghost use Rattle.capnp_layout.specs.Tree.{count};
-    ghost use Rattle.capnp_values.specs.Structs.{IsStruct, RefusesStruct};
+    ghost use Rattle.capnp_values.specs.Structs.{IsStruct, StructError};
     ghost use Rattle.std.proofs.Common.{ap};
 
     ghost has_tree = { λ value trees.
         IsStruct value.words F.size (F.has_trees value.fields) trees };
 
-    ghost refuses = { λ value kind.
-        RefusesStruct (length value.words) F.size (F.refuses value.fields) kind };
+    ghost fails = { λ value kind.
+        StructError (length value.words) F.size (F.fails value.fields) kind };
 
     ghost one = { λ value trees is. ap count is.whole };
 
@@ -80,7 +80,7 @@ impl<const D: usize, F: Fields> SetterInput<Owned> for StructValue<D, F> {
 // The number of words of a struct of these data words and fields.
 fn measure_struct<F: Fields>(words: &[u64], fields: &F, canonical: bool) -> Result<TreeWords>
     ensures { Measures (IsStruct words.now F.size (F.has_trees fields.now))
-        (RefusesStruct (length words.now) F.size (F.refuses fields.now)) canonical result }
+        (StructError (length words.now) F.size (F.fails fields.now)) canonical result }
 {
     if !fits(words, F::count()) {
         return Err(Error::from_kind(ErrorKind::AllocationTooLarge(1 << 16)));
@@ -101,7 +101,7 @@ impl<const D: usize, F: Fields> Fields for StructValue<D, F> {
 
     ghost has_trees = { λ value trees. F.has_trees value.fields trees };
 
-    ghost refuses = { λ value kind. F.refuses value.fields kind };
+    ghost fails = { λ value kind. F.fails value.fields kind };
 
     ghost settled = { λ value trees is. F.settled value.fields trees is };
 

@@ -3,7 +3,7 @@ ghost use Rattle.std.specs.Prelude.{◌≡◌, ◌+◌, ◌-◌, ◌*◌, ◌^�
 ghost use Rattle.capnp_layout.specs.Prelude.{words_of, Trees, total_words, body, output, list_pointer, struct_pointer, put};
 ghost use Rattle.capnp_wire.specs.Prelude.{IsCopied, HasRoomAt, IsFreeFrom};
 ghost use Rattle.capnp_values.specs.Measured.{Measures};
-ghost use Rattle.capnp_values.specs.StructLists.{AreRowsWritten, IsStructList, RefusesStructList, TooManyStructs};
+ghost use Rattle.capnp_values.specs.StructLists.{AreRowsWritten, IsStructList, StructListError, TooManyStructs};
 ghost use Rattle.capnp_values.specs.StructListPlaces.{AreDeclared, IsDeclared, ListPlace};
 
 use crate::element::Element;
@@ -20,7 +20,7 @@ use capnp_wire::traits::{Copied, TreeWords};
 pub(crate) fn measure_list<S: StructSource>(items: &S, canonical: bool) -> Result<TreeWords>
     ensures { Measures (IsStructList (S.words items.now) (S.has_trees items.now)
         S.Value.data_words S.Value.size (S.items items.now))
-        (RefusesStructList (S.has_trees items.now) (S.refuses items.now)
+        (StructListError (S.has_trees items.now) (S.fails items.now)
         S.Value.data_words S.Value.size (S.items items.now)) canonical result }
 {
     let count = items.len();

@@ -1,7 +1,7 @@
 -- The definitions at worked examples.
 use Rattle.std.proofs.Common.{◌≡◌, ℕ, List, [], ◌∷◌, refl, lit<, lit≤}
 use Rattle.capnp_frame.specs.declared.error.ErrorKind.TheVariants.{PointerOutOfBounds, InvalidSegmentId, NestingLimitExceeded, CapabilityRefused, WrongPointerKind}
-use Rattle.capnp_layout.specs.Prelude.{words_of, null, struct, numbers, structs, Trees, none, tree, total_words, trim, local, far, double_far, a_struct, some_numbers, some_structs, is_null, is_object, At, nowhere, at, root, Fault, no_word, no_segment, past_segment, capability, bad_landing_pad, no_landing_pad, not_far, too_deep, misfits, struct_outside, odd_tag}
+use Rattle.capnp_layout.specs.Prelude.{words_of, null, struct, numbers, structs, Trees, none, tree, total_words, trim, local, far, double_far, a_struct, some_numbers, some_structs, is_null, is_object, At, nowhere, at, root, PointerError, no_word, no_segment, past_segment, capability, bad_landing_pad, no_landing_pad, not_far, too_deep, misfits, struct_outside, odd_tag}
 use Rattle.capnp_layout.specs.declared.place.Place.{Place}
 
 abbrev at_root : List Place
@@ -74,29 +74,29 @@ wide_letter_stands =
     (some_numbers refl (lit< tt) (lit≤ tt))) nowhere nowhere
 
 -- errors: no segment, no word, past the end by one word, a capability
-pub no_segment_refused : Fault [] root 64 (InvalidSegmentId 0)
-no_segment_refused = no_word (no_segment refl)
+pub no_segment_error : PointerError [] root 64 (InvalidSegmentId 0)
+no_segment_error = no_word (no_segment refl)
 
-pub no_word_refused : Fault ([] ∷ []) root 64 PointerOutOfBounds
-no_word_refused = no_word (past_segment refl refl)
+pub no_word_error : PointerError ([] ∷ []) root 64 PointerOutOfBounds
+no_word_error = no_word (past_segment refl refl)
 
-pub past_end_refused : Fault ((4 ∷ []) ∷ []) root 64 PointerOutOfBounds
-past_end_refused = misfits {start = 2} (local refl (lit< tt) (lit< tt)) (lit< tt) refl refl (struct_outside refl (lit< tt))
+pub past_end_error : PointerError ((4 ∷ []) ∷ []) root 64 PointerOutOfBounds
+past_end_error = misfits {start = 2} (local refl (lit< tt) (lit< tt)) (lit< tt) refl refl (struct_outside refl (lit< tt))
 
-pub capability_refused : Fault ((3 ∷ []) ∷ []) root 64 CapabilityRefused
-capability_refused = capability refl refl
+pub capability_error : PointerError ((3 ∷ []) ∷ []) root 64 CapabilityRefused
+capability_error = capability refl refl
 
 -- a far pointer into no segment, and a landing pad that leads to a landing pad
-pub foreign_refused : Fault ((0x700000002 ∷ []) ∷ []) root 64 (InvalidSegmentId 7)
-foreign_refused = bad_landing_pad refl refl (no_landing_pad (no_segment refl))
+pub foreign_error : PointerError ((0x700000002 ∷ []) ∷ []) root 64 (InvalidSegmentId 7)
+foreign_error = bad_landing_pad refl refl (no_landing_pad (no_segment refl))
 
-pub landing_pad_to_landing_pad_refused : Fault ((0x100000006 ∷ []) ∷ (6 ∷ 1 ∷ []) ∷ []) root 64 PointerOutOfBounds
-landing_pad_to_landing_pad_refused = bad_landing_pad refl refl (not_far refl refl refl (λ is_far. let wide = is_far.wide in absurd (cc)))
+pub landing_pad_to_landing_pad_error : PointerError ((0x100000006 ∷ []) ∷ (6 ∷ 1 ∷ []) ∷ []) root 64 PointerOutOfBounds
+landing_pad_to_landing_pad_error = bad_landing_pad refl refl (not_far refl refl refl (λ is_far. let wide = is_far.wide in absurd (cc)))
 
 -- an object below the nesting limit
-pub deep_refused : Fault (hello_words ∷ []) root 0 NestingLimitExceeded
-deep_refused = too_deep (local refl (lit< tt) (lit< tt)) refl
+pub deep_error : PointerError (hello_words ∷ []) root 0 NestingLimitExceeded
+deep_error = too_deep (local refl (lit< tt) (lit< tt)) refl
 
 -- a list of structs whose tag is a list pointer
-pub odd_tag_refused : Fault ((0x700000001 ∷ 1 ∷ []) ∷ []) root 64 WrongPointerKind
-odd_tag_refused = misfits {start = 1} (local refl (lit< tt) (lit< tt)) (lit< tt) refl refl (odd_tag refl refl (lit≤ tt) refl (lit< tt))
+pub odd_tag_error : PointerError ((0x700000001 ∷ 1 ∷ []) ∷ []) root 64 WrongPointerKind
+odd_tag_error = misfits {start = 1} (local refl (lit< tt) (lit< tt)) (lit< tt) refl refl (odd_tag refl refl (lit≤ tt) refl (lit< tt))

@@ -1,5 +1,5 @@
 -- Walks over the objects that a pointer leads to.
-pub mod StopLemmas
+pub mod WalkErrorLemmas
 pub mod ProgressLemmas
 pub mod MeasureLemmas
 pub mod ParentLemmas

@@ -6,7 +6,7 @@ pub mod Reached
 pub mod Traversed
 pub mod Enums
 pub mod Hex
-pub mod Faults
+pub mod PointerErrors
 pub mod Views
 pub mod Parts
 pub mod Readers

@@ -3,7 +3,7 @@ use Rattle.std.specs.Prelude.{◌≡◌, ℕ, ◌-◌, ◌^◌, ◌<◌, ◌≤�
 use Rattle.capnp_frame.specs.declared.error.ErrorKind.{ErrorKind}
 use Rattle.capnp_frame.specs.declared.error.ErrorKind.TheVariants.{AllocationTooLarge}
 use Rattle.capnp_frame.specs.declared.message.segments.ReaderSegments.{Ghosts}
-use Rattle.capnp_layout.specs.Prelude.{width, words_for, Form, numbers, structs, Trees, none, tree, depth, places, row_places, rows_from, At, Within, StopsWalk}
+use Rattle.capnp_layout.specs.Prelude.{width, words_for, Form, numbers, structs, Trees, none, tree, depth, places, row_places, rows_from, At, Within, WalkError}
 use Rattle.capnp_wire.specs.ListViews.{PointerList, StructList, struct_list_of}
 use Rattle.capnp_layout.specs.declared.place.Place.{Place}
 use Rattle.capnp_layout.specs.declared.pointer.Elements.{Elements}
@@ -20,8 +20,8 @@ pub record IsListTree (form : Form) (list : PointerList) (trees : Trees) : Type 
   pub whole : trees ≡ tree form children none
 
 -- where a walk over its pointers stops
-abbrev pub StopsInList : PointerList → ErrorKind → Type 0
-StopsInList list kind = StopsWalk list.message list.children list.nesting list.limit kind
+abbrev pub WalkErrorInList : PointerList → ErrorKind → Type 0
+WalkErrorInList list kind = WalkError list.message list.children list.nesting list.limit kind
 
 -- consecutive pointers from a place on
 abbrev pub pointers_along : List (List ℕ) → Place → ℕ → ℕ → Option ℕ → PointerList

@@ -79,11 +79,11 @@ abbrev pub pointer_at : PointerList → ℕ → Pointer
 pointer_at list index = record { message = list.message; place = slice_get list.children index; nesting = list.nesting; limit = list.limit }
 
 -- the error for a form that isn't a list of structs
-abbrev pub DeclinesStructs : Form → ErrorKind → Type 0
-DeclinesStructs form kind = (TakesStructs form → ⊥) × (kind ≡ WrongPointerKind)
+abbrev pub StructsFormError : Form → ErrorKind → Type 0
+StructsFormError form kind = (TakesStructs form → ⊥) × (kind ≡ WrongPointerKind)
 
-abbrev pub DeclinesPointers : Form → ErrorKind → Type 0
-DeclinesPointers form kind = (TakesPointers form → ⊥) × (kind ≡ WrongPointerKind)
+abbrev pub PointersFormError : Form → ErrorKind → Type 0
+PointersFormError form kind = (TakesPointers form → ⊥) × (kind ≡ WrongPointerKind)
 
 -- what contracts see of the readers
 abbrev pub struct_list_of : {S : Type 0} {ghosts : Ghosts S} → (S → List (List ℕ)) → StructListReader S ghosts → StructList

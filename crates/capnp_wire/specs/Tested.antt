@@ -3,7 +3,7 @@ use Rattle.std.specs.Prelude.{◌≡◌, ◌≢◌, ◌⊎◌, ℕ, ◌+◌, ◌
 use Rattle.capnp_frame.specs.declared.error.Error.{Error}
 use Rattle.capnp_frame.specs.declared.error.ErrorKind.{ErrorKind}
 use Rattle.capnp_frame.specs.declared.error.ErrorKind.TheVariants.{ReadLimitExceeded, InvalidSegmentId}
-use Rattle.capnp_layout.specs.Prelude.{pointer_kind, offset, list_count, code_of, Form, null, struct, numbers, structs, Trees, depth, object_size, total_words, word_at, elements, Shape, PointsTo, At, root, Within, less, Fault, minus_one, Trimmed, segment_of, places_in, end_of}
+use Rattle.capnp_layout.specs.Prelude.{pointer_kind, offset, list_count, code_of, Form, null, struct, numbers, structs, Trees, depth, object_size, total_words, word_at, elements, Shape, PointsTo, At, root, Within, less, PointerError, minus_one, Trimmed, segment_of, places_in, end_of}
 use Rattle.capnp_layout.specs.Tree.{is_null}
 use Rattle.capnp_wire.specs.Canonical.{EndsFull, Padded, IsInPreorder}
 use Rattle.capnp_layout.specs.declared.place.Place.{Place}
@@ -103,7 +103,7 @@ pub record PassesAt (segment : List ℕ) (places : List Place) (nesting : ℕ) (
 
 -- why a walk ends early: an error, or an object that is not canonical
 pub data Ending : Type 0 where
-  refused : ErrorKind → Ending
+  fails_with : ErrorKind → Ending
   not_canonical : Ending
 
 -- A walk over the trees at places, in preorder, ends early, at the first thing that it meets.
@@ -111,11 +111,11 @@ pub data Ends (segment : List ℕ) : List Place → ℕ → Option ℕ → ℕ �
   far : {place : Place} {others : List Place} {nesting : ℕ} {limit : Option ℕ} {next : ℕ} → IsFarAt segment place
       → Ends segment (place ∷ others) nesting limit next not_canonical
   at_pointer : {place : Place} {others : List Place} {nesting : ℕ} {limit : Option ℕ} {next : ℕ} {kind : ErrorKind}
-      → (IsFarAt segment place → ⊥) → Fault (segment ∷ []) place nesting kind
-      → Ends segment (place ∷ others) nesting limit next (refused kind)
+      → (IsFarAt segment place → ⊥) → PointerError (segment ∷ []) place nesting kind
+      → Ends segment (place ∷ others) nesting limit next (fails_with kind)
   over_limit : {place : Place} {others : List Place} {nesting most next : ℕ} {shape : Shape}
       → (IsFarAt segment place → ⊥) → PointsTo (segment ∷ []) place shape → 0 < nesting → most < shape.traversed
-      → Ends segment (place ∷ others) nesting (Some most) next (refused ReadLimitExceeded)
+      → Ends segment (place ∷ others) nesting (Some most) next (fails_with ReadLimitExceeded)
   elsewhere : {place : Place} {others : List Place} {nesting : ℕ} {limit : Option ℕ} {next : ℕ} {shape : Shape}
       → MeetsObject segment place nesting limit shape → (IsLaidOut segment place next shape → ⊥)
       → Ends segment (place ∷ others) nesting limit next not_canonical
@@ -157,11 +157,11 @@ MeetsAt segment word nesting old new result = let place : Place = record { segme
 -- with which kind a test of the object that the pointer at a word leads to fails
 abbrev pub FailsAt : List ℕ → ℕ → ℕ → CanonicalWalk → Result Met Error → Type 0
 FailsAt segment word nesting old result = let place : Place = record { segment = 0; word = word } in
-    IfErr result (λ error. Ends segment (place ∷ []) nesting old.walk.left old.next (refused error.kind))
+    IfErr result (λ error. Ends segment (place ∷ []) nesting old.walk.left old.next (fails_with error.kind))
 
 -- Why it cannot be decided whether a message is canonical: it has no first segment, or the walk
 -- over its one segment fails. A message of more segments is not canonical, whatever is in them.
-pub data RejectsCanonicity (m : List (List ℕ)) (nesting : ℕ) (limit : Option ℕ) : ErrorKind → Type 0 where
-  no_first_segment : m ≡ [] → RejectsCanonicity m nesting limit (InvalidSegmentId 0)
+pub data CanonicityError (m : List (List ℕ)) (nesting : ℕ) (limit : Option ℕ) : ErrorKind → Type 0 where
+  no_first_segment : m ≡ [] → CanonicityError m nesting limit (InvalidSegmentId 0)
   on_the_walk : {segment : List ℕ} {kind : ErrorKind} → m ≡ segment ∷ []
-      → Ends segment (root ∷ []) nesting limit 1 (refused kind) → RejectsCanonicity m nesting limit kind
+      → Ends segment (root ∷ []) nesting limit 1 (fails_with kind) → CanonicityError m nesting limit kind

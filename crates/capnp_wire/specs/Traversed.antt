@@ -1,6 +1,6 @@
 -- What a walk over trees may still count against the traversal limit, and the words that it has
 -- counted (src/layout/walk.rt).
-pub use Rattle.capnp_layout.specs.Prelude.{Within, less, Exceeds, TreesAt}
+pub use Rattle.capnp_layout.specs.Prelude.{Within, less, IsPastLimit, TreesAt}
 use Rattle.std.specs.Prelude.{◌≡◌, Bool, ℕ, ◌+◌, ◌^◌, ◌<◌, ◌≤◌, List, [], ◌∷◌, ◌++◌, slice_get, Option, Some, None, if◌then◌else◌}
 use Rattle.capnp_layout.specs.Prelude.{words_of, Trees, depth, total_words, places, IsObject, shape_of, words_in, At, output, AllHaveRoom, output_body_of}
 use Rattle.capnp_layout.specs.declared.place.Place.{Place}

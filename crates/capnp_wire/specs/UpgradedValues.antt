@@ -7,7 +7,7 @@ use Rattle.capnp_frame.specs.declared.message.segments.ReaderSegments.{Ghosts as
 use Rattle.capnp_layout.specs.Prelude.{words_of, code_of, Trees, pointers, count, elements}
 use Rattle.capnp_wire.specs.ListViews.{struct_list_of}
 use Rattle.capnp_wire.specs.NumberViews.{numbers_of}
-use Rattle.capnp_wire.specs.ListValues.{IsListTree, StopsInList, structs_of, pointers_in, IsNumbersTree, TooManyNumbers}
+use Rattle.capnp_wire.specs.ListValues.{IsListTree, WalkErrorInList, structs_of, pointers_in, IsNumbersTree, TooManyNumbers}
 use Rattle.capnp_wire.specs.UpgradedReaders.{upgraded_pointers_of}
 use Rattle.capnp_wire.specs.declared.primitive_element.PrimitiveElement.{Ghosts as ElementGhosts}
 use Rattle.capnp_wire.specs.declared.primitive_list.reader.Reader.{Reader as NumbersReader}
@@ -27,15 +27,15 @@ abbrev pub IsNumbersValue : {T : Type 0} {ghosts : ElementGhosts T} → ℕ → 
 IsNumbersValue code (NumbersInPlace list) trees = IsNumbersTree code (numbers_of code list) trees
 IsNumbersValue code (OfStructs list) trees = ⊥
 
-abbrev pub RefusesNumbers : {T : Type 0} {ghosts : ElementGhosts T} → ℕ → Numbers (NumbersReader T ghosts) (FirstFields T ghosts) → ErrorKind → Type 0
-RefusesNumbers code (NumbersInPlace list) kind = TooManyNumbers code (numbers_of code list) kind
-RefusesNumbers code (OfStructs list) kind = kind ≡ WrongPointerKind
+abbrev pub NumbersValueError : {T : Type 0} {ghosts : ElementGhosts T} → ℕ → Numbers (NumbersReader T ghosts) (FirstFields T ghosts) → ErrorKind → Type 0
+NumbersValueError code (NumbersInPlace list) kind = TooManyNumbers code (numbers_of code list) kind
+NumbersValueError code (OfStructs list) kind = kind ≡ WrongPointerKind
 
 abbrev pub IsNumberListValue : {T : Type 0} {ghosts : ElementGhosts T} → ℕ → NumberListReader T ghosts → Trees → Type 0
 IsNumberListValue code list trees = IsNumbersValue code list.numbers trees
 
-abbrev pub RefusesNumberList : {T : Type 0} {ghosts : ElementGhosts T} → ℕ → NumberListReader T ghosts → ErrorKind → Type 0
-RefusesNumberList code list kind = RefusesNumbers code list.numbers kind
+abbrev pub NumberListValueError : {T : Type 0} {ghosts : ElementGhosts T} → ℕ → NumberListReader T ghosts → ErrorKind → Type 0
+NumberListValueError code list kind = NumbersValueError code list.numbers kind
 
 -- the numbers that are read as structs
 abbrev pub numbers_in_rows : {S : Type 0} {ghosts : SegmentGhosts S} → NumberRows S ghosts → List ℕ
@@ -47,15 +47,15 @@ abbrev pub IsRowsValue : {S : Type 0} {ghosts : SegmentGhosts S} → (S → List
 IsRowsValue segments (StructsInPlace list) trees = IsListTree (structs_of segments list) (pointers_in (struct_list_of segments list)) trees
 IsRowsValue segments (NumbersAsStructs rows) trees = IsNumbersTree (code_of rows.size) (numbers_in_rows rows) trees
 
-abbrev pub RefusesRows : {S : Type 0} {ghosts : SegmentGhosts S} → (S → List (List ℕ)) → Rows S ghosts → ErrorKind → Type 0
-RefusesRows segments (StructsInPlace list) kind = StopsInList (pointers_in (struct_list_of segments list)) kind
-RefusesRows segments (NumbersAsStructs rows) kind = TooManyNumbers (code_of rows.size) (numbers_in_rows rows) kind
+abbrev pub ElementsValueError : {S : Type 0} {ghosts : SegmentGhosts S} → (S → List (List ℕ)) → Rows S ghosts → ErrorKind → Type 0
+ElementsValueError segments (StructsInPlace list) kind = WalkErrorInList (pointers_in (struct_list_of segments list)) kind
+ElementsValueError segments (NumbersAsStructs rows) kind = TooManyNumbers (code_of rows.size) (numbers_in_rows rows) kind
 
 abbrev pub IsStructListValue : {S : Type 0} {ghosts : SegmentGhosts S} → (S → List (List ℕ)) → StructListReader S ghosts → Trees → Type 0
 IsStructListValue segments list trees = IsRowsValue segments list.rows trees
 
-abbrev pub RefusesStructList : {S : Type 0} {ghosts : SegmentGhosts S} → (S → List (List ℕ)) → StructListReader S ghosts → ErrorKind → Type 0
-RefusesStructList segments list kind = RefusesRows segments list.rows kind
+abbrev pub StructListValueError : {S : Type 0} {ghosts : SegmentGhosts S} → (S → List (List ℕ)) → StructListReader S ghosts → ErrorKind → Type 0
+StructListValueError segments list kind = ElementsValueError segments list.rows kind
 
 -- pointers that follow one another: those of a list of pointers, or of structs of one pointer each
 abbrev pub IsConsecutive : {S : Type 0} → PointerListReader S → Type 0
@@ -66,9 +66,9 @@ IsConsecutive list = (list.count ≡ 0) ⊎ (list.step ≡ 1)
 abbrev pub IsPointerListValue : {S : Type 0} → (S → List (List ℕ)) → PointerListReader S → Trees → Type 0
 IsPointerListValue segments list trees = IsConsecutive list × IsListTree pointers (upgraded_pointers_of segments list) trees
 
-abbrev pub RefusesPointerList : {S : Type 0} → (S → List (List ℕ)) → PointerListReader S → ErrorKind → Type 0
-RefusesPointerList segments list kind =
-    (IsConsecutive list × StopsInList (upgraded_pointers_of segments list) kind)
+abbrev pub PointerListValueError : {S : Type 0} → (S → List (List ℕ)) → PointerListReader S → ErrorKind → Type 0
+PointerListValueError segments list kind =
+    (IsConsecutive list × WalkErrorInList (upgraded_pointers_of segments list) kind)
     ⊎ ((IsConsecutive list → ⊥) × (kind ≡ WrongPointerKind))
 
 -- each of these values is one tree

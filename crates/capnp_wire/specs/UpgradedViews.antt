@@ -35,8 +35,8 @@ TakesRows (numbers code values) = code ≢ 1
 TakesRows pointers = ⊤
 TakesRows _ = ⊥
 
-abbrev pub DeclinesRows : Form → ErrorKind → Type 0
-DeclinesRows form kind = (TakesRows form → ⊥) × (kind ≡ WrongPointerKind)
+abbrev pub ElementsFormError : Form → ErrorKind → Type 0
+ElementsFormError form kind = (TakesRows form → ⊥) × (kind ≡ WrongPointerKind)
 
 -- a list read as one of structs: the elements that are there, with one less of nesting depth left
 pub record IsUpgradedStructs (pointer : Pointer) (list : StructList) : Type 0 where
@@ -73,8 +73,8 @@ TakesFields wanted (numbers code values) = code ≡ wanted
 TakesFields wanted (structs d p rows) = IsFirstField wanted d
 TakesFields wanted _ = ⊥
 
-abbrev pub DeclinesFields : ℕ → Form → ErrorKind → Type 0
-DeclinesFields wanted form kind = (TakesFields wanted form → ⊥) × (kind ≡ WrongPointerKind)
+abbrev pub FieldsFormError : ℕ → Form → ErrorKind → Type 0
+FieldsFormError wanted form kind = (TakesFields wanted form → ⊥) × (kind ≡ WrongPointerKind)
 
 -- the first pointer of each of n structs of p pointers
 abbrev pub first_pointers : ℕ → ℕ → List Place → List Place
@@ -94,8 +94,8 @@ TakesFirstPointers pointers = ⊤
 TakesFirstPointers (structs d p rows) = 0 < p
 TakesFirstPointers _ = ⊥
 
-abbrev pub DeclinesFirstPointers : Form → ErrorKind → Type 0
-DeclinesFirstPointers form kind = (TakesFirstPointers form → ⊥) × (kind ≡ WrongPointerKind)
+abbrev pub FirstPointersFormError : Form → ErrorKind → Type 0
+FirstPointersFormError form kind = (TakesFirstPointers form → ⊥) × (kind ≡ WrongPointerKind)
 
 -- a list read as one of pointers, with one less of nesting depth left
 pub record IsUpgradedPointers (pointer : Pointer) (list : PointerList) : Type 0 where

@@ -5,7 +5,7 @@ use Rattle.capnp_frame.specs.declared.error.ErrorKind.{ErrorKind}
 use Rattle.capnp_frame.specs.declared.error.ErrorKind.TheVariants.{AllocationTooLarge}
 use Rattle.capnp_frame.specs.Prelude.{bytes_of}
 use Rattle.capnp_frame.specs.declared.words.Word.{Word}
-use Rattle.capnp_layout.specs.Prelude.{number_of, words_of, words_from, words_for, places, null, struct, numbers, Trees, none, tree, count, depth, total_words, At, at, nowhere, trim, canon, output, AllHaveRoom, Within, too_large, StopsWalk}
+use Rattle.capnp_layout.specs.Prelude.{number_of, words_of, words_from, words_for, places, null, struct, numbers, Trees, none, tree, count, depth, total_words, At, at, nowhere, trim, canon, output, AllHaveRoom, Within, too_large, WalkError}
 use Rattle.capnp_wire.specs.Views.{Pointer, Struct}
 use Rattle.capnp_layout.specs.Tree.{is_null}
 use Rattle.capnp_layout.specs.declared.place.Place.{Place}
@@ -29,9 +29,9 @@ pub record Measured (m : List (List ℕ)) (place : Place) (nesting : ℕ) (limit
   pub few : words < 2 ^ 29
 
 -- measuring it fails: a walk over it stops, or it has too many words
-abbrev pub RejectsTreeSize : List (List ℕ) → Place → ℕ → Option ℕ → Bool → ErrorKind → Type 0
-RejectsTreeSize m place nesting limit canonical kind =
-    StopsWalk m (place ∷ []) nesting limit kind
+abbrev pub TreeSizeError : List (List ℕ) → Place → ℕ → Option ℕ → Bool → ErrorKind → Type 0
+TreeSizeError m place nesting limit canonical kind =
+    WalkError m (place ∷ []) nesting limit kind
     ⊎ ((trees : Trees) × TreeAt m place nesting limit trees × (2 ^ 29 ≤ total_words (output canonical trees))
     × (kind ≡ too_large canonical (total_words (output canonical trees))))
 
@@ -72,9 +72,9 @@ pub record IsFreeFrom (next : ℕ) (block : List ℕ) : Type 0 where
   pub zero : drop next (words_of block) ≡ replicate (length (words_of block) - next) 0
 
 -- It has no tree, for this reason, or a tree of too many words.
-abbrev pub LacksWords : (Trees → Type 0) → (ErrorKind → Type 0) → Bool → ErrorKind → Type 0
-LacksWords has_tree refuses canonical kind =
-    refuses kind
+abbrev pub WordsError : (Trees → Type 0) → (ErrorKind → Type 0) → Bool → ErrorKind → Type 0
+WordsError has_tree fails canonical kind =
+    fails kind
     ⊎ ((trees : Trees) × has_tree trees × (2 ^ 29 ≤ total_words (output canonical trees))
     × (kind ≡ too_large canonical (total_words (output canonical trees))))
 
@@ -83,9 +83,9 @@ abbrev pub LeadsToTree : Pointer → Trees → Type 0
 LeadsToTree pointer trees = MatchOption pointer.place (trees ≡ tree null none none)
     (λ place. TreeAt pointer.message place pointer.nesting pointer.limit trees)
 
-abbrev pub StopsWalkFrom : Pointer → ErrorKind → Type 0
-StopsWalkFrom pointer kind = (place : Place) × (pointer.place ≡ Some place)
-    × StopsWalk pointer.message (place ∷ []) pointer.nesting pointer.limit kind
+abbrev pub WalkErrorFrom : Pointer → ErrorKind → Type 0
+WalkErrorFrom pointer kind = (place : Place) × (pointer.place ≡ Some place)
+    × WalkError pointer.message (place ∷ []) pointer.nesting pointer.limit kind
 
 -- the tree of a struct that is read, within the nesting depth left and its limit, and where a walk over its pointers stops
 pub record IsTreeOf (fields : Struct) (trees : Trees) : Type 0 where
@@ -96,8 +96,8 @@ pub record IsTreeOf (fields : Struct) (trees : Trees) : Type 0 where
   pub within : Within fields.limit traversed
   pub whole : trees ≡ tree (struct fields.words) children none
 
-abbrev pub StopsInside : Struct → ErrorKind → Type 0
-StopsInside fields kind = StopsWalk fields.message fields.children fields.nesting fields.limit kind
+abbrev pub WalkErrorInside : Struct → ErrorKind → Type 0
+WalkErrorInside fields kind = WalkError fields.message fields.children fields.nesting fields.limit kind
 
 -- a struct whose words are in a segment
 abbrev pub fields_at : List (List ℕ) → List ℕ → Place → StructSize → ℕ → Option ℕ → Struct

@@ -6,7 +6,7 @@ use Rattle.capnp_frame.specs.declared.error.Error.{Error}
 use Rattle.capnp_frame.specs.declared.error.ErrorKind.{ErrorKind}
 use Rattle.capnp_frame.specs.declared.error.ErrorKind.TheVariants.{ReadLimitExceeded, AllocationTooLarge, WrongPointerKind, TextNotTerminated}
 use Rattle.capnp_layout.specs.Tree.{is_null}
-use Rattle.capnp_layout.specs.Prelude.{Form, null, struct, numbers, Shape, PointsTo, nothing, Fault, StopsWalk, TreesAt, Within}
+use Rattle.capnp_layout.specs.Prelude.{Form, null, struct, numbers, Shape, PointsTo, nothing, PointerError, WalkError, TreesAt, Within}
 use Rattle.capnp_layout.specs.declared.place.Place.{Place}
 
 -- A pointer that is read: the message, its place (a pointer past the end of a struct has none, and
@@ -34,26 +34,26 @@ Shows pointer fact = (shape : Shape) × Denotes pointer shape × fact shape
 
 -- a pointer leads to no object: this is the error, whatever has been read
 abbrev pub IsInvalidPointer : Pointer → ErrorKind → Type 0
-IsInvalidPointer pointer kind = (place : Place) × (pointer.place ≡ Some place) × Fault pointer.message place pointer.nesting kind
+IsInvalidPointer pointer kind = (place : Place) × (pointer.place ≡ Some place) × PointerError pointer.message place pointer.nesting kind
 
 -- the words of what is there count against the traversal limit, and may be past it
 abbrev pub MeetsLimit : Pointer → ErrorKind → Type 0
 MeetsLimit pointer kind = Shows pointer (λ shape. 0 < shape.traversed) × (pointer.limit ≢ None) × (kind ≡ ReadLimitExceeded)
 
 -- what a pointer leads to can't be read: no object is there, or the traversal limit is met
-abbrev pub RejectsReading : Pointer → ErrorKind → Type 0
-RejectsReading pointer kind = IsInvalidPointer pointer kind ⊎ MeetsLimit pointer kind
+abbrev pub ObjectError : Pointer → ErrorKind → Type 0
+ObjectError pointer kind = IsInvalidPointer pointer kind ⊎ MeetsLimit pointer kind
 
--- a view accepts what is there, or declines it
+-- a view accepts what is there, or rejects it
 abbrev pub Accepts : Pointer → (Form → Type 0) → Type 0
 Accepts pointer takes = Shows pointer (λ shape. takes shape.form)
 
-abbrev pub Declines : Pointer → (Form → ErrorKind → Type 0) → ErrorKind → Type 0
-Declines pointer declines kind = Shows pointer (λ shape. declines shape.form kind)
+abbrev pub FormError : Pointer → (Form → ErrorKind → Type 0) → ErrorKind → Type 0
+FormError pointer form_error kind = Shows pointer (λ shape. form_error shape.form kind)
 
--- a view fails: nothing can be read there, or it declines what is there
-abbrev pub Refuses : Pointer → (Form → ErrorKind → Type 0) → ErrorKind → Type 0
-Refuses pointer declines kind = RejectsReading pointer kind ⊎ Declines pointer declines kind
+-- a view fails: nothing can be read there, or it rejects what is there
+abbrev pub ViewError : Pointer → (Form → ErrorKind → Type 0) → ErrorKind → Type 0
+ViewError pointer form_error kind = ObjectError pointer kind ⊎ FormError pointer form_error kind
 
 -- a view is returned: `fact` holds of the form of what is there, and the words counted are within
 -- the limit
@@ -63,14 +63,14 @@ Reads pointer fact = Shows pointer (λ shape. fact shape.form × Within pointer.
 -- What each view of a pointer keeps. The view shows what is there, or the call fails with a stated
 -- error. Without a limit there is a view of whatever it accepts, and no error of the limit. Where
 -- no object is there, the pointer's error is returned, unless the view accepts the pointer itself;
--- where an object is there that the view declines, its error is, or that of the limit.
+-- where an object is there that the view rejects, its error is, or that of the limit.
 pub record IsViewOf {V : Type 0} (pointer : Pointer) (shows : V → Type 0) (accepts : Type 0)
-    (refuses declines : ErrorKind → Type 0) (result : Result V Error) : Type 0 where
-  pub returned : MatchResult result shows (λ error. refuses error.kind)
+    (fails form_error : ErrorKind → Type 0) (result : Result V Error) : Type 0 where
+  pub returned : MatchResult result shows (λ error. fails error.kind)
   pub found : pointer.limit ≡ None → accepts → IsOk result
   pub unlimited : pointer.limit ≡ None → IfErr result (λ error. error.kind ≢ ReadLimitExceeded)
   pub exact : (kind : ErrorKind) → IsInvalidPointer pointer kind → (accepts → ⊥) → IsErrAnd result (λ error. error.kind ≡ kind)
-  pub declined : (kind : ErrorKind) → declines kind
+  pub form_errors : (kind : ErrorKind) → form_error kind
       → IsErrAnd result (λ error. (error.kind ≡ kind) ⊎ MeetsLimit pointer error.kind)
 
 -- data: empty for null, the bytes of a list of code 2
@@ -141,16 +141,16 @@ TakesStruct (struct words) = ⊤
 TakesStruct _ = ⊥
 
 -- the error for a form that isn't a list of such numbers
-abbrev pub DeclinesNumbers : ℕ → Form → ErrorKind → Type 0
-DeclinesNumbers wanted form kind = (TakesNumbers wanted form → ⊥) × (kind ≡ WrongPointerKind)
+abbrev pub NumbersFormError : ℕ → Form → ErrorKind → Type 0
+NumbersFormError wanted form kind = (TakesNumbers wanted form → ⊥) × (kind ≡ WrongPointerKind)
 
-abbrev pub DeclinesStruct : Form → ErrorKind → Type 0
-DeclinesStruct form kind = (TakesStruct form → ⊥) × (kind ≡ WrongPointerKind)
+abbrev pub StructFormError : Form → ErrorKind → Type 0
+StructFormError form kind = (TakesStruct form → ⊥) × (kind ≡ WrongPointerKind)
 
 -- `WrongPointerKind` for what is no list of bytes, `TextNotTerminated` for a list of bytes without
 -- a zero byte at its end
-abbrev pub DeclinesText : Form → ErrorKind → Type 0
-DeclinesText form kind =
+abbrev pub TextFormError : Form → ErrorKind → Type 0
+TextFormError form kind =
     ((TakesNumbers 2 form → ⊥) × (kind ≡ WrongPointerKind))
     ⊎ (TakesNumbers 2 form × (TakesText form → ⊥) × (kind ≡ TextNotTerminated))
 
@@ -161,7 +161,7 @@ Measures pointer words = MatchOption pointer.place (words ≡ 0)
     (λ place. (traversed : ℕ) × TreesAt pointer.message (place ∷ []) pointer.nesting traversed words × Within pointer.limit traversed)
 
 -- measuring them fails: a walk over them stops, or, once it is done, there are 2 ^ 64 words or more
-abbrev pub RejectsMeasuring : Pointer → ErrorKind → Type 0
-RejectsMeasuring pointer kind = (place : Place) × (pointer.place ≡ Some place)
-    × (StopsWalk pointer.message (place ∷ []) pointer.nesting pointer.limit kind
+abbrev pub MeasuringError : Pointer → ErrorKind → Type 0
+MeasuringError pointer kind = (place : Place) × (pointer.place ≡ Some place)
+    × (WalkError pointer.message (place ∷ []) pointer.nesting pointer.limit kind
     ⊎ ((words : ℕ) × Measures pointer words × (2 ^ 64 ≤ words) × (kind ≡ AllocationTooLarge (2 ^ 32 - 1))))

@@ -28,11 +28,11 @@ impl<'a, S: ReaderSegments + 'a> traits::Owned<'a, S> for Owned {
 // The tree that the pointer leads to, within the nesting depth left and the traversal limit.
 impl<'a, S: ReaderSegments> SetterInput<Owned> for Reader<'a, S> {
     ghost use Rattle.capnp_wire.specs.Readers.{pointer_of};
-    ghost use Rattle.capnp_wire.specs.Values.{LeadsToTree, StopsWalkFrom, one_value};
+    ghost use Rattle.capnp_wire.specs.Values.{LeadsToTree, WalkErrorFrom, one_value};
 
     ghost has_tree = { λ reader trees. LeadsToTree (pointer_of S.segments reader) trees };
 
-    ghost refuses = { λ reader kind. StopsWalkFrom (pointer_of S.segments reader) kind };
+    ghost fails = { λ reader kind. WalkErrorFrom (pointer_of S.segments reader) kind };
 
     ghost one = { λ reader trees is. one_value (pointer_of S.segments reader) trees is };
 

@@ -20,14 +20,14 @@ impl<'a, S: ReaderSegments + 'a> traits::Owned<'a, S> for Owned {
 // traversal limit.
 impl<'a, S: ReaderSegments> SetterInput<Owned> for Reader<'a, S> {
     ghost use Rattle.capnp_wire.specs.ListViews.{pointer_list_of};
-    ghost use Rattle.capnp_wire.specs.ListValues.{IsListTree, StopsInList};
+    ghost use Rattle.capnp_wire.specs.ListValues.{IsListTree, WalkErrorInList};
     ghost use Rattle.capnp_layout.specs.Tree.{count, pointers};
     ghost use Rattle.std.proofs.Common.{ap};
 
     ghost has_tree = { λ list trees.
         IsListTree pointers (pointer_list_of S.segments list) trees };
 
-    ghost refuses = { λ list kind. StopsInList (pointer_list_of S.segments list) kind };
+    ghost fails = { λ list kind. WalkErrorInList (pointer_list_of S.segments list) kind };
 
     ghost one = { λ value trees is. ap count is.whole };
 

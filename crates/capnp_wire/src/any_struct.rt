@@ -29,13 +29,13 @@ const ALONE: Place = Place {
 // The value is the tree of the struct, within the nesting depth left and the traversal limit.
 impl<'a, S: ReaderSegments> SetterInput<Owned> for StructReader<'a, S> {
     ghost use Rattle.capnp_wire.specs.Readers.{struct_of};
-    ghost use Rattle.capnp_wire.specs.Values.{IsTreeOf, StopsInside};
+    ghost use Rattle.capnp_wire.specs.Values.{IsTreeOf, WalkErrorInside};
     ghost use Rattle.capnp_layout.specs.Tree.{count};
     ghost use Rattle.std.proofs.Common.{ap};
 
     ghost has_tree = { λ view trees. IsTreeOf (struct_of S.segments view) trees };
 
-    ghost refuses = { λ view kind. StopsInside (struct_of S.segments view) kind };
+    ghost fails = { λ view kind. WalkErrorInside (struct_of S.segments view) kind };
 
     ghost one = { λ value trees is. ap count is.whole };
 

@@ -7,7 +7,7 @@ ghost use Rattle.capnp_frame.specs.declared.error.ErrorKind.{ErrorKind};
 ghost use Rattle.capnp_frame.specs.declared.error.ErrorKind.TheVariants.{OutOfMemory};
 ghost use Rattle.capnp_layout.specs.Prelude.{words_of, numbers_of};
 ghost use Rattle.capnp_wire.specs.Readers.{pointer_of};
-ghost use Rattle.capnp_wire.specs.Values.{HasWords, LacksWords, LeadsToTree, StopsWalkFrom, IsCanonicalForm};
+ghost use Rattle.capnp_wire.specs.Values.{HasWords, WordsError, LeadsToTree, WalkErrorFrom, IsCanonicalForm};
 
 use crate::any_pointer;
 use crate::traits::SetterInput;
@@ -25,12 +25,12 @@ use std::alloc::Global;
 pub fn canonical_size<S: ReaderSegments>(reader: &any_pointer::Reader<'_, S>) -> Result<u32>
     ensures returned { let pointer = pointer_of S.segments reader.now in MatchResult result
         (λ words. (following : ℕ) × HasWords (LeadsToTree pointer) true following × (words ≡ following + 1))
-        (λ error. LacksWords (LeadsToTree pointer) (StopsWalkFrom pointer) true error.kind) }
+        (λ error. WordsError (LeadsToTree pointer) (WalkErrorFrom pointer) true error.kind) }
     ensures found { (following : ℕ) →
         HasWords (LeadsToTree (pointer_of S.segments reader.now)) true following →
         result ≡ Ok (following + 1) }
     ensures exact { let pointer = pointer_of S.segments reader.now in
-        (kind : ErrorKind) → LacksWords (LeadsToTree pointer) (StopsWalkFrom pointer) true kind →
+        (kind : ErrorKind) → WordsError (LeadsToTree pointer) (WalkErrorFrom pointer) true kind →
         IsErrAnd result (λ error. error.kind ≡ kind) }
 {
     let following = reader.measure(true)?;
@@ -46,14 +46,14 @@ pub fn canonical_bytes<S: ReaderSegments>(
 ) -> Result<Vec<u8>>
     ensures returned { let pointer = pointer_of S.segments reader.now in MatchResult result
         (λ bytes. IsCanonicalForm pointer (words_of bytes.items))
-        (λ error. LacksWords (LeadsToTree pointer) (StopsWalkFrom pointer) true error.kind
+        (λ error. WordsError (LeadsToTree pointer) (WalkErrorFrom pointer) true error.kind
         ⊎ (error.kind ≡ OutOfMemory)) }
     ensures whole { IfOk result (λ bytes. IsWholeWords bytes.items) }
     ensures found { (following : ℕ) →
         HasWords (LeadsToTree (pointer_of S.segments reader.now)) true following →
         IfErr result (λ error. error.kind ≡ OutOfMemory) }
     ensures exact { let pointer = pointer_of S.segments reader.now in
-        (kind : ErrorKind) → LacksWords (LeadsToTree pointer) (StopsWalkFrom pointer) true kind →
+        (kind : ErrorKind) → WordsError (LeadsToTree pointer) (WalkErrorFrom pointer) true kind →
         IsErrAnd result (λ error. error.kind ≡ kind) }
 {
     let words = canonical_size(reader)? as usize;
@@ -85,13 +85,13 @@ pub fn canonical_words<S: ReaderSegments>(
 ) -> Result<Vec<Word>>
     ensures returned { let pointer = pointer_of S.segments reader.now in MatchResult result
         (λ words. IsCanonicalForm pointer (numbers_of words.items))
-        (λ error. LacksWords (LeadsToTree pointer) (StopsWalkFrom pointer) true error.kind
+        (λ error. WordsError (LeadsToTree pointer) (WalkErrorFrom pointer) true error.kind
         ⊎ (error.kind ≡ OutOfMemory)) }
     ensures found { (following : ℕ) →
         HasWords (LeadsToTree (pointer_of S.segments reader.now)) true following →
         IfErr result (λ error. error.kind ≡ OutOfMemory) }
     ensures exact { let pointer = pointer_of S.segments reader.now in
-        (kind : ErrorKind) → LacksWords (LeadsToTree pointer) (StopsWalkFrom pointer) true kind →
+        (kind : ErrorKind) → WordsError (LeadsToTree pointer) (WalkErrorFrom pointer) true kind →
         IsErrAnd result (λ error. error.kind ≡ kind) }
 {
     let size = canonical_size(reader)? as usize;

@@ -5,7 +5,7 @@
 ghost use Rattle.std.specs.Prelude.{◌≡◌, ◌∷◌, []};
 ghost use Rattle.capnp_wire.specs.Constants.{IsDefaultData};
 ghost use Rattle.capnp_wire.specs.Readers.{pointer_of, struct_of};
-ghost use Rattle.capnp_wire.specs.Views.{Pointer, IsViewOf, Accepts, Refuses, Declines, TakesStruct, DeclinesStruct};
+ghost use Rattle.capnp_wire.specs.Views.{Pointer, IsViewOf, Accepts, ViewError, FormError, TakesStruct, StructFormError};
 
 use crate::any_pointer;
 use crate::any_struct::StructReader;
@@ -45,8 +45,8 @@ pub trait Constant: ReaderSegments {
 /// `any_pointer::Reader::get_as` does of that pointer.
 pub fn view_of<'a, C: Constant, T: FromPointerReader<'a, C>>(constant: &'a C) -> Result<T>
     ensures { let pointer = C.root constant.now in
-        IsViewOf pointer (T.shows pointer) (T.accepts pointer) (T.refuses pointer)
-        (T.declines pointer) result }
+        IsViewOf pointer (T.shows pointer) (T.accepts pointer) (T.fails pointer)
+        (T.form_error pointer) result }
 {
     T::get_from_pointer(constant.constant_root())
 }
@@ -60,8 +60,8 @@ pub fn default_data<'a, S: ReaderSegments, C: Constant>(
     ensures { let constant = C.root words.now in IsViewOf constant
         (λ view. IsDefaultData constant (pointer_of S.segments pointer.now)
         (struct_of S.segments view))
-        (Accepts constant TakesStruct) (Refuses constant DeclinesStruct)
-        (Declines constant DeclinesStruct) result }
+        (Accepts constant TakesStruct) (ViewError constant StructFormError)
+        (FormError constant StructFormError) result }
 {
     let found: Result<StructReader<'a, C>> = view_of(words);
     match found {

@@ -25,7 +25,7 @@ impl<'a> SetterInput<Owned> for &'a [u8] {
 
     ghost has_tree = { λ bytes trees. IsBytes bytes.now trees };
 
-    ghost refuses = { λ bytes kind. ManyBytes bytes.now kind };
+    ghost fails = { λ bytes kind. ManyBytes bytes.now kind };
 
     ghost one = { λ value trees is. ap count is.1 };
 

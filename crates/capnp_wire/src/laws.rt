@@ -2,7 +2,7 @@
 ghost use Rattle.std.specs.Prelude.{◌≡◌, ◌+◌, Some, slice_get, ◌<◌, ◌≤◌, ◌^◌, ◌↔◌, ℕ, List, [], ◌∷◌, Option, None, Bool, false};
 ghost use Rattle.capnp_frame.specs.declared.error.ErrorKind.{ErrorKind};
 ghost use Rattle.capnp_layout.specs.Tree.{is_null};
-ghost use Rattle.capnp_layout.specs.Prelude.{Form, Trees, none, tree, depth, total_words, trim, Shape, PointsTo, word_at, At, Below, root, layout, canon, pointer_to, far_pointer, Laid, AllHaveRoom, AllWords, Fault, StopsWalk, Within};
+ghost use Rattle.capnp_layout.specs.Prelude.{Form, Trees, none, tree, depth, total_words, trim, Shape, PointsTo, word_at, At, Below, root, layout, canon, pointer_to, far_pointer, Laid, AllHaveRoom, AllWords, PointerError, WalkError, Within};
 ghost use Rattle.capnp_wire.specs.Canonical.{IsCanonical, TestsAreExact};
 ghost use Rattle.capnp_wire.specs.Views.{Pointer};
 ghost use Rattle.capnp_wire.specs.Values.{IsCanonicalForm};
@@ -30,14 +30,14 @@ pub fn cycle_has_no_tree()
 /// Where a pointer is invalid, there is no object within the nesting depth left.
 pub fn invalid_pointer_has_no_object()
     ensures { (m : List (List ℕ)) (place : Place) (nesting : ℕ) (kind : ErrorKind) (shape : Shape) →
-        Fault m place nesting kind → PointsTo m place shape →
+        PointerError m place nesting kind → PointsTo m place shape →
         (is_null shape.form ≡ false → 0 < nesting) → ⊥ }
 {}
 
 /// A pointer at a place fails with at most one error, at each nesting depth left.
-pub fn one_refusal_at_a_place()
+pub fn one_error_at_a_place()
     ensures { (m : List (List ℕ)) (place : Place) (nesting : ℕ) (kind other : ErrorKind) →
-        Fault m place nesting kind → Fault m place nesting other → kind ≡ other }
+        PointerError m place nesting kind → PointerError m place nesting other → kind ≡ other }
 {}
 
 /// Where a walk over some pointers fails, they lead to no trees within its nesting depth and its
@@ -45,15 +45,15 @@ pub fn one_refusal_at_a_place()
 pub fn failed_walk_has_no_trees()
     ensures { (m : List (List ℕ)) (places : List Place) (nesting traversed : ℕ) (limit : Option ℕ)
         (kind : ErrorKind) (trees : Trees) →
-        StopsWalk m places nesting limit kind → At m places trees traversed → depth trees ≤ nesting →
+        WalkError m places nesting limit kind → At m places trees traversed → depth trees ≤ nesting →
         Within limit traversed → ⊥ }
 {}
 
 /// A walk stops with at most one error.
-pub fn one_refusal_stops_a_walk()
+pub fn one_error_of_a_walk()
     ensures { (m : List (List ℕ)) (places : List Place) (nesting : ℕ) (limit : Option ℕ)
         (kind other : ErrorKind) →
-        StopsWalk m places nesting limit kind → StopsWalk m places nesting limit other →
+        WalkError m places nesting limit kind → WalkError m places nesting limit other →
         kind ≡ other }
 {}
 

@@ -25,14 +25,14 @@ impl<'a, S: ReaderSegments + 'a, T: traits::Owned<'a, S>> traits::Owned<'a, S> f
 impl<'a, S: ReaderSegments + 'a, T: traits::Owned<'a, S>> SetterInput<Owned<T>>
     for Reader<'a, S, T::Reader> {
     ghost use Rattle.capnp_wire.specs.ListViews.{pointer_list_of};
-    ghost use Rattle.capnp_wire.specs.ListValues.{IsListTree, StopsInList};
+    ghost use Rattle.capnp_wire.specs.ListValues.{IsListTree, WalkErrorInList};
     ghost use Rattle.capnp_layout.specs.Tree.{count, pointers};
     ghost use Rattle.std.proofs.Common.{ap};
 
     ghost has_tree = { λ list trees.
         IsListTree pointers (pointer_list_of S.segments list.pointers) trees };
 
-    ghost refuses = { λ list kind. StopsInList (pointer_list_of S.segments list.pointers) kind };
+    ghost fails = { λ list kind. WalkErrorInList (pointer_list_of S.segments list.pointers) kind };
 
     ghost one = { λ value trees is. ap count is.whole };
 

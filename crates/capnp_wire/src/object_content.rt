@@ -3,7 +3,7 @@ ghost use Rattle.std.specs.Prelude.{◌≡◌, ◌+◌, ◌*◌, ◌/◌, ◌≤
 ghost use Rattle.capnp_frame.specs.declared.error.ErrorKind.{ErrorKind};
 ghost use Rattle.capnp_layout.specs.Prelude.{words_of, elements, code_of, width, words_for, numbers, room_of};
 ghost use Rattle.capnp_wire.specs.Readers.{form_of};
-ghost use Rattle.capnp_wire.specs.Views.{DeclinesNumbers};
+ghost use Rattle.capnp_wire.specs.Views.{NumbersFormError};
 
 use capnp_frame::{Error, ErrorKind, Result};
 use capnp_layout::element_size::ElementSize;
@@ -34,7 +34,7 @@ pub(crate) fn by_value<T>(entered: Result<T>) -> Result<T>
 pub(crate) fn object_bytes<'a>(object: &Object<'a>) -> Result<&'a [u8]>
     requires { object.now.start.word + room_of object.now.body ≤ length object.now.segment.now / 8 }
     ensures { MatchResult result (λ bytes. form_of object.now ≡ numbers 2 bytes.now)
-        (λ error. DeclinesNumbers 2 (form_of object.now) error.kind) }
+        (λ error. NumbersFormError 2 (form_of object.now) error.kind) }
 {
     match object.body.count_of(ElementSize::Byte) {
         Some(count) => Ok(bytes_at(object.segment, object.start.word, count)),
@@ -52,7 +52,7 @@ pub(crate) fn object_numbers<'a>(
         (λ list. (form_of object.now
         ≡ numbers code (elements (words_of list.bytes.now) 0 code list.count))
         × (length list.bytes.now ≡ 8 * words_for list.count (width code)))
-        (λ error. DeclinesNumbers code (form_of object.now) error.kind) }
+        (λ error. NumbersFormError code (form_of object.now) error.kind) }
 {
     match object.body.count_of(size) {
         Some(count) => Ok(EnteredNumbers {

@@ -3,7 +3,7 @@ ghost use Rattle.std.specs.Prelude.{MatchResult};
 ghost use Rattle.std.specs.Option.{ForSome};
 ghost use Rattle.capnp_frame.specs.declared.error.ErrorKind.{ErrorKind};
 ghost use Rattle.capnp_layout.specs.Prelude.{words_of, nothing};
-ghost use Rattle.capnp_wire.specs.Views.{Pointer, Denotes, HasSegment, RejectsReading};
+ghost use Rattle.capnp_wire.specs.Views.{Pointer, Denotes, HasSegment, ObjectError};
 ghost use Rattle.capnp_wire.specs.Readers.{pointer_of, IsEntered};
 
 use crate::any_pointer;
@@ -19,7 +19,7 @@ pub(crate) trait ObjectView<'a, S: ReaderSegments>: Sized {
     ghost shows: { Pointer → Self → Type 0 };
 
     /// With which errors a view fails, as `FromPointerReader` has them.
-    ghost refuses: { Pointer → ErrorKind → Type 0 };
+    ghost fails: { Pointer → ErrorKind → Type 0 };
 
     /// The kind of object that is looked for in the segment of the pointer.
     fn kind() -> ObjectKind;
@@ -33,11 +33,11 @@ pub(crate) trait ObjectView<'a, S: ReaderSegments>: Sized {
     fn of_object(reader: &any_pointer::Reader<'a, S>, object: &Object<'a>) -> Result<Self>
         requires { IsEntered (pointer_of S.segments reader.now) object.now }
         ensures { let pointer = pointer_of S.segments reader.now in MatchResult result
-            (λ view. shows pointer view) (λ error. refuses pointer error.kind) };
+            (λ view. shows pointer view) (λ error. fails pointer error.kind) };
 
     /// A pointer that can't be read fails with such an error.
-    ghost unread: { (pointer : Pointer) (kind : ErrorKind) → RejectsReading pointer kind →
-        refuses pointer kind };
+    ghost unread: { (pointer : Pointer) (kind : ErrorKind) → ObjectError pointer kind →
+        fails pointer kind };
 }
 
 /// The view of what a pointer leads to: by the object in its own segment, or else by any path.
@@ -49,7 +49,7 @@ pub(crate) fn read<'a, S: ReaderSegments, V: ObjectView<'a, S>>(
     requires { ForSome known (λ segment.
         HasSegment (pointer_of S.segments reader.now) (words_of segment.now)) }
     ensures { let pointer = pointer_of S.segments reader.now in MatchResult result
-        (λ view. V.shows pointer view) (λ error. V.refuses pointer error.kind) }
+        (λ view. V.shows pointer view) (λ error. V.fails pointer error.kind) }
 {
     match reader.enter_local(known, V::kind()) {
         Some(object) => V::of_object(reader, &object),
@@ -65,7 +65,7 @@ fn enter<'a, S: ReaderSegments, V: ObjectView<'a, S>>(
     reader: &any_pointer::Reader<'a, S>,
 ) -> Result<V>
     ensures { let pointer = pointer_of S.segments reader.now in MatchResult result
-        (λ view. V.shows pointer view) (λ error. V.refuses pointer error.kind) }
+        (λ view. V.shows pointer view) (λ error. V.fails pointer error.kind) }
 {
     match reader.enter()? {
         Some(object) => V::of_object(reader, &object),

@@ -28,7 +28,7 @@ impl<'a, T: PrimitiveElement> SetterInput<Owned<T>> for Reader<'a, T> {
 
     ghost has_tree = { λ list trees. IsNumbersTree T.code (numbers_of T.code list) trees };
 
-    ghost refuses = { λ list kind. TooManyNumbers T.code (numbers_of T.code list) kind };
+    ghost fails = { λ list kind. TooManyNumbers T.code (numbers_of T.code list) kind };
 
     ghost one = { λ value trees is. ap count is.1 };
 

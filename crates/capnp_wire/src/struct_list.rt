@@ -21,14 +21,14 @@ impl<'a, S: ReaderSegments + 'a> traits::Owned<'a, S> for Owned {
 // traversal limit.
 impl<'a, S: ReaderSegments> SetterInput<Owned> for Reader<'a, S> {
     ghost use Rattle.capnp_wire.specs.ListViews.{struct_list_of};
-    ghost use Rattle.capnp_wire.specs.ListValues.{IsListTree, StopsInList, pointers_in, structs_of};
+    ghost use Rattle.capnp_wire.specs.ListValues.{IsListTree, WalkErrorInList, pointers_in, structs_of};
     ghost use Rattle.capnp_layout.specs.Tree.{count};
     ghost use Rattle.std.proofs.Common.{ap};
 
     ghost has_tree = { λ list trees.
         IsListTree (structs_of S.segments list) (pointers_in (struct_list_of S.segments list)) trees };
 
-    ghost refuses = { λ list kind. StopsInList (pointers_in (struct_list_of S.segments list)) kind };
+    ghost fails = { λ list kind. WalkErrorInList (pointers_in (struct_list_of S.segments list)) kind };
 
     ghost one = { λ value trees is. ap count is.whole };
 

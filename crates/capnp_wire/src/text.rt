@@ -24,7 +24,7 @@ impl<'a> SetterInput<Owned> for Reader<'a> {
 
     ghost has_tree = { λ text trees. IsTextTree text.bytes.now trees };
 
-    ghost refuses = { λ text kind. LongText text.bytes.now kind };
+    ghost fails = { λ text kind. LongText text.bytes.now kind };
 
     ghost one = { λ value trees is. ap count is.1 };
 
@@ -49,7 +49,7 @@ impl<'a> SetterInput<Owned> for &'a str {
 
     ghost has_tree = { λ text trees. IsTextTree text.now trees };
 
-    ghost refuses = { λ text kind. LongText text.now kind };
+    ghost fails = { λ text kind. LongText text.now kind };
 
     ghost one = { λ value trees is. ap count is.1 };
 

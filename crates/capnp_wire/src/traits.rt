@@ -6,7 +6,7 @@ ghost use Rattle.capnp_wire.specs.Views.{Pointer, HasSegment, IsViewOf};
 ghost use Rattle.capnp_wire.specs.Readers.{pointer_of};
 ghost use Rattle.capnp_layout.specs.Prelude.{words_of, Trees, count, total_words, body, output};
 ghost use Rattle.capnp_wire.specs.Copy.{IsCopied};
-ghost use Rattle.capnp_wire.specs.Values.{HasWords, LacksWords, HasPart, HasRoomAt, IsFreeFrom, starts_with_null};
+ghost use Rattle.capnp_wire.specs.Values.{HasWords, WordsError, HasPart, HasRoomAt, IsFreeFrom, starts_with_null};
 ghost use Rattle.capnp_wire.specs.declared.traits.TreeWords.{TreeWords};
 
 use crate::any_pointer;
@@ -28,15 +28,15 @@ pub trait FromPointerReader<'a, S: ReaderSegments>: Sized {
     ghost accepts: { Pointer → Type 0 };
 
     /// With which errors a view fails: there is none, or it may not be read.
-    ghost refuses: { Pointer → ErrorKind → Type 0 };
+    ghost fails: { Pointer → ErrorKind → Type 0 };
 
     /// With which error a view fails where an object is there that it does not accept.
-    ghost declines: { Pointer → ErrorKind → Type 0 };
+    ghost form_error: { Pointer → ErrorKind → Type 0 };
 
-    /// The view of what a pointer leads to. Fails with a kind that `refuses` names.
+    /// The view of what a pointer leads to. Fails with a kind that `fails` names.
     fn get_from_pointer(reader: any_pointer::Reader<'a, S>) -> Result<Self>
         ensures { let pointer = pointer_of S.segments reader.entry in
-            IsViewOf pointer (shows pointer) (accepts pointer) (refuses pointer) (declines pointer)
+            IsViewOf pointer (shows pointer) (accepts pointer) (fails pointer) (form_error pointer)
             result };
 }
 
@@ -47,8 +47,8 @@ pub trait FromPointerInSegment<'a, S: ReaderSegments>: FromPointerReader<'a, S> 
     fn get_from_segment(reader: any_pointer::Reader<'a, S>, segment: &'a [u8]) -> Result<Self>
         requires { HasSegment (pointer_of S.segments reader) (words_of segment.now) }
         ensures { let pointer = pointer_of S.segments reader.entry in
-            IsViewOf pointer (Self.shows pointer) (Self.accepts pointer) (Self.refuses pointer)
-            (Self.declines pointer) result };
+            IsViewOf pointer (Self.shows pointer) (Self.accepts pointer) (Self.fails pointer)
+            (Self.form_error pointer) result };
 }
 
 /// A type of a schema, with its view.
@@ -73,19 +73,19 @@ pub trait SetterInput<T> {
     ghost has_tree: { Self → Trees → Type 0 };
 
     /// With which errors the value fails: it has no tree, or the tree may not be read.
-    ghost refuses: { Self → ErrorKind → Type 0 };
+    ghost fails: { Self → ErrorKind → Type 0 };
 
     /// The number of words of the value, without the pointer to it, as it is or in canonical form.
     ///
-    /// Fails with a kind that `refuses` names, and for 2^29 words and more with
+    /// Fails with a kind that `fails` names, and for 2^29 words and more with
     /// `AllocationTooLarge`, or in canonical form with `CanonicalTooLarge`.
     fn measure(&self, canonical: bool) -> Result<u32>
         ensures returned { MatchResult result (λ words. HasWords (has_tree self.now) canonical words)
-            (λ error. LacksWords (has_tree self.now) (refuses self.now) canonical error.kind) }
+            (λ error. WordsError (has_tree self.now) (fails self.now) canonical error.kind) }
         ensures found { (words : ℕ) → HasWords (has_tree self.now) canonical words →
             result ≡ Ok words }
         ensures exact { (kind : ErrorKind) →
-            LacksWords (has_tree self.now) (refuses self.now) canonical kind →
+            WordsError (has_tree self.now) (fails self.now) canonical kind →
             IsErrAnd result (λ error. error.kind ≡ kind) };
 
     /// The number of words of the value as a part of another one, without the pointer to it.
@@ -93,11 +93,11 @@ pub trait SetterInput<T> {
     /// Fails as `measure` does for the value as it is, even where its canonical form is smaller.
     fn measure_part(&self, canonical: bool) -> Result<TreeWords>
         ensures returned { MatchResult result (λ words. HasPart (has_tree self.now) canonical words)
-            (λ error. LacksWords (has_tree self.now) (refuses self.now) false error.kind) }
+            (λ error. WordsError (has_tree self.now) (fails self.now) false error.kind) }
         ensures found { (words : TreeWords) → HasPart (has_tree self.now) canonical words →
             result ≡ Ok words }
         ensures exact { (kind : ErrorKind) →
-            LacksWords (has_tree self.now) (refuses self.now) false kind →
+            WordsError (has_tree self.now) (fails self.now) false kind →
             IsErrAnd result (λ error. error.kind ≡ kind) }
     {
         let as_is = self.measure(false)? as u64;

@@ -13,7 +13,7 @@ impl<'a, S: ReaderSegments + 'a> traits::Owned<'a, S> for OwnedList {
 impl<'a, S: ReaderSegments> traits::SetterInput<OwnedList> for ListReader<'a, S> {
     ghost has_tree = { λ list trees. IsStructListValue S.segments list.elements trees };
 
-    ghost refuses = { λ list kind. RefusesStructList S.segments list.elements kind };
+    ghost fails = { λ list kind. StructListValueError S.segments list.elements kind };
 
     ghost one = { λ list trees is. one_struct_list S.segments list.elements trees is };
 
@@ -93,7 +93,7 @@ impl Builder {
     pub fn add<S: GrowingSegment>(&self, objects: &mut Orphanage<S>) -> Result<Orphan<Owned>>
         ensures adds { Adds (HoldsStruct (body_of objects.old) self.now.draft.words
             self.now.draft.pointers) objects.old objects.new word_of result }
-        ensures writes { Writes (StructWords @words@ @pointers@) (ExceedsPointer @words@ @pointers@)
+        ensures writes { Writes (StructWords @words@ @pointers@) (StructSizeError @words@ @pointers@)
             objects.old objects.new result }
     {
         objects.add(&self.draft)
@@ -103,7 +103,7 @@ impl Builder {
     pub fn add_root<S: GrowingSegment>(&self, objects: &mut Orphanage<S>) -> Result<()>
         ensures adds { AddsRoot (StructWords @words@ @pointers@) (HoldsStruct (body_of objects.old)
             self.now.draft.words self.now.draft.pointers) objects.old objects.new result }
-        ensures fails { Fails (StructWords @words@ @pointers@) (ExceedsPointer @words@ @pointers@)
+        ensures fails { Fails (StructWords @words@ @pointers@) (StructSizeError @words@ @pointers@)
             objects.old result }
     {
         objects.add_root(&self.draft)

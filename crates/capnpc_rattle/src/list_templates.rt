@@ -84,15 +84,15 @@ impl<'a, S: ReaderSegments> FromPointerReader<'a, S> for ListReader<'a, S> {
 
     ghost accepts = { λ pointer. Accepts pointer TakesRows };
 
-    ghost refuses = { λ pointer kind. Refuses pointer DeclinesRows kind };
+    ghost fails = { λ pointer kind. ViewError pointer ElementsFormError kind };
 
-    ghost declines = { λ pointer kind. Declines pointer DeclinesRows kind };
+    ghost form_error = { λ pointer kind. FormError pointer ElementsFormError kind };
 
     fn get_from_pointer(reader: any_pointer::Reader<'a, S>) -> Result<Self>
         ensures { let pointer = pointer_of S.segments reader.entry in IsViewOf pointer
             (λ view. IsUpgradedStructs pointer (upgraded_structs_of S.segments view.elements))
-            (Accepts pointer TakesRows) (Refuses pointer DeclinesRows)
-            (Declines pointer DeclinesRows) result }
+            (Accepts pointer TakesRows) (ViewError pointer ElementsFormError)
+            (FormError pointer ElementsFormError) result }
     {
         match upgraded::StructList::get_from_pointer(reader) {
             Ok(elements) => Ok(ListReader { elements }),

@@ -50,16 +50,16 @@ impl<'a, S: ReaderSegments> FromPointerReader<'a, S> for Reader<'a, S> {
 
     ghost accepts = { λ pointer. Accepts pointer TakesStruct };
 
-    ghost refuses = { λ pointer kind. Refuses pointer DeclinesStruct kind };
+    ghost fails = { λ pointer kind. ViewError pointer StructFormError kind };
 
-    ghost declines = { λ pointer kind. Declines pointer DeclinesStruct kind };
+    ghost form_error = { λ pointer kind. FormError pointer StructFormError kind };
 
     #[inline(always)]
     fn get_from_pointer(reader: any_pointer::Reader<'a, S>) -> Result<Self>
         ensures { let pointer = pointer_of S.segments reader.entry in IsViewOf pointer
             (λ view. IsStruct pointer (struct_of S.segments view.fields))
-            (Accepts pointer TakesStruct) (Refuses pointer DeclinesStruct)
-            (Declines pointer DeclinesStruct) result }
+            (Accepts pointer TakesStruct) (ViewError pointer StructFormError)
+            (FormError pointer StructFormError) result }
     {
         match StructReader::get_from_pointer(reader) {
             Ok(fields) => Ok(Reader { fields }),
@@ -91,8 +91,8 @@ elim @value@ [
 /// What a clause says of a view of what a pointer leads to.
 pub const VIEW_FACT: &str = "IsViewOf pointer
 (λ view. @shows@)
-(Accepts pointer @takes@) (Refuses pointer @declines@)
-(Declines pointer @declines@) @result@";
+(Accepts pointer @takes@) (ViewError pointer @form_error@)
+(FormError pointer @form_error@) @result@";
 
 /// What a clause says of a view of what a pointer of a struct leads to.
 pub const POINTER_FACT: &str = "let pointer = pointer_in fields @offset@ in
@@ -110,8 +110,8 @@ pub const DEFAULT_DATA_FACT: &str = "let pointer = pointer_in fields @offset@ in
 × (Denotes pointer nothing → (let constant = root_of @default@ in
 IsViewOf constant
 (λ view. IsDefaultData constant pointer (struct_of S.segments view.fields))
-(Accepts constant TakesStruct) (Refuses constant DeclinesStruct)
-(Declines constant DeclinesStruct) @value@))";
+(Accepts constant TakesStruct) (ViewError constant StructFormError)
+(FormError constant StructFormError) @value@))";
 
 /// The same for a view that is bound to the segments that it reads.
 pub const OR_DEFAULT_FACT: &str = "let pointer = pointer_in fields @offset@ in

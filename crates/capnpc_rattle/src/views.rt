@@ -39,8 +39,8 @@ pub struct View {
     pub shows: String,
     /// Which forms it accepts.
     pub takes: String,
-    /// How it declines the others.
-    pub declines: String,
+    /// How it rejects the others.
+    pub form_error: String,
 }
 
 impl View {
@@ -49,13 +49,13 @@ impl View {
         type_name: Result<String, AllocError>,
         shows: Result<String, AllocError>,
         takes: Result<String, AllocError>,
-        declines: Result<String, AllocError>,
+        form_error: Result<String, AllocError>,
     ) -> Result<Option<View>, AllocError> {
         Ok(Some(View {
             type_name: type_name?,
             shows: shows?,
             takes: takes?,
-            declines: declines?,
+            form_error: form_error?,
         }))
     }
 
@@ -64,7 +64,7 @@ impl View {
         let holes = Holes::new(alloc)
             .with("shows", self.shows.as_str())
             .with("takes", self.takes.as_str())
-            .with("declines", self.declines.as_str())
+            .with("form_error", self.form_error.as_str())
             .with("result", name);
         fill(alloc, VIEW_FACT, &holes)
     }
@@ -95,7 +95,7 @@ pub fn view_of(
         fill(alloc, view.type_name.as_str(), &holes),
         fill(alloc, view.shows.as_str(), &holes),
         Ok(view.takes),
-        Ok(view.declines),
+        Ok(view.form_error),
     )
 }
 
@@ -114,13 +114,13 @@ fn view_from(
     type_name: &str,
     shows: &str,
     takes: &str,
-    declines: &str,
+    form_error: &str,
 ) -> Result<Option<View>, AllocError> {
     View::new(
         String::from_str(alloc, type_name),
         String::from_str(alloc, shows),
         String::from_str(alloc, takes),
-        String::from_str(alloc, declines),
+        String::from_str(alloc, form_error),
     )
 }
 
@@ -137,14 +137,14 @@ fn single(
             "text::Reader<@lifetime@>",
             "Reads pointer (λ form. IsText form view.bytes.now)",
             "TakesText",
-            "DeclinesText",
+            "TextFormError",
         ),
         Base::Data => view_from(
             alloc,
             "&@lifetime@ [u8]",
             "Reads pointer (λ form. IsData form view.now)",
             "(TakesNumbers 2)",
-            "(DeclinesNumbers 2)",
+            "(NumbersFormError 2)",
         ),
         Base::Struct(id) => {
             let path = path_to(alloc, request, site, id)?;
@@ -154,7 +154,7 @@ fn single(
                 name.as_str(),
                 "IsStruct pointer (struct_of @segments_of@ view.fields)",
                 "TakesStruct",
-                "DeclinesStruct",
+                "StructFormError",
             )
         }
         _ => Ok(None),
@@ -179,7 +179,7 @@ fn list(
                 name.as_str(),
                 "IsUpgradedStructs pointer (upgraded_structs_of @segments_of@ view.elements)",
                 "TakesRows",
-                "DeclinesRows",
+                "ElementsFormError",
             )
         }
         Base::AnyPointer => list_of_pointers(alloc, "any_pointer::Reader<@lifetime@, @segments@>"),
@@ -217,7 +217,7 @@ fn list_of_numbers(alloc: Global, element: &str, code: u32) -> Result<Option<Vie
             "Reads pointer (λ form. ReadsAsNumbers {code} form (upgraded_numbers_of {code} view))"
         ),
         format!(in alloc; "(TakesFields {code})"),
-        format!(in alloc; "(DeclinesFields {code})"),
+        format!(in alloc; "(FieldsFormError {code})"),
     )
 }
 
@@ -235,7 +235,7 @@ fn list_of_enums(
         name.as_str(),
         "Reads pointer (λ form.\nReadsAsNumbers 3 form (upgraded_numbers_of 3 view.numbers))",
         "(TakesFields 3)",
-        "(DeclinesFields 3)",
+        "(FieldsFormError 3)",
     )
 }
 
@@ -247,6 +247,6 @@ fn list_of_pointers(alloc: Global, element: &str) -> Result<Option<View>, AllocE
         name.as_str(),
         "IsUpgradedPointers pointer (upgraded_pointers_of @segments_of@ view.pointers)",
         "TakesFirstPointers",
-        "DeclinesFirstPointers",
+        "FirstPointersFormError",
     )
 }

@@ -3,7 +3,7 @@ ghost use Rattle.std.specs.Prelude.{◌≡◌, ◌≢◌, None, Some};
 ghost use Rattle.std.specs.Io.{ReadsAtMost, WritesAtMost};
 ghost use Rattle.std.specs.Io.KnownBytes.{Keeps, ReadConsumes, WriteAppends};
 ghost use Rattle.std.specs.IoError.{error_kind};
-ghost use Rattle.capnp.specs.Devices.{KeepsFault};
+ghost use Rattle.capnp.specs.Devices.{KeepsDeviceError};
 
 use std::io;
 use std::io::{ErrorKind, Read, Write};
@@ -13,35 +13,35 @@ use std::io::{ErrorKind, Read, Write};
 #[derive(Drop)]
 pub struct Watched<D> {
     device: D,
-    fault: Option<io::Error>,
+    last_error: Option<io::Error>,
 }
 
 impl<D> Watched<D> {
     /// The device, which has not failed yet.
     pub fn new(device: D) -> Watched<D>
         ensures device { result.device ≡ device }
-        ensures unfailed { result.fault ≡ None }
+        ensures unfailed { result.last_error ≡ None }
     {
         Watched {
             device,
-            fault: None,
+            last_error: None,
         }
     }
 
     /// Why the device failed last, if it did.
-    pub fn fault(&self) -> Option<io::Error>
-        ensures { result ≡ self.now.fault }
+    pub fn last_error(&self) -> Option<io::Error>
+        ensures { result ≡ self.now.last_error }
     {
-        self.fault
+        self.last_error
     }
 
     fn note(&mut self, error: io::Error)
-        ensures noted { error_kind error ≢ ErrorKind.Interrupted → self.new.fault ≡ Some error }
-        ensures kept { error_kind error ≡ ErrorKind.Interrupted → self.new.fault ≡ self.old.fault }
+        ensures noted { error_kind error ≢ ErrorKind.Interrupted → self.new.last_error ≡ Some error }
+        ensures kept { error_kind error ≡ ErrorKind.Interrupted → self.new.last_error ≡ self.old.last_error }
         ensures device { self.new.device ≡ self.old.device }
     {
         if error.kind() != ErrorKind::Interrupted {
-            self.fault = Some(error);
+            self.last_error = Some(error);
         }
     }
 }
@@ -53,7 +53,7 @@ impl<R: Read> Read for Watched<R> {
         ensures bound { ReadsAtMost result buffer.new }
         ensures bytes { ReadConsumes (R.remaining self.old.device) (R.remaining self.new.device)
             result buffer.new }
-        ensures fault { KeepsFault self.old.fault self.new.fault result }
+        ensures last_error { KeepsDeviceError self.old.last_error self.new.last_error result }
     {
         match self.device.read(buffer) {
             Ok(count) => Ok(count),
@@ -72,7 +72,7 @@ impl<W: Write> Write for Watched<W> {
         ensures bound { WritesAtMost result bytes.now }
         ensures bytes { WriteAppends (W.contents self.old.device) (W.contents self.new.device)
             result bytes.now }
-        ensures fault { KeepsFault self.old.fault self.new.fault result }
+        ensures last_error { KeepsDeviceError self.old.last_error self.new.last_error result }
     {
         match self.device.write(bytes) {
             Ok(count) => Ok(count),
@@ -85,7 +85,7 @@ impl<W: Write> Write for Watched<W> {
 
     fn flush(&mut self) -> io::Result<()>
         ensures bytes { Keeps (W.contents self.old.device) (W.contents self.new.device) }
-        ensures fault { KeepsFault self.old.fault self.new.fault result }
+        ensures last_error { KeepsDeviceError self.old.last_error self.new.last_error result }
     {
         match self.device.flush() {
             Ok(()) => Ok(()),

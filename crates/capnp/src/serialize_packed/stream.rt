@@ -26,7 +26,7 @@ use std::alloc::Global;
 ///
 /// Fails as `try_read_packed_segments` of `capnp_pack` does: with `InvalidNumberOfSegments`,
 /// `MessageTooLarge` or `NonZeroPadding` for the table; with `PrematureEndOfPackedInput`,
-/// `FailedToFillTheWholeBuffer` or `PackedInputDidNotEndCleanlyOnASegmentBoundary` for faults of
+/// `FailedToFillTheWholeBuffer` or `PackedInputDidNotEndCleanlyOnASegmentBoundary` for errors of
 /// the packed bytes; with `OutOfMemory`; and with `DeviceFailed`.
 ///
 /// ```

@@ -78,16 +78,16 @@ pub struct StreamRead {
     /// Where the last of them ends, in bytes.
     pub end: usize,
     /// Why no further one was read, or `None` at the end of the stream.
-    pub refusal: Option<Error>,
+    pub error: Option<Error>,
 }
 
 impl StreamRead {
     /// Whether the stream ends within a message, by `is_cut`. Truncated to `end`, it is the
     /// messages that were read, and more can be appended.
     pub fn is_cut(&self) -> bool
-        ensures { TellsCut self.now.refusal result }
+        ensures { TellsCut self.now.error result }
     {
-        match &self.refusal {
+        match &self.error {
             Some(error) => is_cut(error),
             None => false,
         }
@@ -97,7 +97,7 @@ impl StreamRead {
 /// Reads every message of a stream, one after another, by this rule of padding, up to the end of
 /// the stream or the first error.
 ///
-/// Where memory is lacking, `refusal` is `OutOfMemory`, and what was read before is returned. None is
+/// Where memory is lacking, `error` is `OutOfMemory`, and what was read before is returned. None is
 /// taken where the stream is empty.
 pub fn every_message(
     alloc: Global,
@@ -107,7 +107,7 @@ pub fn every_message(
     options: ReaderOptions,
 ) -> StreamRead
     ensures read { ReadsEach padding format options.traversal_limit_in_words stream.now
-        (map (λ reader. reader.segments) result.messages.items) result.end result.refusal }
+        (map (λ reader. reader.segments) result.messages.items) result.end result.error }
     ensures options { AllByRecursion (λ reader. reader.options ≡ options) result.messages.items }
 {
     let mut messages = Vec::new(alloc);
@@ -120,14 +120,14 @@ pub fn every_message(
                 return StreamRead {
                     messages,
                     end,
-                    refusal: None,
+                    error: None,
                 };
             }
             Err(error) => {
                 return StreamRead {
                     messages,
                     end,
-                    refusal: Some(error),
+                    error: Some(error),
                 };
             }
         }
@@ -135,7 +135,7 @@ pub fn every_message(
     StreamRead {
         messages,
         end,
-        refusal: Some(Error::from_kind(ErrorKind::OutOfMemory)),
+        error: Some(Error::from_kind(ErrorKind::OutOfMemory)),
     }
 }
 
@@ -154,7 +154,7 @@ fn add_next(
         ≡ map (λ reader. reader.segments) messages.old.items ++ message ∷ [])) }
     ensures ended { IfOk result (λ more. IsFalse more →
         (rest.old.now ≡ []) × (messages.new.items ≡ messages.old.items)) }
-    ensures refused { IfErr result (λ error. ((error.kind ≡ ErrorKind.OutOfMemory)
+    ensures errors { IfErr result (λ error. ((error.kind ≡ ErrorKind.OutOfMemory)
         × TakesForListed padding format options.traversal_limit_in_words rest.old.now)
         ⊎ EndsBy padding format options.traversal_limit_in_words (Some error.kind) rest.old.now) }
     ensures some { IfErr result (λ error. error.kind ≡ ErrorKind.OutOfMemory →

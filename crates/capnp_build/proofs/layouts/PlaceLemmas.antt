@@ -79,7 +79,7 @@ pub found_no_room : {A S : Type 0} (alloc : Ghosts A S) (measured : ℕ → Type
     → IfErr r (λ error. R error.kind ⊎ E error.kind ⊎ FoundNoRoom alloc measured old error.kind)
 found_no_room alloc measured R E old new (Ok done) nulled kind = tt
 found_no_room alloc measured R E old new (Err error) nulled kind = elim kind [
-  | inl refuses ↦ inl refuses
+  | inl fails ↦ inl fails
   | inr rest ↦ elim rest [
     | inl first ↦ inr (inl first.1)
     | inr no_room ↦ inr (inr (record { cleared = new; is_cleared = nulled; no_room = no_room }))

@@ -5,7 +5,7 @@ use Rattle.capnp_layout.specs.Prelude.{Form, null}
 use Rattle.capnp_build.specs.declared.allocator.Allocator as allocator
 use Rattle.capnp_build.specs.declared.owned_builder.OwnedBuilder as owned_builder
 use Rattle.capnp_frame.specs.Prelude.{IsPreorder}
-use Rattle.capnp_build.specs.Prelude.{Built, NewWords, InitWords, IsNew, PutsBlock, InitsRoot, ClearsRoot, LacksFirst, InitsView}
+use Rattle.capnp_build.specs.Prelude.{Built, NewWords, InitWords, IsNew, PutsBlock, InitsRoot, ClearsRoot, FirstSegmentError, InitsView}
 use Rattle.std.specs.Borrow.{MutBor}
 use Rattle.capnp_build.proofs.roots.NullLemmas.{null_root}
 use Rattle.capnp_build.proofs.layouts.PlaceLemmas.{still_cleared, found_no_room}
@@ -41,7 +41,7 @@ inits_root alloc schema n form old cleared new (Err error) keeps clear inits tol
   inits = tt;
   there = tt;
   placed = tt;
-  nulled = still_cleared alloc old cleared new (Err error) keeps (cleared_root alloc old cleared clear) told.2.refused told.2.kept told.2.same told.2.others;
+  nulled = still_cleared alloc old cleared new (Err error) keeps (cleared_root alloc old cleared clear) told.2.errors told.2.kept told.2.same told.2.others;
   kind = inr (inr (finds_no_room alloc (InitWords schema.inits n) old cleared new told.0 clear (form, inits, told.1) told.2.kept told.2.kind));
   none = λ gone. let l : length cleared.spaces ≡ 0 = ap length (sym told.2.kept ∙ gone) in absurd (omega (arith, l, clear.there));
   fits = λ words has most room.
@@ -71,14 +71,14 @@ inits_null alloc schema n old new clear inits =
     }
 
 -- a view of a new object fails as making the object does
-pub init_refused : {A S K M V : Type 0} (alloc : allocator.Ghosts A S) (schema : owned_builder.Ghosts K) (n : ℕ) (built : M → Built A) (message : V → MutBor M) (old : MutBor M) (new : Built A)
+pub init_error : {A S K M V : Type 0} (alloc : allocator.Ghosts A S) (schema : owned_builder.Ghosts K) (n : ℕ) (built : M → Built A) (message : V → MutBor M) (old : MutBor M) (new : Built A)
     (error : Error) → InitsRoot alloc schema n (built old.now) new (Err error) → InitsView alloc schema n built message old (Err error)
-init_refused alloc schema n built message old new error told = record {
+init_error alloc schema n built message old new error told = record {
   same = tt;
   inits = tt;
   there = tt;
   placed = tt;
-  kind = found_no_room alloc (InitWords schema.inits n) (schema.refuses n) (LacksFirst alloc (built old.now)) (built old.now) new (Err error) told.nulled told.kind;
+  kind = found_no_room alloc (InitWords schema.inits n) (schema.fails n) (FirstSegmentError alloc (built old.now)) (built old.now) new (Err error) told.nulled told.kind;
   fits = told.fits;
   available = told.available;
   allocator = tt;

@@ -3,11 +3,11 @@ use Rattle.std.proofs.Common.{◌≡◌, ◌/◌, inl, inr, ℕ, ◌<◌, ◌≤
 use Rattle.capnp_frame.specs.declared.error.Error.{Error}
 use Rattle.capnp_frame.specs.declared.error.ErrorKind.{ErrorKind}
 use Rattle.capnp_layout.specs.Prelude.{Form, null, Trees, none}
-use Rattle.capnp_wire.specs.Prelude.{HasWords, LacksWords}
+use Rattle.capnp_wire.specs.Prelude.{HasWords, WordsError}
 use Rattle.capnp_build.specs.declared.allocator.Allocator as allocator
 use Rattle.capnp_build.specs.declared.owned_builder.OwnedBuilder as owned_builder
 use Rattle.capnp_build.specs.declared.root_kind.RootKind.{RootKind}
-use Rattle.capnp_build.specs.Prelude.{Space, Out, HasLarge, pairs, space_at, free_words_of, Built, state_of, size_in_words, HasNullRoot, ForRoot, IsSet, DeclinesRoot, HasNoRoom, LacksSegment, FindsNoRoom, IsPut, IsGranted, IsCleared, IsLookedAt, PutsBlock, SetsRoot, ClearsRoot, EnsuresRoot, LooksAtRoot, HasRoomFirst, ShowsRoot, HoldsForm}
+use Rattle.capnp_build.specs.Prelude.{Space, Out, HasLarge, pairs, space_at, free_words_of, Built, state_of, size_in_words, HasNullRoot, ForRoot, IsSet, RootFormError, HasNoRoom, SegmentError, FindsNoRoom, IsPut, IsGranted, IsCleared, IsLookedAt, PutsBlock, SetsRoot, ClearsRoot, EnsuresRoot, LooksAtRoot, HasRoomFirst, ShowsRoot, HoldsForm}
 use Rattle.capnp_frame.specs.Prelude.{IsPreorder}
 use Rattle.capnp_build.proofs.roots.NullLemmas.{null_root}
 use Rattle.capnp_build.proofs.layouts.PlaceLemmas.{still_cleared}
@@ -56,19 +56,19 @@ room_first alloc old cleared words told few room = elim room [
   | inr new_object ↦ (let size = (told.granted new_object.0 new_object.1.0 new_object.1.1).1 in let alone = told.new_object new_object.0 in omega (arith, size, alone.1, new_object.1.2, few))
 ]
 
-pub sets_root_unmeasured : {A S : Type 0} (alloc : allocator.Ghosts A S) (has_tree : Trees → Type 0) (refuses : ErrorKind → Type 0) (old new : Built A) (error : Error)
-    {done : Unit {0}} → ClearsRoot alloc old new (Ok done) → LacksWords has_tree refuses false error.kind → ((kind : ErrorKind) → LacksWords has_tree refuses false kind → error.kind ≡ kind)
-    → ((words : ℕ) → HasWords has_tree false words → ⊥) → SetsRoot alloc has_tree refuses old new (Err error)
-sets_root_unmeasured alloc has_tree refuses old new error clear lacks exact found = record {
+pub sets_root_unmeasured : {A S : Type 0} (alloc : allocator.Ghosts A S) (has_tree : Trees → Type 0) (fails : ErrorKind → Type 0) (old new : Built A) (error : Error)
+    {done : Unit {0}} → ClearsRoot alloc old new (Ok done) → WordsError has_tree fails false error.kind → ((kind : ErrorKind) → WordsError has_tree fails false kind → error.kind ≡ kind)
+    → ((words : ℕ) → HasWords has_tree false words → ⊥) → SetsRoot alloc has_tree fails old new (Err error)
+sets_root_unmeasured alloc has_tree fails old new error clear words_error exact found = record {
   set = tt;
   there = tt;
   placed = tt;
   nulled = cleared_root alloc old new clear;
-  kind = inl lacks;
+  kind = inl words_error;
   none = λ empty. let l : length new.spaces ≡ 0 = ap length empty in absurd (omega (arith, l, clear.there));
   exact = λ kind is. inl (exact kind is);
   fits = λ words has room. absurd (found words has);
-  available = λ empty out taken. lacks;
+  available = λ empty out taken. words_error;
   same = clear.same;
   others = clear.others;
 }
@@ -103,44 +103,44 @@ is_put alloc stands measured old cleared new words clear has told = record {
 
 -- want of room once the root is cleared
 pub finds_no_room : {A S : Type 0} (alloc : allocator.Ghosts A S) (measured : ℕ → Type 0) (old cleared new : Built A) (words : ℕ) {kind : ErrorKind} {done : Unit {0}}
-    → ClearsRoot alloc old cleared (Ok done) → measured words → new.spaces ≡ cleared.spaces → HasNoRoom cleared.spaces words × LacksSegment alloc (state_of cleared) (words + 1) kind
+    → ClearsRoot alloc old cleared (Ok done) → measured words → new.spaces ≡ cleared.spaces → HasNoRoom cleared.spaces words × SegmentError alloc (state_of cleared) (words + 1) kind
     → FindsNoRoom alloc measured old new.spaces kind
 finds_no_room alloc measured old cleared new words {kind} clear has kept told = record {
   words = words;
   words_are = has;
   full = subst (λ (l : List Space). HasNoRoom l words) (sym kept) told.0;
   asked = cleared.allocator;
-  lacks = subst (λ (l : List Space). LacksSegment alloc (record { spaces = l; allocator = cleared.allocator }) (words + 1) kind) (sym kept) told.1;
+  segment_error = subst (λ (l : List Space). SegmentError alloc (record { spaces = l; allocator = cleared.allocator }) (words + 1) kind) (sym kept) told.1;
   stays = clear.stays;
   same = clear.same;
 }
 
 -- a value's block is placed once the root is cleared
-pub sets_root : {A S : Type 0} (alloc : allocator.Ghosts A S) (has_tree : Trees → Type 0) (refuses : ErrorKind → Type 0) (old cleared new : Built A) (words : ℕ)
+pub sets_root : {A S : Type 0} (alloc : allocator.Ghosts A S) (has_tree : Trees → Type 0) (fails : ErrorKind → Type 0) (old cleared new : Built A) (words : ℕ)
     {done : Unit {0}} (r : Result (Unit {0}) Error) → IsPreorder alloc.same → ClearsRoot alloc old cleared (Ok done) → HasWords has_tree false words
-    → ((kind : ErrorKind) → LacksWords has_tree refuses false kind → ⊥) → ((other : ℕ) → HasWords has_tree false other → other ≡ words)
-    → PutsBlock alloc (IsSet has_tree false) words cleared new r → SetsRoot alloc has_tree refuses old new r
-sets_root alloc has_tree refuses old cleared new words (Ok done) keeps clear has exact found told = record {
+    → ((kind : ErrorKind) → WordsError has_tree fails false kind → ⊥) → ((other : ℕ) → HasWords has_tree false other → other ≡ words)
+    → PutsBlock alloc (IsSet has_tree false) words cleared new r → SetsRoot alloc has_tree fails old new r
+sets_root alloc has_tree fails old cleared new words (Ok done) keeps clear has exact found told = record {
   set = told.set;
   there = told.there;
   placed = is_put alloc (IsSet has_tree false) (HasWords has_tree false) old cleared new words clear has told;
   nulled = tt;
   kind = tt;
   none = λ empty. tt;
-  exact = λ kind lacks. absurd (exact kind lacks);
+  exact = λ kind words_error. absurd (exact kind words_error);
   fits = λ other also room. refl;
   available = λ empty out. tt;
   same = keeps.transitive _ _ _ clear.same told.same;
   others = λ others is. told.others others (clear.others others is);
 }
-sets_root alloc has_tree refuses old cleared new words (Err error) keeps clear has exact found told = record {
+sets_root alloc has_tree fails old cleared new words (Err error) keeps clear has exact found told = record {
   set = tt;
   there = tt;
   placed = tt;
-  nulled = still_cleared alloc old cleared new (Err error) keeps (cleared_root alloc old cleared clear) told.refused told.kept told.same told.others;
+  nulled = still_cleared alloc old cleared new (Err error) keeps (cleared_root alloc old cleared clear) told.errors told.kept told.same told.others;
   kind = inr (inr (finds_no_room alloc (HasWords has_tree false) old cleared new words clear has told.kept told.kind));
   none = λ empty. let l : length cleared.spaces ≡ 0 = ap length (sym told.kept ∙ empty) in absurd (omega (arith, l, clear.there));
-  exact = λ kind lacks. absurd (exact kind lacks);
+  exact = λ kind words_error. absurd (exact kind words_error);
   fits = λ other also room.
       let fit = room_first alloc old cleared other clear also.few room in let full = told.kind.0.first in absurd (omega (arith, fit, full, found other also));
   available = λ empty out taken. absurd (available_alone alloc old cleared words clear has.few told.kind.0 (told.taken taken) empty out);
@@ -148,18 +148,18 @@ sets_root alloc has_tree refuses old cleared new words (Err error) keeps clear h
   others = λ others is. told.others others (clear.others others is);
 }
 
--- what is declined where there is a root, null where there was no segment
-declined : (old last : List Space) (declines : Form → ErrorKind → Type 0) (kind : ErrorKind) → (0 < length old → last ≡ old) → (old ≡ [] → HasNullRoot last) → 0 < length last
-    → ForRoot last (λ form. declines form kind) → DeclinesRoot declines old kind
-declined [] last declines kind stays null_word there is = let t = null_root last there (null_word refl) in is null none t.0 t.1
-declined (s ∷ spaces) last declines kind stays null_word there is = subst (λ (l : List Space). ForRoot l (λ form. declines form kind)) (stays (omega arith)) is
+-- what is rejected where there is a root, null where there was no segment
+form_errors : (old last : List Space) (form_error : Form → ErrorKind → Type 0) (kind : ErrorKind) → (0 < length old → last ≡ old) → (old ≡ [] → HasNullRoot last) → 0 < length last
+    → ForRoot last (λ form. form_error form kind) → RootFormError form_error old kind
+form_errors [] last form_error kind stays null_word there is = let t = null_root last there (null_word refl) in is null none t.0 t.1
+form_errors (s ∷ spaces) last form_error kind stays null_word there is = subst (λ (l : List Space). ForRoot l (λ form. form_error form kind)) (stays (omega arith)) is
 
--- a type takes what is shown of the root, or declines it
+-- a type takes what is shown of the root, or rejects it
 pub looks_at_root : {A S K : Type 0} (alloc : allocator.Ghosts A S) (schema : owned_builder.Ghosts K) (old last : Built A) (shown : RootKind) (bytes : List ℕ) {done : Unit {0}}
     (r : Result (Unit {0}) Error) → EnsuresRoot alloc old last (Ok done) → ForRoot last.spaces (ShowsRoot shown) → ForRoot last.spaces (HoldsForm bytes)
     → OnOk r ((form : Form) → ShowsRoot shown form → HoldsForm bytes form → schema.takes form)
-    → IfErr r (λ error. (form : Form) → ShowsRoot shown form → HoldsForm bytes form → schema.declines form error.kind) → LooksAtRoot alloc schema old last r
-looks_at_root alloc schema old last shown bytes (Ok done) told shows holds takes declines = record {
+    → IfErr r (λ error. (form : Form) → ShowsRoot shown form → HoldsForm bytes form → schema.form_error form error.kind) → LooksAtRoot alloc schema old last r
+looks_at_root alloc schema old last shown bytes (Ok done) told shows holds takes form_error = record {
   taken = λ form children traversed root_is. takes form (shows form children traversed root_is) (holds form children traversed root_is);
   there = told.there;
   looked = told.looked;
@@ -169,9 +169,9 @@ looks_at_root alloc schema old last shown bytes (Ok done) told shows holds takes
   available = λ empty out. tt;
   others = told.others;
 }
-looks_at_root {A} alloc schema old last shown bytes (Err error) told shows holds takes declines =
-    let is = declined old.spaces last.spaces schema.declines error.kind (λ some. ap (λ (v : Built A). v.spaces) (told.looked.stays some)) told.looked.null_word told.there
-    (λ form children traversed root_is. declines form (shows form children traversed root_is) (holds form children traversed root_is)) in
+looks_at_root {A} alloc schema old last shown bytes (Err error) told shows holds takes form_error =
+    let is = form_errors old.spaces last.spaces schema.form_error error.kind (λ some. ap (λ (v : Built A). v.spaces) (told.looked.stays some)) told.looked.null_word told.there
+    (λ form children traversed root_is. form_error form (shows form children traversed root_is) (holds form children traversed root_is)) in
     record {
       taken = tt;
       there = tt;

@@ -3,7 +3,7 @@ use Rattle.std.proofs.Common.{◌≡◌, ◌<◌, ℕ, List, [], ◌∷◌, leng
 use Rattle.capnp_frame.specs.declared.error.Error.{Error}
 use Rattle.capnp_frame.specs.declared.error.ErrorKind.{ErrorKind}
 use Rattle.capnp_layout.specs.Prelude.{Form, null, struct, numbers, Trees, none, tree, Root, root}
-use Rattle.capnp_build.specs.Prelude.{Space, message, ForRoot, IsRootKind, DeclinesRoot, HasField, HasNumber, ShowsRoot, HoldsForm}
+use Rattle.capnp_build.specs.Prelude.{Space, message, ForRoot, IsRootKind, RootFormError, HasField, HasNumber, ShowsRoot, HoldsForm}
 use Rattle.capnp_build.specs.declared.root_kind.RootKind.{RootKind}
 use Rattle.capnp_build.specs.declared.root_kind.RootKind.TheVariants.{Null, Bytes, Words, Struct, Other}
 use Rattle.capnp_build.proofs.roots.NullLemmas.{root_there}
@@ -36,10 +36,10 @@ no_number spaces index number empty =
     let some = root_there spaces (root ∷ []) (tree (numbers 5 number.values) none none) number.traversed refl number.stands in
     absurd (omega (arith, some, ap length empty))
 
--- a failure declines the root, which is null where there is no segment
-pub declined_there : (spaces : List Space) (declines : Form → ErrorKind → Type 0) (shown : RootKind) (bytes : List ℕ) (r : Result (Unit {0}) Error)
+-- a failure rejects the root, which is null where there is no segment
+pub form_error_there : (spaces : List Space) (form_error : Form → ErrorKind → Type 0) (shown : RootKind) (bytes : List ℕ) (r : Result (Unit {0}) Error)
     → ForRoot spaces (ShowsRoot shown) → IsRootKind shown spaces → ForRoot spaces (HoldsForm bytes)
-    → IfErr r (λ error. (form : Form) → ShowsRoot shown form → HoldsForm bytes form → declines form error.kind) → IfErr r (λ error. DeclinesRoot declines spaces error.kind)
-declined_there spaces declines shown bytes (Ok done) shows stands holds is = tt
-declined_there [] declines shown bytes (Err error) shows stands holds is = is null (null_shown shown stands) tt
-declined_there (s ∷ spaces) declines shown bytes (Err error) shows stands holds is = λ form children traversed there. is form (shows form children traversed there) (holds form children traversed there)
+    → IfErr r (λ error. (form : Form) → ShowsRoot shown form → HoldsForm bytes form → form_error form error.kind) → IfErr r (λ error. RootFormError form_error spaces error.kind)
+form_error_there spaces form_error shown bytes (Ok done) shows stands holds is = tt
+form_error_there [] form_error shown bytes (Err error) shows stands holds is = is null (null_shown shown stands) tt
+form_error_there (s ∷ spaces) form_error shown bytes (Err error) shows stands holds is = λ form children traversed there. is form (shows form children traversed there) (holds form children traversed there)

@@ -7,7 +7,7 @@ ghost use Rattle.capnp_build.specs.RootKind.{ShowsRoot, HoldsForm};
 ghost use Rattle.capnp_build.specs.Output.{CanBeWritten};
 ghost use Rattle.capnp_layout.specs.Prelude.{Form, Trees, none, tree, count, At, root, pointer};
 ghost use Rattle.capnp_wire.specs.Prelude.{pointer_of, unlimited_root};
-ghost use Rattle.capnp_build.specs.Outcomes.{ClearsRoot, EnsuresRoot, LacksFirst, NotExhaustedWhileAvailable, IsNewMessage, GivesBack};
+ghost use Rattle.capnp_build.specs.Outcomes.{ClearsRoot, EnsuresRoot, FirstSegmentError, NotExhaustedWhileAvailable, IsNewMessage, GivesBack};
 ghost use Rattle.capnp_build.specs.Blocks.{LeavesNull};
 ghost use Rattle.capnp_build.specs.RootViews.{HoldsTree};
 
@@ -72,7 +72,7 @@ impl<A: Allocator> BuilderArena<A> {
         ensures outside { KeepsOutside self.old.location self.old.spaces self.new.spaces }
         ensures there { OnOk result (0 < length self.new.spaces) }
         ensures none { OnErr result (self.new.spaces ≡ []) }
-        ensures kind { IfErr result (λ error. LacksFirst A.Allocator self.old error.kind) }
+        ensures kind { IfErr result (λ error. FirstSegmentError A.Allocator self.old error.kind) }
         ensures stays { 0 < length self.old.spaces → self.new.allocator ≡ self.old.allocator }
         ensures size { OnOk result (size_in_words self.new.spaces ≡ max 1 (size_in_words self.old.spaces)) }
         ensures rooms { KeepsRooms self.old.spaces self.new.spaces }

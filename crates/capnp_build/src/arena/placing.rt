@@ -4,7 +4,7 @@ ghost use Rattle.capnp_frame.specs.declared.error.ErrorKind.TheVariants.{Segment
 ghost use Rattle.capnp_build.specs.Out.{Out, HasLarge};
 ghost use Rattle.capnp_build.specs.BuilderState.{space_at, free_words_of, pairs};
 ghost use Rattle.capnp_build.specs.Built.{state_of, IsSet, IsWhole};
-ghost use Rattle.capnp_build.specs.Placed.{LacksSegment, IsAdded};
+ghost use Rattle.capnp_build.specs.Placed.{SegmentError, IsAdded};
 ghost use Rattle.capnp_layout.specs.Prelude.{count, root, pointer};
 ghost use Rattle.capnp_wire.specs.Prelude.{HasWords};
 ghost use Rattle.capnp_build.specs.Blocks.{LeavesNull, PutsBlock, PlacesBlock};
@@ -32,7 +32,7 @@ impl<A: Allocator> BuilderArena<A> {
         ensures kept { OnErr result (self.new.spaces ≡ self.old.spaces) }
         ensures full { OnErr result ((i : ℕ) → 0 < i → i < length self.old.spaces →
             free_words_of (space_at self.old.spaces i) < words) }
-        ensures kind { IfErr result (λ error. LacksSegment A.Allocator (state_of self.old) words error.kind) }
+        ensures kind { IfErr result (λ error. SegmentError A.Allocator (state_of self.old) words error.kind) }
         ensures taken { IfErr result (λ error. error.kind ≡ SegmentTaken → (others : List Out) →
             A.out self.old.allocator (pairs self.old.spaces others) →
             HasLarge words (pairs self.old.spaces others)) }

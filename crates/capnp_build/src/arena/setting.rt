@@ -23,7 +23,7 @@ impl<A: Allocator> BuilderArena<A> {
     /// `OutOfMemory` where the list of segments can't grow, and as the allocator does to hand out a
     /// further one. The root is then null.
     pub fn set_root<T, V: SetterInput<T>>(&mut self, value: &V) -> Result<()>
-        ensures { SetsRoot A.Allocator (V.has_tree value.now) (V.refuses value.now)
+        ensures { SetsRoot A.Allocator (V.has_tree value.now) (V.fails value.now)
             self.old self.new result }
     {
         self.clear_root()?;
@@ -33,7 +33,7 @@ impl<A: Allocator> BuilderArena<A> {
 
     /// Makes the root a new object of length `n`, or null where the type has none of this length.
     ///
-    /// Fails as the allocator does to hand out the first segment, with a kind that `refuses` of the
+    /// Fails as the allocator does to hand out the first segment, with a kind that `fails` of the
     /// type names for `n`, and where no segment has room as `set_root` does. The root is then null.
     pub fn init_object<K: OwnedBuilder>(&mut self, n: u32) -> Result<()>
         ensures { InitsRoot A.Allocator K.OwnedBuilder n self.old self.new result }
@@ -64,7 +64,7 @@ impl<A: Allocator> BuilderArena<A> {
     /// `NotOneSegment` where there are more segments, as `measure` of the value does, and with
     /// `NotOneSegment` where the segment has no room. The root is then null.
     pub fn set_root_canonical<T, V: SetterInput<T>>(&mut self, value: &V) -> Result<()>
-        ensures { SetsRootCanonical A.Allocator (V.has_tree value.now) (V.refuses value.now)
+        ensures { SetsRootCanonical A.Allocator (V.has_tree value.now) (V.fails value.now)
             self.old self.new result }
     {
         self.clear_root()?;

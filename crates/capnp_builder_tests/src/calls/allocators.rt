@@ -3,7 +3,7 @@ use crate::fixtures::expect;
 use capnp_build::allocator::Allocator;
 use capnp_build::segment_space::SegmentSpace;
 use capnp_frame::Result;
-use capnp_frame_tests::refusals::refusal;
+use capnp_frame_tests::errors::error_of;
 use capnp_message::heap_allocator::{AllocationStrategy, HeapAllocator};
 use capnp_message::scratch_space::{ScratchSegment, ScratchSpaceHeapAllocator};
 use capnp_message::single_segment::SingleSegmentAllocator;
@@ -110,18 +110,18 @@ fn scratch_of_one_strategy(rt: HostRuntime) -> Result<()> {
     Ok(())
 }
 
-fn next_refusal(single: &mut SingleSegmentAllocator<'_>, minimum_size: u32) -> u8 {
-    refusal(single.allocate_segment(minimum_size))
+fn next_error(single: &mut SingleSegmentAllocator<'_>, minimum_size: u32) -> u8 {
+    error_of(single.allocate_segment(minimum_size))
 }
 
 #[test]
 fn single(rt: HostRuntime) -> Result<()> {
     let mut region = [7; 16];
     let mut single = SingleSegmentAllocator::new(&mut region);
-    expect(&rt, "too large", next_refusal(&mut single, 3), 15);
+    expect(&rt, "too large", next_error(&mut single, 3), 15);
     let provided = single.allocate_segment(2)?;
     expect(&rt, "the region", &provided[..], [0; 16].as_slice());
-    let refusals = [next_refusal(&mut single, 1), next_refusal(&mut single, 3)];
-    expect(&rt, "taken", refusals, [16, 15]);
+    let errors = [next_error(&mut single, 1), next_error(&mut single, 3)];
+    expect(&rt, "taken", errors, [16, 15]);
     Ok(())
 }

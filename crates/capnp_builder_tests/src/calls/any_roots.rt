@@ -4,7 +4,7 @@ use crate::fixtures::expect;
 use capnp_build::{any_pointer, any_struct, primitive_list, text};
 use capnp_frame::Result;
 use capnp_frame::message::ReaderSegments;
-use capnp_frame_tests::refusals::allocation_refusal;
+use capnp_frame_tests::errors::allocation_error;
 use std::process::Abort;
 
 // Whether the root is null, and the words of what it leads to.
@@ -24,9 +24,9 @@ fn fifth_by_any_pointer(arena: &mut Words) -> Result<u64> {
     Ok(root.get_as::<primitive_list::Owned<u64>>()?.get(4))
 }
 
-fn text_refusal(arena: &mut Words) -> Result<(u8, u32)> {
+fn text_error(arena: &mut Words) -> Result<(u8, u32)> {
     let root = arena.get_root::<any_pointer::Owned>()?;
-    Ok(allocation_refusal(root.get_as::<text::Owned>()))
+    Ok(allocation_error(root.get_as::<text::Owned>()))
 }
 
 // The words of null, and then a list of five numbers.
@@ -50,7 +50,7 @@ fn expect_five(rt: &impl Abort, arena: &mut Words) -> Result<()> {
     assert!(rt; starts_with(arena, b"\x01\0\0\0\x2d\0\0\0"));
     expect(rt, "the root", outline(arena)?, (false, 5));
     expect(rt, "as a list", fifth_by_any_pointer(arena)?, 9);
-    expect(rt, "as a text", text_refusal(arena)?, (22, 0));
+    expect(rt, "as a text", text_error(arena)?, (22, 0));
     expect(rt, "the list", fifth(arena)?, 9);
     Ok(())
 }
@@ -76,9 +76,9 @@ fn init_struct(arena: &mut Words) -> Result<u16> {
     Ok(root.init_as::<any_struct::Owned>()?.data_words())
 }
 
-fn struct_refusal(arena: &mut Words) -> Result<(u8, u32)> {
+fn struct_error(arena: &mut Words) -> Result<(u8, u32)> {
     let root = arena.get_root::<any_pointer::Owned>()?;
-    Ok(allocation_refusal(root.initn_as::<any_struct::Owned>(65536)))
+    Ok(allocation_error(root.initn_as::<any_struct::Owned>(65536)))
 }
 
 // The calls that stand for the root, one after the other.
@@ -90,23 +90,23 @@ fn root_as_any_pointer(rt: HostRuntime) -> Result<()> {
 fn expect_roots(rt: &impl Abort, arena: &mut Words) -> Result<()> {
     assert!(rt; set_hello(arena)?);
     expect(rt, "an empty struct", init_struct(arena)?, 0);
-    expect(rt, "a struct", struct_refusal(arena)?, (15, 65536));
+    expect(rt, "a struct", struct_error(arena)?, (15, 65536));
     expect(rt, "null", outline(arena)?, (true, 0));
     Ok(())
 }
 
 // The error of a new object, and whether the root is null then.
-fn refused_after_hello(arena: &mut Words) -> Result<((u8, u32), bool)> {
+fn failed_after_hello(arena: &mut Words) -> Result<((u8, u32), bool)> {
     set_text(arena, "hello")?;
     let mut root = arena.get_root::<any_pointer::Owned>()?;
-    let refused = root.set_new::<any_struct::Owned>(65536);
-    Ok((allocation_refusal(refused), root.is_null()))
+    let failed = root.set_new::<any_struct::Owned>(65536);
+    Ok((allocation_error(failed), root.is_null()))
 }
 
 // Where making a new object fails, the root is null.
 #[test]
-fn a_new_object_that_is_refused(rt: HostRuntime) -> Result<()> {
-    let found = refused_after_hello(&mut arena_of(rt.alloc(), 1024))?;
+fn a_new_object_that_fails(rt: HostRuntime) -> Result<()> {
+    let found = failed_after_hello(&mut arena_of(rt.alloc(), 1024))?;
     expect(&rt, "a struct", found, ((15, 65536), true));
     Ok(())
 }

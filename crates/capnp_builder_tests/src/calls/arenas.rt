@@ -6,7 +6,7 @@ use capnp_build::owned_builder::OwnedBuilder;
 use capnp_build::{any_struct, data, primitive_list, text};
 use capnp_frame::message::ReaderSegments;
 use capnp_frame::{Error, ErrorKind, Result};
-use capnp_frame_tests::refusals::{allocation_refusal, refusal};
+use capnp_frame_tests::errors::{allocation_error, error_of};
 use capnp_object_tests::arenas::text_at;
 use std::alloc::Global;
 
@@ -29,7 +29,7 @@ impl Allocator for WordsAllocator {
 
     ghost grants = { λ allocator asked words. ⊥ };
 
-    ghost refuses = { λ allocator asked kind. ⊤ };
+    ghost fails = { λ allocator asked kind. ⊤ };
 
     ghost returns = { λ old segment words new. ⊤ };
 
@@ -77,45 +77,45 @@ pub fn set_text(arena: &mut Words, text: &str) -> Result<()> {
 }
 
 /// How a view of the root fails.
-pub fn view_refusal<K: OwnedBuilder>(arena: &mut Words) -> u8 {
-    refusal(arena.get_root::<K>())
+pub fn view_error<K: OwnedBuilder>(arena: &mut Words) -> u8 {
+    error_of(arena.get_root::<K>())
 }
 
-fn init_refusal<K: OwnedBuilder>(arena: &mut Words, length: u32) -> (u8, u32) {
-    allocation_refusal(arena.initn_root::<K>(length))
+fn init_error<K: OwnedBuilder>(arena: &mut Words, length: u32) -> (u8, u32) {
+    allocation_error(arena.initn_root::<K>(length))
 }
 
 // Of a text that is set: the error as a list, and whether it is read as what it is.
-fn declared_of_hello(arena: &mut Words) -> Result<(u8, bool)> {
+fn reported_of_hello(arena: &mut Words) -> Result<(u8, bool)> {
     set_text(arena, "hello")?;
-    let refused = view_refusal::<primitive_list::Owned<u64>>(arena);
+    let failed = view_error::<primitive_list::Owned<u64>>(arena);
     match text_at(&arena.get_root_as_reader()) {
-        Ok(bytes) => Ok((refused, bytes == b"hello".as_slice())),
-        Err(_) => Ok((refused, false)),
+        Ok(bytes) => Ok((failed, bytes == b"hello".as_slice())),
+        Err(_) => Ok((failed, false)),
     }
 }
 
 #[test]
 fn text_that_is_read(rt: HostRuntime) -> Result<()> {
-    let found = declared_of_hello(&mut arena_of(rt.alloc(), 1024))?;
+    let found = reported_of_hello(&mut arena_of(rt.alloc(), 1024))?;
     expect(&rt, "no list, and the text", found, (22, true));
     Ok(())
 }
 
 // How a canonical root fails after another one.
-fn canonical_refusal(arena: &mut Words) -> Result<u8> {
+fn canonical_error(arena: &mut Words) -> Result<u8> {
     set_text(arena, "hello")?;
-    Ok(refusal(arena.set_root_canonical::<text::Owned, &str>(&"a")))
+    Ok(error_of(arena.set_root_canonical::<text::Owned, &str>(&"a")))
 }
 
 #[test]
 fn canonical_in_one_segment_alone(rt: HostRuntime) -> Result<()> {
     let mut arena = arena_of(rt.alloc(), 1);
-    let refused = canonical_refusal(&mut arena)?;
+    let failed = canonical_error(&mut arena)?;
     expect(
         &rt,
         "two segments",
-        (refused, is_null(&arena, 8)),
+        (failed, is_null(&arena, 8)),
         (25, true),
     );
     Ok(())
@@ -130,39 +130,39 @@ fn is_null(arena: &Words, length: usize) -> bool {
 }
 
 // How lists of too many words fail: data, numbers and a text.
-fn list_refusals(arena: &mut Words) -> [(u8, u32); 3] {
+fn list_errors(arena: &mut Words) -> [(u8, u32); 3] {
     [
-        init_refusal::<data::Owned>(arena, 536870912),
-        init_refusal::<primitive_list::Owned<u64>>(arena, 536870912),
-        init_refusal::<text::Owned>(arena, 536870911),
+        init_error::<data::Owned>(arena, 536870912),
+        init_error::<primitive_list::Owned<u64>>(arena, 536870912),
+        init_error::<text::Owned>(arena, 536870911),
     ]
 }
 
 #[test]
-fn lengths_that_are_refused(rt: HostRuntime) {
+fn lengths_that_fail(rt: HostRuntime) {
     let mut arena = arena_of(rt.alloc(), 1024);
-    let found = init_refusal::<any_struct::Owned>(&mut arena, 65536);
+    let found = init_error::<any_struct::Owned>(&mut arena, 65536);
     expect(&rt, "a struct", found, (15, 65536));
     expect(&rt, "words", arena.size_in_words(), 1);
     let wanted = [(15, 67108864), (15, 536870912), (15, 67108864)];
-    expect(&rt, "lists", list_refusals(&mut arena), wanted);
+    expect(&rt, "lists", list_errors(&mut arena), wanted);
     assert!(rt; is_null(&arena, 8));
 }
 
 // How a text fails after another one.
-fn text_refusal(arena: &mut Words) -> Result<u8> {
+fn text_error(arena: &mut Words) -> Result<u8> {
     set_text(arena, "hello")?;
-    Ok(refusal(set_text(arena, "a longer text")))
+    Ok(error_of(set_text(arena, "a longer text")))
 }
 
 #[test]
-fn segments_that_are_refused(rt: HostRuntime) -> Result<()> {
+fn segments_that_fail(rt: HostRuntime) -> Result<()> {
     let mut arena = arena_of_segments(rt.alloc(), 2, 1);
-    let refused = text_refusal(&mut arena)?;
+    let failed = text_error(&mut arena)?;
     expect(
         &rt,
         "no segment left",
-        (refused, is_null(&arena, 16)),
+        (failed, is_null(&arena, 16)),
         (12, true),
     );
     let home = arena.into_allocator();

@@ -29,7 +29,7 @@ impl Allocator for Asked {
 
     ghost grants = { λ allocator asked words. ⊥ };
 
-    ghost refuses = { λ allocator asked kind. ⊤ };
+    ghost fails = { λ allocator asked kind. ⊤ };
 
     ghost returns = { λ old segment words new. ⊤ };
 
@@ -70,8 +70,8 @@ fn a_second_segment_is_asked_for(rt: HostRuntime) {
     for words in [1, 2, 63, 1024, 4096, 70_000, (1 << 29) - 1] {
         let mut allocator = asked_heap(rt.alloc(), 1);
         let mut message = Builder::new(rt.alloc(), &mut allocator);
-        let refused = kind_of(init_words(&mut message, words));
-        expect(&rt, words, refused, Some(ErrorKind::OutOfMemory));
+        let failed = kind_of(init_words(&mut message, words));
+        expect(&rt, words, failed, Some(ErrorKind::OutOfMemory));
         assert!(rt; is_null_word(&message));
         drop(message);
         let asked = (allocator.requests, allocator.last);
@@ -87,8 +87,8 @@ fn each_further_segment_is_asked_for(rt: HostRuntime) -> Result<()> {
     for words in 1..70 {
         init_words(&mut message, words)?;
     }
-    let refused = kind_of(init_words(&mut message, 70));
-    expect(&rt, "refused", refused, Some(ErrorKind::OutOfMemory));
+    let failed = kind_of(init_words(&mut message, 70));
+    expect(&rt, "refused", failed, Some(ErrorKind::OutOfMemory));
     drop(message);
     let asked = (allocator.requests, allocator.last);
     expect(&rt, "asked", asked, (71, 71));

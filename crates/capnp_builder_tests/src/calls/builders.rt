@@ -1,6 +1,6 @@
 //! Messages that are built.
 use crate::building::{
-    expect_segments, expect_zeros, far_message, init_refusal, is_null_word, set_canonical_text,
+    expect_segments, expect_zeros, far_message, init_error, is_null_word, set_canonical_text,
     set_text, text_of,
 };
 use crate::fixtures::expect;
@@ -8,7 +8,7 @@ use capnp_build::allocator::Allocator;
 use capnp_build::{any_struct, data, primitive_list, text};
 use capnp_frame::message::ReaderSegments;
 use capnp_frame::{Error, ErrorKind, Result};
-use capnp_frame_tests::refusals::{allocation_refusal, refusal};
+use capnp_frame_tests::errors::{allocation_error, error_of};
 use capnp_message::builder::Builder;
 use capnp_message::heap_allocator::HeapAllocator;
 use capnp_message::scratch_space::ScratchSpaceHeapAllocator;
@@ -53,12 +53,12 @@ fn hello_far(rt: HostRuntime) -> Result<()> {
 
 /// A heap whose second request fails.
 #[derive(Drop)]
-struct SecondRefused {
+struct SecondFails {
     heap: HeapAllocator,
     requests: u32,
 }
 
-impl Allocator for SecondRefused {
+impl Allocator for SecondFails {
     type Segment = Vec<u8>;
 
     ghost use Rattle.std.specs.Prelude.{⊤, []};
@@ -69,7 +69,7 @@ impl Allocator for SecondRefused {
 
     ghost grants = { λ allocator asked words. ⊥ };
 
-    ghost refuses = { λ allocator asked kind. ⊤ };
+    ghost fails = { λ allocator asked kind. ⊤ };
 
     ghost returns = { λ old segment words new. ⊤ };
 
@@ -92,12 +92,12 @@ impl Allocator for SecondRefused {
 
 // Where the second segment fails the root is null, and the same call succeeds once it is given.
 #[test]
-fn second_segment_refused(rt: HostRuntime) -> Result<()> {
+fn second_segment_fails(rt: HostRuntime) -> Result<()> {
     let heap = HeapAllocator::new(rt.alloc()).first_segment_words(1);
-    let allocator = SecondRefused { heap, requests: 0 };
+    let allocator = SecondFails { heap, requests: 0 };
     let mut message = Builder::new(rt.alloc(), allocator);
-    let refused = kind_of(set_text(&mut message, "hello world!"));
-    expect(&rt, "refused", refused, Some(ErrorKind::OutOfMemory));
+    let failed = kind_of(set_text(&mut message, "hello world!"));
+    expect(&rt, "refused", failed, Some(ErrorKind::OutOfMemory));
     assert!(rt; is_null_word(&message));
     set_text(&mut message, "hello world!")?;
     expect_segments(&rt, "given", &message, &[FAR, PADDED]);
@@ -108,11 +108,11 @@ fn second_segment_refused(rt: HostRuntime) -> Result<()> {
 fn no_room_in_a_single_segment(rt: HostRuntime) {
     let mut region = [7; 16];
     let mut message = Builder::new(rt.alloc(), SingleSegmentAllocator::new(&mut region));
-    let refused = allocation_refusal(set_text(&mut message, "Hello, World!"));
-    expect(&rt, "as it stands", refused, (15, 3));
+    let failed = allocation_error(set_text(&mut message, "Hello, World!"));
+    expect(&rt, "as it stands", failed, (15, 3));
     assert!(rt; is_null_word(&message));
-    let refused = allocation_refusal(set_canonical_text(&mut message, "Hello, World!"));
-    expect(&rt, "canonical", refused, (25, 0));
+    let failed = allocation_error(set_canonical_text(&mut message, "Hello, World!"));
+    expect(&rt, "canonical", failed, (25, 0));
     assert!(rt; is_null_word(&message));
 }
 
@@ -127,7 +127,7 @@ fn single_segment(rt: HostRuntime) -> Result<()> {
     set_text(&mut message, "hello")?;
     set_text(&mut message, "Hello, World!")?;
     expect_segments(&rt, "both", &message, &[SECOND]);
-    let taken = refusal(set_data(&mut message, b"12345678"));
+    let taken = error_of(set_data(&mut message, b"12345678"));
     expect(&rt, "taken", taken, 16);
     expect_segments(&rt, "null", &message, &[&[0; 32]]);
     let mut single = message.into_allocator();
@@ -162,35 +162,35 @@ fn a_scratch_region_comes_home(rt: HostRuntime) -> Result<()> {
 }
 
 #[test]
-fn inits_that_are_refused(rt: HostRuntime) {
+fn inits_that_fail(rt: HostRuntime) {
     let mut message = Builder::new_default(rt.alloc());
-    let found = init_refusal::<any_struct::Owned, HeapAllocator>(&mut message, 65536);
+    let found = init_error::<any_struct::Owned, HeapAllocator>(&mut message, 65536);
     expect(&rt, "a struct", found, (15, 65536));
     assert!(rt; is_null_word(&message));
-    let found = init_refusal::<data::Owned, HeapAllocator>(&mut message, 536_870_912);
+    let found = init_error::<data::Owned, HeapAllocator>(&mut message, 536_870_912);
     expect(&rt, "data", found, (15, 67_108_864));
-    let found = init_refusal::<primitive_list::Owned<u64>, HeapAllocator>(
+    let found = init_error::<primitive_list::Owned<u64>, HeapAllocator>(
         &mut message,
         536_870_912,
     );
     expect(&rt, "words", found, (15, 536_870_912));
 }
 
-fn struct_refusal<A: Allocator>(message: &mut Builder<A>) -> (u8, u32) {
-    allocation_refusal(message.get_root::<any_struct::Owned>())
+fn struct_error<A: Allocator>(message: &mut Builder<A>) -> (u8, u32) {
+    allocation_error(message.get_root::<any_struct::Owned>())
 }
 
 // An error before them takes no word but the root's.
 #[test]
 fn roots_one_after_another(rt: HostRuntime) -> Result<()> {
     let mut message = Builder::new_default(rt.alloc());
-    let refused = init_refusal::<data::Owned, HeapAllocator>(&mut message, 536_870_912);
-    expect(&rt, "refused", refused, (15, 67_108_864));
+    let failed = init_error::<data::Owned, HeapAllocator>(&mut message, 536_870_912);
+    expect(&rt, "refused", failed, (15, 67_108_864));
     set_text(&mut message, "hello")?;
     set_text(&mut message, "Hello, World!")?;
     expect(&rt, "words", message.size_in_words(), 4);
     expect_segments(&rt, "both", &message, &[SECOND]);
-    expect(&rt, "no struct", struct_refusal(&mut message), (22, 0));
+    expect(&rt, "no struct", struct_error(&mut message), (22, 0));
     let view = message.get_root::<text::Owned>()?;
     expect(&rt, "text", view.as_bytes(), b"Hello, World!".as_slice());
     message.init_root::<any_struct::Owned>()?;

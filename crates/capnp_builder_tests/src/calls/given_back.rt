@@ -30,7 +30,7 @@ impl Allocator for Noting {
 
     ghost grants = { λ allocator asked words. ⊥ };
 
-    ghost refuses = { λ allocator asked kind. ⊤ };
+    ghost fails = { λ allocator asked kind. ⊤ };
 
     ghost returns = { λ old segment words new. ⊤ };
 

@@ -1,6 +1,6 @@
 //! What is written through the views of builders, by its bytes.
 use crate::building::expect_segments;
-use crate::calls::arenas::{Words, arena_of, set_text, view_refusal};
+use crate::calls::arenas::{Words, arena_of, set_text, view_error};
 use crate::fixtures::expect;
 use capnp_build::{any_pointer, any_struct, data, primitive_list, text};
 use capnp_frame::Result;
@@ -196,7 +196,7 @@ fn init_null(arena: &mut Words) -> Result<bool> {
 fn bytes_in_place(rt: HostRuntime) -> Result<()> {
     let mut arena = arena_of(rt.alloc(), 1024);
     expect(&rt, "data", init_bytes(&mut arena)?, (3, true));
-    expect(&rt, "no text", view_refusal::<text::Owned>(&mut arena), 23);
+    expect(&rt, "no text", view_error::<text::Owned>(&mut arena), 23);
     assert!(rt; init_null(&mut arena)?);
     Ok(())
 }

@@ -8,7 +8,7 @@ use Rattle.std.specs.Prelude.{Some, sum}
 use Rattle.std.specs.List.{concat, AllByRecursion}
 use Rattle.capnp_frame.specs.declared.error.ErrorKind.{ErrorKind}
 use Rattle.capnp_frame.specs.declared.error.ErrorKind.TheVariants.{DeviceFailed, OutOfMemory}
-use Rattle.capnp_frame.specs.Prelude.{lengths, size_in_words, FitsField, zero_padded_table, HasTable, frame_bytes, IfKnown, Fails, Adds, AppendsAll, AppendsSame, ByKind, DeclinesSome, RefusesUnwritten, IsWritable, IsWithinSegmentLimit, RefusesMany, word_and_rest, chunks, serialized_words}
+use Rattle.capnp_frame.specs.Prelude.{lengths, size_in_words, FitsField, zero_padded_table, HasTable, frame_bytes, IfKnown, Fails, Adds, AppendsAll, AppendsSame, ByKind, ChunksError, UnwrittenError, IsWritable, IsWithinSegmentLimit, SegmentCountError, word_and_rest, chunks, serialized_words}
 use Rattle.capnp_frame.specs.declared.serialize.segment_table.Padding.TheVariants.{Zero}
 use Rattle.capnp_frame.proofs.encodings.FrameLemmas.{zero_padded_is, length-table, length-segments}
 use Rattle.capnp_frame.proofs.sources.AskLemmas.{never_fails}
@@ -50,19 +50,19 @@ concat-chunks segments =
 pub written_frame : (segments : List (List ℕ)) (old new : List ℕ) → old ≡ [] → IfKnown (Some old) (Some new) (Adds (AppendsAll AppendsSame (chunks segments))) → new ≡ frame_bytes segments
 written_frame segments old new empty p = p.2 ∙ ap (λ l. l ++ p.0) empty ∙ (chunks_joined (chunks segments) p.0).0 p.1 ∙ concat-chunks segments
 
-declines_memory : (xs : List (List ℕ)) (kind : ErrorKind) → DeclinesSome (ByKind OutOfMemory) xs kind → kind ≡ OutOfMemory
-declines_memory [] kind p = absurd p
-declines_memory (x ∷ xs) kind (inl p) = p
-declines_memory (x ∷ xs) kind (inr p) = declines_memory xs kind p
+memory_chunk_error : (xs : List (List ℕ)) (kind : ErrorKind) → ChunksError (ByKind OutOfMemory) xs kind → kind ≡ OutOfMemory
+memory_chunk_error [] kind p = absurd p
+memory_chunk_error (x ∷ xs) kind (inl p) = p
+memory_chunk_error (x ∷ xs) kind (inr p) = memory_chunk_error xs kind p
 
 -- writing a message to a vector fails only for too many segments, or for want of memory
-pub lacks_memory_alone : (segments : List (List ℕ)) (kind : ErrorKind) → (kind ≡ DeviceFailed → Fails 0 0)
-    → (kind ≡ DeviceFailed) ⊎ DeclinesSome (ByKind OutOfMemory) (chunks segments) kind ⊎ RefusesUnwritten segments kind
-    → RefusesMany segments kind ⊎ (kind ≡ OutOfMemory)
-lacks_memory_alone segments kind failed (inl device) = absurd (never_fails kind failed device)
-lacks_memory_alone segments kind failed (inr (inl declined)) = inr (declines_memory (chunks segments) kind declined)
-lacks_memory_alone segments kind failed (inr (inr (inl many))) = inl many
-lacks_memory_alone segments kind failed (inr (inr (inr memory))) = inr memory.1
+pub vector_memory_alone : (segments : List (List ℕ)) (kind : ErrorKind) → (kind ≡ DeviceFailed → Fails 0 0)
+    → (kind ≡ DeviceFailed) ⊎ ChunksError (ByKind OutOfMemory) (chunks segments) kind ⊎ UnwrittenError segments kind
+    → SegmentCountError segments kind ⊎ (kind ≡ OutOfMemory)
+vector_memory_alone segments kind failed (inl device) = absurd (never_fails kind failed device)
+vector_memory_alone segments kind failed (inr (inl chunk_errors)) = inr (memory_chunk_error (chunks segments) kind chunk_errors)
+vector_memory_alone segments kind failed (inr (inr (inl many))) = inl many
+vector_memory_alone segments kind failed (inr (inr (inr memory))) = inr memory.1
 
 -- numbers that fit a field, added up
 pub sum_below : (ns : List ℕ) → AllByRecursion FitsField ns → sum ns ≤ length ns * 2 ^ 32

@@ -7,7 +7,7 @@ use Rattle.capnp_frame.specs.declared.serialize.segment_table.Padding.TheVariant
 use Rattle.capnp_frame.specs.Prelude.{Giving, Refusing, IsSource, MessageStands, AppendsSame, AppendsAll, Grammar, BeginsWith, AreEncodings, EndsEncodings, IsFrame, same_front, splitting}
 use Rattle.capnp_frame.proofs.encodings.FrameLemmas.{plain_requests, any_frame}
 use Rattle.capnp_frame.proofs.encodings.RequestLemmas.{MessageStands-once}
-use Rattle.capnp_frame.proofs.errors.RefusalLemmas.{given_some, RefusesStream-apart, RefusesStream-once, RefusesStream-some}
+use Rattle.capnp_frame.proofs.errors.StreamErrorLemmas.{given_some, StreamError-apart, StreamError-once, StreamError-some}
 
 -- How the encodings of a grammar and the requests of a source go together: at most one message
 -- begins a stream, and none does where it ends.
@@ -65,7 +65,7 @@ nothing_at_end rule laws texts limit None m raw rest ends begins =
     let stands = requested rule texts m raw rest begins in
     given_some laws raw 8 stands.table.first stands.table.between stands.table.first_given (lit< tt) ends
 nothing_at_end rule laws texts limit (Some kind) m raw rest ends begins =
-    RefusesStream-apart rule laws limit None kind raw ends.0 rest m (requested rule texts m raw rest begins) begins.within (λ x. x) ends.1
+    StreamError-apart rule laws limit None kind raw ends.0 rest m (requested rule texts m raw rest begins) begins.within (λ x. x) ends.1
 
 pub parts_streams : {IsText : Grammar} {gives : Giving} {refuses : Refusing} (rule : Padding) (laws : IsSource gives refuses)
     (texts : AreRequested IsText rule gives) (limit : Option ℕ) → PartsStreams IsText rule gives refuses limit
@@ -104,6 +104,6 @@ pub EndsEncodings-once : {gives : Giving} {refuses : Refusing} (rule : Padding) 
     (ending other : Option ErrorKind) (rest : List ℕ) → EndsEncodings rule gives refuses limit ending rest
     → EndsEncodings rule gives refuses limit other rest → ending ≡ other
 EndsEncodings-once rule laws limit None None rest p q = refl
-EndsEncodings-once {gives} {refuses} rule laws limit None (Some kind) rest p q = absurd (RefusesStream-some rule gives refuses limit None kind rest q.0 q.1 (λ x. x) p)
-EndsEncodings-once {gives} {refuses} rule laws limit (Some kind) None rest p q = absurd (RefusesStream-some rule gives refuses limit None kind rest p.0 p.1 (λ x. x) q)
-EndsEncodings-once rule laws limit (Some kind) (Some other) rest p q = ap Some (RefusesStream-once rule laws limit None kind other rest p.0 q.0 p.1 q.1)
+EndsEncodings-once {gives} {refuses} rule laws limit None (Some kind) rest p q = absurd (StreamError-some rule gives refuses limit None kind rest q.0 q.1 (λ x. x) p)
+EndsEncodings-once {gives} {refuses} rule laws limit (Some kind) None rest p q = absurd (StreamError-some rule gives refuses limit None kind rest p.0 p.1 (λ x. x) q)
+EndsEncodings-once rule laws limit (Some kind) (Some other) rest p q = ap Some (StreamError-once rule laws limit None kind other rest p.0 q.0 p.1 q.1)

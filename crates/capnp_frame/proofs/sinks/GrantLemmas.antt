@@ -7,7 +7,7 @@ use Rattle.std.specs.Prelude.{slice_get}
 use Rattle.std.specs.List.{concat, AllByRecursion}
 use Rattle.capnp_frame.specs.declared.error.Error.{Error}
 use Rattle.capnp_frame.specs.declared.error.ErrorKind.{ErrorKind}
-use Rattle.capnp_frame.specs.Prelude.{IsWholeWords, table_size, TakesGranted, LacksNothing, serialized_words}
+use Rattle.capnp_frame.specs.Prelude.{IsWholeWords, table_size, TakesGranted, NoError, serialized_words}
 use Rattle.capnp_frame.proofs.encodings.FrameLemmas.{length-segments}
 use Rattle.capnp_frame.proofs.sinks.WritingLemmas.{take-next}
 
@@ -29,7 +29,7 @@ stays_as grants a b n m same stays more given = stays more (subst (λ k. grants 
 
 -- and where nothing is lacked the call succeeds, whatever another might lack
 pub granted_as : {S X : Type 0} (grants : S → ℕ → Type 0) (a b : S) (n m : ℕ) (other : ErrorKind → Type 0) (r : Result X Error) → n ≡ m
-    → TakesGranted grants a b n LacksNothing r → TakesGranted grants a b m other r
+    → TakesGranted grants a b n NoError r → TakesGranted grants a b m other r
 granted_as grants a b n m other (Ok x) same takes = stays_as grants a b n m same takes
 granted_as grants a b n m other (Err e) same takes = λ more given. absurd (takes more (subst (λ k. grants a (k + more)) (sym same) given)).0
 
@@ -41,19 +41,19 @@ granted_join grants a b c n m k all first second more given =
     second more (first (m + more) (subst (grants a) parts given))
 
 pub granted_after : {S X : Type 0} (grants : S → ℕ → Type 0) (a b c : S) (n m k : ℕ) (other : ErrorKind → Type 0) (r : Result X Error) → n + m ≡ k
-    → StaysGranted grants a b n → TakesGranted grants b c m LacksNothing r → TakesGranted grants a c k other r
+    → StaysGranted grants a b n → TakesGranted grants b c m NoError r → TakesGranted grants a c k other r
 granted_after grants a b c n m k other (Ok x) all first second = granted_join grants a b c n m k all first second
 granted_after grants a b c n m k other (Err e) all first second = λ more given.
     let parts : k + more ≡ n + (m + more) = omega (arith, all) in
     absurd (second more (first (m + more) (subst (grants a) parts given))).0
 
 -- a call that fails is lacked something, also where more is granted
-pub granted_first : {S : Type 0} (grants : S → ℕ → Type 0) (a b : S) (n m : ℕ) (lacks other : Type 0) → n ≤ m → (lacks → other)
-    → ((more : ℕ) → grants a (n + more) → lacks × (b ≡ a)) → (more : ℕ) → grants a (m + more) → other × (b ≡ a)
-granted_first grants a b n m lacks other part wider takes more given =
+pub granted_first : {S : Type 0} (grants : S → ℕ → Type 0) (a b : S) (n m : ℕ) (early other : Type 0) → n ≤ m → (early → other)
+    → ((more : ℕ) → grants a (n + more) → early × (b ≡ a)) → (more : ℕ) → grants a (m + more) → other × (b ≡ a)
+granted_first grants a b n m early other part wider takes more given =
     let parts : m + more ≡ n + ((m - n) + more) = omega (arith, part) in
-    let stopped = takes ((m - n) + more) (subst (grants a) parts given) in
-    (wider stopped.0, stopped.1)
+    let remains = takes ((m - n) + more) (subst (grants a) parts given) in
+    (wider remains.0, remains.1)
 
 -- A sink that grants this many bytes rejects none of them
 

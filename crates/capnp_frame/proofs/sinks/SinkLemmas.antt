@@ -7,14 +7,14 @@ use Rattle.capnp_frame.specs.declared.error.Error.{Error}
 use Rattle.capnp_frame.specs.declared.error.ErrorKind.{ErrorKind}
 use Rattle.capnp_frame.specs.declared.io.Write.{Ghosts}
 use Rattle.capnp_frame.specs.declared.error.ErrorKind.TheVariants.{DeviceFailed, InvalidNumberOfSegments}
-use Rattle.capnp_frame.specs.Prelude.{FailsOr, IfKnown, IsFront, IsPreorder, Fails, Appending, Leaving, AppendsSame, Adds, AppendsAll, LeavesSome, DeclinesSome, Grows, WritesTo, WritesChunks, WritesSegments, TakesGranted, KeepsCount, RefusesUnwritten, IsWithinSegmentLimit, RefusesMany, chunks, serialized_words}
+use Rattle.capnp_frame.specs.Prelude.{FailsOr, IfKnown, IsFront, IsPreorder, Fails, Appending, Leaving, AppendsSame, Adds, AppendsAll, LeavesSome, ChunksError, Grows, WritesTo, WritesChunks, WritesSegments, TakesGranted, KeepsCount, UnwrittenError, IsWithinSegmentLimit, SegmentCountError, chunks, serialized_words}
 use Rattle.capnp_frame.proofs.sources.SourceLemmas.{IfKnown-join, IfKnown-weaker, IfKnown-refl, Grows-join, Grows-refl, Fails-join}
-use Rattle.capnp_frame.proofs.sinks.WritingLemmas.{take-next, written_more, written_one, DeclinesSome-front, DeclinesSome-back, refused_at}
+use Rattle.capnp_frame.proofs.sinks.WritingLemmas.{take-next, written_more, written_one, ChunksError-front, ChunksError-back, error_at}
 
 -- what fails for one reason fails for one of two
-declined : {F P Q : Type 0} → F ⊎ P → F ⊎ (P ⊎ Q)
-declined (inl failed) = inl failed
-declined (inr refused) = inr (inl refused)
+fails_for_one : {F P Q : Type 0} → F ⊎ P → F ⊎ (P ⊎ Q)
+fails_for_one (inl failed) = inl failed
+fails_for_one (inr errors) = inr (inl errors)
 
 -- What a call that fails leaves
 
@@ -59,11 +59,11 @@ left_following appends leaves xs ys a b c =
 -- a part of the chunk at an index, after those before it
 left_at : (appends : Appending) (leaves : Leaving) (xs : List (List ℕ)) (i : ℕ) (x : List ℕ) (a b c : Option (List ℕ)) → slice_get xs i ≡ Some x
     → IfKnown a b (Adds (AppendsAll appends (take i xs))) → IfKnown b c (Adds (leaves x)) → IfKnown a c (Adds (LeavesSome appends leaves xs))
-left_at appends leaves xs i x a b c here before stopped =
+left_at appends leaves xs i x a b c here before remains =
     let parts : (take i xs ++ x ∷ []) ++ drop (i + 1) xs ≡ xs = ap (λ l. l ++ drop (i + 1) xs) (sym (take-next xs i x here)) ∙ take-append-drop (i + 1) xs in
     subst (λ l. IfKnown a c (Adds (LeavesSome appends leaves l))) parts
     (left_more appends leaves (take i xs ++ x ∷ []) (drop (i + 1) xs) a c
-    (left_following appends leaves (take i xs) (x ∷ []) a b c before (left_one appends leaves x b c stopped)))
+    (left_following appends leaves (take i xs) (x ∷ []) a b c before (left_one appends leaves x b c remains)))
 
 -- at a plain sink it is a front of the chunks, joined
 pub left_is_front : (leaves : Leaving) → ((chunk text : List ℕ) → leaves chunk text → IsFront text chunk) → (xs : List (List ℕ)) (text : List ℕ)
@@ -78,87 +78,87 @@ left_is_front leaves within (x ∷ xs) text (inr (inr p)) = let (tail, e) = left
 -- Writing
 
 -- a call that only writes the chunks
-pub writes_chunks : {S X : Type 0} (sink : Ghosts S) (old new : S) (xs : List (List ℕ)) (lacks : ErrorKind → Type 0) (r : Result X Error)
-    → WritesTo sink old new (AppendsAll sink.appends xs) (LeavesSome sink.appends sink.leaves xs) (DeclinesSome sink.refuses xs) r → WritesChunks sink old new xs lacks r
-writes_chunks sink old new xs lacks (Ok x) declared = record { written = declared.written; left = tt; refused = tt; untouched = tt; failed = tt; grows = declared.grows }
-writes_chunks sink old new xs lacks (Err e) declared = record { written = tt; left = declared.left; refused = declined declared.refused; untouched = declined declared.refused; failed = declared.failed; grows = declared.grows }
+pub writes_chunks : {S X : Type 0} (sink : Ghosts S) (old new : S) (xs : List (List ℕ)) (early : ErrorKind → Type 0) (r : Result X Error)
+    → WritesTo sink old new (AppendsAll sink.appends xs) (LeavesSome sink.appends sink.leaves xs) (ChunksError sink.refuses xs) r → WritesChunks sink old new xs early r
+writes_chunks sink old new xs early (Ok x) reported = record { written = reported.written; left = tt; errors = tt; untouched = tt; failed = tt; grows = reported.grows }
+writes_chunks sink old new xs early (Err e) reported = record { written = tt; left = reported.left; errors = fails_for_one reported.errors; untouched = fails_for_one reported.errors; failed = reported.failed; grows = reported.grows }
 
 -- the first chunks are not all written
-pub front_refused : {S X : Type 0} (sink : Ghosts S) (old new : S) (xs ys : List (List ℕ)) (lacks other : ErrorKind → Type 0) (e : Error)
-    → (lacks e.kind → other e.kind) → WritesChunks {X = X} sink old new xs lacks (Err e) → WritesChunks {X = X} sink old new (xs ++ ys) other (Err e)
-front_refused {X} sink old new xs ys lacks other e wider declared = record {
+pub front_fails : {S X : Type 0} (sink : Ghosts S) (old new : S) (xs ys : List (List ℕ)) (early other : ErrorKind → Type 0) (e : Error)
+    → (early e.kind → other e.kind) → WritesChunks {X = X} sink old new xs early (Err e) → WritesChunks {X = X} sink old new (xs ++ ys) other (Err e)
+front_fails {X} sink old new xs ys early other e wider reported = record {
   written = tt;
-  left = left_more sink.appends sink.leaves xs ys (sink.written old) (sink.written new) declared.left;
-  refused = more wider declared.refused;
-  untouched = more (λ same. same) declared.untouched;
-  failed = declared.failed;
-  grows = declared.grows;
+  left = left_more sink.appends sink.leaves xs ys (sink.written old) (sink.written new) reported.left;
+  errors = more wider reported.errors;
+  untouched = more (λ same. same) reported.untouched;
+  failed = reported.failed;
+  grows = reported.grows;
 }
   where
-    more : {F P Q : Type 0} → (P → Q) → F ⊎ (DeclinesSome sink.refuses xs e.kind ⊎ P) → F ⊎ (DeclinesSome sink.refuses (xs ++ ys) e.kind ⊎ Q)
+    more : {F P Q : Type 0} → (P → Q) → F ⊎ (ChunksError sink.refuses xs e.kind ⊎ P) → F ⊎ (ChunksError sink.refuses (xs ++ ys) e.kind ⊎ Q)
     more wider (inl failed) = inl failed
-    more wider (inr (inl refused)) = inr (inl (DeclinesSome-front sink.refuses xs ys e.kind refused))
+    more wider (inr (inl errors)) = inr (inl (ChunksError-front sink.refuses xs ys e.kind errors))
     more wider (inr (inr p)) = inr (inr (wider p))
 
 -- chunks after those that are written
 pub writes_after : {S X : Type 0} (sink : Ghosts S) (keeps : IsPreorder sink.same) (a b c : S) (xs ys : List (List ℕ)) (r : Result X Error)
     → IfKnown (sink.written a) (sink.written b) (Adds (AppendsAll sink.appends xs)) → Grows sink.written sink.failures sink.same a b
-    → WritesTo sink b c (AppendsAll sink.appends ys) (LeavesSome sink.appends sink.leaves ys) (DeclinesSome sink.refuses ys) r
-    → WritesTo sink a c (AppendsAll sink.appends (xs ++ ys)) (LeavesSome sink.appends sink.leaves (xs ++ ys)) (DeclinesSome sink.refuses (xs ++ ys)) r
-writes_after sink keeps a b c xs ys (Ok x) before grows declared = record {
-  written = written_more sink.appends xs ys _ _ _ before declared.written;
+    → WritesTo sink b c (AppendsAll sink.appends ys) (LeavesSome sink.appends sink.leaves ys) (ChunksError sink.refuses ys) r
+    → WritesTo sink a c (AppendsAll sink.appends (xs ++ ys)) (LeavesSome sink.appends sink.leaves (xs ++ ys)) (ChunksError sink.refuses (xs ++ ys)) r
+writes_after sink keeps a b c xs ys (Ok x) before grows reported = record {
+  written = written_more sink.appends xs ys _ _ _ before reported.written;
   left = tt;
-  refused = tt;
+  errors = tt;
   failed = tt;
-  grows = Grows-join a b c (keeps.transitive a b c) grows declared.grows;
+  grows = Grows-join a b c (keeps.transitive a b c) grows reported.grows;
 }
-writes_after sink keeps a b c xs ys (Err e) before grows declared = record {
+writes_after sink keeps a b c xs ys (Err e) before grows reported = record {
   written = tt;
-  left = left_following sink.appends sink.leaves xs ys (sink.written a) (sink.written b) (sink.written c) before declared.left;
-  refused = more declared.refused;
-  failed = λ device. Fails-join (sink.failures a) (sink.failures b) (sink.failures c) grows.counted (declared.failed device);
-  grows = Grows-join a b c (keeps.transitive a b c) grows declared.grows;
+  left = left_following sink.appends sink.leaves xs ys (sink.written a) (sink.written b) (sink.written c) before reported.left;
+  errors = more reported.errors;
+  failed = λ device. Fails-join (sink.failures a) (sink.failures b) (sink.failures c) grows.counted (reported.failed device);
+  grows = Grows-join a b c (keeps.transitive a b c) grows reported.grows;
 }
   where
-    more : {F : Type 0} → F ⊎ DeclinesSome sink.refuses ys e.kind → F ⊎ DeclinesSome sink.refuses (xs ++ ys) e.kind
+    more : {F : Type 0} → F ⊎ ChunksError sink.refuses ys e.kind → F ⊎ ChunksError sink.refuses (xs ++ ys) e.kind
     more (inl failed) = inl failed
-    more (inr refused) = inr (DeclinesSome-back sink.refuses xs ys e.kind refused)
+    more (inr errors) = inr (ChunksError-back sink.refuses xs ys e.kind errors)
 
 -- one chunk
 pub writes_one : {S X : Type 0} (sink : Ghosts S) (old new : S) (chunk : List ℕ) (r : Result X Error)
     → OnOk r (IfKnown (sink.written old) (sink.written new) (Adds (sink.appends chunk)))
     → OnErr r (IfKnown (sink.written old) (sink.written new) (Adds (sink.leaves chunk))) → FailsOr r (sink.refuses chunk)
     → IfErr r (λ error. error.kind ≡ DeviceFailed → Fails (sink.failures old) (sink.failures new)) → Grows sink.written sink.failures sink.same old new
-    → WritesTo sink old new (AppendsAll sink.appends (chunk ∷ [])) (LeavesSome sink.appends sink.leaves (chunk ∷ [])) (DeclinesSome sink.refuses (chunk ∷ [])) r
-writes_one sink old new chunk (Ok x) added left refused failed grows = record { written = written_one sink.appends chunk _ _ added; left = tt; refused = tt; failed = tt; grows = grows }
-writes_one sink old new chunk (Err e) added left refused failed grows = record { written = tt; left = left_one sink.appends sink.leaves chunk (sink.written old) (sink.written new) left; refused = declined refused; failed = failed; grows = grows }
+    → WritesTo sink old new (AppendsAll sink.appends (chunk ∷ [])) (LeavesSome sink.appends sink.leaves (chunk ∷ [])) (ChunksError sink.refuses (chunk ∷ [])) r
+writes_one sink old new chunk (Ok x) added left errors failed grows = record { written = written_one sink.appends chunk _ _ added; left = tt; errors = tt; failed = tt; grows = grows }
+writes_one sink old new chunk (Err e) added left errors failed grows = record { written = tt; left = left_one sink.appends sink.leaves chunk (sink.written old) (sink.written new) left; errors = fails_for_one errors; failed = failed; grows = grows }
 
 -- the first chunk is not written
-pub stopped_first : {S X : Type 0} (sink : Ghosts S) (old new : S) (chunk : List ℕ) (others : List (List ℕ)) (e : Error)
+pub failed_first : {S X : Type 0} (sink : Ghosts S) (old new : S) (chunk : List ℕ) (others : List (List ℕ)) (e : Error)
     → IfKnown (sink.written old) (sink.written new) (Adds (sink.leaves chunk)) → (e.kind ≡ DeviceFailed) ⊎ sink.refuses chunk e.kind
     → (e.kind ≡ DeviceFailed → Fails (sink.failures old) (sink.failures new)) → Grows sink.written sink.failures sink.same old new
     → WritesTo {X = X} sink old new (AppendsAll sink.appends (chunk ∷ others)) (LeavesSome sink.appends sink.leaves (chunk ∷ others))
-    (DeclinesSome sink.refuses (chunk ∷ others)) (Err e)
-stopped_first sink old new chunk others e left refused failed grows = record {
+    (ChunksError sink.refuses (chunk ∷ others)) (Err e)
+failed_first sink old new chunk others e left errors failed grows = record {
   written = tt;
   left = left_more sink.appends sink.leaves (chunk ∷ []) others (sink.written old) (sink.written new)
       (left_one sink.appends sink.leaves chunk (sink.written old) (sink.written new) left);
-  refused = declined refused;
+  errors = fails_for_one errors;
   failed = failed;
   grows = grows;
 }
 
 -- the chunk at an index fails, after those before it are written
-pub stopped_at : {S X : Type 0} (sink : Ghosts S) (keeps : IsPreorder sink.same) (a b c : S) (segments : List (List ℕ)) (index : ℕ)
+pub failed_at : {S X : Type 0} (sink : Ghosts S) (keeps : IsPreorder sink.same) (a b c : S) (segments : List (List ℕ)) (index : ℕ)
     (segment : List ℕ) (e : Error) → slice_get segments index ≡ Some segment
     → IfKnown (sink.written a) (sink.written b) (Adds (AppendsAll sink.appends (take index segments))) → Grows sink.written sink.failures sink.same a b
     → IfKnown (sink.written b) (sink.written c) (Adds (sink.leaves segment)) → (e.kind ≡ DeviceFailed) ⊎ sink.refuses segment e.kind → (e.kind ≡ DeviceFailed → Fails (sink.failures b) (sink.failures c))
     → Grows sink.written sink.failures sink.same b c
-    → WritesTo {X = X} sink a c (AppendsAll sink.appends segments) (LeavesSome sink.appends sink.leaves segments) (DeclinesSome sink.refuses segments) (Err e)
-stopped_at sink keeps a b c segments index segment e here written before left refused failed grows = record {
+    → WritesTo {X = X} sink a c (AppendsAll sink.appends segments) (LeavesSome sink.appends sink.leaves segments) (ChunksError sink.refuses segments) (Err e)
+failed_at sink keeps a b c segments index segment e here written before left errors failed grows = record {
   written = tt;
   left = left_at sink.appends sink.leaves segments index segment (sink.written a) (sink.written b) (sink.written c) here written left;
-  refused = refused_at sink.refuses segments index segment e.kind here refused;
+  errors = error_at sink.refuses segments index segment e.kind here errors;
   failed = λ device. Fails-join (sink.failures a) (sink.failures b) (sink.failures c) before.counted (failed device);
   grows = Grows-join a b c (keeps.transitive a b c) before grows;
 }
@@ -170,20 +170,20 @@ count_kept segments (Err e) few = record { few = tt; many = λ many. absurd (ome
 
 -- so only its chunks stop it
 pub few_written : {S X : Type 0} (sink : Ghosts S) (old new : S) (segments : List (List ℕ)) (r : Result X Error) → IsWithinSegmentLimit segments
-    → WritesChunks sink old new (chunks segments) (RefusesUnwritten segments) r
-    → TakesGranted sink.grants old new (8 * serialized_words segments) (RefusesUnwritten segments) r → WritesSegments sink old new segments r
-few_written sink old new segments r few declared granted = record { count = count_kept segments r few; unwritten = λ many. absurd (omega arith); parts = declared; granted = granted }
+    → WritesChunks sink old new (chunks segments) (UnwrittenError segments) r
+    → TakesGranted sink.grants old new (8 * serialized_words segments) (UnwrittenError segments) r → WritesSegments sink old new segments r
+few_written sink old new segments r few reported granted = record { count = count_kept segments r few; unwritten = λ many. absurd (omega arith); parts = reported; granted = granted }
 
 -- and one with more fails before the sink is asked
-pub many_refused : {S X : Type 0} (sink : Ghosts S) (keeps : IsPreorder sink.same) (same : S) (segments : List (List ℕ)) (e : Error)
-    → RefusesMany segments e.kind → WritesSegments {X = X} sink same same segments (Err e)
-many_refused sink keeps same segments e many = record {
+pub many_segments_error : {S X : Type 0} (sink : Ghosts S) (keeps : IsPreorder sink.same) (same : S) (segments : List (List ℕ)) (e : Error)
+    → SegmentCountError segments e.kind → WritesSegments {X = X} sink same same segments (Err e)
+many_segments_error sink keeps same segments e many = record {
   count = record { few = tt; many = λ _. many.1 };
   unwritten = λ _. refl;
   parts = record {
     written = tt;
     left = left_same sink.appends sink.leaves (chunks segments) (sink.written same);
-    refused = inr (inr (inl many));
+    errors = inr (inr (inl many));
     untouched = inr (inr refl);
     failed = λ device. let never : InvalidNumberOfSegments (length segments) ≡ DeviceFailed = sym many.1 ∙ device in cc;
     grows = Grows-refl same (keeps.reflexive same);

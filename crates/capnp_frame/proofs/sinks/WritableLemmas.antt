@@ -45,17 +45,17 @@ IsWritable-ended segments i none small some all =
     IsWritable-whole segments some (omega arith) (subst (AllByRecursion IsWhole) (take_all i segments past) all)
 
 pub some_segments : (segments : List (List ℕ)) (empty : Bool) → empty ≡ false → IsTrue empty ↔ (segments ≡ []) → 0 < length segments
-some_segments [] empty isnt declared = absurd (false≢true (sym isnt ∙ declared.1 refl))
-some_segments (s ∷ ss) empty isnt declared = omega arith
+some_segments [] empty isnt reported = absurd (false≢true (sym isnt ∙ reported.1 refl))
+some_segments (s ∷ ss) empty isnt reported = omega arith
 
 -- what is asked for at the end of the longest table
 pub writable_at_end : (shown : Option (Bor (List ℕ))) (segments : List (List ℕ)) (ended : Bool) → is_some shown ≡ not ended
     → option_copied shown ≡ slice_get segments (2 ^ 32 - 1) → 0 < length segments → AllByRecursion IsWhole (take (2 ^ 32 - 1) segments)
     → IsTrue ended ↔ IsWritable segments
-writable_at_end None segments false declared here some all = absurd (false≢true declared)
-writable_at_end None segments true declared here some all = (λ yes. IsWritable-ended segments (2 ^ 32 - 1) (sym here) (omega arith) some all, λ writable. refl)
-writable_at_end (Some b) segments true declared here some all = absurd (false≢true (sym declared))
-writable_at_end (Some b) segments false declared here some all = (
+writable_at_end None segments false reported here some all = absurd (false≢true reported)
+writable_at_end None segments true reported here some all = (λ yes. IsWritable-ended segments (2 ^ 32 - 1) (sym here) (omega arith) some all, λ writable. refl)
+writable_at_end (Some b) segments true reported here some all = absurd (false≢true (sym reported))
+writable_at_end (Some b) segments false reported here some all = (
   λ yes. absurd (false≢true yes),
   λ writable. let within = slice_get_within segments (2 ^ 32 - 1) b.now (sym here) in let few = writable.few in absurd (omega (arith, within, few)),
 )

@@ -10,7 +10,7 @@ use Rattle.std.proofs.lemmas.Bool.{cases_lt}
 use Rattle.std.specs.Prelude.{slice_get, sum}
 use Rattle.std.specs.List.{flat_map, AllByRecursion}
 use Rattle.capnp_frame.specs.declared.error.ErrorKind.{ErrorKind}
-use Rattle.capnp_frame.specs.Prelude.{word_count, lengths, size_in_words, field, FitsField, table_size, padding_len, zero_padded_table, IfKnown, Appending, Declining, AppendsAll, DeclinesSome, Adds, word_and_rest}
+use Rattle.capnp_frame.specs.Prelude.{word_count, lengths, size_in_words, field, FitsField, table_size, padding_len, zero_padded_table, IfKnown, Appending, Declining, AppendsAll, ChunksError, Adds, word_and_rest}
 use Rattle.capnp_frame.proofs.sources.SourceLemmas.{IfKnown-join, IfKnown-weaker}
 use Rattle.capnp_frame.proofs.tables.Ranges.{sum_push}
 use Rattle.capnp_frame.proofs.tables.TableLemmas.{length-fields}
@@ -41,19 +41,19 @@ written_next appends segments index chunk a b c here before added =
     subst (λ l. IfKnown a c (Adds (AppendsAll appends l))) (sym (take-next segments index chunk here))
     (written_more appends (take index segments) (chunk ∷ []) a b c before (written_one appends chunk b c added))
 
-pub DeclinesSome-front : (refuses : Declining) (xs ys : List (List ℕ)) (kind : ErrorKind) → DeclinesSome refuses xs kind → DeclinesSome refuses (xs ++ ys) kind
-DeclinesSome-front refuses [] ys kind p = absurd p
-DeclinesSome-front refuses (x ∷ xs) ys kind (inl p) = inl p
-DeclinesSome-front refuses (x ∷ xs) ys kind (inr p) = inr (DeclinesSome-front refuses xs ys kind p)
+pub ChunksError-front : (refuses : Declining) (xs ys : List (List ℕ)) (kind : ErrorKind) → ChunksError refuses xs kind → ChunksError refuses (xs ++ ys) kind
+ChunksError-front refuses [] ys kind p = absurd p
+ChunksError-front refuses (x ∷ xs) ys kind (inl p) = inl p
+ChunksError-front refuses (x ∷ xs) ys kind (inr p) = inr (ChunksError-front refuses xs ys kind p)
 
-pub DeclinesSome-back : (refuses : Declining) (xs ys : List (List ℕ)) (kind : ErrorKind) → DeclinesSome refuses ys kind → DeclinesSome refuses (xs ++ ys) kind
-DeclinesSome-back refuses [] ys kind p = p
-DeclinesSome-back refuses (x ∷ xs) ys kind p = inr (DeclinesSome-back refuses xs ys kind p)
+pub ChunksError-back : (refuses : Declining) (xs ys : List (List ℕ)) (kind : ErrorKind) → ChunksError refuses ys kind → ChunksError refuses (xs ++ ys) kind
+ChunksError-back refuses [] ys kind p = p
+ChunksError-back refuses (x ∷ xs) ys kind p = inr (ChunksError-back refuses xs ys kind p)
 
-pub DeclinesSome-at : (refuses : Declining) (xs : List (List ℕ)) (i : ℕ) (x : List ℕ) (kind : ErrorKind) → slice_get xs i ≡ Some x → refuses x kind → DeclinesSome refuses xs kind
-DeclinesSome-at refuses [] i x kind here p = cc
-DeclinesSome-at refuses (y ∷ ys) zero x kind here p = let same : y ≡ x = cc in inl (subst (λ l. refuses l kind) (sym same) p)
-DeclinesSome-at refuses (y ∷ ys) (suc i) x kind here p = inr (DeclinesSome-at refuses ys i x kind here p)
+pub ChunksError-at : (refuses : Declining) (xs : List (List ℕ)) (i : ℕ) (x : List ℕ) (kind : ErrorKind) → slice_get xs i ≡ Some x → refuses x kind → ChunksError refuses xs kind
+ChunksError-at refuses [] i x kind here p = cc
+ChunksError-at refuses (y ∷ ys) zero x kind here p = let same : y ≡ x = cc in inl (subst (λ l. refuses l kind) (sym same) p)
+ChunksError-at refuses (y ∷ ys) (suc i) x kind here p = inr (ChunksError-at refuses ys i x kind here p)
 
 -- tables
 
@@ -133,11 +133,11 @@ filled_all count ns table filled all some =
     0) all ∙ ap (λ k. field (length ns - 1) ++ flat_map field ns ++ replicate k 0) following
 
 -- the error of one chunk, and the device's
-pub refused_at : {F : Type 0} (refuses : Declining) (segments : List (List ℕ)) (index : ℕ) (segment : List ℕ)
+pub error_at : {F : Type 0} (refuses : Declining) (segments : List (List ℕ)) (index : ℕ) (segment : List ℕ)
     (kind : ErrorKind) → slice_get segments index ≡ Some segment → F ⊎ refuses segment kind → F
-    ⊎ DeclinesSome refuses segments kind
-refused_at refuses segments index segment kind here (inl failed) = inl failed
-refused_at refuses segments index segment kind here (inr refused) = inr (DeclinesSome-at refuses segments index segment kind here refused)
+    ⊎ ChunksError refuses segments kind
+error_at refuses segments index segment kind here (inl failed) = inl failed
+error_at refuses segments index segment kind here (inr errors) = inr (ChunksError-at refuses segments index segment kind here errors)
 
 pub le_of_not_lt : (m n : ℕ) → (n < m → ⊥) → m ≤ n
 le_of_not_lt m n never = omega arith

@@ -6,8 +6,8 @@ use Rattle.std.proofs.lemmas.Bool.{cases_lt, false≢true}
 use Rattle.capnp_frame.specs.declared.error.ErrorKind.{ErrorKind}
 use Rattle.capnp_frame.specs.declared.error.ErrorKind.TheVariants.{InvalidNumberOfSegments, MessageTooLarge, MessageEndsPrematurely, NonZeroPadding}
 use Rattle.capnp_frame.specs.declared.serialize.segment_table.Padding.{Padding}
-use Rattle.capnp_frame.specs.Prelude.{table_size, KeepsPadding, KeepsLimit, Unless, IsOutOfRange, IsTooLarge, HasFrame, number, declared_lengths, declared_padding, FlatForm, by_words, by_fields, empty_kind, cut_kind, count_end, count_of, lengths_end, RefusesLengths, RefusesFlat}
-use Rattle.capnp_frame.proofs.errors.RefusalLemmas.{Unless-after, in_range, within_limit}
+use Rattle.capnp_frame.specs.Prelude.{table_size, KeepsPadding, KeepsLimit, Unless, IsOutOfRange, IsTooLarge, HasFrame, number, declared_lengths, declared_padding, FlatForm, by_words, by_fields, empty_kind, cut_kind, count_end, count_of, lengths_end, LengthsError, FlatError}
+use Rattle.capnp_frame.proofs.errors.StreamErrorLemmas.{Unless-after, in_range, within_limit}
 use Rattle.capnp_frame.proofs.tables.PaddingLemmas.{padding_cases}
 use Rattle.capnp_frame.proofs.encodings.TextLemmas.{frames_part}
 use Rattle.capnp_frame.proofs.slices.FlatLemmas.{cut_first, count_out, cut_lengths, past_lengths, cut_segments}
@@ -40,8 +40,8 @@ count_past : (form : FlatForm) (last : ℕ) → 512 ≤ last + 1 → last < 2 ^ 
 count_past (by_words empty) last many fits = elim (cases_lt 0 ((last + 1) % 2 ^ 32)) [ inl some ↦ inr (omega arith) | inr none ↦ inl (omega arith) ]
 count_past by_fields last many fits = inr many
 
-refused_not_accepted : (form : FlatForm) (rule : Padding) (limit : Option ℕ) (kind : ErrorKind) (bytes : List ℕ) (count : ℕ) → RefusesFlat form rule limit kind bytes → Accepts rule limit bytes count → ⊥
-refused_not_accepted form rule limit kind bytes count refused a =
+error_not_accepted : (form : FlatForm) (rule : Padding) (limit : Option ℕ) (kind : ErrorKind) (bytes : List ℕ) (count : ℕ) → FlatError form rule limit kind bytes → Accepts rule limit bytes count → ⊥
+error_not_accepted form rule limit kind bytes count errors a =
     let declared : count_of form (number bytes) ≡ count = count_within form (number bytes) (omega (arith, a.counted, a.few)) ∙ a.counted in
     let some : 0 < count = omega (arith, a.counted) in
     let first = first_end_within form count some in
@@ -52,19 +52,19 @@ refused_not_accepted form rule limit kind bytes count refused a =
     (λ x. Unless-after (in_range count some a.few)
     (Unless-after (λ short. absurd (omega arith))
     (Unless-after (within_limit (declared_lengths count bytes) limit a.keeps)
-    (Unless-after (λ short. absurd (omega arith)) (Unless-after (λ broken. broken a.kept)
+    (Unless-after (λ short. absurd (omega arith)) (Unless-after (λ rejected. rejected a.kept)
     (λ cuts. let short = cuts.0 in absurd (omega arith))))))
     (subst (λ k. Unless (IsOutOfRange k) (kind ≡ InvalidNumberOfSegments k)
     (Unless (length bytes < lengths_end form k) (kind ≡ cut_kind form (length bytes))
-    (RefusesLengths form rule limit kind bytes k (declared_lengths k bytes)))) declared x))) refused
+    (LengthsError form rule limit kind bytes k (declared_lengths k bytes)))) declared x))) errors
 
 -- the limit is kept or passed
 pub limit_cases : (ns : List ℕ) (limit : Option ℕ) → IsTooLarge ns limit ⊎ KeepsLimit ns limit
 limit_cases ns None = inr tt
 limit_cases ns (Some most) = elim (cases_lt most (sum ns)) [ inl over ↦ inl over | inr keeps ↦ inr keeps ]
 
-abbrev Refused : FlatForm → Padding → Option ℕ → List ℕ → Type 0
-Refused form rule limit bytes = (kind : ErrorKind) × RefusesFlat form rule limit kind bytes
+abbrev FlatFails : FlatForm → Padding → Option ℕ → List ℕ → Type 0
+FlatFails form rule limit bytes = (kind : ErrorKind) × FlatError form rule limit kind bytes
 
 number_fits : (bytes : List ℕ) → AllByRecursion (λ byte. byte < 256) bytes → 4 ≤ length bytes → number bytes < 2 ^ 32
 number_fits [] each long = absurd (omega arith)
@@ -81,7 +81,7 @@ number_fits (a ∷ b ∷ c ∷ d ∷ bytes) each long =
 -- after the limit: the padding and the segments
 after_limit : (form : FlatForm) (rule : Padding) (limit : Option ℕ) (bytes : List ℕ) (count : ℕ) → count_end form ≤ length bytes
     → number bytes + 1 ≡ count → count < 512 → lengths_end form count ≤ length bytes
-    → KeepsLimit (declared_lengths count bytes) limit → Refused form rule limit bytes ⊎ Accepts rule limit bytes count
+    → KeepsLimit (declared_lengths count bytes) limit → FlatFails form rule limit bytes ⊎ Accepts rule limit bytes count
 after_limit form rule limit bytes count first declared few lens keeps =
     let counted : count_of form (number bytes) ≡ count = count_within form (number bytes) (omega arith) ∙ declared in
     let some : 0 < count = omega arith in
@@ -93,10 +93,10 @@ after_limit form rule limit bytes count first declared few lens keeps =
             (inr (within_limit (declared_lengths count bytes) limit keeps, inl (short, refl))),
       )
       | inr table ↦ elim (padding_cases rule (declared_padding count bytes)) [
-        | inr broken ↦ inl (
+        | inr rejected ↦ inl (
           NonZeroPadding,
           past_lengths form rule limit NonZeroPadding bytes count first start counted some few lens
-              (inr (within_limit (declared_lengths count bytes) limit keeps, inr (λ short. absurd (omega arith), inl (broken, refl)))),
+              (inr (within_limit (declared_lengths count bytes) limit keeps, inr (λ short. absurd (omega arith), inl (rejected, refl)))),
         )
         | inl kept ↦ elim (cases_lt (length bytes) (table_size count + 8 * sum (declared_lengths count bytes))) [
           | inl short ↦ inl (
@@ -113,7 +113,7 @@ after_limit form rule limit bytes count first declared few lens keeps =
 
 -- after the number of segments
 after_count : (form : FlatForm) (rule : Padding) (limit : Option ℕ) (bytes : List ℕ) (count : ℕ) → count_end form ≤ length bytes
-    → number bytes + 1 ≡ count → count < 512 → Refused form rule limit bytes ⊎ Accepts rule limit bytes count
+    → number bytes + 1 ≡ count → count < 512 → FlatFails form rule limit bytes ⊎ Accepts rule limit bytes count
 after_count form rule limit bytes count first declared few =
     let counted : count_of form (number bytes) ≡ count = count_within form (number bytes) (omega arith) ∙ declared in
     let some : 0 < count = omega arith in
@@ -130,9 +130,9 @@ after_count form rule limit bytes count first declared few =
       ]
     ]
 
-refused_or_accepted : (form : FlatForm) (rule : Padding) (limit : Option ℕ) (bytes : List ℕ) → AllByRecursion (λ byte. byte < 256) bytes → Refused form rule limit bytes ⊎ Accepts rule limit bytes (number bytes + 1)
-refused_or_accepted form rule limit [] each = inl (empty_kind form, inl (refl, refl))
-refused_or_accepted form rule limit (byte ∷ bytes) each =
+error_or_accepted : (form : FlatForm) (rule : Padding) (limit : Option ℕ) (bytes : List ℕ) → AllByRecursion (λ byte. byte < 256) bytes → FlatFails form rule limit bytes ⊎ Accepts rule limit bytes (number bytes + 1)
+error_or_accepted form rule limit [] each = inl (empty_kind form, inl (refl, refl))
+error_or_accepted form rule limit (byte ∷ bytes) each =
     let all = byte ∷ bytes in
     let start = first_end_some form in
     let least = first_least form in
@@ -153,11 +153,11 @@ refused_or_accepted form rule limit (byte ∷ bytes) each =
     first_least by_fields = omega arith
 
 pub flat_agree : (form other : FlatForm) (rule : Padding) (limit : Option ℕ) (kind : ErrorKind) (bytes : List ℕ)
-    → AllByRecursion (λ byte. byte < 256) bytes → RefusesFlat form rule limit kind bytes → (own : ErrorKind)
-    × RefusesFlat other rule limit own bytes
-flat_agree form other rule limit kind bytes each refused = elim (refused_or_accepted other rule limit bytes each) [
+    → AllByRecursion (λ byte. byte < 256) bytes → FlatError form rule limit kind bytes → (own : ErrorKind)
+    × FlatError other rule limit own bytes
+flat_agree form other rule limit kind bytes each errors = elim (error_or_accepted other rule limit bytes each) [
   | inl met ↦ met
-  | inr accepts ↦ absurd (refused_not_accepted form rule limit kind bytes (number bytes + 1) refused accepts)
+  | inr accepts ↦ absurd (error_not_accepted form rule limit kind bytes (number bytes + 1) errors accepts)
 ]
 
 pub one_at_a_front : (rule also : Padding) (bytes rest left : List ℕ) (segments others : List (List ℕ)) → HasFrame rule bytes segments rest → HasFrame also bytes others left → (segments ≡ others) × (rest ≡ left)

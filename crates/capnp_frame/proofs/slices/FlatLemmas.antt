@@ -8,16 +8,16 @@ use Rattle.capnp_frame.specs.declared.error.ErrorKind.{ErrorKind}
 use Rattle.capnp_frame.specs.declared.error.ErrorKind.TheVariants.{BufferNotLargeEnough, InvalidNumberOfSegments, MessageEndsPrematurely, MessageTooLarge, NonZeroPadding}
 use Rattle.capnp_frame.specs.declared.serialize.segment_table.Padding.{Padding}
 use Rattle.capnp_frame.specs.declared.serialize.segment_table.Padding.TheVariants.{Any}
-use Rattle.capnp_frame.specs.Prelude.{field, table_size, KeepsPadding, IsTable, KeepsLimit, IsWithin, Splits, RunsShort, TableStands, Unless, Tells, TakesForLengths, StopsBy, LacksRoom, RefusesAtLimit, RefusesRest, IsOutOfRange, IsTooLarge, BreaksPadding, RefusesTable, HasFrame, number, declared_lengths, declared_padding, FlatForm, by_words, by_fields, cut_kind, count_end, count_of, AcceptsSeveral, lengths_end, CutsSegments, RefusesLengths, RefusesCount, RefusesFlat}
+use Rattle.capnp_frame.specs.Prelude.{field, table_size, KeepsPadding, IsTable, KeepsLimit, IsWithin, Splits, RunsShort, TableStands, Unless, Tells, TakesForLengths, FailsLeaving, IsTooShort, LimitError, RestError, IsOutOfRange, IsTooLarge, RejectsPadding, TableError, HasFrame, number, declared_lengths, declared_padding, FlatForm, by_words, by_fields, cut_kind, count_end, count_of, AcceptsSeveral, lengths_end, CutsSegments, LengthsError, FlatCountError, FlatError}
 use Rattle.capnp_frame.proofs.tables.TableLemmas.{count_declared}
 use Rattle.capnp_frame.proofs.encodings.FrameLemmas.{length-table}
 use Rattle.capnp_frame.proofs.tables.DeclaredTables.{number-field, table_is, Declared, declared_from_table}
 use Rattle.capnp_frame.proofs.encodings.FrontMessages.{held_from_begins}
-use Rattle.capnp_frame.proofs.errors.RefusalLemmas.{Unless-once, Unless-after, in_range, within_limit}
+use Rattle.capnp_frame.proofs.errors.StreamErrorLemmas.{Unless-once, Unless-after, in_range, within_limit}
 
 -- one line at most is the first that holds
-pub RefusesFlat-once : (form : FlatForm) (rule : Padding) (limit : Option ℕ) (kind other : ErrorKind) (bytes : List ℕ) → RefusesFlat form rule limit kind bytes → RefusesFlat form rule limit other bytes → kind ≡ other
-RefusesFlat-once form rule limit kind other bytes =
+pub FlatError-once : (form : FlatForm) (rule : Padding) (limit : Option ℕ) (kind other : ErrorKind) (bytes : List ℕ) → FlatError form rule limit kind bytes → FlatError form rule limit other bytes → kind ≡ other
+FlatError-once form rule limit kind other bytes =
     Unless-once same (Unless-once same (Unless-once same (Unless-once same (Unless-once same (Unless-once same (Unless-once same (λ x y. x.1 ∙ sym y.1)))))))
   where
     same : {own : ErrorKind} → kind ≡ own → other ≡ own → kind ≡ other
@@ -26,43 +26,43 @@ RefusesFlat-once form rule limit kind other bytes =
 -- the lines after a test that fails
 
 past_empty : (form : FlatForm) (rule : Padding) (limit : Option ℕ) (kind : ErrorKind) (bytes : List ℕ) → count_end form ≤ length bytes
-    → 0 < count_end form → RefusesCount form rule limit kind bytes (count_of form (number bytes))
-    → RefusesFlat form rule limit kind bytes
+    → 0 < count_end form → FlatCountError form rule limit kind bytes (count_of form (number bytes))
+    → FlatError form rule limit kind bytes
 past_empty form rule limit kind bytes there some after = inr (λ none. absurd (omega (arith, ap length none)), inr (λ short. absurd (omega arith), after))
 
 -- the first field, or the first word, is cut
-pub cut_first : (form : FlatForm) (rule : Padding) (limit : Option ℕ) (bytes : List ℕ) → 0 < length bytes → length bytes < count_end form → RefusesFlat form rule limit (cut_kind form (length bytes)) bytes
+pub cut_first : (form : FlatForm) (rule : Padding) (limit : Option ℕ) (bytes : List ℕ) → 0 < length bytes → length bytes < count_end form → FlatError form rule limit (cut_kind form (length bytes)) bytes
 cut_first form rule limit bytes some short = inr (λ none. absurd (omega (arith, ap length none)), inl (short, refl))
 
 -- the number of segments is out of range
 pub count_out : (form : FlatForm) (rule : Padding) (limit : Option ℕ) (bytes : List ℕ) (count : ℕ) → count_end form ≤ length bytes
     → 0 < count_end form → count_of form (number bytes) ≡ count → IsOutOfRange count
-    → RefusesFlat form rule limit (InvalidNumberOfSegments count) bytes
+    → FlatError form rule limit (InvalidNumberOfSegments count) bytes
 count_out form rule limit bytes count there some is out = past_empty form rule limit (InvalidNumberOfSegments count) bytes there
-    some (subst (RefusesCount form rule limit (InvalidNumberOfSegments count) bytes) (sym is) (inl (out, refl)))
+    some (subst (FlatCountError form rule limit (InvalidNumberOfSegments count) bytes) (sym is) (inl (out, refl)))
 
 -- the lengths are cut
 pub cut_lengths : (form : FlatForm) (rule : Padding) (limit : Option ℕ) (bytes : List ℕ) (count : ℕ) → count_end form ≤ length bytes
     → 0 < count_end form → count_of form (number bytes) ≡ count → 0 < count → count < 512
-    → length bytes < lengths_end form count → RefusesFlat form rule limit (cut_kind form (length bytes)) bytes
+    → length bytes < lengths_end form count → FlatError form rule limit (cut_kind form (length bytes)) bytes
 cut_lengths form rule limit bytes count there first is some few short = past_empty form rule limit (cut_kind form (length bytes))
-    bytes there first (subst (RefusesCount form rule limit (cut_kind form (length bytes)) bytes) (sym is)
+    bytes there first (subst (FlatCountError form rule limit (cut_kind form (length bytes)) bytes) (sym is)
     (inr (in_range count some few, inl (short, refl))))
 
 -- what is met after the lengths
 pub past_lengths : (form : FlatForm) (rule : Padding) (limit : Option ℕ) (kind : ErrorKind) (bytes : List ℕ) (count : ℕ)
     → count_end form ≤ length bytes → 0 < count_end form → count_of form (number bytes) ≡ count → 0 < count
     → count < 512 → lengths_end form count ≤ length bytes
-    → RefusesLengths form rule limit kind bytes count (declared_lengths count bytes) → RefusesFlat form rule limit kind bytes
+    → LengthsError form rule limit kind bytes count (declared_lengths count bytes) → FlatError form rule limit kind bytes
 past_lengths form rule limit kind bytes count there first is some few all after = past_empty form rule limit kind bytes there
-    first (subst (RefusesCount form rule limit kind bytes) (sym is)
+    first (subst (FlatCountError form rule limit kind bytes) (sym is)
     (inr (in_range count some few, inr (λ short. absurd (omega arith), after))))
 
 -- the segments are cut
 pub cut_segments : (form : FlatForm) (rule : Padding) (limit : Option ℕ) (bytes : List ℕ) (count total : ℕ)
     → KeepsLimit (declared_lengths count bytes) limit → KeepsPadding rule (declared_padding count bytes) → table_size count ≤ length bytes
     → total ≡ sum (declared_lengths count bytes) → length bytes < table_size count + 8 * total
-    → RefusesLengths form rule limit (MessageEndsPrematurely total ((length bytes - table_size count) / 8)) bytes count
+    → LengthsError form rule limit (MessageEndsPrematurely total ((length bytes - table_size count) / 8)) bytes count
     (declared_lengths count bytes)
 cut_segments form rule limit bytes count total keeps kept room is short =
     inr (
@@ -70,7 +70,7 @@ cut_segments form rule limit bytes count total keeps kept room is short =
       inr (
         λ cut. absurd (omega arith),
         inr (
-          λ broken. broken kept,
+          λ rejected. rejected kept,
           subst (CutsSegments
               (MessageEndsPrematurely total ((length bytes - table_size count) / 8)) bytes count) is (short, refl),
         ),
@@ -89,10 +89,10 @@ frame_counted form rule limit bytes segments rest begins within =
     counted form (number bytes) (length segments) held.count held.holds.table.few
 
 -- and there no line holds
-pub RefusesFlat-apart : (form : FlatForm) (rule : Padding) (limit : Option ℕ) (kind : ErrorKind) (bytes : List ℕ)
+pub FlatError-apart : (form : FlatForm) (rule : Padding) (limit : Option ℕ) (kind : ErrorKind) (bytes : List ℕ)
     (segments : List (List ℕ)) (rest : List ℕ) → HasFrame rule bytes segments rest → IsWithin segments limit
-    → RefusesFlat form rule limit kind bytes → ⊥
-RefusesFlat-apart form rule limit kind bytes segments rest begins within =
+    → FlatError form rule limit kind bytes → ⊥
+FlatError-apart form rule limit kind bytes segments rest begins within =
     let held = held_from_begins rule bytes segments rest limit begins within in
     let count = length segments in
     let declared = held.count in
@@ -105,10 +105,10 @@ RefusesFlat-apart form rule limit kind bytes segments rest begins within =
     let less = within_table form count in
     Unless-after (λ none. absurd (omega (arith, ap length none)))
     (Unless-after (λ short. absurd (omega arith)) (λ x.
-    let counted_so : RefusesCount form rule limit kind bytes count = subst (RefusesCount form rule limit kind bytes) declared_count x in
+    let counted_so : FlatCountError form rule limit kind bytes count = subst (FlatCountError form rule limit kind bytes) declared_count x in
     Unless-after (in_range count some few) (Unless-after (λ short. absurd (omega arith))
     (Unless-after (within_limit (declared_lengths count bytes) limit keeps)
-    (Unless-after (λ short. absurd (omega arith)) (Unless-after (λ broken. broken held.padding)
+    (Unless-after (λ short. absurd (omega arith)) (Unless-after (λ rejected. rejected held.padding)
     (λ cuts. let short = cuts.0 in absurd (omega arith))))))
     counted_so))
   where
@@ -159,15 +159,15 @@ several_accepted empty bytes left (stands, more) =
     let long = declared.0 in
     (omega arith, subst (λ k. IsOutOfRange k → ⊥) (sym declared.1) stands.accepted, subst (λ k. 1 < k) (sym declared.1) more)
 
-pub words_refused : (empty : ErrorKind) (rule : Padding) (limit : Option ℕ) (kind : ErrorKind) (bytes left : List ℕ)
-    → RefusesTable rule Splits RunsShort limit None kind bytes left → RefusesFlat (by_words empty) rule limit kind bytes
-words_refused empty rule limit kind bytes left (inl lacks) = absurd lacks.0
-words_refused empty rule limit kind bytes left (inr (room, (some, inl (short, is)))) = inr (some, inl (short, is))
-words_refused empty rule limit kind bytes left (inr (room, (some, inr (word, between, given, (count, tells, after))))) = inr (
+pub words_error : (empty : ErrorKind) (rule : Padding) (limit : Option ℕ) (kind : ErrorKind) (bytes left : List ℕ)
+    → TableError rule Splits RunsShort limit None kind bytes left → FlatError (by_words empty) rule limit kind bytes
+words_error empty rule limit kind bytes left (inl memory) = absurd memory.0
+words_error empty rule limit kind bytes left (inr (room, (some, inl (short, is)))) = inr (some, inl (short, is))
+words_error empty rule limit kind bytes left (inr (room, (some, inr (word, between, given, (count, tells, after))))) = inr (
   some,
   inr (
     λ short. absurd (omega (arith, long)),
-    subst (RefusesCount (by_words empty) rule limit kind bytes) (sym same) (counted after),
+    subst (FlatCountError (by_words empty) rule limit kind bytes) (sym same) (counted after),
   ),
 )
   where
@@ -183,19 +183,19 @@ words_refused empty rule limit kind bytes left (inr (room, (some, inr (word, bet
     -- the limit's line, and the padding's
     lines : (ns others following : List ℕ) → (length bytes ≡ table_size (length ns) + length following) → Declared Any bytes ns → count ≡ length ns
         → bytes ≡ (word ++ others) ++ following → IsTable Any (word ++ others) ns
-        → Unless (IsTooLarge ns limit) (StopsBy (MessageTooLarge (sum ns)) kind following left)
-        (Unless (BreaksPadding rule (word ++ others) ns) (StopsBy NonZeroPadding kind following left) ⊥)
-        → RefusesLengths (by_words empty) rule limit kind bytes count ns
-    lines ns others following room declared exact is any (inl (over, stops)) = inl (over, stops.0)
+        → Unless (IsTooLarge ns limit) (FailsLeaving (MessageTooLarge (sum ns)) kind following left)
+        (Unless (RejectsPadding rule (word ++ others) ns) (FailsLeaving NonZeroPadding kind following left) ⊥)
+        → LengthsError (by_words empty) rule limit kind bytes count ns
+    lines ns others following room declared exact is any (inl (over, fails)) = inl (over, fails.0)
     lines ns others following room declared exact is any (inr (keeps, inr (taken, never))) = absurd never
-    lines ns others following room declared exact is any (inr (keeps, inl (breaks, stops))) =
+    lines ns others following room declared exact is any (inr (keeps, inl (rejects, fails))) =
         let table = λ (kept : KeepsPadding rule (declared_padding count bytes)). front_table rule bytes (word ++ others) following ns is any declared
         (subst (λ k. KeepsPadding rule (declared_padding k bytes)) exact kept) in
-        inr (keeps, inr (λ short. absurd (omega arith), inl ((λ kept. breaks (table kept)), stops.0)))
+        inr (keeps, inr (λ short. absurd (omega arith), inl ((λ kept. rejects (table kept)), fails.0)))
 
     limited : (others following : List ℕ) → (IsOutOfRange count → ⊥) → Splits between (8 * (count / 2)) others following
-        → RefusesAtLimit rule limit kind (λ ns following. ⊥) left word others following
-        → RefusesCount (by_words empty) rule limit kind bytes count
+        → LimitError rule limit kind (λ ns following. ⊥) left word others following
+        → FlatCountError (by_words empty) rule limit kind bytes count
     limited others following range split (ns, table, met) =
         let few = below_range count range in
         let many = count_declared word others ns tells.0 table given.1 tells.2 tells.1 in
@@ -213,13 +213,13 @@ words_refused empty rule limit kind bytes left (inr (room, (some, inr (word, bet
         let lens : declared_lengths count bytes ≡ ns = ap (λ k. declared_lengths k bytes) exact ∙ declared.0.lengths in
         let room = declared.1 in
         let bytes_are : bytes ≡ (word ++ others) ++ following = given.0 ∙ ap (λ l. word ++ l) split.0 ∙ sym (append_assoc word others following) in
-        inr (range, inr (λ short. absurd (omega arith), subst (RefusesLengths (by_words empty) rule limit kind bytes count) (sym lens) (lines ns others following declared.1 declared.0 exact bytes_are table met)))
+        inr (range, inr (λ short. absurd (omega arith), subst (LengthsError (by_words empty) rule limit kind bytes count) (sym lens) (lines ns others following declared.1 declared.0 exact bytes_are table met)))
 
-    counted : Unless (IsOutOfRange count) (StopsBy (InvalidNumberOfSegments count) kind between left)
-        (Unless (LacksRoom None (table_size count)) (StopsBy BufferNotLargeEnough kind between left)
-        (RefusesRest rule Splits RunsShort limit kind (λ ns following. ⊥) left word count between))
-        → RefusesCount (by_words empty) rule limit kind bytes count
-    counted (inl (out, stops)) = inl (out, stops.0)
-    counted (inr (range, inl lacks)) = absurd lacks.0
+    counted : Unless (IsOutOfRange count) (FailsLeaving (InvalidNumberOfSegments count) kind between left)
+        (Unless (IsTooShort None (table_size count)) (FailsLeaving BufferNotLargeEnough kind between left)
+        (RestError rule Splits RunsShort limit kind (λ ns following. ⊥) left word count between))
+        → FlatCountError (by_words empty) rule limit kind bytes count
+    counted (inl (out, fails)) = inl (out, fails.0)
+    counted (inr (range, inl memory)) = absurd memory.0
     counted (inr (range, inr (room, inl (short, is)))) = inr (range, inl (omega (arith, long), is))
     counted (inr (range, inr (room, inr (others, following, split, met)))) = limited others following range split met

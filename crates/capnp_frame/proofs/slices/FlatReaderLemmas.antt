@@ -6,46 +6,46 @@ use Rattle.capnp_frame.specs.declared.error.Error.{Error}
 use Rattle.capnp_frame.specs.declared.error.ErrorKind.{ErrorKind}
 use Rattle.capnp_frame.specs.declared.error.ErrorKind.TheVariants.{OutOfMemory}
 use Rattle.capnp_frame.specs.declared.serialize.segment_table.Padding.{Padding}
-use Rattle.capnp_frame.specs.Prelude.{table_size, KeepsPadding, KeepsLimit, number, declared_lengths, declared_padding, declared_segments, HoldsMessage, FlatForm, by_words, by_fields, count_of, AcceptsSeveral, RefusesFlat, FlatRules, StandsBy, RefusesBy, Leaves, OrLacksMemory, AcceptsFlat, ReadsFlat}
+use Rattle.capnp_frame.specs.Prelude.{table_size, KeepsPadding, KeepsLimit, number, declared_lengths, declared_padding, declared_segments, HoldsMessage, FlatForm, by_words, by_fields, count_of, AcceptsSeveral, FlatError, FlatRules, StandsBy, RulesError, Leaves, OrOutOfMemory, AcceptsFlat, ReadsFlat}
 use Rattle.capnp_frame.proofs.encodings.FrontMessages.{found_from_held, within_declared}
-use Rattle.capnp_frame.proofs.slices.FlatLemmas.{RefusesFlat-once, frame_counted, RefusesFlat-apart}
+use Rattle.capnp_frame.proofs.slices.FlatLemmas.{FlatError-once, frame_counted, FlatError-apart}
 
 -- no line holds where a message is
-stands_apart : (rules : FlatRules) (kind : ErrorKind) (bytes rest : List ℕ) (message : List (List ℕ)) → StandsBy rules message bytes rest → RefusesBy rules kind bytes → ⊥
+stands_apart : (rules : FlatRules) (kind : ErrorKind) (bytes rest : List ℕ) (message : List (List ℕ)) → StandsBy rules message bytes rest → RulesError rules kind bytes → ⊥
 stands_apart rules kind bytes rest message begins =
-    RefusesFlat-apart rules.form rules.padding rules.limit kind bytes message rest (begins.text, begins.is_text, begins.spelled) begins.within
+    FlatError-apart rules.form rules.padding rules.limit kind bytes message rest (begins.text, begins.is_text, begins.spelled) begins.within
 
 -- where a call fails, it fails by its rules
 
-lacks_alone : (X : Type 0) (form : FlatForm) (rule : Padding) (limit : Option ℕ) (bytes : List ℕ) (message : List (List ℕ)) (error : Error)
-    → OrLacksMemory form ((error.kind ≡ OutOfMemory) × AcceptsSeveral form bytes) (RefusesFlat form rule limit error.kind bytes)
-    → count_of form (number bytes) ≡ length message → (RefusesFlat form rule limit error.kind bytes → ⊥)
+memory_alone : (X : Type 0) (form : FlatForm) (rule : Padding) (limit : Option ℕ) (bytes : List ℕ) (message : List (List ℕ)) (error : Error)
+    → OrOutOfMemory form ((error.kind ≡ OutOfMemory) × AcceptsSeveral form bytes) (FlatError form rule limit error.kind bytes)
+    → count_of form (number bytes) ≡ length message → (FlatError form rule limit error.kind bytes → ⊥)
     → AcceptsFlat {X = X} form message (Err error)
-lacks_alone X (by_words empty) rule limit bytes message error (inl lacks) count none = (lacks.0, subst (λ k. 1 < k) count lacks.1.2)
-lacks_alone X (by_words empty) rule limit bytes message error (inr met) count none = absurd (none met)
-lacks_alone X by_fields rule limit bytes message error met count none = absurd (none met)
+memory_alone X (by_words empty) rule limit bytes message error (inl memory) count none = (memory.0, subst (λ k. 1 < k) count memory.1.2)
+memory_alone X (by_words empty) rule limit bytes message error (inr met) count none = absurd (none met)
+memory_alone X by_fields rule limit bytes message error met count none = absurd (none met)
 
 first_line : (form : FlatForm) (rule : Padding) (limit : Option ℕ) (bytes : List ℕ) (own kind : ErrorKind)
-    → OrLacksMemory form ((own ≡ OutOfMemory) × AcceptsSeveral form bytes) (RefusesFlat form rule limit own bytes)
-    → RefusesFlat form rule limit kind bytes → OrLacksMemory form (own ≡ OutOfMemory) (own ≡ kind)
-first_line (by_words empty) rule limit bytes own kind (inl lacks) line = inl lacks.0
-first_line (by_words empty) rule limit bytes own kind (inr met) line = inr (RefusesFlat-once (by_words empty) rule limit own kind bytes met line)
-first_line by_fields rule limit bytes own kind met line = RefusesFlat-once by_fields rule limit own kind bytes met line
+    → OrOutOfMemory form ((own ≡ OutOfMemory) × AcceptsSeveral form bytes) (FlatError form rule limit own bytes)
+    → FlatError form rule limit kind bytes → OrOutOfMemory form (own ≡ OutOfMemory) (own ≡ kind)
+first_line (by_words empty) rule limit bytes own kind (inl memory) line = inl memory.0
+first_line (by_words empty) rule limit bytes own kind (inr met) line = inr (FlatError-once (by_words empty) rule limit own kind bytes met line)
+first_line by_fields rule limit bytes own kind met line = FlatError-once by_fields rule limit own kind bytes met line
 
 pub reads_none : {X : Type 0} (rules : FlatRules) (bytes : List ℕ) (left : Option (List ℕ)) (segments : X → List (List ℕ))
     (error : Error) (result : Result X Error) → IsErrAnd result (λ own. own ≡ error) → IfSome left (λ left. left ≡ bytes)
-    → OrLacksMemory rules.form ((error.kind ≡ OutOfMemory) × AcceptsSeveral rules.form bytes) (RefusesBy rules error.kind bytes)
+    → OrOutOfMemory rules.form ((error.kind ≡ OutOfMemory) × AcceptsSeveral rules.form bytes) (RulesError rules error.kind bytes)
     → ReadsFlat rules bytes left segments result
-reads_none rules bytes left segments error (Ok x) is stays refused = absurd is
-reads_none {X} rules bytes left segments error (Err own) is stays refused =
+reads_none rules bytes left segments error (Ok x) is stays errors = absurd is
+reads_none {X} rules bytes left segments error (Err own) is stays errors =
     subst (λ e. ReadsFlat rules bytes left segments (Err e)) (sym is) (record {
       found = tt;
-      accepted = λ message rest begins. lacks_alone X rules.form rules.padding rules.limit bytes message error refused
+      accepted = λ message rest begins. memory_alone X rules.form rules.padding rules.limit bytes message error errors
           (frame_counted rules.form rules.padding rules.limit bytes message rest (begins.text, begins.is_text, begins.spelled) begins.within)
           (stands_apart rules error.kind bytes rest message begins);
       unchanged = stays;
-      refused = refused;
-      exact = λ kind line. first_line rules.form rules.padding rules.limit bytes error.kind kind refused line;
+      errors = errors;
+      exact = λ kind line. first_line rules.form rules.padding rules.limit bytes error.kind kind errors line;
     })
 
 -- where a call finds a message, that message is there
@@ -76,7 +76,7 @@ reads_held rules bytes left segments x count holds are keeps kept is =
       found = leaves left (StandsBy rules (segments x) bytes) rest is begins;
       accepted = λ message after others. accepts rules.form message x;
       unchanged = tt;
-      refused = tt;
+      errors = tt;
       exact = λ kind line. stands_apart rules kind bytes rest (segments x) begins line;
     }
 
@@ -85,15 +85,15 @@ reads_held rules bytes left segments x count holds are keeps kept is =
 pub reads_shown : {X Y : Type 0} (rules : FlatRules) (bytes : List ℕ) (left : Option (List ℕ)) (segments : X → List (List ℕ))
     (others : Y → List (List ℕ)) (x : X) (y : Y) → others y ≡ segments x → ReadsFlat rules bytes left segments (Ok x)
     → ReadsFlat rules bytes left others (Ok y)
-reads_shown rules bytes left segments others x y same declared = record {
-  found = subst (λ l. Leaves left (StandsBy rules l bytes)) (sym same) declared.found;
+reads_shown rules bytes left segments others x y same reported = record {
+  found = subst (λ l. Leaves left (StandsBy rules l bytes)) (sym same) reported.found;
   accepted = λ message rest begins. accepts rules.form message y;
   unchanged = tt;
-  refused = tt;
-  exact = declared.exact;
+  errors = tt;
+  exact = reported.exact;
 }
 
 pub reads_passed : {X Y : Type 0} (rules : FlatRules) (bytes : List ℕ) (left : Option (List ℕ)) (segments : X → List (List ℕ))
     (others : Y → List (List ℕ)) (error : Error) (result : Result Y Error) → IsErrAnd result (λ own. own ≡ error)
     → ReadsFlat rules bytes left segments (Err error) → ReadsFlat rules bytes left others result
-reads_passed rules bytes left segments others error result is declared = reads_none rules bytes left others error result is declared.unchanged declared.refused
+reads_passed rules bytes left segments others error result is reported = reads_none rules bytes left others error result is reported.unchanged reported.errors

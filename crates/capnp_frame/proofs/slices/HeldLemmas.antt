@@ -6,12 +6,12 @@ use Rattle.std.specs.Prelude.{sum, Bool, false, IsTrue}
 use Rattle.capnp_frame.specs.declared.error.ErrorKind.{ErrorKind}
 use Rattle.capnp_frame.specs.declared.error.ErrorKind.TheVariants.{DeviceFailed, OutOfMemory, MessageEndsPrematurely}
 use Rattle.capnp_frame.specs.declared.serialize.segment_table_info.NoAllocSegmentTableInfo.{NoAllocSegmentTableInfo}
-use Rattle.capnp_frame.specs.Prelude.{size_in_words, table_size, KeepsPadding, cut, KeepsLimit, AreWithin, IsWithin, Splits, RunsShort, IfKnown, Fails, TableStands, TakesForLengths, RefusesTable, HasFrame, IsDescribed, HaveSameNumbers, number, declared_lengths, declared_padding, declared_segments, HoldsMessage, by_words, by_fields, AcceptsSeveral, RefusesFlat}
+use Rattle.capnp_frame.specs.Prelude.{size_in_words, table_size, KeepsPadding, cut, KeepsLimit, AreWithin, IsWithin, Splits, RunsShort, IfKnown, Fails, TableStands, TakesForLengths, TableError, HasFrame, IsDescribed, HaveSameNumbers, number, declared_lengths, declared_padding, declared_segments, HoldsMessage, by_words, by_fields, AcceptsSeveral, FlatError}
 use Rattle.capnp_frame.specs.declared.serialize.segment_table.Padding.{Padding}
 use Rattle.capnp_frame.specs.declared.serialize.segment_table.Padding.TheVariants.{Any}
 use Rattle.capnp_frame.proofs.sources.AskLemmas.{never_fails}
 use Rattle.capnp_frame.proofs.encodings.FrontMessages.{found_from_held, held_from_begins, within_declared, length-declared_segments}
-use Rattle.capnp_frame.proofs.slices.FlatLemmas.{RefusesFlat-apart, declared_by_requests, several_accepted, words_refused, past_lengths, cut_segments}
+use Rattle.capnp_frame.proofs.slices.FlatLemmas.{FlatError-apart, declared_by_requests, several_accepted, words_error, past_lengths, cut_segments}
 
 -- the frame at the front
 
@@ -43,14 +43,14 @@ keeps_declared bytes ns limit declared within = subst (λ l. KeepsLimit l limit)
 
 -- the stream reader's table over a slice
 
-pub slice_refused : (empty : ErrorKind) (rule : Padding) (limit : Option ℕ) (kind : ErrorKind) (bytes left : List ℕ)
+pub slice_error : (empty : ErrorKind) (rule : Padding) (limit : Option ℕ) (kind : ErrorKind) (bytes left : List ℕ)
     → (kind ≡ DeviceFailed → Fails 0 0) → (kind ≡ DeviceFailed)
     ⊎ ((kind ≡ OutOfMemory) × IfKnown (Some bytes) (Some left) (TakesForLengths 1 Splits))
-    ⊎ IfKnown (Some bytes) (Some left) (RefusesTable rule Splits RunsShort limit None kind)
-    → ((kind ≡ OutOfMemory) × AcceptsSeveral (by_words empty) bytes) ⊎ RefusesFlat (by_words empty) rule limit kind bytes
-slice_refused empty rule limit kind bytes left failed (inl device) = absurd (never_fails kind failed device)
-slice_refused empty rule limit kind bytes left failed (inr (inl memory)) = inl (memory.0, several_accepted empty bytes left memory.1)
-slice_refused empty rule limit kind bytes left failed (inr (inr met)) = inr (words_refused empty rule limit kind bytes left met)
+    ⊎ IfKnown (Some bytes) (Some left) (TableError rule Splits RunsShort limit None kind)
+    → ((kind ≡ OutOfMemory) × AcceptsSeveral (by_words empty) bytes) ⊎ FlatError (by_words empty) rule limit kind bytes
+slice_error empty rule limit kind bytes left failed (inl device) = absurd (never_fails kind failed device)
+slice_error empty rule limit kind bytes left failed (inr (inl memory)) = inl (memory.0, several_accepted empty bytes left memory.1)
+slice_error empty rule limit kind bytes left failed (inr (inr met)) = inr (words_error empty rule limit kind bytes left met)
 
 pub slice_holds : (rule : Padding) (bytes ns left : List ℕ) (limit : Option ℕ) (total : ℕ) → TableStands rule Splits ns bytes left
     → AreWithin ns limit → total ≡ sum ns → 8 * total ≤ length left → HoldsMessage bytes (length ns)
@@ -63,7 +63,7 @@ slice_holds rule bytes ns left limit total stands within is room =
 
 pub slice_cut : (empty : ErrorKind) (rule : Padding) (bytes ns left : List ℕ) (limit : Option ℕ) (total : ℕ)
     → TableStands rule Splits ns bytes left → AreWithin ns limit → total ≡ sum ns → length left < 8 * total
-    → RefusesFlat (by_words empty) rule limit (MessageEndsPrematurely total (length left / 8)) bytes
+    → FlatError (by_words empty) rule limit (MessageEndsPrematurely total (length left / 8)) bytes
 slice_cut empty rule bytes ns left limit total stands within is short =
     let declared = declared_by_requests rule bytes ns left stands within.few in
     let count = length ns in
@@ -74,7 +74,7 @@ slice_cut empty rule bytes ns left limit total stands within is short =
     let counted : (number bytes + 1) % 2 ^ 32 ≡ count = small (number bytes) count number_is few in
     let following : (length bytes - table_size count) / 8 ≡ length left / 8 = omega arith in
     let sums : total ≡ sum (declared_lengths count bytes) = is ∙ ap sum (sym declared.0.lengths) in
-    subst (λ k. RefusesFlat (by_words empty) rule limit (MessageEndsPrematurely total k) bytes) following
+    subst (λ k. FlatError (by_words empty) rule limit (MessageEndsPrematurely total k) bytes) following
     (past_lengths (by_words empty) rule limit (MessageEndsPrematurely total ((length bytes - table_size count) / 8)) bytes count (omega arith) (omega arith) counted some few (omega arith)
     (cut_segments (by_words empty) rule limit bytes count total (keeps_declared bytes ns limit declared.0.lengths within) declared.0.padding (omega arith) sums (omega arith)))
   where
@@ -139,5 +139,5 @@ describes_found bytes found info b means holds table total =
     let described = held_described bytes found holds total table in
     (λ yes. same_described bytes found info (means.0 yes) described, λ d. means.1 (described_once bytes found info described d))
 
-pub describes_none : (kind : ErrorKind) (bytes : List ℕ) (info : NoAllocSegmentTableInfo) → RefusesFlat by_fields Any None kind bytes → IsTrue false ↔ IsDescribed bytes info
-describes_none kind bytes info met = (λ yes. absurd (false≢true yes), λ d. absurd (RefusesFlat-apart by_fields Any None kind bytes d.segments d.rest d.begins d.within met))
+pub describes_none : (kind : ErrorKind) (bytes : List ℕ) (info : NoAllocSegmentTableInfo) → FlatError by_fields Any None kind bytes → IsTrue false ↔ IsDescribed bytes info
+describes_none kind bytes info met = (λ yes. absurd (false≢true yes), λ d. absurd (FlatError-apart by_fields Any None kind bytes d.segments d.rest d.begins d.within met))

@@ -7,16 +7,16 @@ use Rattle.std.proofs.Common.{◌⊎◌, inl, inr, Result, Ok, Err, IfErr}
 use Rattle.capnp_frame.specs.declared.error.Error.{Error}
 use Rattle.capnp_frame.specs.declared.error.ErrorKind.{ErrorKind}
 use Rattle.capnp_frame.specs.declared.error.ErrorKind.TheVariants.{DeviceFailed, BufferNotLargeEnough}
-use Rattle.capnp_frame.specs.Prelude.{lengths, size_in_words, table_size, IsTable, cut, KeepsLimit, AreWithin, IsWithin, Giving, Refusing, IsSource, IfKnown, IsTail, IsRefused, Advances, Fails, RefusesStream, IsProvidedReaderKind, framed_rules, ReadsStreamInto, MessageStands, FindsTable, FindsMessage, declared_lengths, declared_segments, DeclaresTable, HoldsMessage}
+use Rattle.capnp_frame.specs.Prelude.{lengths, size_in_words, table_size, IsTable, cut, KeepsLimit, AreWithin, IsWithin, Giving, Refusing, IsSource, IfKnown, IsTail, RequestError, Advances, Fails, StreamError, IsProvidedReaderKind, framed_rules, ReadsStreamInto, MessageStands, FindsTable, FindsMessage, declared_lengths, declared_segments, DeclaresTable, HoldsMessage}
 use Rattle.capnp_frame.specs.declared.serialize.segment_table.Padding.{Padding}
 use Rattle.capnp_frame.specs.declared.serialize.segment_table.Padding.TheVariants.{Any}
 use Rattle.capnp_frame.specs.declared.io.Read.{Ghosts}
 use Rattle.capnp_frame.proofs.encodings.RequestLemmas.{MessageStands-cut}
 use Rattle.capnp_frame.proofs.slices.HeldLemmas.{within_held, begins_held}
-use Rattle.capnp_frame.proofs.errors.MetRefusals.{body_met, segments_met}
+use Rattle.capnp_frame.proofs.errors.MetErrors.{body_met, segments_met}
 use Rattle.capnp_frame.proofs.tables.DeclaredTables.{table_is, Declared, declared_from_table, length-declared}
 use Rattle.capnp_frame.proofs.encodings.FrontMessages.{found_from_held, cut-take}
-use Rattle.capnp_frame.proofs.errors.RefusalLemmas.{RefusesStream-apart, RefusesStream-once}
+use Rattle.capnp_frame.proofs.errors.StreamErrorLemmas.{StreamError-apart, StreamError-once}
 use Rattle.capnp_frame.proofs.sinks.WritingLemmas.{length-lengths}
 
 -- the segments put after a table
@@ -74,23 +74,23 @@ body_read rule gives limit before body count total size len old mid new read siz
     }
 
 -- the buffer has no room for the segments
-pub lacks_segments : {gives : Giving} {refuses : Refusing} (rule : Padding) (laws : IsSource gives refuses) (limit : Option ℕ)
+pub segments_too_short : {gives : Giving} {refuses : Refusing} (rule : Padding) (laws : IsSource gives refuses) (limit : Option ℕ)
     (buffer : List ℕ) (count total len : ℕ) (old mid : Option (List ℕ)) → FindsTable rule gives limit buffer count total old mid
     → table_size count ≤ len → len < table_size count + 8 * total
-    → IfKnown old mid (RefusesStream rule gives refuses limit (Some len) BufferNotLargeEnough)
-lacks_segments rule laws limit buffer count total len old mid read room lacks =
+    → IfKnown old mid (StreamError rule gives refuses limit (Some len) BufferNotLargeEnough)
+segments_too_short rule laws limit buffer count total len old mid read room too_short =
     let many = length-declared count buffer in
     let sums = read.total_is in
     body_met rule laws limit (Some len) old mid (declared_lengths count buffer) (λ short. absurd (omega arith)) (omega arith)
     read.found (declared_within buffer count limit read.tells read.within)
 
 -- the request of the segments fails
-pub segments_refused : {gives : Giving} {refuses : Refusing} (rule : Padding) (laws : IsSource gives refuses) (F : Type 0)
+pub segments_error : {gives : Giving} {refuses : Refusing} (rule : Padding) (laws : IsSource gives refuses) (F : Type 0)
     (limit : Option ℕ) (kind : ErrorKind) (buffer : List ℕ) (count total len n : ℕ) (old mid new : Option (List ℕ))
     → FindsTable rule gives limit buffer count total old mid → table_size count + 8 * total ≤ len → n ≡ 8 * total
-    → IfKnown mid new IsTail → F ⊎ IsRefused refuses n mid kind
-    → F ⊎ IfKnown old new (RefusesStream rule gives refuses limit (Some len) kind)
-segments_refused rule laws F limit kind buffer count total len n old mid new read room asked tail =
+    → IfKnown mid new IsTail → F ⊎ RequestError refuses n mid kind
+    → F ⊎ IfKnown old new (StreamError rule gives refuses limit (Some len) kind)
+segments_error rule laws F limit kind buffer count total len n old mid new read room asked tail =
     let many = length-declared count buffer in
     let sums = read.total_is in
     segments_met rule laws F limit (Some len) kind old mid new (declared_lengths count buffer) n (λ short. absurd (omega arith))
@@ -117,34 +117,34 @@ table_put before table count size tells long =
 
 pub provided_accepted : {gives : Giving} {refuses : Refusing} (rule : Padding) (laws : IsSource gives refuses) {X : Type 0}
     (limit : Option ℕ) (len : ℕ) (old new : Option (List ℕ)) (r : Result X Error)
-    → IfErr r (λ e. (e.kind ≡ DeviceFailed) ⊎ IfKnown old new (RefusesStream rule gives refuses limit (Some len) e.kind))
+    → IfErr r (λ e. (e.kind ≡ DeviceFailed) ⊎ IfKnown old new (StreamError rule gives refuses limit (Some len) e.kind))
     → IfSome old (λ raw. (segments : List (List ℕ)) (rest : List ℕ) → MessageStands rule gives segments raw rest
     → IsWithin segments limit → table_size (length segments) + 8 * size_in_words segments ≤ len
     → IfErr r (λ e. e.kind ≡ DeviceFailed))
-provided_accepted rule laws limit len None new r refused = tt
-provided_accepted rule laws limit len (Some raw) new (Ok x) refused = λ segments rest sent within room. tt
+provided_accepted rule laws limit len None new r errors = tt
+provided_accepted rule laws limit len (Some raw) new (Ok x) errors = λ segments rest sent within room. tt
 provided_accepted rule laws limit len (Some raw) new (Err e) (inl p) = λ segments rest sent within room. p
 provided_accepted rule laws limit len (Some raw) None (Err e) (inr p) = absurd p
 provided_accepted rule laws limit len (Some raw) (Some left) (Err e) (inr p) = λ segments rest sent within room. absurd
-    (RefusesStream-apart rule laws limit (Some len) e.kind raw left rest segments sent within
-    (λ lacks. let many = length-lengths segments in absurd (omega arith)) p)
+    (StreamError-apart rule laws limit (Some len) e.kind raw left rest segments sent within
+    (λ too_short. let many = length-lengths segments in absurd (omega arith)) p)
 
 pub provided_once : {gives : Giving} {refuses : Refusing} (rule : Padding) (laws : IsSource gives refuses) (limit : Option ℕ) (len : ℕ)
     (own : ErrorKind) (old new : Option (List ℕ)) → (own ≡ DeviceFailed)
-    ⊎ IfKnown old new (RefusesStream rule gives refuses limit (Some len) own)
+    ⊎ IfKnown old new (StreamError rule gives refuses limit (Some len) own)
     → IfSome old (λ raw. (kind : ErrorKind) (left : List ℕ)
-    → RefusesStream rule gives refuses limit (Some len) kind raw left → (own ≡ DeviceFailed) ⊎ (own ≡ kind))
-provided_once rule laws limit len own None new refused = tt
+    → StreamError rule gives refuses limit (Some len) kind raw left → (own ≡ DeviceFailed) ⊎ (own ≡ kind))
+provided_once rule laws limit len own None new errors = tt
 provided_once rule laws limit len own (Some raw) new (inl p) = λ kind left q. inl p
 provided_once rule laws limit len own (Some raw) None (inr p) = absurd p
-provided_once rule laws limit len own (Some raw) (Some left) (inr p) = λ kind rest q. inr (RefusesStream-once rule laws limit (Some len) own kind raw left rest p q)
+provided_once rule laws limit len own (Some raw) (Some left) (inr p) = λ kind rest q. inr (StreamError-once rule laws limit (Some len) own kind raw left rest p q)
 
 pub provided_apart : {gives : Giving} {refuses : Refusing} (rule : Padding) (laws : IsSource gives refuses) (limit : Option ℕ)
     (buffer : List ℕ) (count len : ℕ) (segments : List (List ℕ)) (old new : Option (List ℕ))
     → HoldsMessage buffer count → segments ≡ declared_segments count buffer → length buffer ≡ len
     → IfKnown old new (MessageStands rule gives segments) → IsWithin segments limit
     → IfSome old (λ raw. (kind : ErrorKind) (left : List ℕ)
-    → RefusesStream rule gives refuses limit (Some len) kind raw left → ⊥)
+    → StreamError rule gives refuses limit (Some len) kind raw left → ⊥)
 provided_apart rule laws limit buffer count len segments None new holds are long found within = tt
 provided_apart rule laws limit buffer count len segments (Some raw) None holds are long found within = absurd found
 provided_apart rule laws limit buffer count len segments (Some raw) (Some rest) holds are long found within = λ kind left met.
@@ -152,7 +152,7 @@ provided_apart rule laws limit buffer count len segments (Some raw) (Some rest) 
     let many : length (lengths segments) ≡ count = ap length lens ∙ length-declared count buffer in
     let total : size_in_words segments ≡ sum (declared_lengths count buffer) = ap sum lens in
     let room = holds.room in
-    RefusesStream-apart rule laws limit (Some len) kind raw left rest segments found within (λ lacks. absurd (omega arith)) met
+    StreamError-apart rule laws limit (Some len) kind raw left rest segments found within (λ too_short. absurd (omega arith)) met
 
 -- what the reader returns, where it finds a message
 pub reads_into : {S : Type 0} (rule : Padding) (source : Ghosts S) (laws : IsSource source.gives source.refuses) (old new : S)
@@ -173,7 +173,7 @@ reads_into rule source laws old new limit room buffer count segments holds are l
       accepted = provided_accepted rule laws limit room _ (source.unread new) (Ok (Some segments)) tt;
       end = tt;
       short = λ few. absurd (enough few);
-      refused = tt;
+      errors = tt;
       exact = provided_apart rule laws limit buffer count room segments _ _ holds are long found within;
       kinds = tt;
       failed = tt;
@@ -181,25 +181,25 @@ reads_into rule source laws old new limit room buffer count segments holds are l
     }
 
 -- and where it fails
-pub refused_into : {S : Type 0} (rule : Padding) (source : Ghosts S) (laws : IsSource source.gives source.refuses) (old new : S)
+pub fails_into : {S : Type 0} (rule : Padding) (source : Ghosts S) (laws : IsSource source.gives source.refuses) (old new : S)
     (limit : Option ℕ) (room : ℕ) (error : Error)
     → (error.kind ≡ DeviceFailed)
-    ⊎ IfKnown (source.unread old) (source.unread new) (RefusesStream rule source.gives source.refuses limit (Some room) error.kind)
+    ⊎ IfKnown (source.unread old) (source.unread new) (StreamError rule source.gives source.refuses limit (Some room) error.kind)
     → (source.unread old ≡ Some [] → 8 ≤ room → error.kind ≡ DeviceFailed)
     → (room < 8 → (new ≡ old) × (error.kind ≡ BufferNotLargeEnough)) → IsProvidedReaderKind rule source.refuses error.kind
     → (error.kind ≡ DeviceFailed → Fails (source.failures old) (source.failures new))
     → Advances source.unread source.failures source.same old new
     → ReadsStreamInto source old new (framed_rules rule source.gives source.refuses) limit room (Err error)
-refused_into rule source laws old new limit room error refused end short kinds failed advances = record {
+fails_into rule source laws old new limit room error errors end short kinds failed advances = record {
   found = tt;
   within = tt;
   whole = tt;
   none = tt;
-  accepted = provided_accepted rule laws {X = Option (List (List ℕ))} limit room _ (source.unread new) (Err error) refused;
+  accepted = provided_accepted rule laws {X = Option (List (List ℕ))} limit room _ (source.unread new) (Err error) errors;
   end = end;
   short = short;
-  refused = refused;
-  exact = provided_once rule laws limit room error.kind _ (source.unread new) refused;
+  errors = errors;
+  exact = provided_once rule laws limit room error.kind _ (source.unread new) errors;
   kinds = kinds;
   failed = failed;
   advances = advances;

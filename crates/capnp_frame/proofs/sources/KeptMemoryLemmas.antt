@@ -6,7 +6,7 @@ use Rattle.std.specs.List.{concat}
 use Rattle.capnp_frame.specs.Prelude.{lengths, word_count, size_in_words, Giving, Refusing, IsSource, MessageStands, Tells, Outgrows}
 use Rattle.capnp_frame.specs.declared.serialize.segment_table.Padding.{Padding}
 use Rattle.capnp_frame.proofs.tables.TableLemmas.{TableStands-once}
-use Rattle.capnp_frame.proofs.errors.RefusalLemmas.{few_tells}
+use Rattle.capnp_frame.proofs.errors.StreamErrorLemmas.{few_tells}
 
 -- a message of no more bytes and segments, or of one, outgrows it nowhere
 pub fits_kept : {gives : Giving} {refuses : Refusing} (rule : Padding) (laws : IsSource gives refuses) (limit : Option ℕ)

@@ -4,7 +4,7 @@ use Rattle.std.proofs.lemmas.List.{drop-drop, drop_at, take-append-drop, length-
 use Rattle.std.specs.Prelude.{sum}
 use Rattle.std.specs.List.{AllByRecursion}
 use Rattle.std.specs.Result.{IsErrAnd}
-use Rattle.capnp_frame.specs.Prelude.{Asked, FailsOr, AreWithin, IsWholeWords, lengths, TakesForLengths, TableStands, MessageStands, cut, SkipsMessage, LengthsStand, Drops, Giving, Refusing, Splits, RunsShort, IsSource, IfKnown, IsRefused, Advances, ReadsTable, skipping_rules, ReadsStream}
+use Rattle.capnp_frame.specs.Prelude.{Asked, FailsOr, AreWithin, IsWholeWords, lengths, TakesForLengths, TableStands, MessageStands, cut, SkipsMessage, LengthsStand, Drops, Giving, Refusing, Splits, RunsShort, IsSource, IfKnown, RequestError, Advances, ReadsTable, skipping_rules, ReadsStream}
 use Rattle.capnp_frame.specs.declared.error.Error.{Error}
 use Rattle.capnp_frame.specs.declared.error.ErrorKind.{ErrorKind}
 use Rattle.capnp_frame.specs.declared.error.ErrorKind.TheVariants.{DeviceFailed, FailedToFillTheWholeBuffer}
@@ -12,7 +12,7 @@ use Rattle.capnp_frame.specs.declared.io.Read.{Ghosts}
 use Rattle.capnp_frame.specs.declared.serialize.segment_table.Padding.{Padding}
 use Rattle.capnp_frame.proofs.sources.SourceLemmas.{IfKnown-join, IfKnown-refl, IfKnown-weaker}
 use Rattle.capnp_frame.proofs.encodings.RequestLemmas.{lengths-cut, MessageStands-cut, table_not_empty}
-use Rattle.capnp_frame.proofs.errors.MetRefusals.{reader_kind, source_kind, or_memory, table_met_skipping, segments_met}
+use Rattle.capnp_frame.proofs.errors.MetErrors.{reader_kind, source_kind, or_memory, table_met_skipping, segments_met}
 use Rattle.capnp_frame.proofs.sources.StepLemmas.{asks_found, asks_failed, asks_passed}
 use Rattle.capnp_frame.proofs.sources.ResultLemmas.{reads_taking}
 
@@ -46,28 +46,28 @@ read_dropped gives bytes a b plain = IfKnown-weaker a b (λ raw rest given.
     (omega (arith, joined), sym (drop_at bytes rest (length bytes) refl) ∙ ap (drop (length bytes)) (sym (split.0))))
 
 -- a request that fails after some bytes fails before them
-refused_after : (refuses : Refusing) (j m n : ℕ) (a b : Option (List ℕ)) (kind : ErrorKind) → RunShort refuses → j + m ≤ n
-    → IfKnown a b (Drops j) → IsRefused refuses m b kind → IsRefused refuses n a kind
-refused_after refuses j m n None None kind plain both dropped refused = refused
-refused_after refuses j m n None (Some y) kind plain both dropped refused = (y, m, refused)
-refused_after refuses j m n (Some x) None kind plain both dropped refused = absurd dropped
-refused_after refuses j m n (Some x) (Some y) kind plain both (within, here) refused =
-    let (short, is) = (plain y m kind).1 refused in
+error_after : (refuses : Refusing) (j m n : ℕ) (a b : Option (List ℕ)) (kind : ErrorKind) → RunShort refuses → j + m ≤ n
+    → IfKnown a b (Drops j) → RequestError refuses m b kind → RequestError refuses n a kind
+error_after refuses j m n None None kind plain both dropped errors = errors
+error_after refuses j m n None (Some y) kind plain both dropped errors = (y, m, errors)
+error_after refuses j m n (Some x) None kind plain both dropped errors = absurd dropped
+error_after refuses j m n (Some x) (Some y) kind plain both (within, here) errors =
+    let (short, is) = (plain y m kind).1 errors in
     (plain x n kind).0 (omega (arith, within, short, both, ap length here, length-drop j x), is)
 
 pub short_after : (refuses : Refusing) (j m n : ℕ) (a b : Option (List ℕ)) (kind : ErrorKind) → RunShort refuses → j + m ≤ n
-    → IfKnown a b (Drops j) → (kind ≡ DeviceFailed) ⊎ IsRefused refuses m b kind → (kind ≡ DeviceFailed) ⊎ IsRefused refuses n a kind
+    → IfKnown a b (Drops j) → (kind ≡ DeviceFailed) ⊎ RequestError refuses m b kind → (kind ≡ DeviceFailed) ⊎ RequestError refuses n a kind
 short_after refuses j m n a b kind plain both dropped (inl device) = inl device
-short_after refuses j m n a b kind plain both dropped (inr refused) = inr (refused_after refuses j m n a b kind plain both dropped refused)
+short_after refuses j m n a b kind plain both dropped (inr errors) = inr (error_after refuses j m n a b kind plain both dropped errors)
 
 pub fails_after : {X : Type 0} (refuses : Refusing) (j m n : ℕ) (a b : Option (List ℕ)) (r : Result X Error) → RunShort refuses → j + m ≤ n
-    → IfKnown a b (Drops j) → FailsOr r (IsRefused refuses m b) → FailsOr r (IsRefused refuses n a)
-fails_after refuses j m n a b (Ok x) plain both dropped refused = tt
-fails_after refuses j m n a b (Err e) plain both dropped refused = short_after refuses j m n a b e.kind plain both dropped refused
+    → IfKnown a b (Drops j) → FailsOr r (RequestError refuses m b) → FailsOr r (RequestError refuses n a)
+fails_after refuses j m n a b (Ok x) plain both dropped errors = tt
+fails_after refuses j m n a b (Err e) plain both dropped errors = short_after refuses j m n a b e.kind plain both dropped errors
 
 -- nothing is left after fewer bytes than are asked for
 pub short_at_end : (refuses : Refusing) (j n : ℕ) (a b : Option (List ℕ)) (kind : ErrorKind) → RunShort refuses → j < n
-    → IfKnown a b (Drops j) → IfSome b (λ raw. raw ≡ []) → kind ≡ FailedToFillTheWholeBuffer → IsRefused refuses n a kind
+    → IfKnown a b (Drops j) → IfSome b (λ raw. raw ≡ []) → kind ≡ FailedToFillTheWholeBuffer → RequestError refuses n a kind
 short_at_end refuses j n None b kind plain some dropped end is = ([], 1, (plain [] 1 kind).0 (lit< tt, is))
 short_at_end refuses j n (Some x) None kind plain some dropped end is = absurd dropped
 short_at_end refuses j n (Some x) (Some y) kind plain some (within, here) end is =
@@ -114,7 +114,7 @@ pub skips_cut : {S X : Type 0} (rule : Padding) (source : Ghosts S) (laws : IsSo
     (limit : Option ℕ) (ns : List ℕ) (n : ℕ) (error : Error) (result : Result (Option (List ℕ)) Error)
     → (source.same a b → source.same b c → source.same a c) → IsErrAnd result (λ own. own ≡ error)
     → ReadsTable source a b rule limit kept (Ok (Some ns)) → n ≡ 8 * sum ns
-    → (error.kind ≡ DeviceFailed) ⊎ IsRefused source.refuses n (source.unread b) error.kind
+    → (error.kind ≡ DeviceFailed) ⊎ RequestError source.refuses n (source.unread b) error.kind
     → Asked {X = X} source.unread source.failures source.same b c (Err error)
     → SkipsMessage (ReadsStream source a c (skipping_rules rule source.gives source.refuses kept) limit) result
 skips_cut rule source laws a b c kept limit ns n error (Ok found) join is table all failed asked = absurd is

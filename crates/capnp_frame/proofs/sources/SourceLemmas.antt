@@ -5,7 +5,7 @@ use Rattle.std.proofs.lemmas.List.{append-nil, length-take, length-drop, take_at
 use borrow.Rule.Slice.PartMut.{put_mid, post_of}
 use lib.Seq.{take-add, take-append-le}
 use Rattle.capnp_frame.specs.declared.error.ErrorKind.{ErrorKind}
-use Rattle.capnp_frame.specs.Prelude.{Giving, Refusing, Fails, IfKnown, IsTail, IsFront, Advances, IsRefused, ReturnsPart, Grows}
+use Rattle.capnp_frame.specs.Prelude.{Giving, Refusing, Fails, IfKnown, IsTail, IsFront, Advances, RequestError, ReturnsPart, Grows}
 
 pub IfKnown-join : {P Q R : List ℕ → List ℕ → Type 0} (a b c : Option (List ℕ)) → ((x y z : List ℕ) → P x y → Q y z → R x z) → IfKnown a b P → IfKnown b c Q → IfKnown a c R
 IfKnown-join None b c join p q = tt
@@ -23,13 +23,13 @@ IfKnown-refl P None p = tt
 IfKnown-refl P (Some x) p = p x
 
 -- what fails after some bytes
-pub IfKnown-refused : {P R : List ℕ → List ℕ → Type 0} (a b c : Option (List ℕ)) (refuses : Refusing) (n : ℕ)
+pub IfKnown-error : {P R : List ℕ → List ℕ → Type 0} (a b c : Option (List ℕ)) (refuses : Refusing) (n : ℕ)
     (kind : ErrorKind) → ((x y z : List ℕ) → P x y → refuses y n kind → R x z) → IfKnown a b P → IfKnown b c IsTail
-    → IsRefused refuses n b kind → IfKnown a c R
-IfKnown-refused None b c refuses n kind join p tail q = tt
-IfKnown-refused (Some x) None c refuses n kind join p tail q = absurd p
-IfKnown-refused (Some x) (Some y) None refuses n kind join p tail q = absurd tail
-IfKnown-refused (Some x) (Some y) (Some z) refuses n kind join p tail q = join x y z p q
+    → RequestError refuses n b kind → IfKnown a c R
+IfKnown-error None b c refuses n kind join p tail q = tt
+IfKnown-error (Some x) None c refuses n kind join p tail q = absurd p
+IfKnown-error (Some x) (Some y) None refuses n kind join p tail q = absurd tail
+IfKnown-error (Some x) (Some y) (Some z) refuses n kind join p tail q = join x y z p q
 
 pub IsTail-join : (x y z : List ℕ) → IsTail x y → IsTail y z → IsTail x z
 IsTail-join x y z (a, p) (b, q) = (a ++ b, p ∙ ap (λ l. a ++ l) q ∙ sym (append_assoc a b z))
@@ -57,9 +57,9 @@ ReturnsPart-join {gives} {refuses} n a b raw mid left p q =
           let outer = p.splits bytes rest h in
           let inner = q.splits outer.0 rest outer.2 in
           (inner.0, outer.1 ∙ ap (λ l. a ++ l) inner.1 ∙ sym (append_assoc a b inner.0), subst (λ k. gives left k inner.0 rest) rest_len inner.2);
-      refusals = λ kind. (
-        λ h. (p.refusals kind).0 ((q.refusals kind).0 (subst (λ k. refuses left k kind) (sym rest_len) h)),
-        λ h. subst (λ k. refuses left k kind) rest_len ((q.refusals kind).1 ((p.refusals kind).1 h)),
+      same_errors = λ kind. (
+        λ h. (p.same_errors kind).0 ((q.same_errors kind).0 (subst (λ k. refuses left k kind) (sym rest_len) h)),
+        λ h. subst (λ k. refuses left k kind) rest_len ((q.same_errors kind).1 ((p.same_errors kind).1 h)),
       );
     }
 
@@ -78,18 +78,18 @@ ReturnsPart-none {gives} {refuses} n raw =
       joins = λ more rest h. subst (λ k. gives raw k more rest) (sym same) h;
       splits = λ bytes rest h.
           (bytes, refl, subst (λ k. gives raw k bytes rest) same h);
-      refusals = λ kind.
+      same_errors = λ kind.
           (λ h. subst (λ k. refuses raw k kind) (sym same) h, λ h. subst (λ k. refuses raw k kind) same h);
     }
 
 -- an error of the rest of a request is one of the request
-pub IsRefused-join : (gives : Giving) (refuses : Refusing) (n : ℕ) (got : List ℕ) (a b : Option (List ℕ))
-    (kind : ErrorKind) → IfKnown a b (ReturnsPart gives refuses n got) → IsRefused refuses (n - length got) b kind
-    → IsRefused refuses n a kind
-IsRefused-join gives refuses n got None None kind taken refused = refused
-IsRefused-join gives refuses n got None (Some y) kind taken refused = (y, n - length got, refused)
-IsRefused-join gives refuses n got (Some x) None kind taken refused = absurd taken
-IsRefused-join gives refuses n got (Some x) (Some y) kind taken refused = (taken.refusals kind).0 refused
+pub RequestError-join : (gives : Giving) (refuses : Refusing) (n : ℕ) (got : List ℕ) (a b : Option (List ℕ))
+    (kind : ErrorKind) → IfKnown a b (ReturnsPart gives refuses n got) → RequestError refuses (n - length got) b kind
+    → RequestError refuses n a kind
+RequestError-join gives refuses n got None None kind taken errors = errors
+RequestError-join gives refuses n got None (Some y) kind taken errors = (y, n - length got, errors)
+RequestError-join gives refuses n got (Some x) None kind taken errors = absurd taken
+RequestError-join gives refuses n got (Some x) (Some y) kind taken errors = (taken.same_errors kind).0 errors
 
 pub Fails-join : (a b c : ℕ) → a ≤ b → Fails b c → Fails a c
 Fails-join a b c p q = omega arith
@@ -148,24 +148,24 @@ IfErr-vacuous Q (Ok x) never = tt
 IfErr-vacuous Q (Err e) never = λ a. absurd (never a)
 
 -- an error of the rest of a buffer
-pub IsRefused-fill : (gives : Giving) (refuses : Refusing) (filled : ℕ) (buffer part : List ℕ)
+pub RequestError-fill : (gives : Giving) (refuses : Refusing) (filled : ℕ) (buffer part : List ℕ)
     (old mid : Option (List ℕ)) (kind : ErrorKind) → filled ≤ length buffer → length part ≡ length buffer - filled
     → IfKnown old mid (ReturnsPart gives refuses (length buffer) (take filled buffer))
-    → IsRefused refuses (length part) mid kind
-    → IsRefused refuses (length (put_mid filled (length buffer - filled) buffer part)) old kind
-IsRefused-fill gives refuses filled buffer part old mid kind within fits taken refused =
+    → RequestError refuses (length part) mid kind
+    → RequestError refuses (length (put_mid filled (length buffer - filled) buffer part)) old kind
+RequestError-fill gives refuses filled buffer part old mid kind within fits taken errors =
     let len : length (put_mid filled (length buffer - filled) buffer part) ≡ length buffer = length-put_mid filled buffer part within fits in
     let left : length part ≡ length buffer - length (take filled buffer) = omega (arith, length-take-le filled buffer within) in
-    subst (λ k. IsRefused refuses k old kind) (sym len) (IsRefused-join gives refuses (length buffer) (take filled buffer) old mid kind taken (subst (λ k. IsRefused refuses k mid kind) left refused))
+    subst (λ k. RequestError refuses k old kind) (sym len) (RequestError-join gives refuses (length buffer) (take filled buffer) old mid kind taken (subst (λ k. RequestError refuses k mid kind) left errors))
 
 -- the device's failure stays, and an error of the rest of a buffer is one of the whole
-pub refused_fill : (F : Type 0) (gives : Giving) (refuses : Refusing) (filled : ℕ) (buffer part : List ℕ)
+pub error_fill : (F : Type 0) (gives : Giving) (refuses : Refusing) (filled : ℕ) (buffer part : List ℕ)
     (old mid : Option (List ℕ)) (kind : ErrorKind) → filled ≤ length buffer → length part ≡ length buffer - filled
     → IfKnown old mid (ReturnsPart gives refuses (length buffer) (take filled buffer)) → F
-    ⊎ IsRefused refuses (length part) mid kind → F
-    ⊎ IsRefused refuses (length (put_mid filled (length buffer - filled) buffer part)) old kind
-refused_fill F gives refuses filled buffer part old mid kind within fits taken (inl failed) = inl failed
-refused_fill F gives refuses filled buffer part old mid kind within fits taken (inr refused) = inr (IsRefused-fill gives refuses filled buffer part old mid kind within fits taken refused)
+    ⊎ RequestError refuses (length part) mid kind → F
+    ⊎ RequestError refuses (length (put_mid filled (length buffer - filled) buffer part)) old kind
+error_fill F gives refuses filled buffer part old mid kind within fits taken (inl failed) = inl failed
+error_fill F gives refuses filled buffer part old mid kind within fits taken (inr errors) = inr (RequestError-fill gives refuses filled buffer part old mid kind within fits taken errors)
 
 -- what isn't empty in the end wasn't before
 pub not_empty_before : (old new : Option (List ℕ)) → IfKnown old new IsTail → IfSome new (λ raw. raw ≡ [] → ⊥) → IfSome old (λ raw. raw ≡ [] → ⊥)
@@ -195,7 +195,7 @@ ReturnsPart-given gives refuses n got raw left takes_nothing gives_nothing uniqu
       splits = λ bytes rest h.
           let one = unique raw n bytes rest got left h given in
           ([], one.0 ∙ sym (append-nil got), subst (λ k. gives left k [] rest) (sym over) (subst (λ l. gives left 0 [] l) (sym one.1) (takes_nothing left)));
-      refusals = λ kind. (
+      same_errors = λ kind. (
         λ h. absurd (apart left 0 [] left kind (takes_nothing left) (subst (λ k. refuses left k kind) over h)),
         λ h. absurd (apart raw n got left kind given h),
       );

@@ -6,9 +6,9 @@ use lib.Seq.{take-append-le}
 use Rattle.capnp_frame.specs.declared.error.ErrorKind.{ErrorKind}
 use Rattle.capnp_frame.specs.declared.error.ErrorKind.TheVariants.{MessageTooLarge, NonZeroPadding}
 use Rattle.capnp_frame.specs.declared.serialize.segment_table.Padding.{Padding}
-use Rattle.capnp_frame.specs.Prelude.{field, table_size, IsTable, lengths, word_count, AreWithin, Giving, Refusing, IsSource, TableStands, MessageStands, Unless, Tells, IsTooLarge, LacksRoom, StopsBy, BreaksPadding, RefusesAtLimit, RefusesAtCount, RefusesAtStart, RefusesStream}
+use Rattle.capnp_frame.specs.Prelude.{field, table_size, IsTable, lengths, word_count, AreWithin, Giving, Refusing, IsSource, TableStands, MessageStands, Unless, Tells, IsTooLarge, IsTooShort, FailsLeaving, RejectsPadding, LimitError, CountError, StartError, StreamError}
 use Rattle.capnp_frame.proofs.tables.TableLemmas.{any_table}
-use Rattle.capnp_frame.proofs.errors.RefusalLemmas.{in_range, within_limit, small_room, given_some}
+use Rattle.capnp_frame.proofs.errors.StreamErrorLemmas.{in_range, within_limit, small_room, given_some}
 
 table_tells : {rule : Padding} (word others ns : List ℕ) → IsTable rule (word ++ others) ns → length ns < 512 → length word ≡ 8 → Tells word (length ns)
 table_tells word others ns table few long =
@@ -21,38 +21,38 @@ table_tells word others ns table few long =
     same k some few = omega arith
 
 -- the line of the limit and those after it
-RefusesAtStart-table : {gives : Giving} {refuses : Refusing} (rule : Padding) (laws : IsSource gives refuses) (limit room : Option ℕ)
+StartError-table : {gives : Giving} {refuses : Refusing} (rule : Padding) (laws : IsSource gives refuses) (limit room : Option ℕ)
     (kind : ErrorKind) (A : List ℕ → List ℕ → Type 0) (raw left ns following : List ℕ)
-    → (LacksRoom room (table_size (length ns)) → ⊥) → (sent : TableStands rule gives ns raw following) → 0 < length ns → length ns < 512
-    → Unless (IsTooLarge ns limit) (StopsBy (MessageTooLarge (sum ns)) kind following left)
-    (Unless (BreaksPadding rule (sent.first ++ sent.others) ns) (StopsBy NonZeroPadding kind following left) (A ns following))
-    → RefusesAtStart rule gives refuses limit room kind A raw left
-RefusesAtStart-table {gives} {refuses} rule laws limit room kind A raw left ns following fits sent some few lines =
+    → (IsTooShort room (table_size (length ns)) → ⊥) → (sent : TableStands rule gives ns raw following) → 0 < length ns → length ns < 512
+    → Unless (IsTooLarge ns limit) (FailsLeaving (MessageTooLarge (sum ns)) kind following left)
+    (Unless (RejectsPadding rule (sent.first ++ sent.others) ns) (FailsLeaving NonZeroPadding kind following left) (A ns following))
+    → StartError rule gives refuses limit room kind A raw left
+StartError-table {gives} {refuses} rule laws limit room kind A raw left ns following fits sent some few lines =
     let long = laws.gives_all raw 8 sent.first sent.between sent.first_given in
     let declared = table_tells sent.first sent.others ns sent.table few long in
     let unread = given_some laws raw 8 sent.first sent.between sent.first_given (omega arith) in
-    let at_limit : RefusesAtLimit rule limit kind A left sent.first sent.others following =
+    let at_limit : LimitError rule limit kind A left sent.first sent.others following =
     (ns, any_table (sent.first ++ sent.others) ns sent.table, lines) in
-    let at_count : RefusesAtCount rule gives refuses limit room kind A left sent.first sent.between =
+    let at_count : CountError rule gives refuses limit room kind A left sent.first sent.between =
     (length ns, declared, inr (in_range (length ns) some few, inr (fits, inr (sent.others, following, sent.others_given, at_limit)))) in
     inr (small_room room 8 (table_size (length ns)) (omega arith) fits, (unread, inr (sent.first, sent.between, sent.first_given, at_count)))
 
 -- the lines after a table that is accepted
-pub RefusesAtStart-from : {gives : Giving} {refuses : Refusing} (rule : Padding) (laws : IsSource gives refuses) (limit room : Option ℕ)
+pub StartError-from : {gives : Giving} {refuses : Refusing} (rule : Padding) (laws : IsSource gives refuses) (limit room : Option ℕ)
     (kind : ErrorKind) (A : List ℕ → List ℕ → Type 0) (raw left ns following : List ℕ)
-    → (LacksRoom room (table_size (length ns)) → ⊥) → TableStands rule gives ns raw following → AreWithin ns limit
-    → A ns following → RefusesAtStart rule gives refuses limit room kind A raw left
-RefusesAtStart-from rule laws limit room kind A raw left ns following fits sent accepts after =
-    RefusesAtStart-table rule laws limit room kind A raw left ns following fits sent accepts.some accepts.few
-    (inr (within_limit ns limit accepts.size, inr ((λ breaks. breaks sent.table), after)))
+    → (IsTooShort room (table_size (length ns)) → ⊥) → TableStands rule gives ns raw following → AreWithin ns limit
+    → A ns following → StartError rule gives refuses limit room kind A raw left
+StartError-from rule laws limit room kind A raw left ns following fits sent accepts after =
+    StartError-table rule laws limit room kind A raw left ns following fits sent accepts.some accepts.few
+    (inr (within_limit ns limit accepts.size, inr ((λ rejects. rejects sent.table), after)))
 
 -- a message of more words than the limit fails for it
 pub past_limit : {gives : Giving} {refuses : Refusing} (rule : Padding) (laws : IsSource gives refuses) (limit : Option ℕ)
     (m : List (List ℕ)) (raw rest : List ℕ) → MessageStands rule gives m raw rest → length m < 512 → IsTooLarge (lengths m) limit
-    → (left : List ℕ) × RefusesStream rule gives refuses limit None (MessageTooLarge (sum (lengths m))) raw left
+    → (left : List ℕ) × StreamError rule gives refuses limit None (MessageTooLarge (sum (lengths m))) raw left
 past_limit rule laws limit m raw rest stands few over =
     let some = stands.table.table.can.some in (
       stands.between,
-      RefusesAtStart-table rule laws limit None (MessageTooLarge (sum (lengths m))) _ raw stands.between (lengths m) stands.between
+      StartError-table rule laws limit None (MessageTooLarge (sum (lengths m))) _ raw stands.between (lengths m) stands.between
           (λ none. none) stands.table some (omega (arith, length-map m word_count)) (inl (over, (refl, refl))),
     )

@@ -27,8 +27,8 @@ zero_field_kept bytes count n even read none =
     subst (KeepsPadding Zero) (sym (even_padding bytes count n even read ∙ ap field none)) refl
 
 -- or not
-pub field_broken : (bytes : List ℕ) (count n : ℕ) → count % 2 ≡ 0 → field n ≡ take 4 (drop (4 * (count + 1)) bytes) → n < 2 ^ 32 → (n ≡ 0 → ⊥) → KeepsPadding Zero (declared_padding count bytes) → ⊥
-field_broken bytes count n even read fits some kept =
+pub field_rejected : (bytes : List ℕ) (count n : ℕ) → count % 2 ≡ 0 → field n ≡ take 4 (drop (4 * (count + 1)) bytes) → n < 2 ^ 32 → (n ≡ 0 → ⊥) → KeepsPadding Zero (declared_padding count bytes) → ⊥
+field_rejected bytes count n even read fits some kept =
     let zeros : KeepsPadding Zero (field n) = subst (KeepsPadding Zero) (even_padding bytes count n even read) kept in
     some (field-once n 0 fits (omega arith) zeros)
 

@@ -48,13 +48,13 @@ whole_table rule word table count front long tells kept =
     subst (λ l. IsTable rule l ns) parts whole
 
 -- where the rule does not accept its padding they are none
-pub broken_table : (rule : Padding) (word table : List ℕ) (count : ℕ) → take 8 table ≡ word → length table ≡ table_size count
+pub rejected_table : (rule : Padding) (word table : List ℕ) (count : ℕ) → take 8 table ≡ word → length table ≡ table_size count
     → (KeepsPadding rule (declared_padding count table) → ⊥) → IsTable rule (word ++ drop 8 table) (declared_lengths count table) → ⊥
-broken_table rule word table count front long broken is =
+rejected_table rule word table count front long rejected is =
     let parts : word ++ drop 8 table ≡ table = ap (λ l. l ++ drop 8 table) (sym front) ∙ take-append-drop 8 table in
     let many = length-declared count table in
     let whole = subst (λ l. IsTable rule l (declared_lengths count table)) (parts ∙ sym (take_all (table_size count) table (omega arith))) is in
-    broken (padding_declared rule table count whole)
+    rejected (padding_declared rule table count whole)
 
 -- and its other words are what the second request gave
 pub rest_stands : (rule : Padding) (gives : Giving) (word table : List ℕ) (count : ℕ) (old new : Option (List ℕ)) → take 8 table ≡ word

@@ -45,7 +45,7 @@ impl<R: BufRead> BufRead for &mut R {
 
     ghost plain = { R.plain };
 
-    ghost plain_refusals = { R.plain_refusals };
+    ghost plain_errors = { R.plain_errors };
 }
 
 impl<W: Write> Write for &mut W {

@@ -48,7 +48,7 @@ impl BufRead for &[u8] {
 
     ghost plain = { λ _ _ _ _. (λ p. p, λ p. p) };
 
-    ghost plain_refusals = { λ _ _ _. (λ p. p, λ p. p) };
+    ghost plain_errors = { λ _ _ _. (λ p. p, λ p. p) };
 }
 
 /// Appends chunks. Fails with `OutOfMemory` alone, and then the vector is unchanged.
@@ -69,7 +69,7 @@ impl Write for Vec<u8> {
 
     fn write_all(&mut self, chunk: &[u8]) -> Result<()>
         ensures added { OnOk result (self.new.items ≡ self.old.items ++ chunk.now) }
-        ensures refused { IfErr result (λ error. (error.kind ≡ ErrorKind.OutOfMemory)
+        ensures errors { IfErr result (λ error. (error.kind ≡ ErrorKind.OutOfMemory)
             × (self.new.items ≡ self.old.items)) }
     {
         self.extend_from_slice(chunk)?;
@@ -107,7 +107,7 @@ impl Write for &mut [u8] {
         ensures failed { IfErr result (λ error. error.kind ≡ ErrorKind.DeviceFailed → Fails 0 0) }
         ensures moved { OnOk result (self.new.now ≡ drop (length chunk.now) self.old.now) }
         ensures fits { OnOk result (length chunk.now ≤ length self.old.now) }
-        ensures refused { IfErr result (λ error. (error.kind ≡ ErrorKind.DeviceFailed)
+        ensures errors { IfErr result (λ error. (error.kind ≡ ErrorKind.DeviceFailed)
             ⊎ ByKind ErrorKind.BufferNotLargeEnough chunk.now error.kind) }
         ensures grows { Grows (λ _. None) (λ _. 0) (λ _ _. ⊤) self.old self.new }
         ensures short { IfErr result (λ error. (error.kind ≡ ErrorKind.BufferNotLargeEnough)

@@ -4,7 +4,7 @@ ghost use Rattle.capnp_frame.specs.SegmentLengths.{cut};
 ghost use Rattle.capnp_frame.specs.Limits.{AreWithin};
 ghost use Rattle.capnp_frame.specs.SegmentTable.{table_size, KeepsPadding};
 ghost use Rattle.capnp_frame.specs.Front.{HoldsMessage, declared_lengths, declared_padding};
-ghost use Rattle.capnp_frame.specs.FlatRefusals.{by_words, AcceptsSeveral, RefusesFlat};
+ghost use Rattle.capnp_frame.specs.FlatErrors.{by_words, AcceptsSeveral, FlatError};
 ghost use Rattle.capnp_frame.specs.FlatReaders.{buffer_rules, slice_rules, ReadsBuffer, TakesSegments};
 ghost use Rattle.capnp_frame.specs.declared.error.ErrorKind.{ErrorKind};
 
@@ -196,9 +196,9 @@ fn find_message(
     ensures within { IfOk result (λ found. AreWithin found.0 rules.limit_in_words) }
     ensures padding { IfOk result (λ found.
         KeepsPadding rules.padding (declared_padding (length found.0) bytes.now)) }
-    ensures refused { IfErr result (λ error. ((error.kind ≡ ErrorKind.OutOfMemory)
+    ensures errors { IfErr result (λ error. ((error.kind ≡ ErrorKind.OutOfMemory)
         × AcceptsSeveral (by_words empty) bytes.now)
-        ⊎ RefusesFlat (by_words empty) rules.padding rules.limit_in_words error.kind bytes.now) }
+        ⊎ FlatError (by_words empty) rules.padding rules.limit_in_words error.kind bytes.now) }
 {
     let mut rest = bytes;
     let spare = SegmentIndices::empty(alloc);

@@ -7,9 +7,9 @@ ghost use Rattle.capnp_frame.specs.Source.{IfKnown};
 ghost use Rattle.capnp_frame.specs.Asking.{Asked, FailsOr};
 ghost use Rattle.capnp_frame.specs.Errors.{FailsWith};
 ghost use Rattle.capnp_frame.specs.Streams.{next_in, framed_rules, ReadsStreamInto};
-ghost use Rattle.capnp_frame.specs.Steps.{FindsTable, FindsMessage, AsksNextInto, StopsAtTable, RefusesComplete};
+ghost use Rattle.capnp_frame.specs.Steps.{FindsTable, FindsMessage, AsksNextInto, TableRestError, CompleteTableError};
 ghost use Rattle.capnp_frame.specs.Requests.{RestStands, TableStands, MessageStands};
-ghost use Rattle.capnp_frame.specs.Refusals.{DeclaresAccepted, RefusesTable, RefusesStream, IsTableKind, IsProvidedReaderKind};
+ghost use Rattle.capnp_frame.specs.StreamErrors.{DeclaresAccepted, TableError, StreamError, IsTableKind, IsProvidedReaderKind};
 ghost use Rattle.capnp_frame.specs.declared.error.ErrorKind.{ErrorKind};
 
 use crate::error::{Error, ErrorKind, Result};
@@ -86,7 +86,7 @@ pub(crate) fn read_into<R: Read>(
         FindsMessage rules.padding R.gives rules.limit_in_words buffer.new info.segments_count info.total_segments_length_bytes
         (R.unread source.old) (R.unread source.new))) }
     ensures asks { AsksNextInto R.Read source.old source.new rules.padding (length buffer.old)
-        (RefusesStream rules.padding R.gives R.refuses rules.limit_in_words
+        (StreamError rules.padding R.gives R.refuses rules.limit_in_words
         (Some (length buffer.old))) result }
 {
     let Some((segments_count, total)) = read_table_into(source, rules, buffer)? else {
@@ -116,7 +116,7 @@ fn read_table_into<R: Read>(
         FindsTable rules.padding R.gives rules.limit_in_words buffer.new table.0 table.1 (R.unread source.old) (R.unread source.new))) }
     ensures bound { IfOk result (λ found. IfSome found (λ table. table.1 < 2 ^ 42)) }
     ensures asks { AsksNextInto R.Read source.old source.new rules.padding (length buffer.old)
-        (RefusesTable rules.padding R.gives R.refuses rules.limit_in_words
+        (TableError rules.padding R.gives R.refuses rules.limit_in_words
         (Some (length buffer.old))) result }
 {
     if buffer.len() < 8 {
@@ -152,8 +152,8 @@ fn read_total<R: Read>(
     ensures bound { IfOk result (λ total. total < 2 ^ 42) }
     ensures within { OnOk result
         (KeepsLimit (declared_lengths count table.new) rules.limit_in_words) }
-    ensures refused { FailsOr result (λ kind. IfKnown (R.unread source.old) (R.unread source.new)
-        (StopsAtTable rules.padding R.gives R.refuses rules.limit_in_words kind first.now
+    ensures errors { FailsOr result (λ kind. IfKnown (R.unread source.old) (R.unread source.new)
+        (TableRestError rules.padding R.gives R.refuses rules.limit_in_words kind first.now
         count)) }
     ensures kinds { IfErr result (λ error. IsTableKind rules.padding R.refuses error.kind) }
     ensures asked { Asked R.unread R.failures R.same source.old source.new result }
@@ -172,8 +172,8 @@ fn accepted_total(table: &[u8], count: usize, rules: TableRules) -> Result<usize
     ensures padding { OnOk result (KeepsPadding rules.padding (declared_padding count table.now)) }
     ensures within { OnOk result
         (KeepsLimit (declared_lengths count table.now) rules.limit_in_words) }
-    ensures refused { IfErr result (λ error.
-        RefusesComplete rules.padding rules.limit_in_words error.kind table.now) }
+    ensures errors { IfErr result (λ error.
+        CompleteTableError rules.padding rules.limit_in_words error.kind table.now) }
 {
     let total = lengths_total(table, count);
     check_limit(total, rules.limit_in_words)?;

@@ -3,7 +3,7 @@
 ghost use Rattle.std.specs.Prelude.{◌≡◌, ◌+◌, ◌*◌, ◌<◌, ◌≤◌, ◌^◌, length, map, take, drop, sum, ℕ, OnOk, IfOk, IfErr, IfSome, IsSomeAnd};
 ghost use Rattle.capnp_frame.specs.SegmentTable.{field, table_size, KeepsPadding};
 ghost use Rattle.capnp_frame.specs.SegmentLengths.{range_len, AreRanges};
-ghost use Rattle.capnp_frame.specs.Refusals.{Tells, DeclaresAccepted, IsOutOfRange};
+ghost use Rattle.capnp_frame.specs.StreamErrors.{Tells, DeclaresAccepted, IsOutOfRange};
 ghost use Rattle.capnp_frame.specs.Front.{declared_lengths, declared_padding, SpellsLengths};
 
 use crate::error::{Error, ErrorKind, Result};
@@ -75,7 +75,7 @@ pub(crate) fn field_at(table: &[u8], at: usize) -> u32
 /// fails as 2^32 there.
 pub(crate) fn accepted_count(first: &[u8; 8]) -> Result<usize>
     ensures accepted { IfOk result (DeclaresAccepted first.now) }
-    ensures refused { IfErr result (λ error. (count : ℕ) × Tells first.now count
+    ensures errors { IfErr result (λ error. (count : ℕ) × Tells first.now count
         × IsOutOfRange count × (error.kind ≡ ErrorKind.InvalidNumberOfSegments count)) }
 {
     let count = field_at(first, 0).wrapping_add(1) as usize;
@@ -88,7 +88,7 @@ pub(crate) fn accepted_count(first: &[u8; 8]) -> Result<usize>
 /// Fails with `MessageTooLarge` where there are more words than the limit.
 pub(crate) fn check_limit(total: usize, limit: Option<usize>) -> Result<()>
     ensures kept { OnOk result (IfSome limit (λ most. total ≤ most)) }
-    ensures refused { IfErr result (λ error. IsSomeAnd limit (λ most. most < total)
+    ensures errors { IfErr result (λ error. IsSomeAnd limit (λ most. most < total)
         × (error.kind ≡ ErrorKind.MessageTooLarge total)) }
 {
     if let Some(most) = limit
@@ -105,7 +105,7 @@ pub(crate) fn check_padding(table: &[u8], count: usize, rule: Padding) -> Result
     requires few { count < SEGMENTS_COUNT_LIMIT }
     requires room { table_size count ≤ length table.now }
     ensures kept { OnOk result (KeepsPadding rule (declared_padding count table.now)) }
-    ensures refused { IfErr result (λ error. (rule ≡ Padding.Zero)
+    ensures errors { IfErr result (λ error. (rule ≡ Padding.Zero)
         × (KeepsPadding rule (declared_padding count table.now) → ⊥)
         × (error.kind ≡ ErrorKind.NonZeroPadding)) }
 {
@@ -120,7 +120,7 @@ fn check_zeros(table: &[u8], count: usize) -> Result<()>
     requires few { count < SEGMENTS_COUNT_LIMIT }
     requires room { table_size count ≤ length table.now }
     ensures kept { OnOk result (KeepsPadding Padding.Zero (declared_padding count table.now)) }
-    ensures refused { IfErr result (λ error.
+    ensures errors { IfErr result (λ error.
         (KeepsPadding Padding.Zero (declared_padding count table.now) → ⊥)
         × (error.kind ≡ ErrorKind.NonZeroPadding)) }
 {

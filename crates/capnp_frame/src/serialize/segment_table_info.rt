@@ -3,7 +3,7 @@ ghost use Rattle.std.specs.Prelude.{◌≡◌, ◌*◌, ◌↔◌, length, sum, 
 ghost use Rattle.capnp_frame.specs.SegmentTable.{table_size, KeepsPadding};
 ghost use Rattle.capnp_frame.specs.Limits.{KeepsLimit};
 ghost use Rattle.capnp_frame.specs.Front.{IsDescribed, HaveSameNumbers, HoldsMessage, declared_lengths, declared_padding};
-ghost use Rattle.capnp_frame.specs.FlatRefusals.{by_fields, cut_kind, RefusesFlat};
+ghost use Rattle.capnp_frame.specs.FlatErrors.{by_fields, cut_kind, FlatError};
 
 use crate::error::{Error, ErrorKind, Result};
 use crate::message::AsBytes;
@@ -64,8 +64,8 @@ pub(crate) fn read_table_info(bytes: &[u8], rules: TableRules) -> Result<NoAlloc
         KeepsLimit (declared_lengths info.segments_count bytes.now) rules.limit_in_words) }
     ensures padding { IfOk result (λ info.
         KeepsPadding rules.padding (declared_padding info.segments_count bytes.now)) }
-    ensures refused { IfErr result (λ error.
-        RefusesFlat by_fields rules.padding rules.limit_in_words error.kind bytes.now) }
+    ensures errors { IfErr result (λ error.
+        FlatError by_fields rules.padding rules.limit_in_words error.kind bytes.now) }
 {
     let length = bytes.len();
     if length < 4 {

@@ -7,7 +7,7 @@ ghost use Rattle.capnp_frame.specs.Source.{IfKnown};
 ghost use Rattle.capnp_frame.specs.Streams.{framed_rules, reusing_rules, ReadsStream};
 ghost use Rattle.capnp_frame.specs.Steps.{AsksNext};
 ghost use Rattle.capnp_frame.specs.Requests.{MessageStands};
-ghost use Rattle.capnp_frame.specs.Refusals.{RefusesStream, Outgrows};
+ghost use Rattle.capnp_frame.specs.StreamErrors.{StreamError, Outgrows};
 
 use crate::error::Result;
 use crate::io::Read;
@@ -87,7 +87,7 @@ fn read_segments<R: Read>(
     ensures asks { AsksNext R.Read source.old source.new rules.padding
         (Outgrows (length spare_indices) (vec_len spare_bytes) rules.padding R.gives
         rules.limit_in_words)
-        (RefusesStream rules.padding R.gives R.refuses rules.limit_in_words None) result }
+        (StreamError rules.padding R.gives R.refuses rules.limit_in_words None) result }
 {
     let Some(indices) = read_indices(source, &rules, spare_indices)? else {
         return Ok(None);

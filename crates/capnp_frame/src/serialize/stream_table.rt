@@ -4,10 +4,10 @@ ghost use Rattle.capnp_frame.specs.SegmentTable.{table_size, KeepsPadding};
 ghost use Rattle.capnp_frame.specs.SegmentLengths.{range_len, AreRanges};
 ghost use Rattle.capnp_frame.specs.Front.{declared_lengths, declared_padding, DeclaresTable};
 ghost use Rattle.capnp_frame.specs.Limits.{KeepsLimit};
-ghost use Rattle.capnp_frame.specs.Source.{IfKnown, IsRefused};
+ghost use Rattle.capnp_frame.specs.Source.{IfKnown, RequestError};
 ghost use Rattle.capnp_frame.specs.Asking.{Asked, FailsOr};
-ghost use Rattle.capnp_frame.specs.Steps.{ReadsLengths, ReadsTable, RefusesComplete};
-ghost use Rattle.capnp_frame.specs.Refusals.{DeclaresAccepted};
+ghost use Rattle.capnp_frame.specs.Steps.{ReadsLengths, ReadsTable, CompleteTableError};
+ghost use Rattle.capnp_frame.specs.StreamErrors.{DeclaresAccepted};
 ghost use Rattle.capnp_frame.specs.declared.error.ErrorKind.{ErrorKind};
 
 use crate::error::Result;
@@ -136,8 +136,8 @@ fn fill_lengths(indices: &mut [(usize, usize)], table: &[u8], rules: &TableRules
     ensures padding { OnOk result
         (KeepsPadding rules.now.padding (declared_padding (length indices.new) table.now)) }
     ensures within { OnOk result (KeepsLimit (map range_len indices.new) rules.now.limit_in_words) }
-    ensures refused { IfErr result (λ error.
-        RefusesComplete rules.now.padding rules.now.limit_in_words error.kind table.now) }
+    ensures errors { IfErr result (λ error.
+        CompleteTableError rules.now.padding rules.now.limit_in_words error.kind table.now) }
 {
     let total = fill_segment_ranges(indices, table);
     check_limit(total, rules.limit_in_words)?;
@@ -155,8 +155,8 @@ pub(crate) fn complete_table<R: Read>(
     ensures front { OnOk result (take 8 table.new ≡ first.now) }
     ensures others { OnOk result (IfKnown (R.unread source.old) (R.unread source.new)
         (λ raw rest. R.gives raw (length table.new - 8) (drop 8 table.new) rest)) }
-    ensures refused { FailsOr result
-        (IsRefused R.refuses (length table.new - 8) (R.unread source.old)) }
+    ensures errors { FailsOr result
+        (RequestError R.refuses (length table.new - 8) (R.unread source.old)) }
     ensures asked { Asked R.unread R.failures R.same source.old source.new result }
 {
     table[..8].copy_from_slice(first);
@@ -169,7 +169,7 @@ pub(crate) fn read_first<R: Read>(source: &mut R) -> Result<Option<[u8; 8]>>
         (R.unread source.new) (λ raw rest. R.gives raw 8 word rest))) }
     ensures none { IfOk result (λ found. IfNone found
         (IfSome (R.unread source.old) (λ raw. raw ≡ []))) }
-    ensures refused { FailsOr result (IsRefused R.refuses 8 (R.unread source.old)) }
+    ensures errors { FailsOr result (RequestError R.refuses 8 (R.unread source.old)) }
     ensures end { IfErr result (λ error. R.unread source.old ≡ Some [] →
         error.kind ≡ ErrorKind.DeviceFailed) }
     ensures asked { Asked R.unread R.failures R.same source.old source.new result }
@@ -188,8 +188,8 @@ pub(crate) fn read_chunk<R: Read>(source: &mut R, chunk: &mut [u8]) -> Result<()
     ensures given { OnOk result (IfKnown (R.unread source.old) (R.unread source.new)
         (λ raw rest. R.gives raw (length chunk.new) chunk.new rest)) }
     ensures quiet { chunk.old ≡ [] → (source.new ≡ source.old) × IsOk result }
-    ensures refused { FailsOr result
-        (IsRefused R.refuses (length chunk.new) (R.unread source.old)) }
+    ensures errors { FailsOr result
+        (RequestError R.refuses (length chunk.new) (R.unread source.old)) }
     ensures asked { Asked R.unread R.failures R.same source.old source.new result }
 {
     if chunk.is_empty() {

@@ -3,9 +3,9 @@ ghost use Rattle.std.specs.Prelude.{◌≡◌, ◌+◌, ◌<◌, ◌≤◌, ◌^
 ghost use Rattle.std.specs.List.{AllByRecursion, concat};
 ghost use Rattle.capnp_frame.specs.Message.{IsWholeWords, lengths};
 ghost use Rattle.capnp_frame.specs.SegmentTable.{field, zero_padded_table, table_size};
-ghost use Rattle.capnp_frame.specs.Writing.{IsWritable, RefusesMany, word_and_rest, table_chunks};
-ghost use Rattle.capnp_frame.specs.Sink.{AppendsAll, LeavesSome, DeclinesSome};
-ghost use Rattle.capnp_frame.specs.Writers.{WritesTo, WritesChunks, WritesSegments, TakesGranted, LacksNothing, LacksTable, KeepsCount, ReturnsEncoding, CountsWords};
+ghost use Rattle.capnp_frame.specs.Writing.{IsWritable, SegmentCountError, word_and_rest, table_chunks};
+ghost use Rattle.capnp_frame.specs.Sink.{AppendsAll, LeavesSome, ChunksError};
+ghost use Rattle.capnp_frame.specs.Writers.{WritesTo, WritesChunks, WritesSegments, TakesGranted, NoError, TableMemoryError, KeepsCount, ReturnsEncoding, CountsWords};
 
 use crate::error::{Error, ErrorKind, Result};
 use crate::io::Write;
@@ -71,7 +71,7 @@ pub fn serialized_size_in_words<S: ReaderSegments>(segments: &S) -> Result<usize
 fn check_count<S: ReaderSegments>(segments: &S) -> Result<()>
     requires { length (S.segments segments.now) < 2 ^ 32 }
     ensures count { KeepsCount (S.segments segments.now) result }
-    ensures refused { IfErr result (λ error. RefusesMany (S.segments segments.now) error.kind) }
+    ensures errors { IfErr result (λ error. SegmentCountError (S.segments segments.now) error.kind) }
 {
     let count = segments.len();
     if count >= SEGMENTS_COUNT_LIMIT {
@@ -85,9 +85,9 @@ fn write_table<W: Write, S: ReaderSegments>(alloc: Global, sink: &mut W, segment
     requires { IsWritable (S.segments segments.now) }
     ensures writes { WritesChunks W.Write sink.old sink.new
         (table_chunks (lengths (S.segments segments.now)))
-        (LacksTable (S.segments segments.now)) result }
+        (TableMemoryError (S.segments segments.now)) result }
     ensures granted { TakesGranted W.grants sink.old sink.new
-        (table_size (length (S.segments segments.now))) (LacksTable (S.segments segments.now)) result }
+        (table_size (length (S.segments segments.now))) (TableMemoryError (S.segments segments.now)) result }
 {
     let count = segments.len();
     if count < 4 {
@@ -107,8 +107,8 @@ fn write_in_parts<W: Write>(sink: &mut W, table: &[u8]) -> Result<()>
     ensures writes { WritesTo W.Write sink.old sink.new
         (AppendsAll W.appends (word_and_rest table.now))
         (LeavesSome W.appends W.leaves (word_and_rest table.now))
-        (DeclinesSome W.refuses (word_and_rest table.now)) result }
-    ensures granted { TakesGranted W.grants sink.old sink.new (length table.now) LacksNothing result }
+        (ChunksError W.refuses (word_and_rest table.now)) result }
+    ensures granted { TakesGranted W.grants sink.old sink.new (length table.now) NoError result }
 {
     sink.write_all(&table[..8])?;
     if table.len() > 8 {
@@ -123,9 +123,9 @@ fn write_each<W: Write, S: ReaderSegments>(sink: &mut W, segments: &S) -> Result
     ensures writes { WritesTo W.Write sink.old sink.new
         (AppendsAll W.appends (S.segments segments.now))
         (LeavesSome W.appends W.leaves (S.segments segments.now))
-        (DeclinesSome W.refuses (S.segments segments.now)) result }
+        (ChunksError W.refuses (S.segments segments.now)) result }
     ensures granted { TakesGranted W.grants sink.old sink.new
-        (length (concat (S.segments segments.now))) LacksNothing result }
+        (length (concat (S.segments segments.now))) NoError result }
 {
     let mut index = 0;
     while let Some(segment) = segment_at(segments, index) {

@@ -3,10 +3,10 @@ use Rattle.std.proofs.Common.{◌≡◌, ℕ, ◌+◌, ◌*◌, ◌/◌, ◌<◌
 use Rattle.std.proofs.lemmas.Option.{slice_get-get_or}
 use Rattle.capnp_frame.specs.declared.error.ErrorKind.{ErrorKind}
 use Rattle.capnp_frame.specs.declared.error.ErrorKind.TheVariants.{PointerOutOfBounds, WrongPointerKind}
-use Rattle.capnp_layout.specs.Prelude.{words_of, pointer_kind, code, offset, data_words, pointer_words, list_count, width, words_for, ShapeStands, a_struct, some_numbers, some_pointers, some_structs, struct_shape, numbers_shape, pointers_shape, structs_shape, RejectsSize, struct_outside, list_outside, structs_outside, odd_tag, many_elements}
+use Rattle.capnp_layout.specs.Prelude.{words_of, pointer_kind, code, offset, data_words, pointer_words, list_count, width, words_for, ShapeStands, a_struct, some_numbers, some_pointers, some_structs, struct_shape, numbers_shape, pointers_shape, structs_shape, SizeError, struct_outside, list_outside, structs_outside, odd_tag, many_elements}
 use Rattle.capnp_layout.specs.declared.place.Place.{Place}
 use Rattle.capnp_layout.proofs.words.WordLemmas.{length-words_of}
-use Rattle.capnp_layout.proofs.pointers.FaultLemmas.{words_for_pointers}
+use Rattle.capnp_layout.proofs.pointers.PointerErrorLemmas.{words_for_pointers}
 
 pub struct_stands : (bytes : List ℕ) (place : Place) (tag d p : ℕ) → pointer_kind tag ≡ 0 → d ≡ data_words tag → p ≡ pointer_words tag
     → place.word + (d + p) ≤ length bytes / 8 → ShapeStands (words_of bytes) place tag (struct_shape (words_of bytes) place d p)
@@ -55,30 +55,30 @@ structs_stand bytes place pointer tag d p n size k seven size_is tag_is even n_i
 
 -- and what does not
 pub struct_misfits : (bytes : List ℕ) (start tag d p : ℕ) (kind : ErrorKind) → pointer_kind tag ≡ 0 → d ≡ data_words tag → p ≡ pointer_words tag
-    → length bytes / 8 < start + (d + p) → kind ≡ PointerOutOfBounds → RejectsSize (words_of bytes) start tag kind
+    → length bytes / 8 < start + (d + p) → kind ≡ PointerOutOfBounds → SizeError (words_of bytes) start tag kind
 struct_misfits bytes start tag d p kind k e f past is =
     let outside : length (words_of bytes) < start + data_words tag + pointer_words tag = omega (arith, length-words_of bytes) in
-    subst (RejectsSize (words_of bytes) start tag) (sym is) (struct_outside k outside)
+    subst (SizeError (words_of bytes) start tag) (sym is) (struct_outside k outside)
 
 pub list_misfits : (bytes : List ℕ) (start tag c n size : ℕ) (kind : ErrorKind) → pointer_kind tag ≡ 1 → code tag < 7 → c ≡ code tag → n ≡ list_count tag
-    → size ≡ words_for n (width c) → length bytes / 8 < start + size → kind ≡ PointerOutOfBounds → RejectsSize (words_of bytes) start tag kind
+    → size ≡ words_for n (width c) → length bytes / 8 < start + size → kind ≡ PointerOutOfBounds → SizeError (words_of bytes) start tag kind
 list_misfits bytes start tag c n size kind k few e f size_is past is =
     let same : words_for n (width c) ≡ words_for (list_count tag) (width (code tag)) =
     ap (λ (x : ℕ). words_for x (width c)) f ∙ ap (λ (x : ℕ). words_for (list_count tag) (width x)) e in
     let outside : length (words_of bytes) < start + words_for (list_count tag) (width (code tag)) = omega (arith, length-words_of bytes, same, size_is, past) in
-    subst (RejectsSize (words_of bytes) start tag) (sym is) (list_outside k few outside)
+    subst (SizeError (words_of bytes) start tag) (sym is) (list_outside k few outside)
 
 pub pointers_misfit : (bytes : List ℕ) (start tag n : ℕ) (kind : ErrorKind) → pointer_kind tag ≡ 1 → code tag ≡ 6 → n ≡ list_count tag
-    → length bytes / 8 < start + n → kind ≡ PointerOutOfBounds → RejectsSize (words_of bytes) start tag kind
+    → length bytes / 8 < start + n → kind ≡ PointerOutOfBounds → SizeError (words_of bytes) start tag kind
 pointers_misfit bytes start tag n kind k six f past is =
     let few : code tag < 7 = omega arith in
     list_misfits bytes start tag 6 n n kind k few (sym six) f (sym (words_for_pointers n 6 refl)) past is
 
 pub structs_misfit : (bytes : List ℕ) (start tag size : ℕ) (kind : ErrorKind) → pointer_kind tag ≡ 1 → code tag ≡ 7 → size ≡ list_count tag
-    → length bytes / 8 < start + (1 + size) → kind ≡ PointerOutOfBounds → RejectsSize (words_of bytes) start tag kind
+    → length bytes / 8 < start + (1 + size) → kind ≡ PointerOutOfBounds → SizeError (words_of bytes) start tag kind
 structs_misfit bytes start tag size kind k seven f past is =
     let outside : length (words_of bytes) < start + 1 + list_count tag = omega (arith, length-words_of bytes) in
-    subst (RejectsSize (words_of bytes) start tag) (sym is) (structs_outside k seven outside)
+    subst (SizeError (words_of bytes) start tag) (sym is) (structs_outside k seven outside)
 
 get_within : (words : List ℕ) (i : ℕ) → i < length words → slice_get words i ≡ None → ⊥
 get_within words i within none = let some = slice_get-get_or words i 0 within in cc
@@ -90,17 +90,17 @@ no_tag_misfits bytes start size room none =
 
 pub odd_tag_misfits : (bytes : List ℕ) (start pointer tag size : ℕ) (kind : ErrorKind) → pointer_kind pointer ≡ 1 → code pointer ≡ 7 → size ≡ list_count pointer
     → start + (1 + size) ≤ length bytes / 8 → slice_get (words_of bytes) start ≡ Some tag → 0 < pointer_kind tag → kind ≡ WrongPointerKind
-    → RejectsSize (words_of bytes) start pointer kind
+    → SizeError (words_of bytes) start pointer kind
 odd_tag_misfits bytes start pointer tag size kind k seven f room tag_is odd is =
     let within : start + 1 + list_count pointer ≤ length (words_of bytes) = omega (arith, length-words_of bytes) in
-    subst (RejectsSize (words_of bytes) start pointer) (sym is) (odd_tag k seven within tag_is odd)
+    subst (SizeError (words_of bytes) start pointer) (sym is) (odd_tag k seven within tag_is odd)
 
 pub many_elements_misfit : (bytes : List ℕ) (start pointer tag d p n size : ℕ) (kind : ErrorKind) → pointer_kind pointer ≡ 1 → code pointer ≡ 7 → size ≡ list_count pointer
     → start + (1 + size) ≤ length bytes / 8 → slice_get (words_of bytes) start ≡ Some tag → pointer_kind tag ≡ 0 → n ≡ offset tag → d ≡ data_words tag → p ≡ pointer_words tag
-    → size < n * (d + p) → kind ≡ PointerOutOfBounds → RejectsSize (words_of bytes) start pointer kind
+    → size < n * (d + p) → kind ≡ PointerOutOfBounds → SizeError (words_of bytes) start pointer kind
 many_elements_misfit bytes start pointer tag d p n size kind k seven f room tag_is even n_is d_is p_is many is =
     let within : start + 1 + list_count pointer ≤ length (words_of bytes) = omega (arith, length-words_of bytes) in
     let product : n * (d + p) ≡ offset tag * (data_words tag + pointer_words tag) =
     ap (λ (x : ℕ). x * (d + p)) n_is ∙ ap (λ (x : ℕ). offset tag * (x + p)) d_is ∙ ap (λ (x : ℕ). offset tag * (data_words tag + x)) p_is in
     let more : list_count pointer < offset tag * (data_words tag + pointer_words tag) = omega (arith, product, many, f) in
-    subst (RejectsSize (words_of bytes) start pointer) (sym is) (many_elements k seven within tag_is even more)
+    subst (SizeError (words_of bytes) start pointer) (sym is) (many_elements k seven within tag_is even more)

@@ -107,15 +107,15 @@ no_landing_pad_word segments word far bytes kind far_is segment none is =
     (no_landing_pad (subst (λ (x : Place). NoWord (message_of segments) x PointerOutOfBounds) far_is.landing_pad_is at_landing_pad))
 
 -- the tag in a landing pad
-pub narrow_refused : (m : List (List ℕ)) (word tag : ℕ) (kind : ErrorKind) → has_wide_landing_pad word ≡ 0 → word_at m (landing_pad word) ≡ Some tag
+pub narrow_error : (m : List (List ℕ)) (word tag : ℕ) (kind : ErrorKind) → has_wide_landing_pad word ≡ 0 → word_at m (landing_pad word) ≡ Some tag
     → NotLocal tag kind → BadLandingPad m word kind
-narrow_refused m word tag kind narrow e (inl far) = subst (BadLandingPad m word) (sym far.1) (far_again narrow e far.0)
-narrow_refused m word tag kind narrow e (inr other) = subst (BadLandingPad m word) (sym other.1) (landing_pad_capability narrow e other.0)
+narrow_error m word tag kind narrow e (inl far) = subst (BadLandingPad m word) (sym far.1) (far_again narrow e far.0)
+narrow_error m word tag kind narrow e (inr other) = subst (BadLandingPad m word) (sym other.1) (landing_pad_capability narrow e other.0)
 
-pub wide_refused : (m : List (List ℕ)) (word inner tag : ℕ) (words : List ℕ) (kind : ErrorKind) → has_wide_landing_pad word ≡ 1 → word_at m (landing_pad word) ≡ Some inner
+pub wide_error : (m : List (List ℕ)) (word inner tag : ℕ) (words : List ℕ) (kind : ErrorKind) → has_wide_landing_pad word ≡ 1 → word_at m (landing_pad word) ≡ Some inner
     → word_at m (landing_pad_tag word) ≡ Some tag → IsFar inner 0 → slice_get m (landing_pad_segment inner) ≡ Some words → NotLocal tag kind → BadLandingPad m word kind
-wide_refused m word inner tag words kind wide e f is_far content (inl far) = subst (BadLandingPad m word) (sym far.1) (far_tag wide e f is_far content far.0)
-wide_refused m word inner tag words kind wide e f is_far content (inr other) = subst (BadLandingPad m word) (sym other.1) (capability_tag wide e f is_far content other.0)
+wide_error m word inner tag words kind wide e f is_far content (inl far) = subst (BadLandingPad m word) (sym far.1) (far_tag wide e f is_far content far.0)
+wide_error m word inner tag words kind wide e f is_far content (inr other) = subst (BadLandingPad m word) (sym other.1) (capability_tag wide e f is_far content other.0)
 
 -- a far pointer with a landing pad of one word, as it is read, is a far pointer
 pub is_far_word : (word : ℕ) (far : FarPointer) → IsFarPointer word far → far.is_double_far ≡ false → IsFar word 0
@@ -205,7 +205,7 @@ pub wide_found : {m : List (List ℕ)} {far : FarPointer} {first tag : ℕ} (res
 wide_found (Ok landing) both found = λ place word there far_is. found place word there (both word far_is)
 wide_found (Err error) both found = tt
 
-pub wide_declined : {m : List (List ℕ)} {far : FarPointer} {first tag : ℕ} (result : Result ReadLanding Error) → ((word : ℕ) → IsFarPointer word far → HasWideLandingPad m word first tag)
+pub wide_errors : {m : List (List ℕ)} {far : FarPointer} {first tag : ℕ} (result : Result ReadLanding Error) → ((word : ℕ) → IsFarPointer word far → HasWideLandingPad m word first tag)
     → IfErr result (λ error. (word : ℕ) → HasWideLandingPad m word first tag → BadLandingPad m word error.kind) → IfErr result (λ error. (word : ℕ) → IsFarPointer word far → BadLandingPad m word error.kind)
-wide_declined (Ok landing) both refused = tt
-wide_declined (Err error) both refused = λ word far_is. refused word (both word far_is)
+wide_errors (Ok landing) both errors = tt
+wide_errors (Err error) both errors = λ word far_is. errors word (both word far_is)

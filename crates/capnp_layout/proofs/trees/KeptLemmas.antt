@@ -8,7 +8,7 @@ use Rattle.capnp_layout.specs.Tree.{is_null}
 use Rattle.capnp_layout.specs.declared.place.Place.{Place}
 use Rattle.capnp_layout.proofs.trees.ChunkLemmas.{Each, each_first, each_after, each_narrowed}
 use Rattle.capnp_layout.proofs.trees.TrimLemmas.{RoomOne, each_room, room_each}
-use Rattle.capnp_layout.proofs.pointers.FaultLemmas.{not_null}
+use Rattle.capnp_layout.proofs.pointers.PointerErrorLemmas.{not_null}
 use Rattle.capnp_layout.proofs.trees.FrontLemmas.{trim_first, trim_after, count_cut_trim}
 
 -- trees at places, in two parts

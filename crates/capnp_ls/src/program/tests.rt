@@ -99,11 +99,11 @@ const WRITES: [Row; 7] = [
 ];
 
 #[test]
-fn a_failed_write_stops_at_its_message(rt: HostRuntime) -> Result<()> {
+fn a_failed_write_fails_at_its_message(rt: HostRuntime) -> Result<()> {
     for row in &WRITES {
         let (command, bad_write) = (row.command, row.bad_write);
         assert!(rt;
-            stops_there(rt.alloc(), row)?,
+            fails_there(rt.alloc(), row)?,
             "{command}, write {bad_write}"
         );
     }
@@ -111,7 +111,7 @@ fn a_failed_write_stops_at_its_message(rt: HostRuntime) -> Result<()> {
 }
 
 // Whether the run stops at the row's message by 13, with so much of the output taken.
-fn stops_there(alloc: Global, row: &Row) -> Result<bool> {
+fn fails_there(alloc: Global, row: &Row) -> Result<bool> {
     let mut device = FailingWriter {
         got: Vec::new(alloc),
         bad_write: row.bad_write,
@@ -126,7 +126,7 @@ fn stops_there(alloc: Global, row: &Row) -> Result<bool> {
 
 // A slice of 40 bytes takes one form of 32, and the table of another.
 #[test]
-fn a_form_without_room_stops_at_its_message(rt: HostRuntime) -> Result<()> {
+fn a_form_without_room_fails_at_its_message(rt: HostRuntime) -> Result<()> {
     let mut room = [0; 40];
     let mut sink = room.as_mut_slice();
     let stop = stop_of(rt.alloc(), "canon", HELLOS, &mut sink)?;

@@ -2,7 +2,7 @@
 //! Bits and numbers without a sign are in `conformance/fields.txt`.
 use crate::fixtures::{expect, plain_arena, root_as_struct};
 use capnp_frame::Result;
-use capnp_frame_tests::refusals::numbered;
+use capnp_frame_tests::errors::numbered;
 use capnp_wire::primitive_element::PrimitiveElement;
 use std::fmt::Debug;
 use std::process::Abort;

@@ -4,7 +4,7 @@ use crate::fixtures::{
     Arena, arena_of, expect, root_as_any, root_as_struct, root_as_text, text_at,
 };
 use capnp_frame::Result;
-use capnp_frame_tests::refusals::refusal;
+use capnp_frame_tests::errors::error_of;
 
 const LETTER: &[u8] = b"\x01\0\0\0\x12\0\0\0A\0\0\0\0\0\0\0";
 
@@ -30,7 +30,7 @@ fn what_is_counted(rt: HostRuntime) -> Result<()> {
         }
         expect(&rt, "the text", root_as_text(&arena)?, b"A".as_slice());
     }
-    expect(&rt, "past the limit", refusal(root_as_text(&arena)), 20);
+    expect(&rt, "past the limit", error_of(root_as_text(&arena)), 20);
     Ok(())
 }
 
@@ -40,7 +40,7 @@ const TWO_TEXTS: &[u8] =
 
 // A read that fails counts nothing: what still has room is read after it.
 #[test]
-fn a_refused_read_counts_nothing(rt: HostRuntime) -> Result<()> {
+fn a_failed_read_counts_nothing(rt: HostRuntime) -> Result<()> {
     let segments = [TWO_TEXTS];
     let arena = arena_of(&segments, Some(3), 64);
     let fields = root_as_struct(&arena)?;

@@ -2,7 +2,7 @@
 //! document.
 use crate::built::{Built, build};
 use crate::fixtures::{empty, expect};
-use crate::refusals::refusal;
+use crate::errors::error_of;
 use capnp::{serialize, serialize_packed};
 use capnp_frame::{ErrorKind, Result};
 use capnp_orphans::{Orphanage, Region};
@@ -56,9 +56,9 @@ fn stands_in_regions(rt: &impl Abort, &(built, last, segment): &Row) -> Result<(
     let objects = build_in(&mut region[..segment.len()], built)?;
     expect(rt, (built, "in a region"), objects.bytes(), segment);
     let mut short = [7; 64];
-    let refused = build_in(&mut short[..segment.len() - segment.len().min(8)], built);
+    let failed = build_in(&mut short[..segment.len() - segment.len().min(8)], built);
     let full = Some(ErrorKind::AllocationTooLarge(last));
-    expect(rt, (built, "in a short region"), refusal(refused), full);
+    expect(rt, (built, "in a short region"), error_of(failed), full);
     Ok(())
 }
 

@@ -13,13 +13,13 @@ use capnp_values::words_fit;
 // The data words, and then the pointers. 2^16 or more of either fail with `AllocationTooLarge`.
 impl<T, const D: usize, const P: usize> Object for StructDraft<T, D, P> {
     ghost use Rattle.std.specs.Prelude.{false};
-    ghost use Rattle.capnp_orphans.specs.Held.{HoldsStruct, TakesStruct, ExceedsPointer};
+    ghost use Rattle.capnp_orphans.specs.Held.{HoldsStruct, TakesStruct, StructSizeError};
 
     ghost holds = { λ draft old new word. HoldsStruct old draft.words draft.pointers new word };
 
     ghost takes = { λ draft words. TakesStruct D P words };
 
-    ghost refuses = { λ draft kind. ExceedsPointer D P kind };
+    ghost fails = { λ draft kind. StructSizeError D P kind };
 
     ghost wants_zeros = { λ object. false };
 

@@ -81,17 +81,17 @@ packed_short_message segments text none = (
 -- the chunks that a writer hands on are of the one form or of the other
 pub packed_chunks : (segments : List (List ℕ)) (text : List ℕ) → AppendsAll (AppendsPacked AppendsSame) (chunks segments) text ↔ IsPackedEncoding text segments
 packed_chunks segments text = elim (cases_lt 8 (length table)) [
-  | inl more ↦ declared (sym (parts_two table more)) (packed_message segments text)
-  | inr few ↦ declared (sym (parts_one table few)) (packed_short_message segments text (none few))
+  | inl more ↦ reported (sym (parts_two table more)) (packed_message segments text)
+  | inr few ↦ reported (sym (parts_one table few)) (packed_short_message segments text (none few))
 ]
   where
     table : List ℕ
     table = zero_padded_table (lengths segments)
 
-    declared : {front tail : List (List ℕ)} → front ≡ tail →
+    reported : {front tail : List (List ℕ)} → front ≡ tail →
         AppendsAll (AppendsPacked AppendsSame) (front ++ segments) text ↔ IsPackedEncoding text segments →
         AppendsAll (AppendsPacked AppendsSame) (tail ++ segments) text ↔ IsPackedEncoding text segments
-    declared same p = subst (λ front. AppendsAll (AppendsPacked AppendsSame) (front ++ segments) text ↔ IsPackedEncoding text segments) same p
+    reported same p = subst (λ front. AppendsAll (AppendsPacked AppendsSame) (front ++ segments) text ↔ IsPackedEncoding text segments) same p
 
     none : length table ≤ 8 → drop 8 table ≡ []
     none few = nil_from_length (drop 8 table) (omega (arith, length-drop 8 table))

@@ -9,7 +9,7 @@ use Rattle.capnp_frame.specs.declared.io.Read.{Ghosts}
 use Rattle.capnp_frame.specs.Prelude.{size_in_words, Outgrows, TakesForLengths, TableStands, cut, SkipsMessage, LengthsStand, IfKnown, ReadsTable, table_size, framed_rules, reusing_rules, skipping_rules, ReadsStream, ReadsStreamInto}
 use Rattle.capnp_frame.proofs.encodings.RequestLemmas.{lengths-cut, MessageStands-cut}
 use Rattle.capnp_frame.proofs.sources.SourceLemmas.{IfKnown-join}
-use Rattle.capnp_pack.specs.Prelude.{Unpacks, RefusesChunk, packed_rules, packed_reusing_rules, packed_skipping_rules, packed_source}
+use Rattle.capnp_pack.specs.Prelude.{Unpacks, ChunkError, packed_rules, packed_reusing_rules, packed_skipping_rules, packed_source}
 use Rattle.capnp_pack.proofs.encodings.MessageLemmas.{found_packed, accepted_packed}
 
 -- what unpacks a source: what is seen of it is what is seen of that source
@@ -18,54 +18,54 @@ unpacked following source same = record {
   unread = λ t. source.unread (following t);
   failures = λ t. source.failures (following t);
   gives = Unpacks;
-  refuses = RefusesChunk;
+  refuses = ChunkError;
   same = same;
 }
 
 -- Whatever takes memory, a reader over what unpacks a source is one of packed messages.
 packed_reads_taking : {S T : Type 0} (rule : Padding) (takes : Option ℕ → List ℕ → List ℕ → Type 0) (following : T → S) (source : Ghosts S) (same : T → T → Type 0)
     (old new : T) (limit : Option ℕ) (r : Result (Option (List (List ℕ))) Error) → source.same (following old) (following new)
-    → ReadsStream (unpacked following source same) old new (record (framed_rules rule Unpacks RefusesChunk) { takes_memory = takes }) limit r
+    → ReadsStream (unpacked following source same) old new (record (framed_rules rule Unpacks ChunkError) { takes_memory = takes }) limit r
     → ReadsStream source (following old) (following new) (record (packed_rules rule) { takes_memory = takes }) limit r
-packed_reads_taking rule takes following source same old new limit r same_source declared = record {
-  found = found_packed rule r _ _ declared.found;
-  within = declared.within;
-  whole = declared.whole;
-  none = declared.none;
-  accepted = accepted_packed rule limit (λ m. IfErr r (λ error. (error.kind ≡ DeviceFailed) ⊎ (error.kind ≡ OutOfMemory))) _ declared.accepted;
-  end = declared.end;
-  refused = declared.refused;
-  exact = declared.exact;
-  kinds = declared.kinds;
-  failed = declared.failed;
-  advances = record { tail = declared.advances.tail; counted = declared.advances.counted; same_source = same_source };
+packed_reads_taking rule takes following source same old new limit r same_source reported = record {
+  found = found_packed rule r _ _ reported.found;
+  within = reported.within;
+  whole = reported.whole;
+  none = reported.none;
+  accepted = accepted_packed rule limit (λ m. IfErr r (λ error. (error.kind ≡ DeviceFailed) ⊎ (error.kind ≡ OutOfMemory))) _ reported.accepted;
+  end = reported.end;
+  errors = reported.errors;
+  exact = reported.exact;
+  kinds = reported.kinds;
+  failed = reported.failed;
+  advances = record { tail = reported.advances.tail; counted = reported.advances.counted; same_source = same_source };
 }
 
 pub packed_reads : {S T : Type 0} (rule : Padding) (following : T → S) (source : Ghosts S) (same : T → T → Type 0) (old new : T)
     (kept : List (List ℕ)) (limit : Option ℕ) (r : Result (Option (List (List ℕ))) Error) → source.same (following old) (following new)
-    → ReadsStream (unpacked following source same) old new (reusing_rules rule Unpacks RefusesChunk kept) limit r
+    → ReadsStream (unpacked following source same) old new (reusing_rules rule Unpacks ChunkError kept) limit r
     → ReadsStream source (following old) (following new) (packed_reusing_rules rule kept) limit r
-packed_reads rule following source same old new kept limit r same_source declared =
-    packed_reads_taking rule (Outgrows (length kept) (length (concat kept)) rule Unpacks) following source same old new limit r same_source declared
+packed_reads rule following source same old new kept limit r same_source reported =
+    packed_reads_taking rule (Outgrows (length kept) (length (concat kept)) rule Unpacks) following source same old new limit r same_source reported
 
 pub packed_reads_into : {S T : Type 0} (rule : Padding) (following : T → S) (source : Ghosts S) (same : T → T → Type 0) (old new : T)
     (limit : Option ℕ) (room : ℕ) (r : Result (Option (List (List ℕ))) Error) → source.same (following old) (following new)
-    → ReadsStreamInto (unpacked following source same) old new (framed_rules rule Unpacks RefusesChunk) limit room r
+    → ReadsStreamInto (unpacked following source same) old new (framed_rules rule Unpacks ChunkError) limit room r
     → ReadsStreamInto source (following old) (following new) (packed_rules rule) limit room r
-packed_reads_into rule following source same old new limit room r same_source declared = record {
-  found = found_packed rule r _ _ declared.found;
-  within = declared.within;
-  whole = declared.whole;
-  none = declared.none;
+packed_reads_into rule following source same old new limit room r same_source reported = record {
+  found = found_packed rule r _ _ reported.found;
+  within = reported.within;
+  whole = reported.whole;
+  none = reported.none;
   accepted = accepted_packed rule limit (λ m. table_size (length m) + 8 * size_in_words m ≤ room
-      → IfErr r (λ error. error.kind ≡ DeviceFailed)) _ declared.accepted;
-  end = declared.end;
-  short = λ few. (ap following (declared.short few).0, (declared.short few).1);
-  refused = declared.refused;
-  exact = declared.exact;
-  kinds = declared.kinds;
-  failed = declared.failed;
-  advances = record { tail = declared.advances.tail; counted = declared.advances.counted; same_source = same_source };
+      → IfErr r (λ error. error.kind ≡ DeviceFailed)) _ reported.accepted;
+  end = reported.end;
+  short = λ few. (ap following (reported.short few).0, (reported.short few).1);
+  errors = reported.errors;
+  exact = reported.exact;
+  kinds = reported.kinds;
+  failed = reported.failed;
+  advances = record { tail = reported.advances.tail; counted = reported.advances.counted; same_source = same_source };
 }
 
 -- Skipping
@@ -75,25 +75,25 @@ pub packed_table : {S T : Type 0} (following : T → S) (source : Ghosts S) (sam
     (limit : Option ℕ) (kept : ℕ) (r : Result (Option (List ℕ)) Error) → source.same (following old) (following new)
     → ReadsTable (unpacked following source same) old new rule limit kept r
     → ReadsTable (packed_source source) (following old) (following new) rule limit kept r
-packed_table following source same old new rule limit kept r same_source declared = record {
-  found = declared.found;
-  within = declared.within;
-  bound = declared.bound;
+packed_table following source same old new rule limit kept r same_source reported = record {
+  found = reported.found;
+  within = reported.within;
+  bound = reported.bound;
   asks = record {
-    none = declared.asks.none;
-    refused = declared.asks.refused;
-    kinds = declared.asks.kinds;
-    end = declared.asks.end;
+    none = reported.asks.none;
+    errors = reported.asks.errors;
+    kinds = reported.asks.kinds;
+    end = reported.asks.end;
     asked = record {
-      failed = declared.asks.asked.failed;
-      advances = record { tail = declared.asks.asked.advances.tail; counted = declared.asks.asked.advances.counted; same_source = same_source };
+      failed = reported.asks.asked.failed;
+      advances = record { tail = reported.asks.asked.advances.tail; counted = reported.asks.asked.advances.counted; same_source = same_source };
     };
   };
 }
 
 -- what skips a message by packed requests skips a packed message
 pub packed_skips : {S : Type 0} (rule : Padding) (source : Ghosts S) (old new : S) (kept : ℕ) (limit : Option ℕ) (r : Result (Option (List ℕ)) Error)
-    → source.same old new → SkipsMessage (ReadsStream (packed_source source) old new (skipping_rules rule Unpacks RefusesChunk kept) limit) r
+    → source.same old new → SkipsMessage (ReadsStream (packed_source source) old new (skipping_rules rule Unpacks ChunkError kept) limit) r
     → SkipsMessage (ReadsStream source old new (packed_skipping_rules rule kept) limit) r
 packed_skips rule source old new kept limit (Ok (Some ns)) same (message, lens, reads) =
     (message, lens, packed_reads_taking rule (λ most. TakesForLengths kept Unpacks) (λ s. s) source source.same old new limit (Ok (Some message)) same reads)

@@ -5,9 +5,9 @@ use Rattle.std.proofs.lemmas.List.{append-nil}
 use Rattle.std.proofs.lemmas.List.Folds.{concat-append}
 use Rattle.std.proofs.lemmas.List.Concat.{concat_is}
 use Rattle.capnp_frame.specs.declared.error.ErrorKind.{ErrorKind}
-use Rattle.capnp_frame.specs.Prelude.{IfKnown, DeclinesAny, Appending, Declining, Adds, IsWholeWords}
+use Rattle.capnp_frame.specs.Prelude.{IfKnown, AnyChunkError, Appending, Declining, Adds, IsWholeWords}
 use Rattle.capnp_frame.proofs.sources.SourceLemmas.{IfKnown-join, IfKnown-weaker}
-use Rattle.capnp_pack.specs.Prelude.{DeclinesPacked, Hands}
+use Rattle.capnp_pack.specs.Prelude.{PackedChunkError, Hands}
 use Rattle.capnp_frame.specs.declared.error.Error.{Error}
 use Rattle.capnp_frame.proofs.sinks.WritingLemmas.{AppendsAll-append}
 
@@ -53,16 +53,16 @@ IfKnown-literal appends count old pushed left flat words a b c push none all flu
     subst (λ l. Hands appends old (count ∷ concat words) l x z) (sym none) (Hands-join appends old (count ∷ []) left (concat words) [] x y z first chunk)) flushed added
 
 -- with which kinds a sink fails
-pub declines_any : (F : Type 0) (refuses : Declining) (part : List ℕ) (kind : ErrorKind) → F ⊎ refuses part kind → F ⊎ DeclinesAny refuses kind
-declines_any F refuses part kind (inl failed) = inl failed
-declines_any F refuses part kind (inr refused) = inr (part, refused)
+pub any_chunk_error : (F : Type 0) (refuses : Declining) (part : List ℕ) (kind : ErrorKind) → F ⊎ refuses part kind → F ⊎ AnyChunkError refuses kind
+any_chunk_error F refuses part kind (inl failed) = inl failed
+any_chunk_error F refuses part kind (inr errors) = inr (part, errors)
 
 -- for a chunk of whole words
-declines : (F : Type 0) (refuses : Declining) (chunk : List ℕ) (kind : ErrorKind) → IsWholeWords chunk → F ⊎ DeclinesAny refuses kind → F ⊎ DeclinesPacked refuses chunk kind
-declines F refuses chunk kind whole (inl failed) = inl failed
-declines F refuses chunk kind whole (inr refused) = inr (inr (λ part. part whole, refused))
+or_packed_error : (F : Type 0) (refuses : Declining) (chunk : List ℕ) (kind : ErrorKind) → IsWholeWords chunk → F ⊎ AnyChunkError refuses kind → F ⊎ PackedChunkError refuses chunk kind
+or_packed_error F refuses chunk kind whole (inl failed) = inl failed
+or_packed_error F refuses chunk kind whole (inr errors) = inr (inr (λ part. part whole, errors))
 
-pub declines_whole : {X : Type 0} (F : ErrorKind → Type 0) (refuses : Declining) (chunk : List ℕ) (r : Result X Error) → IsWholeWords chunk →
-    IfErr r (λ e. F e.kind ⊎ DeclinesAny refuses e.kind) → IfErr r (λ e. F e.kind ⊎ DeclinesPacked refuses chunk e.kind)
-declines_whole F refuses chunk (Ok x) whole refused = tt
-declines_whole F refuses chunk (Err e) whole refused = declines (F e.kind) refuses chunk e.kind whole refused
+pub whole_chunk_error : {X : Type 0} (F : ErrorKind → Type 0) (refuses : Declining) (chunk : List ℕ) (r : Result X Error) → IsWholeWords chunk →
+    IfErr r (λ e. F e.kind ⊎ AnyChunkError refuses e.kind) → IfErr r (λ e. F e.kind ⊎ PackedChunkError refuses chunk e.kind)
+whole_chunk_error F refuses chunk (Ok x) whole errors = tt
+whole_chunk_error F refuses chunk (Err e) whole errors = or_packed_error (F e.kind) refuses chunk e.kind whole errors

@@ -15,10 +15,10 @@ use Rattle.capnp_pack.proofs.packing.PackerLemmas.{PacksWords-more, PacksWords-n
 
 -- a front of longer bytes
 parts_longer : (appends : Appending) (leaves : Leaving) (text more left : List ℕ) → LeavesParts appends leaves text left → LeavesParts appends leaves (text ++ more) left
-parts_longer appends leaves text more left (parts, joined, stopped) = (
+parts_longer appends leaves text more left (parts, joined, remains) = (
   parts ++ more ∷ [],
   concat-append parts (more ∷ []) ∙ ap (λ l. concat parts ++ l) (append-nil more) ∙ ap (λ l. l ++ more) joined,
-  left_front appends leaves parts (more ∷ []) left stopped,
+  left_front appends leaves parts (more ∷ []) left remains,
 )
 
 pub left_longer : (appends : Appending) (leaves : Leaving) (text more whole : List ℕ) (a b : Option (List ℕ)) → whole ≡ text ++ more
@@ -34,12 +34,12 @@ left_chunk appends leaves text chunk a b is = IfKnown-weaker a b (λ x y p. (p.0
 -- what is left after parts that are handed on
 parts_after : (appends : Appending) (leaves : Leaving) (old text new more x y z : List ℕ) → Hands appends old text new x y
     → Adds (LeavesParts appends leaves (new ++ more)) y z → Adds (LeavesParts appends leaves ((old ++ text) ++ more)) x z
-parts_after appends leaves old text new more x y z h (left, (parts, joined, stopped), added) = (
+parts_after appends leaves old text new more x y z h (left, (parts, joined, remains), added) = (
   h.handed ++ left,
   (
     h.parts ++ parts,
     concat-append h.parts parts ∙ ap (λ l. concat h.parts ++ l) joined ∙ sym (append_assoc (concat h.parts) new more) ∙ ap (λ l. l ++ more) (sym h.kept),
-    left_after appends leaves h.parts parts h.handed left h.declared stopped,
+    left_after appends leaves h.parts parts h.handed left h.declared remains,
   ),
   added ∙ ap (λ l. l ++ left) h.added ∙ append_assoc x h.handed left,
 )
@@ -127,23 +127,23 @@ left_group appends leaves words n w os old buffer a b declared front (text, to, 
 -- some parts of its encoding
 packed_left : (appends : Appending) (leaves : Leaving) (chunk text : List ℕ) (a b : Option (List ℕ)) → Packs chunk text
     → IfKnown a b (Adds (LeavesParts appends leaves text)) → IfKnown a b (Adds (LeavesPacked appends leaves chunk))
-packed_left appends leaves chunk text a b packed = IfKnown-weaker a b (λ x y (left, (parts, joined, stopped), added).
-    (left, inr (parts, subst (Packs chunk) (sym joined) packed, stopped), added))
+packed_left appends leaves chunk text a b packed = IfKnown-weaker a b (λ x y (left, (parts, joined, remains), added).
+    (left, inr (parts, subst (Packs chunk) (sym joined) packed, remains), added))
 
 -- handing on the rest fails
 pub left_rest : (appends : Appending) (leaves : Leaving) (chunk : List ℕ) (words left : List (List ℕ)) (buffer : List ℕ) (a b c : Option (List ℕ))
     → concat words ≡ chunk → HandsTo appends words left [] buffer a b
     → (s : List ℕ) × RestAfter buffer left s × IfKnown b c (Adds (LeavesParts appends leaves s)) → IfKnown a c (Adds (LeavesPacked appends leaves chunk))
-left_rest appends leaves chunk words left buffer a b c whole (text, to, handed) (s, (rest, packs, spelled), stopped) =
+left_rest appends leaves chunk words left buffer a b c whole (text, to, handed) (s, (rest, packs, spelled), remains) =
     let packed : PacksWords words (text ++ rest) = to rest packs in
     packed_left appends leaves chunk (text ++ rest) a c (subst (λ l. Packs l (text ++ rest)) whole (Packs-words words (text ++ rest) packed))
     (left_after_handed appends leaves [] text buffer rest (text ++ rest) a b c refl handed
-    (subst (λ l. IfKnown b c (Adds (LeavesParts appends leaves l))) spelled stopped))
+    (subst (λ l. IfKnown b c (Adds (LeavesParts appends leaves l))) spelled remains))
 
 -- handing on the last bytes fails
 pub left_last : (appends : Appending) (leaves : Leaving) (chunk : List ℕ) (words left : List (List ℕ)) (buffer : List ℕ) (a b c : Option (List ℕ))
     → concat words ≡ chunk → left ≡ [] → HandsTo appends words left [] buffer a b
     → (s : List ℕ) × (s ≡ buffer) × IfKnown b c (Adds (LeavesParts appends leaves s)) → IfKnown a c (Adds (LeavesPacked appends leaves chunk))
-left_last appends leaves chunk words left buffer a b c whole none handed (s, is, stopped) =
+left_last appends leaves chunk words left buffer a b c whole none handed (s, is, remains) =
     let empty : PacksWords left [] = subst (λ l. PacksWords l []) (sym none) PacksWords-none in
-    left_rest appends leaves chunk words left buffer a b c whole handed (s, ([], empty, is ∙ sym (append-nil buffer)), stopped)
+    left_rest appends leaves chunk words left buffer a b c whole handed (s, ([], empty, is ∙ sym (append-nil buffer)), remains)

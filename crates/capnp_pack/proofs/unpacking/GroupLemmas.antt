@@ -6,11 +6,11 @@ use Rattle.std.proofs.lemmas.List.Folds.{concat-append}
 use Rattle.std.specs.List.{concat, AllByRecursion}
 use Rattle.capnp_frame.specs.Prelude.{IfKnown, ReturnsPart}
 use Rattle.capnp_frame.proofs.sources.SourceLemmas.{IfKnown-join, IfKnown-weaker}
-use Rattle.capnp_pack.specs.Prelude.{Group, zeros, IsGroup, zero_word, group_encoding, group_words, text_of, words_of_groups, Unpacks, MeetsFault, GroupAt, TakesGroups, group_len, same_group, fault_later, fault_after}
+use Rattle.capnp_pack.specs.Prelude.{Group, zeros, IsGroup, zero_word, group_encoding, group_words, text_of, words_of_groups, Unpacks, PackedError, GroupAt, TakesGroups, group_len, same_group, error_later, error_after}
 use Rattle.capnp_pack.proofs.unpacking.ProgressLemmas.{group_taken}
 
 -- a group at the front is a part of the result of each request that it fits into
-pub group_takes : (n tag : ℕ) (bytes raw left : List ℕ) → GroupAt tag bytes raw left → length bytes ≤ n → ReturnsPart Unpacks MeetsFault n bytes (tag ∷ raw) left
+pub group_takes : (n tag : ℕ) (bytes raw left : List ℕ) → GroupAt tag bytes raw left → length bytes ≤ n → ReturnsPart Unpacks PackedError n bytes (tag ∷ raw) left
 group_takes n tag bytes raw left at fits =
     let g = at.0 in
     record {
@@ -25,9 +25,9 @@ group_takes n tag bytes raw left at fits =
         at.3 ∙ ap (λ l. group_encoding g ++ l) h.2 ∙ sym (append_assoc (group_encoding g) h.0 rest),
         length-append bytes more ∙ add_left bytes more n fits h.3,
       );
-      refusals = λ kind. (
-        λ h. subst (λ l. MeetsFault l n kind) (sym at.3) (fault_later g left n kind at.1 (subst (λ k. MeetsFault left (n - k) kind) (ap length at.2) h)),
-        λ h. subst (λ k. MeetsFault left (n - k) kind) (sym (ap length at.2)) (fault_after g left n kind at.1 (subst (λ k. k ≤ n) (ap length at.2) fits) (subst (λ l. MeetsFault l n kind) at.3 h)),
+      same_errors = λ kind. (
+        λ h. subst (λ l. PackedError l n kind) (sym at.3) (error_later g left n kind at.1 (subst (λ k. PackedError left (n - k) kind) (ap length at.2) h)),
+        λ h. subst (λ k. PackedError left (n - k) kind) (sym (ap length at.2)) (error_after g left n kind at.1 (subst (λ k. k ≤ n) (ap length at.2) fits) (subst (λ l. PackedError l n kind) at.3 h)),
       );
       splits = λ all rest h. split h.1.groups all rest h.1.each (sym at.3 ∙ h.2 ∙ ap (λ l. l ++ rest) h.1.spelled) h.1.unpacked h.3;
     }
@@ -58,9 +58,9 @@ zeros_at more count raw left bytes fits long filled at =
 
 -- the group after a tag, as a part of a request
 pub ReturnsPart-group : (n tag : ℕ) (bytes : List ℕ) (old mid new : Option (List ℕ)) → length bytes ≤ n →
-    IfKnown old mid (λ raw left. raw ≡ tag ∷ left) → IfKnown mid new (GroupAt tag bytes) → IfKnown old new (ReturnsPart Unpacks MeetsFault n bytes)
+    IfKnown old mid (λ raw left. raw ≡ tag ∷ left) → IfKnown mid new (GroupAt tag bytes) → IfKnown old new (ReturnsPart Unpacks PackedError n bytes)
 ReturnsPart-group n tag bytes old mid new fits tagged_by at =
-    IfKnown-join old mid new (λ x y z e g. subst (λ l. ReturnsPart Unpacks MeetsFault n bytes l z) (sym e) (group_takes n tag bytes y z g fits)) tagged_by at
+    IfKnown-join old mid new (λ x y z e g. subst (λ l. ReturnsPart Unpacks PackedError n bytes l z) (sym e) (group_takes n tag bytes y z g fits)) tagged_by at
 
 pub zeros_found : (more count : ℕ) (bytes : List ℕ) (old mid : Option (List ℕ)) → more < 256 → count ≡ 8 * (more + 1) → bytes ≡ replicate count 0 →
     IfKnown old mid (λ raw left. raw ≡ more ∷ left) → IfKnown old mid (GroupAt 0 bytes)

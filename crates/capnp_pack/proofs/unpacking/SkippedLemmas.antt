@@ -9,12 +9,12 @@ use Rattle.capnp_frame.specs.declared.error.Error.{Error}
 use Rattle.capnp_frame.specs.declared.error.ErrorKind.{ErrorKind}
 use Rattle.capnp_frame.specs.declared.error.ErrorKind.TheVariants.{DeviceFailed, FailedToFillTheWholeBuffer, PrematureEndOfPackedInput, PackedInputDidNotEndCleanlyOnASegmentBoundary}
 use Rattle.capnp_frame.specs.declared.io.Read.{Ghosts}
-use Rattle.capnp_frame.specs.Prelude.{FailsOr, IfKnown, IsFront, IsRefused}
+use Rattle.capnp_frame.specs.Prelude.{FailsOr, IfKnown, IsFront, RequestError}
 use Rattle.capnp_frame.proofs.sources.SourceLemmas.{IfKnown-weaker}
-use Rattle.capnp_pack.specs.Prelude.{TakesNext, Group, tagged, zeros, literal, IsGroup, group_encoding, group_words, text_of, words_of_groups, Unpacks, group_size, IsGroupFault, MeetsFault, RefusesChunk, LeavesOverrun, Overran, FirstGroupFails, HasProgress, TakesGroups, Passes, PassesGroups, length-words}
+use Rattle.capnp_pack.specs.Prelude.{TakesNext, Group, tagged, zeros, literal, IsGroup, group_encoding, group_words, text_of, words_of_groups, Unpacks, group_size, GroupError, PackedError, ChunkError, LeavesOverrun, Overran, FirstGroupError, HasProgress, TakesGroups, Passes, PassesGroups, length-words}
 use Rattle.capnp_pack.proofs.words.AllLemmas.{AllByRecursion-append}
-use Rattle.capnp_pack.proofs.faults.ChunkLemmas.{group_error, group_meets, chunk_refused, end_refused, none_refused, end_before}
-use Rattle.capnp_pack.proofs.faults.FaultLemmas.{zeros_size}
+use Rattle.capnp_pack.proofs.errors.ChunkLemmas.{group_error, group_meets, chunk_error, end_error, none_error, end_before}
+use Rattle.capnp_pack.proofs.errors.GroupErrorLemmas.{zeros_size}
 
 -- Groups that are shown
 
@@ -59,7 +59,7 @@ over_all : (most room : ℕ) → IsRoom most room → (g : Group) → IsGroup g 
 over_all most room (within, inl same) g is long = omega arith
 over_all most room (within, inr large) g is long = let small = group_most g is in absurd (omega arith)
 
-fails_all : (most room : ℕ) (raw : List ℕ) (kind : ErrorKind) → IsRoom most room → FirstGroupFails raw room kind → FirstGroupFails raw most kind
+fails_all : (most room : ℕ) (raw : List ℕ) (kind : ErrorKind) → IsRoom most room → FirstGroupError raw room kind → FirstGroupError raw most kind
 fails_all most room raw kind is (some, inl cut) = (omega (arith, some, is.0), inl cut)
 fails_all most room raw kind is (some, inr (inl (over, why))) = (
   omega (arith, some, is.0),
@@ -71,40 +71,40 @@ fails_all most room raw kind is (some, inr (inr (cut, why))) =
       inr (inr (record { group = cut.group; following = cut.following; head = cut.head; fits = omega (arith, fits, is.0); short = cut.short }, why)),
     )
 
-refused_all : (most room : ℕ) (old : Option (List ℕ)) (kind : ErrorKind) → IsRoom most room → IsRefused FirstGroupFails room old kind → IsRefused FirstGroupFails most old kind
-refused_all most room None kind is refused = refused
-refused_all most room (Some raw) kind is refused = fails_all most room raw kind is refused
+error_all : (most room : ℕ) (old : Option (List ℕ)) (kind : ErrorKind) → IsRoom most room → RequestError FirstGroupError room old kind → RequestError FirstGroupError most old kind
+error_all most room None kind is errors = errors
+error_all most room (Some raw) kind is errors = fails_all most room raw kind is errors
 
 pub group_skipped : {S : Type 0} (source : Ghosts S) (old new : S) (most : ℕ) (buffer : List ℕ) (r : Result (Option ℕ) Error) → IsRoom most (length buffer)
-    → TakesNext source old new (TakesGroups (source.unread old) (source.unread new) buffer) (IsRefused FirstGroupFails (length buffer) (source.unread old)) r
-    → TakesNext source old new (PassesGroups (source.unread old) (source.unread new) most) (IsRefused FirstGroupFails most (source.unread old)) r
+    → TakesNext source old new (TakesGroups (source.unread old) (source.unread new) buffer) (RequestError FirstGroupError (length buffer) (source.unread old)) r
+    → TakesNext source old new (PassesGroups (source.unread old) (source.unread new) most) (RequestError FirstGroupError most (source.unread old)) r
 group_skipped source old new most buffer (Ok (Some count)) is takes =
     let (some, within, whole, more, groups, part) = takes.found in
-    record { found = (some, omega (arith, within, is.0), whole, more, groups); none = tt; refused = tt; at_end = tt; asked = takes.asked }
-group_skipped source old new most buffer (Ok None) is takes = record { found = tt; none = takes.none; refused = tt; at_end = tt; asked = takes.asked }
+    record { found = (some, omega (arith, within, is.0), whole, more, groups); none = tt; errors = tt; at_end = tt; asked = takes.asked }
+group_skipped source old new most buffer (Ok None) is takes = record { found = tt; none = takes.none; errors = tt; at_end = tt; asked = takes.asked }
 group_skipped source old new most buffer (Err e) is takes = record {
   found = tt;
   none = tt;
-  refused = fails takes.refused;
+  errors = fails takes.errors;
   at_end = takes.at_end;
   asked = takes.asked;
 }
   where
-    fails : (e.kind ≡ DeviceFailed) ⊎ IsRefused FirstGroupFails (length buffer) (source.unread old) e.kind → (e.kind ≡ DeviceFailed) ⊎ IsRefused FirstGroupFails most (source.unread old) e.kind
+    fails : (e.kind ≡ DeviceFailed) ⊎ RequestError FirstGroupError (length buffer) (source.unread old) e.kind → (e.kind ≡ DeviceFailed) ⊎ RequestError FirstGroupError most (source.unread old) e.kind
     fails (inl device) = inl device
-    fails (inr refused) = inr (refused_all most (length buffer) (source.unread old) e.kind is refused)
+    fails (inr errors) = inr (error_all most (length buffer) (source.unread old) e.kind is errors)
 
 -- a first group that fits some room fails otherwise than by its count
-no_over : (n : ℕ) (raw : List ℕ) (kind : ErrorKind) → 2048 ≤ n → FirstGroupFails raw n kind → kind ≡ PackedInputDidNotEndCleanlyOnASegmentBoundary → ⊥
+no_over : (n : ℕ) (raw : List ℕ) (kind : ErrorKind) → 2048 ≤ n → FirstGroupError raw n kind → kind ≡ PackedInputDidNotEndCleanlyOnASegmentBoundary → ⊥
 no_over n raw kind large (some, inl (cut, why)) is = cc
 no_over n raw kind large (some, inr (inl (over, why))) is = let small = group_most over.group over.head.is in let long = over.long in absurd (omega arith)
 no_over n raw kind large (some, inr (inr (cut, why))) is = cc
 
-pub over_skipped : {X : Type 0} (most room : ℕ) (old new : Option (List ℕ)) (r : Result X Error) → IsRoom most room → FailsOr r (IsRefused FirstGroupFails room old)
+pub over_skipped : {X : Type 0} (most room : ℕ) (old new : Option (List ℕ)) (r : Result X Error) → IsRoom most room → FailsOr r (RequestError FirstGroupError room old)
     → Overran r old new (LeavesOverrun room) → Overran r old new (LeavesOverrun most)
-over_skipped most room old new (Ok x) is refused over = tt
-over_skipped most room None new (Err e) is refused over = λ here. tt
-over_skipped most room (Some raw) new (Err e) (within, inl same) refused over = λ here. subst (λ n. IfKnown (Some raw) new (LeavesOverrun n)) same (over here)
+over_skipped most room old new (Ok x) is errors over = tt
+over_skipped most room None new (Err e) is errors over = λ here. tt
+over_skipped most room (Some raw) new (Err e) (within, inl same) errors over = λ here. subst (λ n. IfKnown (Some raw) new (LeavesOverrun n)) same (over here)
 over_skipped most room (Some raw) new (Err e) (within, inr large) (inl device) over = λ here. absurd (other device here)
   where
     other : e.kind ≡ DeviceFailed → e.kind ≡ PackedInputDidNotEndCleanlyOnASegmentBoundary → ⊥
@@ -113,9 +113,9 @@ over_skipped most room (Some raw) new (Err e) (within, inr large) (inr fails) ov
 
 -- A chunk
 
--- a fault after some groups
-fault_after_groups : (n k : ℕ) (raw left : List ℕ) (kind : ErrorKind) → HasProgress k raw left → MeetsFault left (n - k) kind → MeetsFault raw n kind
-fault_after_groups n k raw left kind (groups, each, spelled, counted) p =
+-- an error after some groups
+error_after_groups : (n k : ℕ) (raw left : List ℕ) (kind : ErrorKind) → HasProgress k raw left → PackedError left (n - k) kind → PackedError raw n kind
+error_after_groups n k raw left kind (groups, each, spelled, counted) p =
     let words : length (concat (words_of_groups (groups ++ p.groups))) ≡ k + length (concat (words_of_groups p.groups)) =
     ap (λ l. length (concat l)) (flat_map-append group_words groups p.groups) ∙ ap length (concat-append (words_of_groups groups) (words_of_groups p.groups))
     ∙ length-append (concat (words_of_groups groups)) (concat (words_of_groups p.groups)) ∙ ap (λ j. j + length (concat (words_of_groups p.groups))) counted in
@@ -128,36 +128,36 @@ fault_after_groups n k raw left kind (groups, each, spelled, counted) p =
       spelled = spelled ∙ ap (λ l. text_of groups ++ l) p.spelled ∙ sym (append_assoc (text_of groups) (text_of p.groups) p.left)
           ∙ ap (λ l. l ++ p.left) (sym (flat_map-append group_encoding groups p.groups));
       fewer = omega (arith, words, fewer);
-      fault = subst (λ j. IsGroupFault p.left j kind) rest p.fault;
+      error = subst (λ j. GroupError p.left j kind) rest p.error;
     }
 
-refused_after_groups : (n k : ℕ) (a b : Option (List ℕ)) (kind : ErrorKind) → IfKnown a b (HasProgress k) → IsRefused MeetsFault (n - k) b kind → IsRefused MeetsFault n a kind
-refused_after_groups n k None None kind taken refused = refused
-refused_after_groups n k None (Some y) kind taken refused = (y, n - k, refused)
-refused_after_groups n k (Some x) None kind taken refused = absurd taken
-refused_after_groups n k (Some x) (Some y) kind taken refused = fault_after_groups n k x y kind taken refused
+request_error_after_groups : (n k : ℕ) (a b : Option (List ℕ)) (kind : ErrorKind) → IfKnown a b (HasProgress k) → RequestError PackedError (n - k) b kind → RequestError PackedError n a kind
+request_error_after_groups n k None None kind taken errors = errors
+request_error_after_groups n k None (Some y) kind taken errors = (y, n - k, errors)
+request_error_after_groups n k (Some x) None kind taken errors = absurd taken
+request_error_after_groups n k (Some x) (Some y) kind taken errors = error_after_groups n k x y kind taken errors
 
-failed_after_groups : (F : Type 0) (n k : ℕ) (a b : Option (List ℕ)) (kind : ErrorKind) → IfKnown a b (HasProgress k) → F ⊎ IsRefused MeetsFault (n - k) b kind
-    → F ⊎ IsRefused MeetsFault n a kind
+failed_after_groups : (F : Type 0) (n k : ℕ) (a b : Option (List ℕ)) (kind : ErrorKind) → IfKnown a b (HasProgress k) → F ⊎ RequestError PackedError (n - k) b kind
+    → F ⊎ RequestError PackedError n a kind
 failed_after_groups F n k a b kind taken (inl failed) = inl failed
-failed_after_groups F n k a b kind taken (inr refused) = inr (refused_after_groups n k a b kind taken refused)
+failed_after_groups F n k a b kind taken (inr errors) = inr (request_error_after_groups n k a b kind taken errors)
 
 -- a group that can't be taken after these
 pub skip_failed : (n k : ℕ) (old mid : Option (List ℕ)) (kind : ErrorKind) → n % 8 ≡ 0 → (0 < k → IfSome old (λ raw. raw ≡ [] → ⊥)) → (k ≡ 0 → mid ≡ old)
-    → IfKnown old mid (HasProgress k) → (mid ≡ Some [] → kind ≡ DeviceFailed) → (kind ≡ DeviceFailed) ⊎ IsRefused FirstGroupFails (n - k) mid kind
-    → (kind ≡ DeviceFailed) ⊎ IsRefused RefusesChunk n old kind
-skip_failed n k old mid kind whole more start taken end refused =
-    group_error n k old mid kind whole more start end (failed_after_groups _ n k old mid kind taken (group_meets _ (n - k) mid kind refused))
+    → IfKnown old mid (HasProgress k) → (mid ≡ Some [] → kind ≡ DeviceFailed) → (kind ≡ DeviceFailed) ⊎ RequestError FirstGroupError (n - k) mid kind
+    → (kind ≡ DeviceFailed) ⊎ RequestError ChunkError n old kind
+skip_failed n k old mid kind whole more start taken end errors =
+    group_error n k old mid kind whole more start end (failed_after_groups _ n k old mid kind taken (group_meets _ (n - k) mid kind errors))
 
 -- or is missing there
 pub skip_missing : (n k : ℕ) (old mid : Option (List ℕ)) → n % 8 ≡ 0 → k < n → IfSome old (λ raw. raw ≡ [] → ⊥) → IfKnown old mid (HasProgress k)
-    → IfSome mid (λ raw. raw ≡ []) → IsRefused RefusesChunk n old PrematureEndOfPackedInput
+    → IfSome mid (λ raw. raw ≡ []) → RequestError ChunkError n old PrematureEndOfPackedInput
 skip_missing n k old mid whole fewer more taken none =
-    chunk_refused n old PrematureEndOfPackedInput whole more (refused_after_groups n k old mid PrematureEndOfPackedInput taken (end_refused (n - k) mid (omega arith) none))
+    chunk_error n old PrematureEndOfPackedInput whole more (request_error_after_groups n k old mid PrematureEndOfPackedInput taken (end_error (n - k) mid (omega arith) none))
 
 -- or the first group is
-pub skip_none : (n : ℕ) (old mid : Option (List ℕ)) → n % 8 ≡ 0 → 0 < n → mid ≡ old → IfSome mid (λ raw. raw ≡ []) → IsRefused RefusesChunk n old FailedToFillTheWholeBuffer
-skip_none n old mid whole some same none = none_refused n old some whole (end_before old mid same none)
+pub skip_none : (n : ℕ) (old mid : Option (List ℕ)) → n % 8 ≡ 0 → 0 < n → mid ≡ old → IfSome mid (λ raw. raw ≡ []) → RequestError ChunkError n old FailedToFillTheWholeBuffer
+skip_none n old mid whole some same none = none_error n old some whole (end_before old mid same none)
 
 -- all groups of the chunk
 pub chunk_skipped : (n k : ℕ) (old new : Option (List ℕ)) → k ≡ n → IfKnown old new (HasProgress k) → IfKnown old new (λ raw rest. (words : List ℕ) × Unpacks raw n words rest)

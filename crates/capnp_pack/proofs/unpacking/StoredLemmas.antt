@@ -4,7 +4,7 @@ use Rattle.std.proofs.lemmas.List.{take-append-drop, take-append-le, take_all, l
 use Rattle.std.proofs.lemmas.Slice.{take-put_mid}
 use borrow.Rule.Slice.PartMut.{put_mid}
 use Rattle.capnp_frame.specs.declared.error.ErrorKind.{ErrorKind}
-use Rattle.capnp_frame.specs.Prelude.{Giving, Refusing, Splits, RunsShort, IfKnown, IsFront, IsRefused}
+use Rattle.capnp_frame.specs.Prelude.{Giving, Refusing, Splits, RunsShort, IfKnown, IsFront, RequestError}
 use Rattle.capnp_frame.proofs.sources.SourceLemmas.{IfKnown-join, length-put_mid}
 
 -- a given number of bytes of what is shown are taken
@@ -37,11 +37,11 @@ stored_given gives a xs ys old mid new plain within fits front given = IfKnown-j
 -- where the request fails, the bytes are cut
 pub stored_short : (F : Type 0) (refuses : Refusing) (a : ℕ) (xs ys : List ℕ) (old mid : Option (List ℕ)) (kind : ErrorKind) →
     ((raw : List ℕ) (n : ℕ) (kind : ErrorKind) → RunsShort raw n kind ↔ refuses raw n kind) → a ≤ length xs → length ys ≡ length xs - a →
-    IfKnown old mid (λ raw left. raw ≡ take a xs ++ left) → F ⊎ IsRefused refuses (length ys) mid kind → F ⊎ IsRefused RunsShort (length (put_mid a (length xs - a) xs ys)) old kind
+    IfKnown old mid (λ raw left. raw ≡ take a xs ++ left) → F ⊎ RequestError refuses (length ys) mid kind → F ⊎ RequestError RunsShort (length (put_mid a (length xs - a) xs ys)) old kind
 stored_short F refuses a xs ys old mid kind plain within fits at (inl failed) = inl failed
-stored_short F refuses a xs ys None None kind plain within fits at (inr refused) = inr (refused.0, refused.1, (plain refused.0 refused.1 kind).1 refused.2)
-stored_short F refuses a xs ys None (Some y) kind plain within fits at (inr refused) = inr (y, length ys, (plain y (length ys) kind).1 refused)
-stored_short F refuses a xs ys (Some x) None kind plain within fits at (inr refused) = absurd at
-stored_short F refuses a xs ys (Some x) (Some y) kind plain within fits at (inr refused) =
-    let short = (plain y (length ys) kind).1 refused in
+stored_short F refuses a xs ys None None kind plain within fits at (inr errors) = inr (errors.0, errors.1, (plain errors.0 errors.1 kind).1 errors.2)
+stored_short F refuses a xs ys None (Some y) kind plain within fits at (inr errors) = inr (y, length ys, (plain y (length ys) kind).1 errors)
+stored_short F refuses a xs ys (Some x) None kind plain within fits at (inr errors) = absurd at
+stored_short F refuses a xs ys (Some x) (Some y) kind plain within fits at (inr errors) =
+    let short = (plain y (length ys) kind).1 errors in
     inr (omega (arith, short.0, ap length at, length-append (take a xs) y, length-take-le a xs within, length-put_mid a xs ys within fits), short.1)

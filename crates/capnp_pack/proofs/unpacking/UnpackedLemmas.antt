@@ -10,7 +10,7 @@ use Rattle.std.specs.List.{concat, AllByRecursion}
 use borrow.Rule.Slice.PartMut.{put_mid}
 use Rattle.capnp_frame.specs.Prelude.{IfKnown, IsFront, ReturnsPart}
 use Rattle.capnp_frame.proofs.sources.SourceLemmas.{ReturnsPart-join, ReturnsPart-none, length-put_mid}
-use Rattle.capnp_pack.specs.Prelude.{Group, tagged, zeros, literal, IsGroup, IsWord, AreZero, group_encoding, group_words, marked, unmarked, text_of, words_of_groups, Unpacks, MeetsFault, MarkedAt, RunAt, GroupFollowing, Unpacked}
+use Rattle.capnp_pack.specs.Prelude.{Group, tagged, zeros, literal, IsGroup, IsWord, AreZero, group_encoding, group_words, marked, unmarked, text_of, words_of_groups, Unpacks, PackedError, MarkedAt, RunAt, GroupFollowing, Unpacked}
 use Rattle.capnp_pack.proofs.words.AllLemmas.{AllByRecursion-append}
 use Rattle.capnp_pack.proofs.unpacking.GroupLemmas.{group_takes, zeros_at}
 use Rattle.capnp_pack.proofs.words.WordLemmas.{clear_byte, set_byte, full_word}
@@ -180,13 +180,13 @@ unpacked_more used filled more count shown rest buffer part e fits p q =
 
 -- groups at the front are a part of the result of each request that they fit into
 
-group_first : (g : Group) (n : ℕ) (left : List ℕ) → IsGroup g → length (concat (group_words g)) ≤ n → ReturnsPart Unpacks MeetsFault n (concat (group_words g)) (group_encoding g ++ left) left
+group_first : (g : Group) (n : ℕ) (left : List ℕ) → IsGroup g → length (concat (group_words g)) ≤ n → ReturnsPart Unpacks PackedError n (concat (group_words g)) (group_encoding g ++ left) left
 group_first (tagged tag word) n left is fits = group_takes n tag _ (marked tag word ++ left) left (tagged tag word, is, refl, refl) fits
 group_first (zeros further) n left is fits = group_takes n 0 _ (further ∷ left) left (zeros further, is, refl, refl) fits
 group_first (literal word further) n left is fits = group_takes n 255 _ ((word ++ length further ∷ concat further) ++ left) left (literal word further, is, refl, refl) fits
 
 chunk_takes : (gs : List Group) (n : ℕ) (left : List ℕ) → AllByRecursion IsGroup gs → length (concat (words_of_groups gs)) ≤ n →
-    ReturnsPart Unpacks MeetsFault n (concat (words_of_groups gs)) (text_of gs ++ left) left
+    ReturnsPart Unpacks PackedError n (concat (words_of_groups gs)) (text_of gs ++ left) left
 chunk_takes [] n left each fits = ReturnsPart-none n left
 chunk_takes (g ∷ gs) n left each fits =
     let parts : concat (words_of_groups (g ∷ gs)) ≡ concat (group_words g) ++ concat (words_of_groups gs) = concat-append (group_words g) (words_of_groups gs) in
@@ -194,12 +194,12 @@ chunk_takes (g ∷ gs) n left each fits =
     let whole = ap length parts in
     let first = group_first g n (text_of gs ++ left) each.0 (omega arith) in
     let others = chunk_takes gs (n - length (concat (group_words g))) left each.1 (omega arith) in
-    subst (λ l. ReturnsPart Unpacks MeetsFault n l (text_of (g ∷ gs) ++ left) left) (sym parts)
-    (subst (λ l. ReturnsPart Unpacks MeetsFault n (concat (group_words g) ++ concat (words_of_groups gs)) l left) (sym (append_assoc (group_encoding g) (text_of gs) left))
+    subst (λ l. ReturnsPart Unpacks PackedError n l (text_of (g ∷ gs) ++ left) left) (sym parts)
+    (subst (λ l. ReturnsPart Unpacks PackedError n (concat (group_words g) ++ concat (words_of_groups gs)) l left) (sym (append_assoc (group_encoding g) (text_of gs) left))
     (ReturnsPart-join n (concat (group_words g)) (concat (words_of_groups gs)) _ (text_of gs ++ left) left first others))
 
 taken_from : (used filled : ℕ) (shown buffer : List ℕ) (old new : Option (List ℕ)) → IfSome old (IsFront shown) →
-    IfKnown old new (λ raw left. left ≡ drop used raw) → Unpacked shown buffer used filled → IfKnown old new (ReturnsPart Unpacks MeetsFault (length buffer) (take filled buffer))
+    IfKnown old new (λ raw left. left ≡ drop used raw) → Unpacked shown buffer used filled → IfKnown old new (ReturnsPart Unpacks PackedError (length buffer) (take filled buffer))
 taken_from used filled shown buffer None new front gone p = tt
 taken_from used filled shown buffer (Some raw) None front gone p = absurd gone
 taken_from used filled shown buffer (Some raw) (Some left) front gone p =
@@ -209,12 +209,12 @@ taken_from used filled shown buffer (Some raw) (Some left) front gone p =
     let part : length (take filled buffer) ≡ filled = length-take-le filled buffer p.filled_within in
     let inside = p.filled_within in
     let fits : length (concat (words_of_groups gs)) ≤ length buffer = omega (arith, ap length p.chunk.unpacked) in
-    subst (λ l. ReturnsPart Unpacks MeetsFault (length buffer) l raw left) (sym p.chunk.unpacked)
-    (subst (λ l. ReturnsPart Unpacks MeetsFault (length buffer) (concat (words_of_groups gs)) l left) (sym whole) (chunk_takes gs (length buffer) left p.chunk.each fits))
+    subst (λ l. ReturnsPart Unpacks PackedError (length buffer) l raw left) (sym p.chunk.unpacked)
+    (subst (λ l. ReturnsPart Unpacks PackedError (length buffer) (concat (words_of_groups gs)) l left) (sym whole) (chunk_takes gs (length buffer) left p.chunk.each fits))
 
 -- what taking the groups that are shown says
 pub shown_takes : (used filled : ℕ) (shown buffer : List ℕ) (old mid new : Option (List ℕ)) → IfSome old (IsFront shown) → mid ≡ old →
-    IfKnown mid new (λ raw left. left ≡ drop used raw) → Unpacked shown buffer used filled → IfKnown old new (ReturnsPart Unpacks MeetsFault (length buffer) (take filled buffer))
+    IfKnown mid new (λ raw left. left ≡ drop used raw) → Unpacked shown buffer used filled → IfKnown old new (ReturnsPart Unpacks PackedError (length buffer) (take filled buffer))
 shown_takes used filled shown buffer old mid new front same gone p = taken_from used filled shown buffer old new front (subst (λ o. IfKnown o new (λ raw left. left ≡ drop used raw)) same gone) p
 
 pub shown_some : (used filled : ℕ) (shown buffer : List ℕ) (old : Option (List ℕ)) → IfSome old (IsFront shown) → Unpacked shown buffer used filled → 0 < filled → IfSome old (λ raw. raw ≡ [] → ⊥)

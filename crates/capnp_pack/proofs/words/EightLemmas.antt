@@ -107,13 +107,13 @@ some_front (suc b ∷ bytes) some =
     omega (arith, none)
 
 -- the number of zero words, by the lowest mark
-pub zeros_declared : (words : List (List ℕ)) (marks : ℕ) → AllByRecursion IsWord words → length words ≡ 8 → marks ≡ tag_of (concat words) →
+pub zeros_reported : (words : List (List ℕ)) (marks : ℕ) → AllByRecursion IsWord words → length words ≡ 8 → marks ≡ tag_of (concat words) →
     (marks ≡ 0 → ⊥) → (count_trailing_zeros 64 marks / 8 < 8) × StandInFront words (count_trailing_zeros 64 marks / 8)
-zeros_declared words marks all eight e some =
+zeros_reported words marks all eight e some =
     let long : length (concat words) ≡ 64 = omega (arith, length-words words all) in
     let more : 0 < tag_of (concat words) = omega (arith, e, positive marks some) in
-    let declared : count_trailing_zeros 64 marks ≡ prefix_len (λ x. not (not (eqb x 0))) (concat words) = ap (count_trailing_zeros 64) e ∙ trailing_tag (concat words) long more in
-    (omega (arith, declared, some_front (concat words) more, long), subst (λ n. StandInFront words (n / 8)) (sym declared) (zero_words_front words all))
+    let reported : count_trailing_zeros 64 marks ≡ prefix_len (λ x. not (not (eqb x 0))) (concat words) = ap (count_trailing_zeros 64) e ∙ trailing_tag (concat words) long more in
+    (omega (arith, reported, some_front (concat words) more, long), subst (λ n. StandInFront words (n / 8)) (sym reported) (zero_words_front words all))
   where
     positive : (n : ℕ) → (n ≡ 0 → ⊥) → 0 < n
     positive zero other = absurd (other refl)

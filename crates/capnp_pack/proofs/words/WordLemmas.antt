@@ -6,7 +6,7 @@ use Rattle.std.proofs.lemmas.List.{append-nil}
 use Rattle.capnp_frame.specs.declared.error.ErrorKind.{ErrorKind}
 use Rattle.capnp_frame.specs.Prelude.{IfKnown}
 use Rattle.capnp_frame.proofs.sources.SourceLemmas.{IfKnown-join, IfKnown-weaker, IfKnown-refl}
-use Rattle.capnp_pack.specs.Prelude.{IsWord, AreZero, marked, unmarked, MarkedAt, marked_count, Lacks}
+use Rattle.capnp_pack.specs.Prelude.{IsWord, AreZero, marked, unmarked, MarkedAt, marked_count, CutError}
 use Rattle.capnp_pack.proofs.words.AllLemmas.{AllByRecursion-append}
 
 -- Of the bytes of a word under a tag these are known, and the others are given by these bits.
@@ -57,19 +57,19 @@ pub marks_all : (tag bits : ℕ) (front word : List ℕ) (old new : Option (List
 marks_all tag bits front word old new same to = IfKnown-weaker old new (λ x y p. subst (λ w. MarkedAt tag w x y) (append-nil front ∙ same) (p.joins [] y (refl, tt))) to
 
 -- where a byte is missing, the word's marked bytes are
-pub marks_lacking : (F : Type 0) (tag bits n : ℕ) (front : List ℕ) (old mid : Option (List ℕ)) (kind : ErrorKind) → length front < n →
-    IfKnown old mid (MarksTo tag bits front) → F ⊎ Lacks (marked_count bits 1) mid kind → F ⊎ Lacks (marked_count tag n) old kind
-marks_lacking F tag bits n front old mid kind some to (inl failed) = inl failed
-marks_lacking F tag bits n front None mid kind some to (inr lacks) = inr (tt, lacks.1)
-marks_lacking F tag bits n front (Some x) None kind some to (inr lacks) = absurd to
-marks_lacking F tag bits n front (Some x) (Some y) kind some to (inr lacks) =
+pub marks_cut : (F : Type 0) (tag bits n : ℕ) (front : List ℕ) (old mid : Option (List ℕ)) (kind : ErrorKind) → length front < n →
+    IfKnown old mid (MarksTo tag bits front) → F ⊎ CutError (marked_count bits 1) mid kind → F ⊎ CutError (marked_count tag n) old kind
+marks_cut F tag bits n front old mid kind some to (inl failed) = inl failed
+marks_cut F tag bits n front None mid kind some to (inr cut_error) = inr (tt, cut_error.1)
+marks_cut F tag bits n front (Some x) None kind some to (inr cut_error) = absurd to
+marks_cut F tag bits n front (Some x) (Some y) kind some to (inr cut_error) =
     let more : n ≡ length front + (suc (n - length front - 1)) = omega arith in
     let counts = to.counts (suc (n - length front - 1)) in
     let later : marked_count bits (suc (n - length front - 1)) ≡ length (one_at 1 bits 0) + marked_count (bits / 2) (n - length front - 1) = marked_count-suc bits (n - length front - 1) in
     let first : marked_count bits 1 ≡ length (one_at 1 bits 0) + 0 = marked_count-suc bits 0 in
-    let short : length y < marked_count bits 1 = lacks.0 in
+    let short : length y < marked_count bits 1 = cut_error.0 in
     let same : marked_count tag n ≡ marked_count tag (length front + (suc (n - length front - 1))) = ap (marked_count tag) more in
-    inr (omega arith, lacks.1)
+    inr (omega arith, cut_error.1)
 
 -- a byte by its bit
 

@@ -1,9 +1,9 @@
 //! A stream of 2,105 messages, each told from the others by its words, by each call that reads the
 //! next one, and by those that go over a stream.
 use crate::assertions::{At, assert_bytes, assert_count, assert_holds};
-use crate::calls_declared::{assert_call, assert_unread};
+use crate::calls_reported::{assert_call, assert_unread};
 use crate::devices::giving;
-use crate::faults::FORMATS;
+use crate::failures::FORMATS;
 use crate::flat::RULES;
 use crate::readers::{Call, READERS, is_returned};
 use crate::samples::append_word;
@@ -215,7 +215,7 @@ fn read_all(
     assert_all(rt, &read.messages, "at once");
     let at = At::row("at once");
     assert_count(rt, read.end, stream.len(), at);
-    assert_holds(rt, read.refusal.is_none(), at);
+    assert_holds(rt, read.error.is_none(), at);
     let mut source = stream;
     let messages = read_messages(rt.alloc(), &mut source, format, COUNT as usize, options)?;
     assert_all(rt, &messages, "as many");
@@ -254,7 +254,7 @@ fn transcode(
     let mut source = stream;
     let mut sink: Vec<u8> = Vec::new(rt.alloc());
     let options = DEFAULT_READER_OPTIONS;
-    let stopped = write_each_message(
+    let returned = write_each_message(
         rt.alloc(),
         &mut source,
         &mut sink,
@@ -262,7 +262,7 @@ fn transcode(
         TableRules::new(padding, options),
         &way,
     );
-    assert_holds(rt, stopped.is_ok(), At::row("transcoded"));
+    assert_holds(rt, returned.is_ok(), At::row("transcoded"));
     assert_bytes(rt, &sink, &wanted, At::row("transcoded"));
     Ok(())
 }

@@ -3,7 +3,7 @@ use crate::devices::{ChoppyReader, giving};
 use capnp::devices::Input;
 use capnp_frame::io::{BufRead, Read};
 use capnp_frame::{ErrorKind, Result};
-use capnp_frame_tests::refusals::kind_of;
+use capnp_frame_tests::errors::kind_of;
 use capnp_frame_tests::retried;
 use std::alloc::Global;
 use std::process::Abort;
@@ -73,12 +73,12 @@ fn assert_shown<R: BufRead>(
 }
 
 // The read that fails, of at most 3 bytes each, and what is shown after it.
-const FAULTS: [(u64, &[u8]); 3] = [(1, b"abc"), (2, b"def"), (3, b"gh")];
+const FAILURES: [(u64, &[u8]); 3] = [(1, b"abc"), (2, b"def"), (3, b"gh")];
 
 #[test]
-fn a_fault_is_no_end_and_gives_no_bytes(rt: HostRuntime) -> Result<()> {
-    for fault in &FAULTS {
-        retried!(read_on(&rt, fault.0, fault.1))?;
+fn an_error_is_no_end_and_gives_no_bytes(rt: HostRuntime) -> Result<()> {
+    for call in &FAILURES {
+        retried!(read_on(&rt, call.0, call.1))?;
     }
     Ok(())
 }

@@ -103,82 +103,82 @@ fn write_chunks<W: Write>(output: &mut W) -> Result<()> {
     Ok(())
 }
 
-// The call that a fault is returned from.
+// The call that a failure is returned from.
 #[derive(Clone, Copy, PartialEq, Eq)]
-enum Fault {
+enum FailedCall {
     None,
     Write,
     Flush,
 }
 
-// How many bytes are collected before a device of these ways, where its fault is returned, and what
+// How many bytes are collected before a device of these ways, where its failure is returned, and what
 // the device has then, where that is known.
 #[derive(Drop)]
-struct Faulty {
+struct Failing {
     capacity: usize,
     ways: Ways,
-    fault: Fault,
+    call: FailedCall,
     got: Option<&'static [u8]>,
 }
 
-const FAULTS: [Faulty; 4] = [
-    Faulty {
+const FAILURES: [Failing; 4] = [
+    Failing {
         capacity: 0,
         ways: Ways {
             most: 4,
             bad_write: 2,
             ..TAKES_ALL
         },
-        fault: Fault::Write,
+        call: FailedCall::Write,
         got: Some(b"abcd"),
     },
-    Faulty {
+    Failing {
         capacity: 0,
         ways: Ways {
             most: 0,
             ..TAKES_ALL
         },
-        fault: Fault::Write,
+        call: FailedCall::Write,
         got: None,
     },
-    Faulty {
+    Failing {
         capacity: 64,
         ways: Ways {
             most: 4,
             bad_write: 2,
             ..TAKES_ALL
         },
-        fault: Fault::Flush,
+        call: FailedCall::Flush,
         got: None,
     },
-    Faulty {
+    Failing {
         capacity: 64,
         ways: Ways {
             most: 4,
             fails_to_flush: true,
             ..TAKES_ALL
         },
-        fault: Fault::Flush,
+        call: FailedCall::Flush,
         got: None,
     },
 ];
 
 #[test]
-fn a_fault_is_returned(rt: HostRuntime) -> Result<()> {
-    for row in &FAULTS {
+fn an_error_is_returned(rt: HostRuntime) -> Result<()> {
+    for row in &FAILURES {
         retried!(fail_at(&rt, row))?;
     }
     Ok(())
 }
 
-fn fail_at(rt: &(impl Abort + AllocGlobal), row: &Faulty) -> Result<()> {
+fn fail_at(rt: &(impl Abort + AllocGlobal), row: &Failing) -> Result<()> {
     let at = At::new("bytes collected", row.capacity as u64);
     let mut device = taking(rt.alloc(), row.ways)?;
     let mut output = Output::new(rt.alloc(), row.capacity, &mut device)?;
-    let fault = fault_of(&mut output)?;
+    let call = failed_call(&mut output)?;
     let failures = output.failures();
     drop(output);
-    assert_holds(rt, fault == row.fault, at);
+    assert_holds(rt, call == row.call, at);
     assert_calls(rt, failures, 1, at);
     let got = device.got.as_slice();
     assert_bytes(rt, got, row.got.unwrap_or(got), at);
@@ -186,14 +186,14 @@ fn fail_at(rt: &(impl Abort + AllocGlobal), row: &Faulty) -> Result<()> {
 }
 
 // The call that fails.
-fn fault_of(output: &mut Output<&mut ChoppyWriter>) -> Result<Fault> {
+fn failed_call(output: &mut Output<&mut ChoppyWriter>) -> Result<FailedCall> {
     if is_device_failed(output.write_all(b"abcdef")) {
-        return Ok(Fault::Write);
+        return Ok(FailedCall::Write);
     }
     if is_device_failed(output.flush()) {
-        return Ok(Fault::Flush);
+        return Ok(FailedCall::Flush);
     }
-    Ok(Fault::None)
+    Ok(FailedCall::None)
 }
 
 fn is_device_failed(returned: Result<()>) -> bool {

@@ -34,7 +34,7 @@ fn accounts_are_built_and_read_back(rt: HostRuntime) -> Result<(), Fail> {
 
 // The message has eight words.
 #[test]
-fn accounts_of_more_words_than_the_limit_are_refused(rt: HostRuntime) {
+fn accounts_of_more_words_than_the_limit_fail(rt: HostRuntime) {
     let options = ReaderOptions {
         traversal_limit_in_words: Some(7),
         nesting_limit: 64,

@@ -47,7 +47,7 @@ const OTHERS: [&[u8]; 3] = [
 #[test]
 fn other_objects_are_no_numbers(rt: HostRuntime) {
     for segment in &OTHERS {
-        let refused = Err(ErrorKind::WrongPointerKind);
-        expect(&rt, *segment, numbers_of(segment), refused);
+        let failed = Err(ErrorKind::WrongPointerKind);
+        expect(&rt, *segment, numbers_of(segment), failed);
     }
 }

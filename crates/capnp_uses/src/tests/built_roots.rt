@@ -7,7 +7,7 @@ use crate::tests::fixtures::{expect, roomy_message};
 use capnp::Result;
 use capnp::message::{Allocator, Builder, HeapAllocator, SingleSegmentAllocator};
 use capnp_frame_tests::messages::has_segments;
-use capnp_frame_tests::refusals::numbered;
+use capnp_frame_tests::errors::numbered;
 use std::alloc::Global;
 use std::process::Abort;
 
@@ -168,7 +168,7 @@ const REGIONS: [(usize, [u8; 4]); 4] = [
 
 #[test]
 fn roots_in_a_region(rt: HostRuntime) -> Result<()> {
-    for (length, refusals) in &REGIONS {
+    for (length, errors) in &REGIONS {
         let mut room = [7; 24];
         assert!(rt; *length <= 24);
         let region = &mut room[..*length];
@@ -176,7 +176,7 @@ fn roots_in_a_region(rt: HostRuntime) -> Result<()> {
             let next = (index + 1) % 4;
             let roots = [IN_A_REGION[index], IN_A_REGION[next]];
             let found = two_in_a_region(&rt, region, roots)?;
-            let wanted = [declared(refusals[index]), declared(refusals[next])];
+            let wanted = [reported(errors[index]), reported(errors[next])];
             expect(&rt, (*length, index), found, (wanted, true));
             expect(&rt, *length, region.iter().all(|byte| *byte == 0), true);
         }
@@ -185,10 +185,10 @@ fn roots_in_a_region(rt: HostRuntime) -> Result<()> {
 }
 
 // Whether a root is read back, or the number of its error.
-type Declared = std::result::Result<bool, u8>;
+type Reported = std::result::Result<bool, u8>;
 
-fn declared(refusal: u8) -> Declared {
-    if refusal == 0 { Ok(true) } else { Err(refusal) }
+fn reported(error: u8) -> Reported {
+    if error == 0 { Ok(true) } else { Err(error) }
 }
 
 // What is returned for a root that is built over a region, and of one in the next message over it;
@@ -197,7 +197,7 @@ fn two_in_a_region(
     rt: &(impl Abort + AllocGlobal),
     region: &mut [u8],
     roots: [Root; 2],
-) -> Result<([Declared; 2], bool)> {
+) -> Result<([Reported; 2], bool)> {
     assert!(rt; region.len() <= 24);
     let alloc = rt.alloc();
     let mut message = Builder::new(alloc, SingleSegmentAllocator::new(region));

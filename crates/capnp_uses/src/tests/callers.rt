@@ -72,8 +72,8 @@ fn canonical_words_at_hand(rt: HostRuntime) -> Result<()> {
 }
 
 // How many messages are read, where the last ends, and the error's number, 0 for none.
-fn declared(read: &StreamRead) -> (usize, usize, u8) {
-    let number = match &read.refusal {
+fn reported(read: &StreamRead) -> (usize, usize, u8) {
+    let number = match &read.error {
         Some(error) => error.kind.number(),
         None => 0,
     };
@@ -81,28 +81,28 @@ fn declared(read: &StreamRead) -> (usize, usize, u8) {
 }
 
 /// What is returned for all messages of a stream.
-pub fn declared_of(
+pub fn reported_of(
     alloc: Global,
     format: Format,
     stream: &[u8],
     options: ReaderOptions,
 ) -> (usize, usize, u8) {
-    declared(&every_message(alloc, stream, format, Padding::Zero, options))
+    reported(&every_message(alloc, stream, format, Padding::Zero, options))
 }
 
 /// What is returned for all records of a log.
-pub fn declared_of_log(alloc: Global, log: &[u8], options: ReaderOptions) -> (usize, usize, u8) {
-    declared(&read_log(alloc, log, options))
+pub fn reported_of_log(alloc: Global, log: &[u8], options: ReaderOptions) -> (usize, usize, u8) {
+    reported(&read_log(alloc, log, options))
 }
 
 #[test]
 fn a_stream_up_to_a_cut(rt: HostRuntime) -> Result<()> {
     let stream = both(rt.alloc(), Format::Framed)?;
     let options = DEFAULT_READER_OPTIONS;
-    let whole = declared_of(rt.alloc(), Format::Framed, &stream, options);
+    let whole = reported_of(rt.alloc(), Format::Framed, &stream, options);
     expect(&rt, "both", whole, (2, 56, 0));
     let shorter = stream.get(..55).unwrap_or(&[]);
-    let cut = declared_of(rt.alloc(), Format::Framed, shorter, options);
+    let cut = reported_of(rt.alloc(), Format::Framed, shorter, options);
     expect(&rt, "cut", cut, (1, 24, 1));
     Ok(())
 }

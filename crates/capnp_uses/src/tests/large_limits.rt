@@ -4,13 +4,13 @@ use capnp::any_struct::StructReader;
 use capnp::message::{Builder, DEFAULT_READER_OPTIONS, HeapAllocator, SegmentArray};
 use capnp::{Result, canonical_size, data, text};
 use capnp_frame_tests::messages::has_segments;
-use capnp_frame_tests::refusals::{numbered, refusal};
+use capnp_frame_tests::errors::{numbered, error_of};
 use std::alloc::Global;
 
 // What is viewed as a text, though it is none.
 fn as_text(reader: &Message<'_>) -> u8 {
     let view: Result<text::Reader<'_>> = reader.get_root();
-    refusal(view)
+    error_of(view)
 }
 
 // Limits, and the errors of three views as a text, one after the other.
@@ -52,7 +52,7 @@ fn a_limit_past_four_bytes(rt: HostRuntime) -> Result<()> {
     let fields: StructReader<'_, SegmentArray<'_>> = reader.get_root()?;
     for (pointer, wanted) in &POINTERS {
         let view: Result<text::Reader<'_>> = fields.get_pointer(*pointer).get_as();
-        expect(&rt, *pointer, refusal(view), *wanted);
+        expect(&rt, *pointer, error_of(view), *wanted);
     }
     assert!(rt; reader.is_canonical()?);
     Ok(())
@@ -152,9 +152,9 @@ fn doublings() -> [u8; 648] {
     bytes
 }
 
-fn size_refusal(reader: &Message<'_>) -> Result<u8> {
+fn size_error(reader: &Message<'_>) -> Result<u8> {
     let root: Source<'_> = reader.get_root()?;
-    Ok(refusal(root.target_size()))
+    Ok(error_of(root.target_size()))
 }
 
 #[test]
@@ -162,7 +162,7 @@ fn doublings_have_no_size_within_the_limit(rt: HostRuntime) -> Result<()> {
     let bytes = doublings();
     let segments = [bytes.as_slice()];
     let reader = message_of(&segments, DEFAULT_READER_OPTIONS);
-    expect(&rt, "doublings", size_refusal(&reader)?, 20);
+    expect(&rt, "doublings", size_error(&reader)?, 20);
     assert!(rt; !reader.is_canonical()?);
     Ok(())
 }
@@ -173,8 +173,8 @@ fn doublings_are_not_set(rt: HostRuntime) -> Result<()> {
     let segments = [bytes.as_slice()];
     let reader = message_of(&segments, DEFAULT_READER_OPTIONS);
     let mut message = Builder::new_default(rt.alloc());
-    let refused = refusal(set_root(&mut message, reader.get_root()?));
-    let found = (refused, message.size_in_words());
+    let failed = error_of(set_root(&mut message, reader.get_root()?));
+    let found = (failed, message.size_in_words());
     expect(&rt, "doublings", found, (20, 1));
     Ok(())
 }
@@ -184,6 +184,6 @@ fn doublings_have_no_canonical_form_within_the_limit(rt: HostRuntime) {
     let bytes = doublings();
     let segments = [bytes.as_slice()];
     let reader = message_of(&segments, DEFAULT_READER_OPTIONS);
-    let refused = refusal(reader.canonicalize(rt.alloc()));
-    expect(&rt, "doublings", refused, 20);
+    let failed = error_of(reader.canonicalize(rt.alloc()));
+    expect(&rt, "doublings", failed, 20);
 }

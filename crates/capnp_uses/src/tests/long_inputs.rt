@@ -1,5 +1,5 @@
 //! Chunks of many bytes, and streams of many messages.
-use crate::tests::callers::{declared_of, declared_of_log};
+use crate::tests::callers::{reported_of, reported_of_log};
 use crate::tests::fixtures::{expect, transcoded};
 use capnp::io::{Read, Write};
 use capnp::message::DEFAULT_READER_OPTIONS;
@@ -121,9 +121,9 @@ fn two_thousand_messages(rt: HostRuntime) -> Result<()> {
     let framed = repeated(rt.alloc(), &FRAMED, 2101)?;
     let packed = repeated(rt.alloc(), &PACKED, 2101)?;
     let options = DEFAULT_READER_OPTIONS;
-    let found = declared_of(rt.alloc(), Format::Framed, &framed, options);
+    let found = reported_of(rt.alloc(), Format::Framed, &framed, options);
     expect(&rt, "framed", found, (2101, 33_616, 0));
-    let found = declared_of_log(rt.alloc(), &packed, options);
+    let found = reported_of_log(rt.alloc(), &packed, options);
     expect(&rt, "packed", found, (2101, 8404, 0));
     Ok(())
 }

@@ -5,13 +5,13 @@ use crate::packing::{pack_words, unpack_words, words_are_unpacked};
 use crate::reading::{borrowed_message, first_message, root_text};
 use crate::record_log::two_records_are_read_back;
 use crate::streaming::{next_message, skip_message};
-use crate::tests::callers::{FRAMED, both, declared_of, declared_of_log};
+use crate::tests::callers::{FRAMED, both, reported_of, reported_of_log};
 use crate::tests::examples::PACKED as PACKED_HELLO;
 use crate::tests::fixtures::{expect, limited};
 use capnp::Result;
 use capnp::message::{DEFAULT_READER_OPTIONS, ReaderOptions, SegmentArray};
 use capnp::streams::Format;
-use capnp_frame_tests::refusals::{numbered, refusal};
+use capnp_frame_tests::errors::{numbered, error_of};
 use std::alloc::{AllocError, Global};
 use std::process::Abort;
 
@@ -35,22 +35,22 @@ fn streams_within_a_limit(rt: HostRuntime) -> std::result::Result<(), AllocError
         assert!(rt; *messages < 3);
         let (framed_end, packed_end) = ENDS[*messages];
         let options = limited(*limit);
-        let found = declared_of(rt.alloc(), Format::Framed, &framed, options);
+        let found = reported_of(rt.alloc(), Format::Framed, &framed, options);
         expect(&rt, *limit, found, (*messages, framed_end, *number));
-        let found = declared_of(rt.alloc(), Format::Packed, &packed, options);
+        let found = reported_of(rt.alloc(), Format::Packed, &packed, options);
         expect(&rt, *limit, found, (*messages, packed_end, *number));
-        let log = declared_of_log(rt.alloc(), &packed, options);
+        let log = reported_of_log(rt.alloc(), &packed, options);
         expect(&rt, *limit, log, (*messages, packed_end, *number));
-        let next = next_refusal(rt.alloc(), &framed, options);
+        let next = next_error(rt.alloc(), &framed, options);
         expect(&rt, *limit, next, if *messages == 0 { 8 } else { 0 });
     }
     Ok(())
 }
 
 // The error of the next framed message.
-fn next_refusal(alloc: Global, stream: &[u8], options: ReaderOptions) -> u8 {
+fn next_error(alloc: Global, stream: &[u8], options: ReaderOptions) -> u8 {
     let mut source = stream;
-    refusal(next_message(alloc, &mut source, Format::Framed, options))
+    error_of(next_message(alloc, &mut source, Format::Framed, options))
 }
 
 // Whether a message is skipped, and how many bytes are left, or the error's number.
@@ -97,8 +97,8 @@ fn skip_past_a_limit(
     let mut source = stream;
     let found = skip(rt.alloc(), format, &mut source, limited(Some(1)));
     expect(rt, format, found, Ok((true, second)));
-    let refused = skip(rt.alloc(), format, &mut source, limited(Some(2)));
-    expect(rt, format, refused, Err(8));
+    let failed = skip(rt.alloc(), format, &mut source, limited(Some(2)));
+    expect(rt, format, failed, Err(8));
 }
 
 fn skip_up_to_a_cut(
@@ -115,8 +115,8 @@ fn skip_up_to_a_cut(
     let options = DEFAULT_READER_OPTIONS;
     let found = skip(rt.alloc(), format, &mut source, options);
     expect(rt, format, found, Ok((true, second)));
-    let refused = skip(rt.alloc(), format, &mut source, options);
-    expect(rt, format, refused, Err(cut));
+    let failed = skip(rt.alloc(), format, &mut source, options);
+    expect(rt, format, failed, Err(cut));
 }
 
 // Framed bytes, and their errors: by a copying reader, in place, and of the canonical words and
@@ -139,23 +139,23 @@ const BYTES: [(&[u8], [u8; 4]); 12] = [
 ];
 
 // The error of the text of a message in place, or of the message.
-fn text_refusal(bytes: &[u8]) -> u8 {
+fn text_error(bytes: &[u8]) -> u8 {
     match borrowed_message(bytes) {
-        Ok(message) => refusal(root_text(&message)),
+        Ok(message) => error_of(root_text(&message)),
         Err(error) => error.kind.number(),
     }
 }
 
 #[test]
-fn bytes_that_are_refused(rt: HostRuntime) {
+fn bytes_that_fail(rt: HostRuntime) {
     for (bytes, wanted) in &BYTES {
-        let refusals = [
-            refusal(first_message(rt.alloc(), bytes)),
-            refusal(borrowed_message(bytes)),
-            refusal(canonical_words(rt.alloc(), bytes)),
-            text_refusal(bytes),
+        let errors = [
+            error_of(first_message(rt.alloc(), bytes)),
+            error_of(borrowed_message(bytes)),
+            error_of(canonical_words(rt.alloc(), bytes)),
+            text_error(bytes),
         ];
-        expect(&rt, *bytes, refusals, *wanted);
+        expect(&rt, *bytes, errors, *wanted);
     }
 }
 
@@ -172,14 +172,14 @@ const PACKED_TEXTS: [(&[u8], [u8; 2]); 6] = [
 ];
 
 #[test]
-fn packed_texts_that_are_refused(rt: HostRuntime) {
+fn packed_texts_that_fail(rt: HostRuntime) {
     for (text, wanted) in &PACKED_TEXTS {
         let mut words = [9; 16];
-        let refusals = [
-            refusal(unpack_words(text, &mut words)),
-            refusal(read_packed_words(rt.alloc(), text)),
+        let errors = [
+            error_of(unpack_words(text, &mut words)),
+            error_of(read_packed_words(rt.alloc(), text)),
         ];
-        expect(&rt, *text, refusals, *wanted);
+        expect(&rt, *text, errors, *wanted);
     }
     let words = numbered(read_packed_words(rt.alloc(), &[0x10, 2, 0x10, 1, 1, 10]));
     expect(&rt, "one word", words, Ok((10, 0)));
@@ -193,7 +193,7 @@ fn records_within_a_limit(rt: HostRuntime) -> Result<()> {
     let mut options = ReaderOptions::new();
     options.traversal_limit_in_words(Some(1));
     let both = two_records_are_read_back(rt.alloc(), &record, &record, options)?;
-    let found = (both.messages.len(), both.end, both.refusal.is_none());
+    let found = (both.messages.len(), both.end, both.error.is_none());
     expect(&rt, "both", found, (2, 28, true));
     Ok(())
 }

@@ -6,7 +6,7 @@ use crate::tests::fixtures::{Message, expect, message_of, roomy_message};
 use capnp::message::{Allocator, Builder, HeapAllocator, ReaderOptions};
 use capnp::{Result, text};
 use capnp_frame_tests::messages::has_segments;
-use capnp_frame_tests::refusals::refusal;
+use capnp_frame_tests::errors::error_of;
 
 // A text of one word has room after the root in two words, and not in one; either way the region is
 // zero once the message is gone.
@@ -26,7 +26,7 @@ fn in_a_region(rt: HostRuntime) -> Result<()> {
 fn in_a_region_without_room(rt: HostRuntime) -> Result<()> {
     let mut region = [7; 8];
     let full = set_in_region::<text::Owned, &str>(rt.alloc(), &mut region, "hello");
-    expect(&rt, "no room", refusal(full), 15);
+    expect(&rt, "no room", error_of(full), 15);
     expect(&rt, "home", region.as_slice(), [0; 8].as_slice());
     let mut region = [7; 16];
     let mut available = region_comes_home::<text::Owned, &str>(rt.alloc(), &mut region, "hello");

@@ -5,7 +5,7 @@ use crate::tests::fixtures::{Message, Source, expect, message_of, roomy_message}
 use capnp::Result;
 use capnp::message::{Builder, HeapAllocator, ReaderOptions};
 use capnp_frame_tests::messages::has_segments;
-use capnp_frame_tests::refusals::refusal;
+use capnp_frame_tests::errors::error_of;
 use std::alloc::Global;
 use std::process::Abort;
 
@@ -106,9 +106,9 @@ const LIMITS: [(Option<usize>, i32, u8); 5] = [
     (None, 2, 0),
 ];
 
-fn set_refusal(alloc: Global, reader: &Message<'_>, way: Way) -> Result<u8> {
+fn set_error(alloc: Global, reader: &Message<'_>, way: Way) -> Result<u8> {
     let root: Source<'_> = reader.get_root()?;
-    Ok(refusal(set(alloc, root, way)))
+    Ok(error_of(set(alloc, root, way)))
 }
 
 #[test]
@@ -120,7 +120,7 @@ fn roots_past_a_limit(rt: HostRuntime) -> Result<()> {
             .nesting_limit(*nesting);
         let reader = message_of(FAR, options);
         for way in &WAYS {
-            let found = set_refusal(rt.alloc(), &reader, *way)?;
+            let found = set_error(rt.alloc(), &reader, *way)?;
             expect(&rt, (*limit, *nesting, *way), found, *wanted);
         }
     }

@@ -5,7 +5,7 @@ use crate::tests::fixtures::{
 };
 use capnp::message::Builder;
 use capnp::{Result, text};
-use capnp_frame_tests::refusals::refusal;
+use capnp_frame_tests::errors::error_of;
 use std::alloc::Global;
 
 #[derive(Clone, Copy, Debug)]
@@ -63,8 +63,8 @@ fn set_canonical_words(alloc: Global, reader: &Message<'_>) -> Result<usize> {
     Ok(message.size_in_words())
 }
 
-fn view_refusal(reader: &Message<'_>) -> u8 {
-    refusal(reader.get_root::<text::Reader<'_>>())
+fn view_error(reader: &Message<'_>) -> u8 {
+    error_of(reader.get_root::<text::Reader<'_>>())
 }
 
 // A text of two words, which may be viewed twice within four. A walk counts its own two from none:
@@ -79,7 +79,7 @@ fn walks_between_views(rt: HostRuntime) -> Result<()> {
             for _ in 0..3u32 {
                 expect(&rt, *kind, walk_over(rt.alloc(), &reader, *kind)?, 3);
             }
-            expect(&rt, *kind, view_refusal(&reader), *view);
+            expect(&rt, *kind, view_error(&reader), *view);
         }
     }
     Ok(())

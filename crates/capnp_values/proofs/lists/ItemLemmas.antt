@@ -4,16 +4,16 @@ use Rattle.std.specs.Result.{IsErrAnd}
 use Rattle.capnp_frame.specs.declared.error.Error.{Error}
 use Rattle.capnp_frame.specs.declared.error.ErrorKind.{ErrorKind}
 use Rattle.capnp_layout.specs.Prelude.{Trees, none, tree, count, total_words, output}
-use Rattle.capnp_wire.specs.Prelude.{LacksWords, HasPart}
+use Rattle.capnp_wire.specs.Prelude.{WordsError, HasPart}
 use Rattle.capnp_wire.specs.declared.traits.TreeWords.{TreeWords}
 use Rattle.capnp_layout.proofs.trees.TrimLemmas.{total-trim}
 use Rattle.capnp_wire.proofs.views.PartWordLemmas.{as_is_words, same_tree_words}
-use Rattle.capnp_values.specs.Fields.{IsSettled, IsRow, RefusesRow}
+use Rattle.capnp_values.specs.Fields.{IsSettled, IsRow, FieldsError}
 use Rattle.capnp_values.specs.FieldLaws.{settled_none, settled_more}
 use Rattle.capnp_values.specs.Measured.{tree_words, both_words, Measures}
-use Rattle.capnp_values.specs.Lists.{AreItems, RefusesItems}
+use Rattle.capnp_values.specs.Lists.{AreItems, ValuesError}
 use Rattle.capnp_values.proofs.values.PartLemmas.{words_of_part, has_part, part_of, part_less, more_total}
-use Rattle.capnp_values.proofs.values.ResultLemmas.{same_words, refused_first, refused_rest}
+use Rattle.capnp_values.proofs.values.ResultLemmas.{same_words, error_first, error_rest}
 use Rattle.capnp_values.proofs.values.MeasuredLemmas.{AreMeasured}
 
 -- the values from one on
@@ -50,7 +50,7 @@ onto_both a b (Err error) = refl
 
 -- what is measured of some values
 abbrev pub MeasuresItems : {V : Type 0} → (V → Trees → Type 0) → (V → ErrorKind → Type 0) → List V → Bool → Result TreeWords Error → Type 0
-MeasuresItems h r vs c res = Measures (λ t. AreItems h vs t) (λ k. RefusesItems h r vs k) c res
+MeasuresItems h r vs c res = Measures (λ t. AreItems h vs t) (λ k. ValuesError h r vs k) c res
 
 pub measured_few : (h : Trees → Type 0) (c : Bool) (size : ℕ) (words : TreeWords) → ((t : Trees) → h t → IsSettled size t) → AreMeasured h c words
     → (words.as_is ≤ size * 2 ^ 29) × (words.output ≤ size * 2 ^ 29)
@@ -60,22 +60,22 @@ measured_few h c size words settled a =
 
 -- a value in front of a row: it fails, or is measured, and what is after it, too
 abbrev MeasuresRow : (Trees → Type 0) → (Trees → Type 0) → (ErrorKind → Type 0) → (ErrorKind → Type 0) → Bool → Result TreeWords Error → Type 0
-MeasuresRow h hs r rs c res = Measures (λ t. IsRow h hs t) (λ k. RefusesRow h r rs k) c res
+MeasuresRow h hs r rs c res = Measures (λ t. IsRow h hs t) (λ k. FieldsError h r rs k) c res
 
-pub first_refused : (h hs : Trees → Type 0) (r rs : ErrorKind → Type 0) (c : Bool) (returned : Result TreeWords Error) (error : Error) → returned ≡ Err error → LacksWords h r false error.kind
-    → ((words : TreeWords) → HasPart h c words → returned ≡ Ok words) → ((k : ErrorKind) → LacksWords h r false k → IsErrAnd returned (λ e. e.kind ≡ k)) → MeasuresRow h hs r rs c (Err error)
-first_refused h hs r rs c returned error was lacks found exact = record {
-  returned = inl lacks;
+pub first_error : (h hs : Trees → Type 0) (r rs : ErrorKind → Type 0) (c : Bool) (returned : Result TreeWords Error) (error : Error) → returned ≡ Err error → WordsError h r false error.kind
+    → ((words : TreeWords) → HasPart h c words → returned ≡ Ok words) → ((k : ErrorKind) → WordsError h r false k → IsErrAnd returned (λ e. e.kind ≡ k)) → MeasuresRow h hs r rs c (Err error)
+first_error h hs r rs c returned error was words_error found exact = record {
+  returned = inl words_error;
   found = λ trees is. let ok : returned ≡ Ok (words_of_part c is.form is.children) = found (words_of_part c is.form is.children) (has_part h c is.form is.children is.part) in absurd (cc);
-  exact = λ kind refused. refused_first h r rs c returned error kind was found exact refused;
+  exact = λ kind errors. error_first h r rs c returned error kind was found exact errors;
 }
 
-rest_refused : (h hs : Trees → Type 0) (r rs : ErrorKind → Type 0) (c : Bool) (returned : Result TreeWords Error) (own : TreeWords) (error : Error) → returned ≡ Ok own → HasPart h c own
-    → ((k : ErrorKind) → LacksWords h r false k → IsErrAnd returned (λ e. e.kind ≡ k)) → Measures hs rs c (Err error) → MeasuresRow h hs r rs c (Err error)
-rest_refused h hs r rs c returned own error was has exact m = record {
+rest_error : (h hs : Trees → Type 0) (r rs : ErrorKind → Type 0) (c : Bool) (returned : Result TreeWords Error) (own : TreeWords) (error : Error) → returned ≡ Ok own → HasPart h c own
+    → ((k : ErrorKind) → WordsError h r false k → IsErrAnd returned (λ e. e.kind ≡ k)) → Measures hs rs c (Err error) → MeasuresRow h hs r rs c (Err error)
+rest_error h hs r rs c returned own error was has exact m = record {
   returned = inr (own.as_is, as_is_words h c own has, m.returned);
   found = λ trees is. let ok : Err error ≡ Ok (tree_words c is.rest) = m.found is.rest is.others in absurd (cc);
-  exact = λ kind refused. m.exact kind (refused_rest h r rs returned own kind was exact refused);
+  exact = λ kind errors. m.exact kind (error_rest h r rs returned own kind was exact errors);
 }
 
 row_words : (h hs : Trees → Type 0) (rs : ErrorKind → Type 0) (c : Bool) (returned : Result TreeWords Error) (own words : TreeWords) → returned ≡ Ok own
@@ -92,7 +92,7 @@ row_words h hs rs c returned own words was found m trees is =
 
 row_measured : (h hs : Trees → Type 0) (r rs : ErrorKind → Type 0) (c : Bool) (returned : Result TreeWords Error) (own words : TreeWords) → returned ≡ Ok own → HasPart h c own
     → ((trees : Trees) → h trees → count trees ≡ 1) → ((parts : TreeWords) → HasPart h c parts → returned ≡ Ok parts)
-    → ((k : ErrorKind) → LacksWords h r false k → IsErrAnd returned (λ e. e.kind ≡ k)) → Measures hs rs c (Ok words) → MeasuresRow h hs r rs c (Ok (both_words own words))
+    → ((k : ErrorKind) → WordsError h r false k → IsErrAnd returned (λ e. e.kind ≡ k)) → Measures hs rs c (Ok words) → MeasuresRow h hs r rs c (Ok (both_words own words))
 row_measured h hs r rs c returned own words was has one found exact m =
     let p = part_of h c own one has in
     let a = m.returned in
@@ -100,14 +100,14 @@ row_measured h hs r rs c returned own words was has one found exact m =
     record {
       returned = (tree p.form p.children a.0, is, (p.part.rooms.0, p.part.rooms.1, a.2), row_words h hs rs c returned own words was found m (tree p.form p.children a.0) is);
       found = λ trees there. ap (λ (w : TreeWords). Ok w) (row_words h hs rs c returned own words was found m trees there);
-      exact = λ kind refused. m.exact kind (refused_rest h r rs returned own kind was exact refused);
+      exact = λ kind errors. m.exact kind (error_rest h r rs returned own kind was exact errors);
     }
 
 pub row_front : (h hs : Trees → Type 0) (r rs : ErrorKind → Type 0) (c : Bool) (returned : Result TreeWords Error) (own : TreeWords) (rest : Result TreeWords Error) → returned ≡ Ok own → HasPart h c own
     → ((trees : Trees) → h trees → count trees ≡ 1) → ((parts : TreeWords) → HasPart h c parts → returned ≡ Ok parts)
-    → ((k : ErrorKind) → LacksWords h r false k → IsErrAnd returned (λ e. e.kind ≡ k)) → Measures hs rs c rest → MeasuresRow h hs r rs c (onto own rest)
+    → ((k : ErrorKind) → WordsError h r false k → IsErrAnd returned (λ e. e.kind ≡ k)) → Measures hs rs c rest → MeasuresRow h hs r rs c (onto own rest)
 row_front h hs r rs c returned own (Ok words) was has one found exact m = row_measured h hs r rs c returned own words was has one found exact m
-row_front h hs r rs c returned own (Err error) was has one found exact m = rest_refused h hs r rs c returned own error was has exact m
+row_front h hs r rs c returned own (Err error) was has one found exact m = rest_error h hs r rs c returned own error was has exact m
 
 -- how far the measuring of some values has come: with what is measured of those that are left, all are measured
 pub record ItemsMeasured {V : Type 0} (h : V → Trees → Type 0) (r : V → ErrorKind → Type 0) (c : Bool) (items : List V) (i : ℕ) (words : TreeWords) : Type 0 where
@@ -124,7 +124,7 @@ measuring_begins h r c items = record {
 
 pub measuring_goes_on : {V : Type 0} (h : V → Trees → Type 0) (r : V → ErrorKind → Type 0) (c : Bool) (items : List V) (i : ℕ) (words : TreeWords) (v : V) (returned : Result TreeWords Error) (own : TreeWords)
     → i < length items → v ≡ get_or items i v → returned ≡ Ok own → HasPart (h v) c own → ((trees : Trees) → h v trees → count trees ≡ 1)
-    → ((parts : TreeWords) → HasPart (h v) c parts → returned ≡ Ok parts) → ((k : ErrorKind) → LacksWords (h v) (r v) false k → IsErrAnd returned (λ e. e.kind ≡ k))
+    → ((parts : TreeWords) → HasPart (h v) c parts → returned ≡ Ok parts) → ((k : ErrorKind) → WordsError (h v) (r v) false k → IsErrAnd returned (λ e. e.kind ≡ k))
     → ItemsMeasured h r c items i words → ItemsMeasured h r c items (i + 1) (both_words words own)
 measuring_goes_on {V = V} h r c items i words v returned own within is was has one found exact so_far =
     let p = part_of (h v) c own one has in
@@ -135,23 +135,23 @@ measuring_goes_on {V = V} h r c items i words v returned own within is was has o
       output_few = omega (arith, so_far.output_few, small, less);
       ends = λ rest m.
           let here = subst (λ (l : List V). MeasuresItems h r l c (onto own rest)) (sym (from_here items i v within is))
-          (row_front (h v) (λ t. AreItems h (drop (i + 1) items) t) (r v) (λ k. RefusesItems h r (drop (i + 1) items) k) c returned own rest was has one found exact m) in
+          (row_front (h v) (λ t. AreItems h (drop (i + 1) items) t) (r v) (λ k. ValuesError h r (drop (i + 1) items) k) c returned own rest was has one found exact m) in
           subst (λ (x : Result TreeWords Error). MeasuresItems h r items c x) (onto_both words own rest) (so_far.ends (onto own rest) here);
     }
 
-pub measuring_stops : {V : Type 0} (h : V → Trees → Type 0) (r : V → ErrorKind → Type 0) (c : Bool) (items : List V) (i : ℕ) (words : TreeWords) (v : V) (returned : Result TreeWords Error) (error : Error)
-    → i < length items → v ≡ get_or items i v → returned ≡ Err error → LacksWords (h v) (r v) false error.kind → ((parts : TreeWords) → HasPart (h v) c parts → returned ≡ Ok parts)
-    → ((k : ErrorKind) → LacksWords (h v) (r v) false k → IsErrAnd returned (λ e. e.kind ≡ k)) → ItemsMeasured h r c items i words → MeasuresItems h r items c (Err error)
-measuring_stops {V = V} h r c items i words v returned error within is was lacks found exact so_far =
+pub measuring_fails : {V : Type 0} (h : V → Trees → Type 0) (r : V → ErrorKind → Type 0) (c : Bool) (items : List V) (i : ℕ) (words : TreeWords) (v : V) (returned : Result TreeWords Error) (error : Error)
+    → i < length items → v ≡ get_or items i v → returned ≡ Err error → WordsError (h v) (r v) false error.kind → ((parts : TreeWords) → HasPart (h v) c parts → returned ≡ Ok parts)
+    → ((k : ErrorKind) → WordsError (h v) (r v) false k → IsErrAnd returned (λ e. e.kind ≡ k)) → ItemsMeasured h r c items i words → MeasuresItems h r items c (Err error)
+measuring_fails {V = V} h r c items i words v returned error within is was words_error found exact so_far =
     so_far.ends (Err error) (subst (λ (l : List V). MeasuresItems h r l c (Err error)) (sym (from_here items i v within is))
-    (first_refused (h v) (λ t. AreItems h (drop (i + 1) items) t) (r v) (λ k. RefusesItems h r (drop (i + 1) items) k) c returned error was lacks found exact))
+    (first_error (h v) (λ t. AreItems h (drop (i + 1) items) t) (r v) (λ k. ValuesError h r (drop (i + 1) items) k) c returned error was words_error found exact))
 
 pub nothing_after : (c : Bool) → record { as_is = 0; output = 0 } ≡ tree_words c none
 nothing_after true = refl
 nothing_after false = refl
 
 none_measured : {V : Type 0} (h : V → Trees → Type 0) (r : V → ErrorKind → Type 0) (c : Bool) → MeasuresItems h r [] c (Ok (record { as_is = 0; output = 0 }))
-none_measured h r c = record { returned = (none, refl, tt, nothing_after c); found = λ trees is. ap (λ (w : TreeWords). Ok w) (nothing_after c ∙ ap (tree_words c) (sym is)); exact = λ kind refused. absurd refused }
+none_measured h r c = record { returned = (none, refl, tt, nothing_after c); found = λ trees is. ap (λ (w : TreeWords). Ok w) (nothing_after c ∙ ap (tree_words c) (sym is)); exact = λ kind errors. absurd errors }
 
 pub none_left : {V : Type 0} (items : List V) (n : ℕ) → length items ≤ n → drop n items ≡ []
 none_left [] zero past = refl

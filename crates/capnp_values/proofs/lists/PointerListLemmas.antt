@@ -10,7 +10,7 @@ use Rattle.capnp_layout.proofs.trees.TrimLemmas.{count-trim}
 use Rattle.capnp_wire.proofs.layouts.OpenLemmas.{room_output}
 use Rattle.capnp_wire.proofs.views.PartWordLemmas.{same_tree_words}
 use Rattle.capnp_values.specs.Measured.{tree_words, Measures}
-use Rattle.capnp_values.specs.Lists.{AreItems, HasRoomForItems, IsPointerList, RefusesPointerList}
+use Rattle.capnp_values.specs.Lists.{AreItems, HasRoomForItems, IsPointerList, PointerListError}
 use Rattle.capnp_wire.specs.declared.traits.TreeWords.{TreeWords}
 use Rattle.capnp_values.proofs.lists.ItemLemmas.{items_settled, MeasuresItems}
 use Rattle.capnp_values.proofs.layouts.FilledLemmas.{list_filled}
@@ -54,7 +54,7 @@ list_words c n children trees words whole many is =
 
 pub list_measured : {V : Type 0} (h : V → Trees → Type 0) (r : V → ErrorKind → Type 0) (vs : List V) (c : Bool) (returned : Result TreeWords Error) (words : TreeWords) → length vs < 2 ^ 29
     → returned ≡ Ok words → MeasuresItems h r vs c returned
-    → Measures (λ t. IsPointerList h vs t) (λ k. RefusesPointerList h r vs k) c (Ok (record { as_is = length vs + words.as_is; output = length vs + words.output }))
+    → Measures (λ t. IsPointerList h vs t) (λ k. PointerListError h r vs k) c (Ok (record { as_is = length vs + words.as_is; output = length vs + words.output }))
 list_measured h r vs c returned words few was m =
     let m_ok : MeasuresItems h r vs c (Ok words) = subst (λ (x : Result TreeWords Error). MeasuresItems h r vs c x) was m in
     let a = m_ok.returned in
@@ -70,7 +70,7 @@ list_measured h r vs c returned words few was m =
           let there : Ok words ≡ Ok (tree_words c is.children) = m_ok.found is.children is.children_is in
           let same : words ≡ tree_words c is.children = cc in
           ap (λ (w : TreeWords). Ok w) (list_words c (length vs) is.children trees words is.whole (items_settled h vs is.children is.children_is).many same);
-      exact = λ kind refused. elim refused [
+      exact = λ kind errors. elim errors [
         | inl many ↦ absurd (omega (arith, few, many.0))
         | inr others ↦ m_ok.exact kind others.1
       ];
@@ -78,19 +78,19 @@ list_measured h r vs c returned words few was m =
 
 -- it fails: by its length, or by one of the values
 pub list_too_long : {V : Type 0} (h : V → Trees → Type 0) (r : V → ErrorKind → Type 0) (vs : List V) (c : Bool) (error : Error) → 2 ^ 29 ≤ length vs
-    → error.kind ≡ AllocationTooLarge (min (length vs) (2 ^ 32 - 1)) → Measures (λ t. IsPointerList h vs t) (λ k. RefusesPointerList h r vs k) c (Err error)
+    → error.kind ≡ AllocationTooLarge (min (length vs) (2 ^ 32 - 1)) → Measures (λ t. IsPointerList h vs t) (λ k. PointerListError h r vs k) c (Err error)
 list_too_long h r vs c error many is = record {
   returned = inl (many, is);
   found = λ trees there. absurd (omega (arith, many, there.few));
-  exact = λ kind refused. elim refused [
+  exact = λ kind errors. elim errors [
     | inl others ↦ (is ∙ sym others.1)
     | inr others ↦ absurd (omega (arith, many, others.0))
   ];
 }
 
-pub list_refused : {V : Type 0} (h : V → Trees → Type 0) (r : V → ErrorKind → Type 0) (vs : List V) (c : Bool) (returned : Result TreeWords Error) (error : Error) → length vs < 2 ^ 29
-    → returned ≡ Err error → MeasuresItems h r vs c returned → Measures (λ t. IsPointerList h vs t) (λ k. RefusesPointerList h r vs k) c (Err error)
-list_refused h r vs c returned error few was m =
+pub list_error : {V : Type 0} (h : V → Trees → Type 0) (r : V → ErrorKind → Type 0) (vs : List V) (c : Bool) (returned : Result TreeWords Error) (error : Error) → length vs < 2 ^ 29
+    → returned ≡ Err error → MeasuresItems h r vs c returned → Measures (λ t. IsPointerList h vs t) (λ k. PointerListError h r vs k) c (Err error)
+list_error h r vs c returned error few was m =
     let m_err : MeasuresItems h r vs c (Err error) = subst (λ (x : Result TreeWords Error). MeasuresItems h r vs c x) was m in
     record {
       returned = inr (few, m_err.returned);

@@ -24,7 +24,7 @@ numbers_total false code bits = omega arith
 pub one_of_numbers : (code : ℕ) (bits : List ℕ) (n : ℕ) → n ≡ length bits → IsOne (λ t. IsNumberList code bits t) (λ k. ManyNumbers n k)
 one_of_numbers code bits n n_is = record {
   same_tree = λ a b x y. x.1 ∙ sym y.1;
-  same_refusal = λ a b x y. x.1 ∙ sym y.1;
+  same_error = λ a b x y. x.1 ∙ sym y.1;
   apart = λ kind trees x y. absurd (omega (arith, x.0, y.0, n_is));
 }
 

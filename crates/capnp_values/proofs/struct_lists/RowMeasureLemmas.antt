@@ -11,13 +11,13 @@ use Rattle.capnp_wire.specs.declared.traits.TreeWords.{TreeWords}
 use Rattle.capnp_wire.proofs.views.PartWordLemmas.{same_tree_words}
 use Rattle.capnp_values.specs.Measured.{tree_words, both_words, Measures}
 use Rattle.capnp_values.specs.Fields.{IsSettled}
-use Rattle.capnp_values.specs.StructLists.{AreRows, RefusesRows, AreEven, MeasuresRows}
+use Rattle.capnp_values.specs.StructLists.{AreRows, ElementsError, AreEven, MeasuresRows}
 use Rattle.capnp_values.proofs.lists.ItemLemmas.{from_here, measured_few, none_left, onto, onto_none, onto_both, nothing_after}
 use Rattle.capnp_values.proofs.struct_lists.StructListLemmas.{rooms_before, total_front}
 
 -- what is measured of some structs, one in front
 abbrev MeasuresTrees : {V : Type 0} → (V → Trees → Type 0) → (V → ErrorKind → Type 0) → List V → Bool → Result TreeWords Error → Type 0
-MeasuresTrees h r vs c res = Measures (λ t. AreRows h vs t) (λ k. RefusesRows h r vs k) c res
+MeasuresTrees h r vs c res = Measures (λ t. AreRows h vs t) (λ k. ElementsError h r vs k) c res
 
 both_front : (c : Bool) (row rest children : Trees) (own words : TreeWords) → children ≡ before row rest → own ≡ tree_words c row → words ≡ tree_words c rest → both_words own words ≡ tree_words c children
 both_front c row rest children own words whole own_is words_is =
@@ -43,18 +43,18 @@ row_measured h r c v vs own words first m =
           let words_there : Ok words ≡ Ok (tree_words c is.rest) = m.found is.rest is.others in
           let words_is : words ≡ tree_words c is.rest = cc in
           ap (λ (w : TreeWords). Ok w) (both_front c is.row is.rest trees own words is.whole own_is words_is);
-      exact = λ kind refused. elim refused [
+      exact = λ kind errors. elim errors [
         | inl first_fails ↦ absurd (first.exact kind first_fails)
         | inr more ↦ m.exact kind more.2
       ];
     }
 
-rest_refused : {V : Type 0} (h : V → Trees → Type 0) (r : V → ErrorKind → Type 0) (c : Bool) (v : V) (vs : List V) (own : TreeWords) (error : Error) → Measures (h v) (r v) c (Ok own)
+rest_error : {V : Type 0} (h : V → Trees → Type 0) (r : V → ErrorKind → Type 0) (c : Bool) (v : V) (vs : List V) (own : TreeWords) (error : Error) → Measures (h v) (r v) c (Ok own)
     → MeasuresTrees h r vs c (Err error) → MeasuresTrees h r (v ∷ vs) c (Err error)
-rest_refused h r c v vs own error first m = record {
+rest_error h r c v vs own error first m = record {
   returned = inr (first.returned.0, first.returned.1, m.returned);
   found = λ trees is. let ok : Err error ≡ Ok (tree_words c is.rest) = m.found is.rest is.others in absurd (cc);
-  exact = λ kind refused. elim refused [
+  exact = λ kind errors. elim errors [
     | inl first_fails ↦ absurd (first.exact kind first_fails)
     | inr more ↦ m.exact kind more.2
   ];
@@ -63,14 +63,14 @@ rest_refused h r c v vs own error first m = record {
 row_front : {V : Type 0} (h : V → Trees → Type 0) (r : V → ErrorKind → Type 0) (c : Bool) (v : V) (vs : List V) (own : TreeWords) (rest : Result TreeWords Error) → Measures (h v) (r v) c (Ok own)
     → MeasuresTrees h r vs c rest → MeasuresTrees h r (v ∷ vs) c (onto own rest)
 row_front h r c v vs own (Ok words) first m = row_measured h r c v vs own words first m
-row_front h r c v vs own (Err error) first m = rest_refused h r c v vs own error first m
+row_front h r c v vs own (Err error) first m = rest_error h r c v vs own error first m
 
-first_refused : {V : Type 0} (h : V → Trees → Type 0) (r : V → ErrorKind → Type 0) (c : Bool) (v : V) (vs : List V) (error : Error) → Measures (h v) (r v) c (Err error)
+first_error : {V : Type 0} (h : V → Trees → Type 0) (r : V → ErrorKind → Type 0) (c : Bool) (v : V) (vs : List V) (error : Error) → Measures (h v) (r v) c (Err error)
     → MeasuresTrees h r (v ∷ vs) c (Err error)
-first_refused h r c v vs error first = record {
+first_error h r c v vs error first = record {
   returned = inl first.returned;
   found = λ trees is. let ok : Err error ≡ Ok (tree_words c is.row) = first.found is.row is.row_is in absurd (cc);
-  exact = λ kind refused. elim refused [
+  exact = λ kind errors. elim errors [
     | inl own ↦ first.exact kind own
     | inr more ↦ (let ok : Err error ≡ Ok (tree_words c more.0) = first.found more.0 more.1 in absurd (cc))
   ];
@@ -117,15 +117,15 @@ measuring_goes_on {V = V} w h r c d p s items i words own v within is m long fit
           subst (λ (x : Result TreeWords Error). MeasuresTrees h r items c x) (onto_both words own rest) (so_far.ends (onto own rest) there);
     }
 
-pub measuring_stops : {V : Type 0} (w : V → List ℕ) (h : V → Trees → Type 0) (r : V → ErrorKind → Type 0) (c : Bool) (d p : ℕ) (items : List V) (i : ℕ) (words : TreeWords) (v : V) (error : Error)
+pub measuring_fails : {V : Type 0} (w : V → List ℕ) (h : V → Trees → Type 0) (r : V → ErrorKind → Type 0) (c : Bool) (d p : ℕ) (items : List V) (i : ℕ) (words : TreeWords) (v : V) (error : Error)
     → i < length items → v ≡ get_or items i v → Measures (h v) (r v) c (Err error) → RowsMeasured w h r c d p items i words → MeasuresRows w h r c d items (Err error)
-measuring_stops {V = V} w h r c d p items i words v error within is m so_far = record {
-  measured = so_far.ends (Err error) (subst (λ (l : List V). MeasuresTrees h r l c (Err error)) (sym (from_here items i v within is)) (first_refused h r c v (drop (i + 1) items) error m));
+measuring_fails {V = V} w h r c d p items i words v error within is m so_far = record {
+  measured = so_far.ends (Err error) (subst (λ (l : List V). MeasuresTrees h r l c (Err error)) (sym (from_here items i v within is)) (first_error h r c v (drop (i + 1) items) error m));
   even = tt;
 }
 
 none_measured : {V : Type 0} (h : V → Trees → Type 0) (r : V → ErrorKind → Type 0) (c : Bool) → MeasuresTrees h r [] c (Ok (record { as_is = 0; output = 0 }))
-none_measured h r c = record { returned = (none, refl, tt, nothing_after c); found = λ trees is. ap (λ (w : TreeWords). Ok w) (nothing_after c ∙ ap (tree_words c) (sym is)); exact = λ kind refused. absurd refused }
+none_measured h r c = record { returned = (none, refl, tt, nothing_after c); found = λ trees is. ap (λ (w : TreeWords). Ok w) (nothing_after c ∙ ap (tree_words c) (sym is)); exact = λ kind errors. absurd errors }
 
 pub measuring_ends : {V : Type 0} (w : V → List ℕ) (h : V → Trees → Type 0) (r : V → ErrorKind → Type 0) (c : Bool) (d p : ℕ) (items : List V) (i : ℕ) (words : TreeWords) → length items ≤ i
     → RowsMeasured w h r c d p items i words → MeasuresRows w h r c d items (Ok words)

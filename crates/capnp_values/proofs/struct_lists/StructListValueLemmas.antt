@@ -13,7 +13,7 @@ use Rattle.capnp_wire.proofs.views.PartWordLemmas.{same_tree_words}
 use Rattle.capnp_values.specs.Measured.{tree_words, Measures}
 use Rattle.capnp_values.specs.Fields.{IsSettled}
 use Rattle.capnp_wire.specs.declared.traits.TreeWords.{TreeWords}
-use Rattle.capnp_values.specs.StructLists.{AreRows, IsStructList, TooManyStructs, RefusesStructList, element_data, element_pointers, AreEven, MeasuresRows}
+use Rattle.capnp_values.specs.StructLists.{AreRows, IsStructList, TooManyStructs, StructListError, element_data, element_pointers, AreEven, MeasuresRows}
 use Rattle.capnp_values.specs.StructListPlaces.{AreDeclared, IsDeclared}
 use Rattle.capnp_values.proofs.lists.ItemLemmas.{measured_few}
 use Rattle.capnp_values.proofs.struct_lists.StructListLemmas.{rows_settled, structs_total}
@@ -93,7 +93,7 @@ pub record KeepsOf {V : Type 0} (w : V → List ℕ) (h : V → Trees → Type 0
 pub list_measured : {V : Type 0} (w : V → List ℕ) (h : V → Trees → Type 0) (r : V → ErrorKind → Type 0) (c : Bool) (d p e m : ℕ) → ((v : V) (t : Trees) → h v t → IsSettled p t) → (vs : List V)
     (words : TreeWords) (returned : Result TreeWords Error) (as_is output_words : ℕ) → AreDeclared (length vs) d p → returned ≡ Ok words → MeasuresRows w h r c d vs returned → KeepsOf w h c d p e m vs
     → as_is ≡ 1 + length vs * (d + p) + words.as_is → output_words ≡ 1 + length vs * (e + m) + words.output
-    → Measures (λ t. IsStructList w h d p vs t) (λ k. RefusesStructList h r d p vs k) c (Ok (record { as_is = as_is; output = output_words }))
+    → Measures (λ t. IsStructList w h d p vs t) (λ k. StructListError h r d p vs k) c (Ok (record { as_is = as_is; output = output_words }))
 list_measured w h r c d p e m s vs words returned as_is output_words t was rows kept as_is_same output_is =
     let ok : MeasuresRows w h r c d vs (Ok words) = subst (λ (x : Result TreeWords Error). MeasuresRows w h r c d vs x) was rows in
     let a = ok.measured.returned in
@@ -113,7 +113,7 @@ list_measured w h r c d p e m s vs words returned as_is output_words t was rows 
           let same : words ≡ tree_words c is.children = cc in
           ap (λ (x : TreeWords). Ok x)
           (own ∙ list_words w h c d p e m s vs is.children trees words is.children_is (kept.words is.children is.children_is) (kept.pointers is.children is.children_is) same is.whole);
-      exact = λ kind refused. elim refused [
+      exact = λ kind errors. elim errors [
         | inl many ↦ absurd (not_too_many (length vs) d p kind t many)
         | inr others ↦ ok.measured.exact kind others.4
       ];
@@ -147,24 +147,24 @@ declared_many n d p x y k x_is y_is (inr (inr m)) =
     inr (inr (omega (arith, m.0, x_is), omega (arith, m.1, y_is), m.2, there.0, there.1))
 
 pub list_too_large : {V : Type 0} (w : V → List ℕ) (h : V → Trees → Type 0) (r : V → ErrorKind → Type 0) (c : Bool) (d p : ℕ) (vs : List V) (error : Error) → TooManyStructs (length vs) d p error.kind
-    → Measures (λ t. IsStructList w h d p vs t) (λ k. RefusesStructList h r d p vs k) c (Err error)
+    → Measures (λ t. IsStructList w h d p vs t) (λ k. StructListError h r d p vs k) c (Err error)
 list_too_large w h r c d p vs error many = record {
   returned = inl many;
   found = λ trees is. absurd (not_too_many (length vs) d p error.kind (record { few_words = is.few_words; few_pointers = is.few_pointers; few = is.few; small = is.small }) many);
-  exact = λ kind refused. elim refused [
+  exact = λ kind errors. elim errors [
     | inl others ↦ same_kind (length vs) d p error.kind kind many others
     | inr rows ↦ absurd (not_too_many (length vs) d p error.kind (record { few_words = rows.0; few_pointers = rows.1; few = rows.2; small = rows.3 }) many)
   ];
 }
 
-pub list_refused : {V : Type 0} (w : V → List ℕ) (h : V → Trees → Type 0) (r : V → ErrorKind → Type 0) (c : Bool) (d p : ℕ) (vs : List V) (returned : Result TreeWords Error) (error : Error)
-    → AreDeclared (length vs) d p → returned ≡ Err error → MeasuresRows w h r c d vs returned → Measures (λ t. IsStructList w h d p vs t) (λ k. RefusesStructList h r d p vs k) c (Err error)
-list_refused w h r c d p vs returned error t was rows =
+pub list_error : {V : Type 0} (w : V → List ℕ) (h : V → Trees → Type 0) (r : V → ErrorKind → Type 0) (c : Bool) (d p : ℕ) (vs : List V) (returned : Result TreeWords Error) (error : Error)
+    → AreDeclared (length vs) d p → returned ≡ Err error → MeasuresRows w h r c d vs returned → Measures (λ t. IsStructList w h d p vs t) (λ k. StructListError h r d p vs k) c (Err error)
+list_error w h r c d p vs returned error t was rows =
     let m = (subst (λ (x : Result TreeWords Error). MeasuresRows w h r c d vs x) was rows).measured in
     record {
       returned = inr (t.few_words, t.few_pointers, t.few, t.small, m.returned);
       found = λ trees is. let ok : Err error ≡ Ok (tree_words c is.children) = m.found is.children is.children_is in absurd (cc);
-      exact = λ kind refused. elim refused [
+      exact = λ kind errors. elim errors [
         | inl many ↦ absurd (not_too_many (length vs) d p kind t many)
         | inr others ↦ m.exact kind others.4
       ];

@@ -17,7 +17,7 @@ use Rattle.capnp_layout.proofs.trees.ChunkLemmas.{count-cut}
 use Rattle.capnp_wire.proofs.layouts.OpenLemmas.{room_output}
 use Rattle.capnp_values.specs.Measured.{tree_words, Measures}
 use Rattle.capnp_values.specs.Fields.{IsSettled, kept_row, CanWriteRow}
-use Rattle.capnp_values.specs.Structs.{IsStruct, RefusesStruct, kept_words}
+use Rattle.capnp_values.specs.Structs.{IsStruct, StructError, kept_words}
 use Rattle.capnp_wire.specs.declared.traits.TreeWords.{TreeWords}
 use Rattle.capnp_values.proofs.values.ResultLemmas.{ok_not_err, same_words}
 use Rattle.capnp_values.proofs.layouts.FilledLemmas.{struct_filled}
@@ -66,7 +66,7 @@ allocation_too_large d p a b (inr many) = omega (arith, b, many)
 pub struct_measured : (c : Bool) (words : List ℕ) (size : ℕ) (hs : Trees → Type 0) (rs : ErrorKind → Type 0) (returned : Result TreeWords Error) (row : TreeWords) (kept as_is output_words : ℕ)
     → ((t : Trees) → hs t → IsSettled size t) → returned ≡ Ok row → Measures hs rs c returned → ((t : Trees) → hs t → kept ≡ count (kept_row c t)) → length words < 2 ^ 16 → size < 2 ^ 16
     → All (λ w. w < 2 ^ 64) words → as_is ≡ length words + size + row.as_is → output_words ≡ length (kept_words c words) + kept + row.output
-    → Measures (λ t. IsStruct words size hs t) (λ k. RefusesStruct (length words) size rs k) c (Ok (record { as_is = as_is; output = output_words }))
+    → Measures (λ t. IsStruct words size hs t) (λ k. StructError (length words) size rs k) c (Ok (record { as_is = as_is; output = output_words }))
 struct_measured c words size hs rs returned row kept as_is output_words settled was m kept_is few_words few_pointers small as_is_same output_is =
     let a = (subst (λ (x : Result TreeWords Error). Measures hs rs c x) was m).returned in
     let s = settled a.0 a.1 in
@@ -81,7 +81,7 @@ struct_measured c words size hs rs returned row kept as_is output_words settled 
           let same : row ≡ tree_words c is.children = same_words returned row (tree_words c is.children) was (m.found is.children is.children_is) in
           ap (λ (w : TreeWords). Ok w)
           (struct_words c words size is.children trees row kept as_is output_words is.whole (settled is.children is.children_is) same (kept_is is.children is.children_is) as_is_same output_is);
-      exact = λ kind refused. elim refused [
+      exact = λ kind errors. elim errors [
         | inl many ↦ absurd (allocation_too_large (length words) size few_words few_pointers many.0)
         | inr others ↦ absurd (ok_not_err returned row (λ e. e.kind ≡ kind) was (m.exact kind others.2))
       ];
@@ -89,19 +89,19 @@ struct_measured c words size hs rs returned row kept as_is output_words settled 
 
 -- it fails: a pointer can't say its size, or its row fails
 pub struct_too_large : (c : Bool) (words : List ℕ) (size : ℕ) (hs : Trees → Type 0) (rs : ErrorKind → Type 0) (error : Error) → (2 ^ 16 ≤ length words ⊎ 2 ^ 16 ≤ size)
-    → error.kind ≡ AllocationTooLarge (2 ^ 16) → Measures (λ t. IsStruct words size hs t) (λ k. RefusesStruct (length words) size rs k) c (Err error)
+    → error.kind ≡ AllocationTooLarge (2 ^ 16) → Measures (λ t. IsStruct words size hs t) (λ k. StructError (length words) size rs k) c (Err error)
 struct_too_large c words size hs rs error many is = record {
   returned = inl (many, is);
   found = λ trees there. absurd (allocation_too_large (length words) size there.few_words there.few_pointers many);
-  exact = λ kind refused. elim refused [
+  exact = λ kind errors. elim errors [
     | inl there ↦ (is ∙ sym there.1)
     | inr others ↦ absurd (allocation_too_large (length words) size others.0 others.1 many)
   ];
 }
 
-pub struct_refused : (c : Bool) (words : List ℕ) (size : ℕ) (hs : Trees → Type 0) (rs : ErrorKind → Type 0) (returned : Result TreeWords Error) (error : Error) → returned ≡ Err error
-    → Measures hs rs c returned → length words < 2 ^ 16 → size < 2 ^ 16 → Measures (λ t. IsStruct words size hs t) (λ k. RefusesStruct (length words) size rs k) c (Err error)
-struct_refused c words size hs rs returned error was m few_words few_pointers =
+pub struct_error : (c : Bool) (words : List ℕ) (size : ℕ) (hs : Trees → Type 0) (rs : ErrorKind → Type 0) (returned : Result TreeWords Error) (error : Error) → returned ≡ Err error
+    → Measures hs rs c returned → length words < 2 ^ 16 → size < 2 ^ 16 → Measures (λ t. IsStruct words size hs t) (λ k. StructError (length words) size rs k) c (Err error)
+struct_error c words size hs rs returned error was m few_words few_pointers =
     let m_err : Measures hs rs c (Err error) = subst (λ (x : Result TreeWords Error). Measures hs rs c x) was m in
     record {
       returned = inr (few_words, few_pointers, m_err.returned);

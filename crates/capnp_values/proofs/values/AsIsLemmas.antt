@@ -27,9 +27,9 @@ part_found h measured found words p =
     ap as_parts (found words.as_is (as_is_words h false words p))
     ∙ ap (λ (w : TreeWords). Ok w) (same_tree_words (as_part words.as_is) words refl (p.as_is_same ∙ sym p.output_is))
 
-pub part_refused : (measured : Result ℕ Error) (kind : ErrorKind) → IsErrAnd measured (λ e. e.kind ≡ kind) → IsErrAnd (as_parts measured) (λ e. e.kind ≡ kind)
-part_refused (Ok words) kind refused = refused
-part_refused (Err error) kind refused = refused
+pub part_error : (measured : Result ℕ Error) (kind : ErrorKind) → IsErrAnd measured (λ e. e.kind ≡ kind) → IsErrAnd (as_parts measured) (λ e. e.kind ≡ kind)
+part_error (Ok words) kind errors = errors
+part_error (Err error) kind errors = errors
 
 -- the words of a row, and what is measured of it
 pub row_measured : (h : Trees → Type 0) (r : ErrorKind → Type 0) (p : ℕ) (measured : Result ℕ Error) → ((trees : Trees) → h trees → IsSettled p trees)
@@ -40,7 +40,7 @@ row_measured h r p (Ok words) settled has found exact = record {
   found = λ trees is. ap as_parts (found trees is);
   exact = exact;
 }
-row_measured h r p (Err error) settled refused found exact = record { returned = refused; found = λ trees is. ap as_parts (found trees is); exact = exact }
+row_measured h r p (Err error) settled errors found exact = record { returned = errors; found = λ trees is. ap as_parts (found trees is); exact = exact }
 
 same_ok : (r : Result ℕ Error) (x y : ℕ) → r ≡ Ok x → r ≡ Ok y → x ≡ y
 same_ok r x y a b = cc

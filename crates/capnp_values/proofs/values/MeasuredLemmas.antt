@@ -4,7 +4,7 @@ use Rattle.std.specs.Result.{IsErrAnd}
 use Rattle.capnp_frame.specs.declared.error.Error.{Error}
 use Rattle.capnp_frame.specs.declared.error.ErrorKind.{ErrorKind}
 use Rattle.capnp_layout.specs.Prelude.{Trees, total_words, output, AllHaveRoom, too_large}
-use Rattle.capnp_wire.specs.Prelude.{HasWords, LacksWords, HasPart}
+use Rattle.capnp_wire.specs.Prelude.{HasWords, WordsError, HasPart}
 use Rattle.capnp_wire.specs.declared.traits.TreeWords.{TreeWords}
 use Rattle.capnp_wire.proofs.views.PartWordLemmas.{same_tree_words}
 use Rattle.capnp_values.specs.Measured.{tree_words, Measures}
@@ -23,7 +23,7 @@ AreMeasured h c words = (trees : Trees) × h trees × AllHaveRoom trees × (word
 
 -- the words of a value
 pub whole_returned : (h : Trees → Type 0) (r : ErrorKind → Type 0) (c : Bool) (words : TreeWords) (res : Result ℕ Error) → AreMeasured h c words → Fitted c words.output res
-    → MatchResult res (λ n. HasWords h c n) (λ error. LacksWords h r c error.kind)
+    → MatchResult res (λ n. HasWords h c n) (λ error. WordsError h r c error.kind)
 whole_returned h r c words (Ok n) t f =
     record { trees = t.0; tree_is = t.1; rooms = t.2; words_are = f.0 ∙ ap (λ (w : TreeWords). w.output) t.3; few = f.1 }
 whole_returned h r c words (Err error) t f =
@@ -34,10 +34,10 @@ fitted_found : (c : Bool) (total words : ℕ) (r : Result ℕ Error) → Fitted 
 fitted_found c total words (Ok n) f is few = ap (λ (k : ℕ). Ok k) (f.0 ∙ sym is)
 fitted_found c total words (Err e) f is few = absurd (omega (arith, f.0, is, few))
 
-fitted_lacks : (c : Bool) (total words : ℕ) (kind : ErrorKind) (r : Result ℕ Error) → Fitted c total r → words ≡ total → 2 ^ 29 ≤ words → kind ≡ too_large c words
+fitted_error : (c : Bool) (total words : ℕ) (kind : ErrorKind) (r : Result ℕ Error) → Fitted c total r → words ≡ total → 2 ^ 29 ≤ words → kind ≡ too_large c words
     → IsErrAnd r (λ e. e.kind ≡ kind)
-fitted_lacks c total words kind (Ok n) f is many k = absurd (omega (arith, f.0, f.1, is, many))
-fitted_lacks c total words kind (Err e) f is many k = f.1 ∙ ap (too_large c) (sym is) ∙ sym k
+fitted_error c total words kind (Ok n) f is many k = absurd (omega (arith, f.0, f.1, is, many))
+fitted_error c total words kind (Err e) f is many k = f.1 ∙ ap (too_large c) (sym is) ∙ sym k
 
 pub whole_found : (h : Trees → Type 0) (r : ErrorKind → Type 0) (c : Bool) (words : TreeWords) (returned : Result TreeWords Error) (res : Result ℕ Error) → returned ≡ Ok words
     → Measures h r c returned → Fitted c words.output res → (n : ℕ) → HasWords h c n → res ≡ Ok n
@@ -46,15 +46,15 @@ whole_found h r c words returned res was m f n w =
     fitted_found c words.output n res f (w.words_are ∙ sym (ap (λ (x : TreeWords). x.output) same)) w.few
 
 pub whole_exact : (h : Trees → Type 0) (r : ErrorKind → Type 0) (c : Bool) (words : TreeWords) (returned : Result TreeWords Error) (res : Result ℕ Error) → returned ≡ Ok words
-    → Measures h r c returned → Fitted c words.output res → (kind : ErrorKind) → LacksWords h r c kind → IsErrAnd res (λ e. e.kind ≡ kind)
-whole_exact h r c words returned res was m f kind (inl refused) = absurd (ok_not_err returned words (λ e. e.kind ≡ kind) was (m.exact kind refused))
-whole_exact h r c words returned res was m f kind (inr lacks) =
-    let same : words ≡ tree_words c lacks.0 = same_words returned words (tree_words c lacks.0) was (m.found lacks.0 lacks.1) in
-    fitted_lacks c words.output (total_words (output c lacks.0)) kind res f (sym (ap (λ (x : TreeWords). x.output) same)) lacks.2 lacks.3
+    → Measures h r c returned → Fitted c words.output res → (kind : ErrorKind) → WordsError h r c kind → IsErrAnd res (λ e. e.kind ≡ kind)
+whole_exact h r c words returned res was m f kind (inl errors) = absurd (ok_not_err returned words (λ e. e.kind ≡ kind) was (m.exact kind errors))
+whole_exact h r c words returned res was m f kind (inr words_error) =
+    let same : words ≡ tree_words c words_error.0 = same_words returned words (tree_words c words_error.0) was (m.found words_error.0 words_error.1) in
+    fitted_error c words.output (total_words (output c words_error.0)) kind res f (sym (ap (λ (x : TreeWords). x.output) same)) words_error.2 words_error.3
 
 -- the words of a part
 pub part_returned : (h : Trees → Type 0) (r : ErrorKind → Type 0) (c : Bool) (words : TreeWords) (res : Result TreeWords Error) → AreMeasured h c words → FittedPart words res
-    → MatchResult res (λ p. HasPart h c p) (λ error. LacksWords h r false error.kind)
+    → MatchResult res (λ p. HasPart h c p) (λ error. WordsError h r false error.kind)
 part_returned h r c words (Ok p) t f =
     let is : p ≡ tree_words c t.0 = f.0 ∙ t.3 in
     record {
@@ -79,14 +79,14 @@ part_found h r c words returned res was m f p w =
     let same : words ≡ tree_words c w.trees = same_words returned words (tree_words c w.trees) was (m.found w.trees w.tree_is) in
     part_fits words p res f (same_tree_words p (tree_words c w.trees) w.as_is_same w.output_is ∙ sym same) w.few
 
-part_lacks : (words : TreeWords) (total : ℕ) (kind : ErrorKind) (res : Result TreeWords Error) → FittedPart words res → total ≡ words.as_is → 2 ^ 29 ≤ total → kind ≡ too_large false total
+part_words_error : (words : TreeWords) (total : ℕ) (kind : ErrorKind) (res : Result TreeWords Error) → FittedPart words res → total ≡ words.as_is → 2 ^ 29 ≤ total → kind ≡ too_large false total
     → IsErrAnd res (λ e. e.kind ≡ kind)
-part_lacks words total kind (Ok p) f is many k = absurd (omega (arith, f.1, is, many))
-part_lacks words total kind (Err e) f is many k = f.1 ∙ ap (too_large false) (sym is) ∙ sym k
+part_words_error words total kind (Ok p) f is many k = absurd (omega (arith, f.1, is, many))
+part_words_error words total kind (Err e) f is many k = f.1 ∙ ap (too_large false) (sym is) ∙ sym k
 
 pub part_exact : (h : Trees → Type 0) (r : ErrorKind → Type 0) (c : Bool) (words : TreeWords) (returned : Result TreeWords Error) (res : Result TreeWords Error) → returned ≡ Ok words
-    → Measures h r c returned → FittedPart words res → (kind : ErrorKind) → LacksWords h r false kind → IsErrAnd res (λ e. e.kind ≡ kind)
-part_exact h r c words returned res was m f kind (inl refused) = absurd (ok_not_err returned words (λ e. e.kind ≡ kind) was (m.exact kind refused))
-part_exact h r c words returned res was m f kind (inr lacks) =
-    let same : words ≡ tree_words c lacks.0 = same_words returned words (tree_words c lacks.0) was (m.found lacks.0 lacks.1) in
-    part_lacks words (total_words lacks.0) kind res f (sym (ap (λ (x : TreeWords). x.as_is) same)) lacks.2 lacks.3
+    → Measures h r c returned → FittedPart words res → (kind : ErrorKind) → WordsError h r false kind → IsErrAnd res (λ e. e.kind ≡ kind)
+part_exact h r c words returned res was m f kind (inl errors) = absurd (ok_not_err returned words (λ e. e.kind ≡ kind) was (m.exact kind errors))
+part_exact h r c words returned res was m f kind (inr words_error) =
+    let same : words ≡ tree_words c words_error.0 = same_words returned words (tree_words c words_error.0) was (m.found words_error.0 words_error.1) in
+    part_words_error words (total_words words_error.0) kind res f (sym (ap (λ (x : TreeWords). x.as_is) same)) words_error.2 words_error.3

@@ -17,6 +17,6 @@ null_has c = record { trees = tree null none none; tree_is = refl; rooms = (refl
 pub one_null : IsOne IsNull (λ kind. ⊥)
 one_null = record {
   same_tree = λ a b p q. p ∙ sym q;
-  same_refusal = λ a b x y. absurd x;
+  same_error = λ a b x y. absurd x;
   apart = λ kind trees x y. x;
 }

@@ -4,10 +4,10 @@ use Rattle.std.specs.Result.{IsErrAnd}
 use Rattle.capnp_frame.specs.declared.error.Error.{Error}
 use Rattle.capnp_frame.specs.declared.error.ErrorKind.{ErrorKind}
 use Rattle.capnp_layout.specs.Prelude.{Trees}
-use Rattle.capnp_wire.specs.Prelude.{LacksWords, HasPart}
+use Rattle.capnp_wire.specs.Prelude.{WordsError, HasPart}
 use Rattle.capnp_wire.specs.declared.traits.TreeWords.{TreeWords}
 use Rattle.capnp_wire.proofs.views.PartWordLemmas.{part_words}
-use Rattle.capnp_values.specs.Fields.{RefusesRow}
+use Rattle.capnp_values.specs.Fields.{FieldsError}
 
 pub ok_not_err : {X : Type 0} (r : Result X Error) (x : X) (P : Error → Type 0) → r ≡ Ok x → IsErrAnd r P → ⊥
 ok_not_err {X = X} r x P is e = subst (λ (a : Result X Error). IsErrAnd a P) is e
@@ -19,13 +19,13 @@ pub same_words : (r : Result TreeWords Error) (x y : TreeWords) → r ≡ Ok x �
 same_words r x y a b = cc
 
 -- the first value of a row fails, or the row after it
-pub refused_first : (h : Trees → Type 0) (r rr : ErrorKind → Type 0) (c : Bool) (returned : Result TreeWords Error) (error : Error) (kind : ErrorKind) → returned ≡ Err error
-    → ((words : TreeWords) → HasPart h c words → returned ≡ Ok words) → ((k : ErrorKind) → LacksWords h r false k → IsErrAnd returned (λ e. e.kind ≡ k)) → RefusesRow h r rr kind
+pub error_first : (h : Trees → Type 0) (r rr : ErrorKind → Type 0) (c : Bool) (returned : Result TreeWords Error) (error : Error) (kind : ErrorKind) → returned ≡ Err error
+    → ((words : TreeWords) → HasPart h c words → returned ≡ Ok words) → ((k : ErrorKind) → WordsError h r false k → IsErrAnd returned (λ e. e.kind ≡ k)) → FieldsError h r rr kind
     → error.kind ≡ kind
-refused_first h r rr c returned error kind is found exact (inl lacks) = err_kind returned error kind is (exact kind lacks)
-refused_first h r rr c returned error kind is found exact (inr others) = let ok = found _ (part_words h c others.0 others.1) in absurd (cc)
+error_first h r rr c returned error kind is found exact (inl words_error) = err_kind returned error kind is (exact kind words_error)
+error_first h r rr c returned error kind is found exact (inr others) = let ok = found _ (part_words h c others.0 others.1) in absurd (cc)
 
-pub refused_rest : (h : Trees → Type 0) (r rr : ErrorKind → Type 0) (returned : Result TreeWords Error) (words : TreeWords) (kind : ErrorKind) → returned ≡ Ok words
-    → ((k : ErrorKind) → LacksWords h r false k → IsErrAnd returned (λ e. e.kind ≡ k)) → RefusesRow h r rr kind → rr kind
-refused_rest h r rr returned words kind is exact (inl lacks) = absurd (ok_not_err returned words (λ e. e.kind ≡ kind) is (exact kind lacks))
-refused_rest h r rr returned words kind is exact (inr others) = others.2
+pub error_rest : (h : Trees → Type 0) (r rr : ErrorKind → Type 0) (returned : Result TreeWords Error) (words : TreeWords) (kind : ErrorKind) → returned ≡ Ok words
+    → ((k : ErrorKind) → WordsError h r false k → IsErrAnd returned (λ e. e.kind ≡ k)) → FieldsError h r rr kind → rr kind
+error_rest h r rr returned words kind is exact (inl words_error) = absurd (ok_not_err returned words (λ e. e.kind ≡ kind) is (exact kind words_error))
+error_rest h r rr returned words kind is exact (inr others) = others.2

@@ -4,7 +4,7 @@ use Rattle.std.proofs.Common.{◌≡◌, ℕ, Bool, List, Result, Ok, Err, inl, 
 use Rattle.capnp_frame.specs.declared.error.Error.{Error}
 use Rattle.capnp_frame.specs.declared.error.ErrorKind.{ErrorKind}
 use Rattle.capnp_layout.specs.Prelude.{Trees}
-use Rattle.capnp_wire.specs.Prelude.{LacksWords, HasPart, HasRoomAt}
+use Rattle.capnp_wire.specs.Prelude.{WordsError, HasPart, HasRoomAt}
 use Rattle.capnp_wire.specs.declared.traits.TreeWords.{TreeWords}
 use Rattle.capnp_values.specs.Measured.{Measures}
 use Rattle.capnp_values.specs.Fields.{CanWriteRow, IsRowWritten}
@@ -17,13 +17,13 @@ part_declared m c words p = record { trees = p.trees; tree_is = m.trees_declared
 pub part_made : {a b : Trees → Type 0} {r s : ErrorKind → Type 0} → IsAsDeclared a b r s → (c : Bool) (words : TreeWords) → HasPart b c words → HasPart a c words
 part_made m c words p = record { trees = p.trees; tree_is = m.trees_are p.trees p.tree_is; rooms = p.rooms; as_is_same = p.as_is_same; output_is = p.output_is; few = p.few }
 
-pub lacks_declared : {a b : Trees → Type 0} {r s : ErrorKind → Type 0} → IsAsDeclared a b r s → (c : Bool) (kind : ErrorKind) → LacksWords a r c kind → LacksWords b s c kind
-lacks_declared m c kind (inl refused) = inl (m.reasons_declared kind refused)
-lacks_declared m c kind (inr (trees, is, many, kind_is)) = inr (trees, m.trees_declared trees is, many, kind_is)
+pub words_error_declared : {a b : Trees → Type 0} {r s : ErrorKind → Type 0} → IsAsDeclared a b r s → (c : Bool) (kind : ErrorKind) → WordsError a r c kind → WordsError b s c kind
+words_error_declared m c kind (inl errors) = inl (m.reasons_declared kind errors)
+words_error_declared m c kind (inr (trees, is, many, kind_is)) = inr (trees, m.trees_declared trees is, many, kind_is)
 
-pub lacks_made : {a b : Trees → Type 0} {r s : ErrorKind → Type 0} → IsAsDeclared a b r s → (c : Bool) (kind : ErrorKind) → LacksWords b s c kind → LacksWords a r c kind
-lacks_made m c kind (inl refused) = inl (m.reasons_are kind refused)
-lacks_made m c kind (inr (trees, is, many, kind_is)) = inr (trees, m.trees_are trees is, many, kind_is)
+pub words_error_made : {a b : Trees → Type 0} {r s : ErrorKind → Type 0} → IsAsDeclared a b r s → (c : Bool) (kind : ErrorKind) → WordsError b s c kind → WordsError a r c kind
+words_error_made m c kind (inl errors) = inl (m.reasons_are kind errors)
+words_error_made m c kind (inr (trees, is, many, kind_is)) = inr (trees, m.trees_are trees is, many, kind_is)
 
 pub room_made : {a b : Trees → Type 0} {r s : ErrorKind → Type 0} → IsAsDeclared a b r s → (c : Bool) (next room : ℕ) → HasRoomAt b c next room → HasRoomAt a c next room
 room_made m c next room p = record { trees = p.trees; tree_is = m.trees_are p.trees p.tree_is; rooms = p.rooms; fits = p.fits }

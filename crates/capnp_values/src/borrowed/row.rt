@@ -11,7 +11,7 @@ impl<'a, F: Fields> Fields for Borrowed<'a, F> {
 
     ghost has_trees = { λ row trees. F.has_trees row.value.now trees };
 
-    ghost refuses = { λ row kind. F.refuses row.value.now kind };
+    ghost fails = { λ row kind. F.fails row.value.now kind };
 
     ghost settled = { λ row trees is. F.settled row.value.now trees is };
 

@@ -39,15 +39,15 @@ impl<T, V, F> Field<T, V, F> {
 
 impl<T, V: SetterInput<T>, F: Fields> Fields for Field<T, V, F> {
     ghost use Rattle.std.specs.Prelude.{◌+◌};
-    ghost use Rattle.capnp_values.specs.Fields.{IsRow, RefusesRow};
+    ghost use Rattle.capnp_values.specs.Fields.{IsRow, FieldsError};
     ghost use Rattle.capnp_values.specs.FieldLaws.{settled_more};
 
     ghost size = { F.size + 1 };
 
     ghost has_trees = { λ row trees. IsRow (V.has_tree row.value) (F.has_trees row.rest) trees };
 
-    ghost refuses = { λ row kind.
-        RefusesRow (V.has_tree row.value) (V.refuses row.value) (F.refuses row.rest) kind };
+    ghost fails = { λ row kind.
+        FieldsError (V.has_tree row.value) (V.fails row.value) (F.fails row.rest) kind };
 
     ghost settled = { λ row trees is.
         settled_more F.size trees (V.has_tree row.value) (F.has_trees row.rest) is

@@ -17,7 +17,7 @@ impl Fields for NoFields {
 
     ghost has_trees = { λ row trees. trees ≡ none };
 
-    ghost refuses = { λ row kind. ⊥ };
+    ghost fails = { λ row kind. ⊥ };
 
     ghost settled = { λ row trees is. settled_none trees is };
 

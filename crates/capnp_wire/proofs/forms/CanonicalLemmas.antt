@@ -9,12 +9,12 @@ use Rattle.std.specs.Result.{IsErrAnd}
 use Rattle.capnp_frame.specs.declared.error.Error.{Error}
 use Rattle.capnp_frame.specs.declared.error.ErrorKind.{ErrorKind}
 use Rattle.capnp_frame.specs.declared.error.ErrorKind.TheVariants.{InvalidSegmentId}
-use Rattle.capnp_layout.specs.Prelude.{words_of, Form, Trees, none, tree, depth, total_words, message_of, word_at, At, nowhere, at, Root, root, Within, StopsWalk, no_segment, no_word, at_pointer as stops_at, Trimmed}
-use Rattle.capnp_wire.specs.Prelude.{IsInPreorder, IsCanonical, Passes, Ends, refused, not_canonical, RejectsCanonicity, no_first_segment, on_the_walk}
+use Rattle.capnp_layout.specs.Prelude.{words_of, Form, Trees, none, tree, depth, total_words, message_of, word_at, At, nowhere, at, Root, root, Within, WalkError, no_segment, no_word, at_pointer as error_at, Trimmed}
+use Rattle.capnp_wire.specs.Prelude.{IsInPreorder, IsCanonical, Passes, Ends, fails_with, not_canonical, CanonicityError, no_first_segment, on_the_walk}
 use Rattle.capnp_layout.proofs.objects.ObjectLemmas.{one_tree}
-use Rattle.capnp_wire.proofs.walks.StopLemmas.{stops_has_no_trees}
+use Rattle.capnp_wire.proofs.walks.WalkErrorLemmas.{walk_error_has_no_trees}
 use Rattle.capnp_wire.proofs.layouts.LaidOutLemmas.{word_stands}
-use Rattle.capnp_wire.proofs.walks.EndLemmas.{ends_stops, ends_not}
+use Rattle.capnp_wire.proofs.walks.EndLemmas.{ends_error, ends_not}
 use Rattle.capnp_wire.proofs.forms.ExactnessLemmas.{tests_are_exact}
 
 -- the one tree at the root
@@ -79,7 +79,7 @@ more_is_not (x ∷ y ∷ segments) bytes second c =
     let long : length (words_of x ∷ words_of y ∷ message_of segments) ≡ 1 = ap (λ (l : List (List ℕ)). length l) same in
     omega arith
 
-more_is_said : (segments : List (List ℕ)) (bytes : List ℕ) (nesting : ℕ) (limit : Option ℕ) (kind : ErrorKind) → slice_get segments 1 ≡ Some bytes → RejectsCanonicity (message_of segments) nesting limit kind → ⊥
+more_is_said : (segments : List (List ℕ)) (bytes : List ℕ) (nesting : ℕ) (limit : Option ℕ) (kind : ErrorKind) → slice_get segments 1 ≡ Some bytes → CanonicityError (message_of segments) nesting limit kind → ⊥
 more_is_said [] bytes nesting limit kind second unsaid = cc
 more_is_said (x ∷ []) bytes nesting limit kind second unsaid = cc
 more_is_said (x ∷ y ∷ segments) bytes nesting limit kind second (no_first_segment e) =
@@ -88,51 +88,51 @@ more_is_said (x ∷ y ∷ segments) bytes nesting limit kind second (on_the_walk
     let long : length (words_of x ∷ words_of y ∷ message_of segments) ≡ 1 = ap (λ (l : List (List ℕ)). length l) e in omega arith
 
 pub said_of_more : {E : Type 0} (segments : List (List ℕ)) (bytes : List ℕ) (nesting : ℕ) (limit : Option ℕ) (kind : ErrorKind) → slice_get segments 1 ≡ Some bytes
-    → RejectsCanonicity (message_of segments) nesting limit kind → E
+    → CanonicityError (message_of segments) nesting limit kind → E
 said_of_more segments bytes nesting limit kind second unsaid = absurd (more_is_said segments bytes nesting limit kind second unsaid)
 
-pub unsaid_of_none : (m : List (List ℕ)) (nesting : ℕ) (limit : Option ℕ) (kind : ErrorKind) → m ≡ [] → RejectsCanonicity m nesting limit kind → InvalidSegmentId 0 ≡ kind
+pub unsaid_of_none : (m : List (List ℕ)) (nesting : ℕ) (limit : Option ℕ) (kind : ErrorKind) → m ≡ [] → CanonicityError m nesting limit kind → InvalidSegmentId 0 ≡ kind
 unsaid_of_none m nesting limit kind none_there (no_first_segment e) = refl
 unsaid_of_none m nesting limit kind none_there (on_the_walk {segment = s} e ends) =
     let long : length (s ∷ []) ≡ 0 = ap (λ (l : List (List ℕ)). length l) (sym e ∙ none_there) in absurd (omega arith)
 
 -- errors of the walk are errors of the message
-pub unsaid_stops : (m : List (List ℕ)) (nesting : ℕ) (limit : Option ℕ) (kind : ErrorKind) → RejectsCanonicity m nesting limit kind → StopsWalk m (root ∷ []) nesting limit kind
-unsaid_stops m nesting limit kind (no_first_segment e) = stops_at (no_word (no_segment (ap (λ (l : List (List ℕ)). slice_get l 0) e)))
-unsaid_stops m nesting limit kind (on_the_walk {segment = s} e ends) =
-    subst (λ (x : List (List ℕ)). StopsWalk x (root ∷ []) nesting limit kind) (sym e) (ends_stops s (root ∷ []) nesting 1 limit kind ends)
+pub unsaid_error : (m : List (List ℕ)) (nesting : ℕ) (limit : Option ℕ) (kind : ErrorKind) → CanonicityError m nesting limit kind → WalkError m (root ∷ []) nesting limit kind
+unsaid_error m nesting limit kind (no_first_segment e) = error_at (no_word (no_segment (ap (λ (l : List (List ℕ)). slice_get l 0) e)))
+unsaid_error m nesting limit kind (on_the_walk {segment = s} e ends) =
+    subst (λ (x : List (List ℕ)). WalkError x (root ∷ []) nesting limit kind) (sym e) (ends_error s (root ∷ []) nesting 1 limit kind ends)
 
 -- what is passed on
 pub said : (m : List (List ℕ)) (segment : List ℕ) (nesting : ℕ) (limit : Option ℕ) (r : Result Bool Error) → m ≡ segment ∷ [] → IfOk r (λ is. IsTrue is ↔ IsCanonical (segment ∷ []))
-    → IfErr r (λ error. Ends segment (root ∷ []) nesting limit 1 (refused error.kind)) → MatchResult r (λ is. IsTrue is ↔ IsCanonical m) (λ error. RejectsCanonicity m nesting limit error.kind)
+    → IfErr r (λ error. Ends segment (root ∷ []) nesting limit 1 (fails_with error.kind)) → MatchResult r (λ is. IsTrue is ↔ IsCanonical m) (λ error. CanonicityError m nesting limit error.kind)
 said m segment nesting limit (Ok is) one ok err = subst (λ (x : List (List ℕ)). IsTrue is ↔ IsCanonical x) (sym one) ok
 said m segment nesting limit (Err e) one ok err = on_the_walk one err
 
 pub said_at : (m : List (List ℕ)) (segment : List ℕ) (nesting other : ℕ) (limit : Option ℕ) (r : Result Bool Error) → nesting ≡ other → m ≡ segment ∷ []
     → IfOk r (λ is. IsTrue is ↔ IsCanonical (segment ∷ []))
-    → IfErr r (λ error. Ends segment (root ∷ []) nesting limit 1 (refused error.kind)) → MatchResult r (λ is. IsTrue is ↔ IsCanonical m) (λ error. RejectsCanonicity m other limit error.kind)
+    → IfErr r (λ error. Ends segment (root ∷ []) nesting limit 1 (fails_with error.kind)) → MatchResult r (λ is. IsTrue is ↔ IsCanonical m) (λ error. CanonicityError m other limit error.kind)
 said_at m segment nesting other limit r same one ok err =
-    subst (λ (l : ℕ). MatchResult r (λ is. IsTrue is ↔ IsCanonical m) (λ error. RejectsCanonicity m l limit error.kind)) same (said m segment nesting limit r one ok err)
+    subst (λ (l : ℕ). MatchResult r (λ is. IsTrue is ↔ IsCanonical m) (λ error. CanonicityError m l limit error.kind)) same (said m segment nesting limit r one ok err)
 
 pub said_exactly : (m : List (List ℕ)) (segment : List ℕ) (nesting : ℕ) (limit : Option ℕ) (r : Result Bool Error) (kind : ErrorKind) → m ≡ segment ∷ []
-    → ((kind : ErrorKind) → Ends segment (root ∷ []) nesting limit 1 (refused kind) → IsErrAnd r (λ error. error.kind ≡ kind)) → RejectsCanonicity m nesting limit kind
+    → ((kind : ErrorKind) → Ends segment (root ∷ []) nesting limit 1 (fails_with kind) → IsErrAnd r (λ error. error.kind ≡ kind)) → CanonicityError m nesting limit kind
     → IsErrAnd r (λ error. error.kind ≡ kind)
 said_exactly m segment nesting limit r kind one exact (no_first_segment e) =
     let long : length (segment ∷ []) ≡ 0 = ap (λ (l : List (List ℕ)). length l) (sym one ∙ e) in absurd (omega arith)
 said_exactly m segment nesting limit r kind one exact (on_the_walk {segment = s} e ends) =
     let same : s ≡ segment = cc in
-    exact kind (subst (λ (x : List ℕ). Ends x (root ∷ []) nesting limit 1 (refused kind)) same ends)
+    exact kind (subst (λ (x : List ℕ). Ends x (root ∷ []) nesting limit 1 (fails_with kind)) same ends)
 
-pub said_where_found : (m : List (List ℕ)) (nesting : ℕ) (limit : Option ℕ) (r : Result Bool Error) → MatchResult r (λ is. IsTrue is ↔ IsCanonical m) (λ error. RejectsCanonicity m nesting limit error.kind)
+pub said_where_found : (m : List (List ℕ)) (nesting : ℕ) (limit : Option ℕ) (r : Result Bool Error) → MatchResult r (λ is. IsTrue is ↔ IsCanonical m) (λ error. CanonicityError m nesting limit error.kind)
     → (form : Form) (children : Trees) (traversed : ℕ) → Root m form children traversed → depth (tree form children none) ≤ nesting → Within limit traversed → IsOk r
 said_where_found m nesting limit (Ok is) returned form children traversed stand shallow fits = refl
 said_where_found m nesting limit (Err e) returned form children traversed stand shallow fits =
-    absurd (stops_has_no_trees m (root ∷ []) nesting traversed limit e.kind (tree form children none) (unsaid_stops m nesting limit e.kind returned) stand shallow fits)
+    absurd (walk_error_has_no_trees m (root ∷ []) nesting traversed limit e.kind (tree form children none) (unsaid_error m nesting limit e.kind returned) stand shallow fits)
 
-pub said_stops : (m : List (List ℕ)) (nesting : ℕ) (limit : Option ℕ) (r : Result Bool Error) → MatchResult r (λ is. IsTrue is ↔ IsCanonical m) (λ error. RejectsCanonicity m nesting limit error.kind)
-    → IfErr r (λ error. StopsWalk m (root ∷ []) nesting limit error.kind)
-said_stops m nesting limit (Ok is) returned = tt
-said_stops m nesting limit (Err e) returned = unsaid_stops m nesting limit e.kind returned
+pub said_error : (m : List (List ℕ)) (nesting : ℕ) (limit : Option ℕ) (r : Result Bool Error) → MatchResult r (λ is. IsTrue is ↔ IsCanonical m) (λ error. CanonicityError m nesting limit error.kind)
+    → IfErr r (λ error. WalkError m (root ∷ []) nesting limit error.kind)
+said_error m nesting limit (Ok is) returned = tt
+said_error m nesting limit (Err e) returned = unsaid_error m nesting limit e.kind returned
 
 -- how a walk's result is judged
 eq_or_not : (a b : ℕ) → (a ≡ b) ⊎ (a ≡ b → ⊥)

@@ -2,8 +2,8 @@
 use Rattle.std.proofs.Common.{◌≡◌, [], ◌∷◌, Some, None, refl, lit<, arith}
 use Rattle.capnp_frame.specs.declared.error.ErrorKind.TheVariants.{PointerOutOfBounds, InvalidSegmentId}
 use Rattle.capnp_layout.specs.Prelude.{null, struct, numbers, structs, none, tree, root, canon}
-use Rattle.capnp_wire.specs.Prelude.{IsCanonical, Ends, not_canonical, far, at_pointer, RejectsCanonicity, no_first_segment, on_the_walk}
-use Rattle.capnp_wire.proofs.WorkedRows.{hello, hello_words, hello_stands, hello_far, five, seven, letter, null_stands, empty_stands, past_end_refused}
+use Rattle.capnp_wire.specs.Prelude.{IsCanonical, Ends, not_canonical, far, at_pointer, CanonicityError, no_first_segment, on_the_walk}
+use Rattle.capnp_wire.proofs.WorkedRows.{hello, hello_words, hello_stands, hello_far, five, seven, letter, null_stands, empty_stands, past_end_error}
 
 pub hello_canon : canon hello ≡ hello_words
 hello_canon = refl
@@ -50,8 +50,8 @@ shared_canon = refl
 pub foreign_ends : Ends (0x700000002 ∷ []) (root ∷ []) 64 None 1 not_canonical
 foreign_ends = far (0x700000002, refl, refl)
 
-pub past_end_unsaid : RejectsCanonicity ((4 ∷ []) ∷ []) 64 None PointerOutOfBounds
-past_end_unsaid = on_the_walk refl (at_pointer (λ f. (let there : Some 4 ≡ Some f.0 = f.1 in let k = f.2 in let same : 4 ≡ f.0 = cc in omega arith)) past_end_refused)
+pub past_end_unsaid : CanonicityError ((4 ∷ []) ∷ []) 64 None PointerOutOfBounds
+past_end_unsaid = on_the_walk refl (at_pointer (λ f. (let there : Some 4 ≡ Some f.0 = f.1 in let k = f.2 in let same : 4 ≡ f.0 = cc in omega arith)) past_end_error)
 
-pub no_segment_unsaid : RejectsCanonicity [] 64 None (InvalidSegmentId 0)
+pub no_segment_unsaid : CanonicityError [] 64 None (InvalidSegmentId 0)
 no_segment_unsaid = no_first_segment refl

@@ -4,7 +4,7 @@ use Rattle.std.proofs.Common.{subst, arith, Some, slice_get}
 use Rattle.std.specs.Prelude.{All}
 use Rattle.capnp_frame.specs.declared.error.Error.{Error}
 use Rattle.capnp_layout.specs.Prelude.{words_from, struct, Trees, none, tree, object_size, total_words, places, words_in, At, output, AllHaveRoom, fill, output_body_of, pointer_of_body, row_size, kept_in, slots_of, too_large}
-use Rattle.capnp_wire.specs.Prelude.{WalkedAll, put_own, IsCopied, CopiesAll, HasWords, LacksWords, HasRoomAt, IsTreeOf, StopsInside, HoldsPointers, fields_at}
+use Rattle.capnp_wire.specs.Prelude.{WalkedAll, put_own, IsCopied, CopiesAll, HasWords, WordsError, HasRoomAt, IsTreeOf, WalkErrorInside, HoldsPointers, fields_at}
 use Rattle.capnp_wire.specs.declared.layout.copy.Copied.{Copied}
 use Rattle.capnp_layout.specs.declared.place.Place.{Place}
 use Rattle.capnp_layout.specs.declared.pointer.StructSize.{StructSize}
@@ -44,7 +44,7 @@ pub struct_measured : (m : List (List ℕ)) (words : List ℕ) (start : Place) (
     → total ≡ words_in (output_body_of c words start.word (Struct size)) + w.words → (r : Result ℕ Error)
     → MatchResult r (λ number. (number ≡ total) × (number < 2 ^ 29)) (λ error. (2 ^ 29 ≤ total) × (error.kind ≡ too_large c total))
     → MatchResult r (λ number. HasWords (IsTreeOf (fields_at m words start size nesting limit)) c number)
-    (λ error. LacksWords (IsTreeOf (fields_at m words start size nesting limit)) (StopsInside (fields_at m words start size nesting limit)) c error.kind)
+    (λ error. WordsError (IsTreeOf (fields_at m words start size nesting limit)) (WalkErrorInside (fields_at m words start size nesting limit)) c error.kind)
 struct_measured m words start size nesting limit left c counted_then counted_now here room d p all w total total_is (Ok number) returned =
     let sum = output_total m words start size c w.stand.trees w.traversed here room w.stand.stand w.stand.rooms in
     record {

@@ -5,7 +5,7 @@ use Rattle.capnp_frame.specs.declared.error.ErrorKind.{ErrorKind}
 use Rattle.capnp_layout.specs.Prelude.{word_at, PointsTo, nothing, is_null as null_there, NoWord}
 use Rattle.capnp_wire.specs.Prelude.{Pointer, Denotes, nowhere, at_place}
 use Rattle.capnp_layout.specs.declared.place.Place.{Place}
-use Rattle.capnp_layout.proofs.pointers.FaultLemmas.{no_word_there, word_of_object, word_of_null}
+use Rattle.capnp_layout.proofs.pointers.PointerErrorLemmas.{no_word_there, word_of_object, word_of_null}
 
 pub null_by_word : (p : Pointer) (place : Place) (word : ℕ) → p.place ≡ Some place → word_at p.message place ≡ Some word → nat_eq word 0 ≡ true → Denotes p nothing
 null_by_word p place word e f is = at_place e (null_there (f ∙ ap Some (eqb-true word 0 is))) (λ not. cc)

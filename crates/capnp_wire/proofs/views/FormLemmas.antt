@@ -6,7 +6,7 @@ use Rattle.capnp_frame.specs.declared.error.Error.{Error}
 use Rattle.capnp_frame.specs.declared.error.ErrorKind.{ErrorKind}
 use Rattle.capnp_frame.specs.declared.error.ErrorKind.TheVariants.{WrongPointerKind, TextNotTerminated}
 use Rattle.capnp_layout.specs.Prelude.{words_of, words_from, code_of, Form, numbers, elements, places, Within, shape_of}
-use Rattle.capnp_wire.specs.Prelude.{Pointer, at_place, Shows, Reads, Refuses, IsText, HasData, TakesNumbers, TakesText, TakesStruct, DeclinesNumbers, DeclinesText, DeclinesStruct, IsEntered, form_of}
+use Rattle.capnp_wire.specs.Prelude.{Pointer, at_place, Shows, Reads, ViewError, IsText, HasData, TakesNumbers, TakesText, TakesStruct, NumbersFormError, TextFormError, StructFormError, IsEntered, form_of}
 use Rattle.capnp_layout.specs.declared.place.Place.{Place}
 use Rattle.capnp_layout.specs.declared.element_size.ElementSize.{ElementSize}
 use Rattle.capnp_layout.specs.declared.element_size.ElementSize.TheVariants.{Void, Bit, Byte, TwoBytes, FourBytes, EightBytes}
@@ -31,12 +31,12 @@ entered_reads p object fact entered holds = (
 )
 
 -- and a view of the object is one of its pointer
-pub entered_view : {V : Type 0} (p : Pointer) (object : ReadObject) (shows : V → Form → Type 0) (declines : Form → ErrorKind → Type 0)
+pub entered_view : {V : Type 0} (p : Pointer) (object : ReadObject) (shows : V → Form → Type 0) (form_error : Form → ErrorKind → Type 0)
     (result : Result V Error) → IsEntered p object
-    → MatchResult result (λ view. shows view (form_of object)) (λ error. declines (form_of object) error.kind)
-    → MatchResult result (λ view. Reads p (shows view)) (λ error. Refuses p declines error.kind)
-entered_view p object shows declines (Ok view) entered holds = entered_reads p object (shows view) entered holds
-entered_view p object shows declines (Err error) entered holds = inr (entered_shows p object (λ form. declines form error.kind) entered holds)
+    → MatchResult result (λ view. shows view (form_of object)) (λ error. form_error (form_of object) error.kind)
+    → MatchResult result (λ view. Reads p (shows view)) (λ error. ViewError p form_error error.kind)
+entered_view p object shows form_error (Ok view) entered holds = entered_reads p object (shows view) entered holds
+entered_view p object shows form_error (Err error) entered holds = inr (entered_shows p object (λ form. form_error form error.kind) entered holds)
 
 pub entered_shown : (p : Pointer) (object : ReadObject) (fact : Form → List Place → Type 0) → IsEntered p object
     → (let shape = shape_of (words_of object.segment.now) object.start object.body in fact shape.form shape.children)
@@ -47,7 +47,7 @@ entered_shown p object fact entered holds = (
   (holds, entered.within),
 )
 
--- a view does not decline a list of numbers that it accepts
+-- a view does not reject a list of numbers that it accepts
 pub numbers_form : (object : ReadObject) (sizes : ElementSize) (n : ℕ) (values : List ℕ) → object.body ≡ Numbers sizes n
     → values ≡ elements (words_of object.segment.now) object.start.word (code_of sizes) n → form_of object ≡ numbers (code_of sizes) values
 numbers_form object sizes n values body values_are =
@@ -73,7 +73,7 @@ other_numbers words start (Pointers n) wanted none t = t
 other_numbers words start (Structs elements_there following) wanted none t = t
 
 pub other_than_numbers : (object : ReadObject) (wanted : ElementSize) (kind : ErrorKind) → ((n : ℕ) → object.body ≡ Numbers wanted n → ⊥)
-    → kind ≡ WrongPointerKind → DeclinesNumbers (code_of wanted) (form_of object) kind
+    → kind ≡ WrongPointerKind → NumbersFormError (code_of wanted) (form_of object) kind
 other_than_numbers object wanted kind none is = (other_numbers (words_of object.segment.now) object.start object.body wanted none, is)
 
 other_struct : (words : List ℕ) (start : Place) (body : Body) → ((size : StructSize) → body ≡ Struct size → ⊥) → TakesStruct (shape_of words start body).form → ⊥
@@ -82,7 +82,7 @@ other_struct words start (Numbers size n) none t = t
 other_struct words start (Pointers n) none t = t
 other_struct words start (Structs elements_there following) none t = t
 
-pub other_than_struct : (object : ReadObject) (kind : ErrorKind) → ((size : StructSize) → object.body ≡ Struct size → ⊥) → kind ≡ WrongPointerKind → DeclinesStruct (form_of object) kind
+pub other_than_struct : (object : ReadObject) (kind : ErrorKind) → ((size : StructSize) → object.body ≡ Struct size → ⊥) → kind ≡ WrongPointerKind → StructFormError (form_of object) kind
 other_than_struct object kind none is = (other_struct (words_of object.segment.now) object.start object.body none, is)
 
 -- the fields of a struct that was entered
@@ -116,8 +116,8 @@ pub ends_with_zero : (form : Form) (bytes text : List ℕ) → form ≡ numbers 
 ends_with_zero form bytes text is ends = subst (λ f. IsText f text) (sym is) (refl, ends)
 
 pub no_zero_at_end : (form : Form) (bytes : List ℕ) (kind : ErrorKind) → form ≡ numbers 2 bytes
-    → ((text : List ℕ) → bytes ≡ text ++ 0 ∷ [] → ⊥) → kind ≡ TextNotTerminated → DeclinesText form kind
+    → ((text : List ℕ) → bytes ≡ text ++ 0 ∷ [] → ⊥) → kind ≡ TextNotTerminated → TextFormError form kind
 no_zero_at_end form bytes kind form_is none is =
-    let declined : (TakesNumbers 2 (numbers 2 bytes)) × (TakesText (numbers 2 bytes) → ⊥) × (kind ≡ TextNotTerminated) =
+    let form_errors : (TakesNumbers 2 (numbers 2 bytes)) × (TakesText (numbers 2 bytes) → ⊥) × (kind ≡ TextNotTerminated) =
     (refl, (λ t. none t.1.0 t.1.1), is) in
-    subst (λ f. DeclinesText f kind) (sym form_is) (inr declined)
+    subst (λ f. TextFormError f kind) (sym form_is) (inr form_errors)

@@ -4,8 +4,8 @@ use Rattle.std.proofs.Common.{inl, inr, refl, sym, ◌∙◌, ap, subst, arith}
 use Rattle.std.specs.Prelude.{All}
 use Rattle.capnp_frame.specs.declared.error.Error.{Error}
 use Rattle.capnp_frame.specs.declared.error.ErrorKind.TheVariants.{InvalidSegmentId}
-use Rattle.capnp_layout.specs.Prelude.{Form, pointers, Trees, none, tree, count, total_words, places, row_places, rows_from, At, StopsWalk, no_word, no_segment, at_pointer, run, output, struct_pointer, list_pointer, HasRoom, AllHaveRoom, put, put_rows, fill, least_size, kept_places, row_slots, too_large}
-use Rattle.capnp_wire.specs.Prelude.{WalkedAll, CanCopy, CopiesAll, IsCopied, HasWords, LacksWords, HasRoomAt, HoldsPointers, PointerList, IsListTree, StopsInList, pointers_along, pointers_of_structs, structs_along}
+use Rattle.capnp_layout.specs.Prelude.{Form, pointers, Trees, none, tree, count, total_words, places, row_places, rows_from, At, WalkError, no_word, no_segment, at_pointer, run, output, struct_pointer, list_pointer, HasRoom, AllHaveRoom, put, put_rows, fill, least_size, kept_places, row_slots, too_large}
+use Rattle.capnp_wire.specs.Prelude.{WalkedAll, CanCopy, CopiesAll, IsCopied, HasWords, WordsError, HasRoomAt, HoldsPointers, PointerList, IsListTree, WalkErrorInList, pointers_along, pointers_of_structs, structs_along}
 use Rattle.capnp_wire.specs.declared.layout.copy.Copied.{Copied}
 use Rattle.capnp_layout.specs.declared.place.Place.{Place}
 use Rattle.capnp_layout.specs.declared.pointer.Elements.{Elements}
@@ -17,23 +17,23 @@ use Rattle.capnp_layout.proofs.trees.StandLemmas.{count_at}
 use Rattle.capnp_layout.proofs.trees.KeptLemmas.{long_places}
 use Rattle.capnp_layout.proofs.trees.TrimLemmas.{count-trim, room_trim}
 use Rattle.capnp_layout.proofs.trees.StoodLemmas.{structs_total}
-use Rattle.capnp_wire.proofs.walks.StopLemmas.{stops_has_no_trees, one_stop}
+use Rattle.capnp_wire.proofs.walks.WalkErrorLemmas.{walk_error_has_no_trees, one_walk_error}
 use Rattle.capnp_wire.proofs.walks.ProgressLemmas.{progress_begins, progress_done}
 use Rattle.capnp_layout.proofs.pointers.PointerSlotLemmas.{kept_nothing}
 use Rattle.capnp_wire.proofs.layouts.CopyLemmas.{split_first}
-use Rattle.capnp_layout.proofs.layouts.CopiedLemmas.{fault_no_tree}
+use Rattle.capnp_layout.proofs.layouts.CopiedLemmas.{error_no_tree}
 use Rattle.capnp_wire.proofs.layouts.CopiedLemmas.{in_run}
 use Rattle.capnp_wire.proofs.layouts.OpenLemmas.{Opened, OpenedRows, pointers_open, room_output}
 use Rattle.capnp_wire.proofs.layouts.OpenedLemmas.{rows_plain, rows_trimmed}
 use Rattle.capnp_wire.proofs.views.OneValueLemmas.{IsOne}
 
 -- a list is one tree
-pub one_of_list : (form : Form) (list : PointerList) → IsOne (IsListTree form list) (StopsInList list)
+pub one_of_list : (form : Form) (list : PointerList) → IsOne (IsListTree form list) (WalkErrorInList list)
 one_of_list form list = record {
   same_tree = λ a b x y.
       x.whole ∙ ap (λ (t : Trees). tree form t none) (one_tree list.message list.children x.children y.children x.traversed y.traversed x.stand y.stand).0 ∙ sym y.whole;
-  same_refusal = one_stop list.message list.children list.nesting list.limit;
-  apart = λ kind trees stops t. stops_has_no_trees list.message list.children list.nesting t.traversed list.limit kind t.children stops t.stand t.shallow t.within;
+  same_error = one_walk_error list.message list.children list.nesting list.limit;
+  apart = λ kind trees walk_error t. walk_error_has_no_trees list.message list.children list.nesting t.traversed list.limit kind t.children walk_error t.stand t.shallow t.within;
 }
 
 -- and the same whatever the limit
@@ -52,7 +52,7 @@ pub list_measured : (form : Form) (m : List (List ℕ)) (at : List Place) (nesti
     → (w : WalkedAll m c at nesting limit left counted_then counted_now) → (total : ℕ) → total ≡ own + w.words → (r : Result ℕ Error)
     → MatchResult r (λ number. (number ≡ total) × (number < 2 ^ 29)) (λ error. (2 ^ 29 ≤ total) × (error.kind ≡ too_large c total))
     → let list : PointerList = record { message = m; children = at; nesting = nesting; limit = limit } in
-    MatchResult r (λ number. HasWords (IsListTree form list) c number) (λ error. LacksWords (IsListTree form list) (StopsInList list) c error.kind)
+    MatchResult r (λ number. HasWords (IsListTree form list) c number) (λ error. WordsError (IsListTree form list) (WalkErrorInList list) c error.kind)
 list_measured form m at nesting limit left c counted_then counted_now own o w total total_is (Ok number) returned = record {
   trees = tree form w.stand.trees none;
   tree_is = record { children = w.stand.trees; traversed = w.traversed; stand = w.stand.stand; shallow = w.stand.shallow; within = w.within; whole = refl };
@@ -91,10 +91,10 @@ none_walked m first n c nesting limit counted is =
     subst (λ (k : ℕ). WalkedAll m c (places first.segment first.word k) nesting limit limit counted counted) (sym is) (progress_done refl (progress_begins m c [] nesting limit counted))
 
 -- it stops at the first of them where there is no segment
-pub no_segment_stops : (m : List (List ℕ)) (first : Place) (n nesting : ℕ) (limit : Option ℕ) → 0 < n → slice_get m first.segment ≡ None
-    → StopsWalk m (places first.segment first.word n) nesting limit (InvalidSegmentId first.segment)
-no_segment_stops m first zero nesting limit some missing = absurd (omega arith)
-no_segment_stops m first (suc n) nesting limit some missing = at_pointer (no_word (no_segment missing))
+pub no_segment_error : (m : List (List ℕ)) (first : Place) (n nesting : ℕ) (limit : Option ℕ) → 0 < n → slice_get m first.segment ≡ None
+    → WalkError m (places first.segment first.word n) nesting limit (InvalidSegmentId first.segment)
+no_segment_error m first zero nesting limit some missing = absurd (omega arith)
+no_segment_error m first (suc n) nesting limit some missing = at_pointer (no_word (no_segment missing))
 
 output_pointers : (c : Bool) (children : Trees) → output c (tree pointers children none) ≡ tree pointers (output c children) none
 output_pointers true children = refl
@@ -124,7 +124,7 @@ no_pointers_there m first zero nesting c next room missing can = refl
 no_pointers_there m first (suc n) nesting c next room missing can =
     let place : Place = record { segment = first.segment; word = first.word } in
     let s = split_first m place (places first.segment (first.word + 1) n) nesting c next room can in
-    absurd (fault_no_tree m place nesting _ s.first.trees s.first.traversed (no_word (no_segment missing)) s.first.stand s.first.shallow)
+    absurd (error_no_tree m place nesting _ s.first.trees s.first.traversed (no_word (no_segment missing)) s.first.stand s.first.shallow)
 
 pub pointers_written : {m : List (List ℕ)} {first : Place} {n nesting : ℕ} {c : Bool} {gap next room : ℕ} {trees : Trees} {old new : List ℕ} {done : Copied}
     → Opened m [] first (Pointers n) (Pointers n) nesting c next room trees → length old ≡ room

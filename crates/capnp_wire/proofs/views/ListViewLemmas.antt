@@ -3,7 +3,7 @@ use Rattle.std.proofs.Common.{◌≡◌, ℕ, ◌+◌, ◌*◌, ◌/◌, ◌^◌
 use Rattle.capnp_frame.specs.declared.error.ErrorKind.{ErrorKind}
 use Rattle.capnp_frame.specs.declared.error.ErrorKind.TheVariants.{WrongPointerKind}
 use Rattle.capnp_layout.specs.Prelude.{number_of, words_of, words_from, code_of, width, words_for, HasRoom, Form, null, struct, numbers, pointers, structs, places, row_places, rows_from, Within, shape_of, room_of, words_in}
-use Rattle.capnp_wire.specs.Prelude.{Pointer, at_place, Shows, Accepts, Reads, TakesNumbers, IsNumbers, IsEntered, form_of, StructList, PointerList, HasRows, IsStructList, IsPointerList, TakesStructs, TakesPointers, DeclinesStructs, DeclinesPointers, structs_in}
+use Rattle.capnp_wire.specs.Prelude.{Pointer, at_place, Shows, Accepts, Reads, TakesNumbers, IsNumbers, IsEntered, form_of, StructList, PointerList, HasRows, IsStructList, IsPointerList, TakesStructs, TakesPointers, StructsFormError, PointersFormError, structs_in}
 use Rattle.capnp_layout.specs.declared.place.Place.{Place}
 use Rattle.capnp_layout.specs.declared.element_size.ElementSize.{ElementSize}
 use Rattle.capnp_layout.specs.declared.object.Body.{Body}
@@ -15,18 +15,18 @@ use Rattle.capnp_layout.proofs.objects.FieldLemmas.{length-places}
 use Rattle.capnp_layout.proofs.trees.RoomLemmas.{length-rows_from}
 use Rattle.capnp_wire.proofs.views.ViewLemmas.{Decides, wrong_kind_once, wrong_kind_unlimited}
 
-pub structs_decide : Decides TakesStructs DeclinesStructs
+pub structs_decide : Decides TakesStructs StructsFormError
 structs_decide = record {
-  apart = λ form kind declined. declined.0;
+  apart = λ form kind form_errors. form_errors.0;
   once = λ form kind other p q. wrong_kind_once kind other p.1 q.1;
-  unlimited = λ form kind declined. wrong_kind_unlimited kind declined.1;
+  unlimited = λ form kind form_errors. wrong_kind_unlimited kind form_errors.1;
 }
 
-pub pointers_decide : Decides TakesPointers DeclinesPointers
+pub pointers_decide : Decides TakesPointers PointersFormError
 pointers_decide = record {
-  apart = λ form kind declined. declined.0;
+  apart = λ form kind form_errors. form_errors.0;
   once = λ form kind other p q. wrong_kind_once kind other p.1 q.1;
-  unlimited = λ form kind declined. wrong_kind_unlimited kind declined.1;
+  unlimited = λ form kind form_errors. wrong_kind_unlimited kind form_errors.1;
 }
 
 -- what a list of structs shows is of a form that it accepts
@@ -43,7 +43,7 @@ structs_accepted p list read = (read.shown.0, read.shown.1, rows_taken read.show
 pub pointers_accepted : (p : Pointer) (list : PointerList) → IsPointerList p list → Accepts p TakesPointers
 pointers_accepted p list read = (read.shown.0, read.shown.1, read.shown.2.0)
 
--- an object of another kind is declined
+-- an object of another kind is rejected
 other_structs : (words : List ℕ) (start : Place) (body : Body) → ((elements : Elements) (following : ℕ) → body ≡ Structs elements following → ⊥) → TakesStructs (shape_of words start body).form → ⊥
 other_structs words start (Struct size) none t = t
 other_structs words start (Numbers size n) none t = t
@@ -51,7 +51,7 @@ other_structs words start (Pointers n) none t = t
 other_structs words start (Structs elements following) none t = none elements following refl
 
 pub other_than_structs : (object : ReadObject) (kind : ErrorKind) → ((elements : Elements) (following : ℕ) → object.body ≡ Structs elements following → ⊥)
-    → kind ≡ WrongPointerKind → DeclinesStructs (form_of object) kind
+    → kind ≡ WrongPointerKind → StructsFormError (form_of object) kind
 other_than_structs object kind none is = (other_structs (words_of object.segment.now) object.start object.body none, is)
 
 other_pointers : (words : List ℕ) (start : Place) (body : Body) → ((n : ℕ) → body ≡ Pointers n → ⊥) → TakesPointers (shape_of words start body).form → ⊥
@@ -60,7 +60,7 @@ other_pointers words start (Numbers size n) none t = t
 other_pointers words start (Pointers n) none t = none n refl
 other_pointers words start (Structs elements following) none t = t
 
-pub other_than_pointers : (object : ReadObject) (kind : ErrorKind) → ((n : ℕ) → object.body ≡ Pointers n → ⊥) → kind ≡ WrongPointerKind → DeclinesPointers (form_of object) kind
+pub other_than_pointers : (object : ReadObject) (kind : ErrorKind) → ((n : ℕ) → object.body ≡ Pointers n → ⊥) → kind ≡ WrongPointerKind → PointersFormError (form_of object) kind
 other_than_pointers object kind none is = (other_pointers (words_of object.segment.now) object.start object.body none, is)
 
 -- the elements of a list of structs that was entered

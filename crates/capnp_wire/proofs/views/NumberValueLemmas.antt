@@ -4,7 +4,7 @@ use Rattle.std.proofs.Common.{inl, refl, sym, ◌∙◌, ap, arith}
 use Rattle.capnp_frame.specs.declared.error.Error.{Error}
 use Rattle.capnp_frame.specs.declared.error.ErrorKind.TheVariants.{AllocationTooLarge}
 use Rattle.capnp_layout.specs.Prelude.{number_of, words_from, code_of, width, words_for, numbers, none, tree, total_words, elements as numerals, output}
-use Rattle.capnp_wire.specs.Prelude.{HasWords, LacksWords, IsNumbersTree, TooManyNumbers}
+use Rattle.capnp_wire.specs.Prelude.{HasWords, WordsError, IsNumbersTree, TooManyNumbers}
 use Rattle.capnp_layout.specs.declared.element_size.ElementSize.{ElementSize}
 use Rattle.capnp_layout.specs.declared.element_size.ElementSize.TheVariants.{Void, Bit, Byte, TwoBytes, FourBytes, EightBytes}
 use Rattle.std.proofs.lemmas.Nat.{pow_pos}
@@ -17,7 +17,7 @@ use Rattle.capnp_wire.proofs.views.OneValueLemmas.{IsOne}
 pub one_of_numbers : (code : ℕ) (values : List ℕ) → IsOne (IsNumbersTree code values) (TooManyNumbers code values)
 one_of_numbers code values = record {
   same_tree = λ a b x y. x.1 ∙ sym y.1;
-  same_refusal = λ a b x y. x.1 ∙ sym y.1;
+  same_error = λ a b x y. x.1 ∙ sym y.1;
   apart = λ kind trees x t. omega (arith, x.0, t.0);
 }
 
@@ -47,7 +47,7 @@ pub numbers_measured : (size : ElementSize) (words : List ℕ) (n : ℕ) (c : Bo
     (λ error. (2 ^ 29 ≤ n) × (error.kind ≡ AllocationTooLarge (min (words_for n (width (code_of size))) (2 ^ 32 - 1))))
     → let values = numerals words 0 (code_of size) n in
     MatchResult r (λ number. HasWords (IsNumbersTree (code_of size) values) c number)
-    (λ error. LacksWords (IsNumbersTree (code_of size) values) (TooManyNumbers (code_of size) values) c error.kind)
+    (λ error. WordsError (IsNumbersTree (code_of size) values) (TooManyNumbers (code_of size) values) c error.kind)
 numbers_measured size words n c (Ok number) m =
     let code : ℕ = code_of size in
     let values : List ℕ = numerals words 0 (code_of size) n in

@@ -4,7 +4,7 @@ use Rattle.capnp_frame.specs.declared.error.Error.{Error}
 use Rattle.capnp_frame.specs.declared.error.ErrorKind.{ErrorKind}
 use Rattle.capnp_frame.specs.declared.message.segments.ReaderSegments.{Ghosts}
 use Rattle.capnp_layout.specs.Prelude.{words_of, Form, shape_of}
-use Rattle.capnp_wire.specs.Prelude.{Pointer, IsViewOf, Accepts, Refuses, RejectsReading, IsEntered, IsObjectView, TakesAll}
+use Rattle.capnp_wire.specs.Prelude.{Pointer, IsViewOf, Accepts, ViewError, ObjectError, IsEntered, IsObjectView, TakesAll}
 use Rattle.capnp_wire.specs.declared.any_object.reader.Reader.{Reader}
 use Rattle.capnp_layout.specs.declared.object.Body.{Body}
 use Rattle.capnp_layout.specs.declared.object.Object.{Object as ReadObject}
@@ -21,33 +21,33 @@ pub entered_form : (p : Pointer) (object : ReadObject) (body : Body) (form : For
     → (shape_of (words_of object.segment.now) object.start body).form ≡ form → Accepts p (λ there. there ≡ form)
 entered_form p object body form entered is form_is = entered_kind p object body (λ there. there ≡ form) entered is form_is
 
--- every object is accepted, and none is declined
-abbrev DeclinesNone : Form → ErrorKind → Type 0
-DeclinesNone form kind = ⊥
+-- every object is accepted, and none is rejected
+abbrev NoFormError : Form → ErrorKind → Type 0
+NoFormError form kind = ⊥
 
-all_decide : Decides TakesAll DeclinesNone
+all_decide : Decides TakesAll NoFormError
 all_decide = record {
-  apart = λ form kind declined. absurd declined;
-  once = λ form kind other declined. absurd declined;
-  unlimited = λ form kind declined. absurd declined;
+  apart = λ form kind form_errors. absurd form_errors;
+  once = λ form kind other form_errors. absurd form_errors;
+  unlimited = λ form kind form_errors. absurd form_errors;
 }
 
 module _ {S : Type 0} {ghosts : Ghosts S} (segments : S → List (List ℕ)) (p : Pointer) where
   taken : (view : Reader S ghosts) → IsObjectView segments p view → Accepts p TakesAll
   taken view shown = (shown.kind.0, shown.kind.1, tt)
 
-  refused : (result : Result (Reader S ghosts) Error) → MatchResult result (IsObjectView segments p) (λ error. RejectsReading p error.kind)
-      → MatchResult result (IsObjectView segments p) (λ error. Refuses p DeclinesNone error.kind)
-  refused (Ok view) returned = returned
-  refused (Err error) returned = inl returned
+  errors : (result : Result (Reader S ghosts) Error) → MatchResult result (IsObjectView segments p) (λ error. ObjectError p error.kind)
+      → MatchResult result (IsObjectView segments p) (λ error. ViewError p NoFormError error.kind)
+  errors (Ok view) returned = returned
+  errors (Err error) returned = inl returned
 
-  pub is_object_view : (result : Result (Reader S ghosts) Error) → MatchResult result (IsObjectView segments p) (λ error. RejectsReading p error.kind)
-      → IsViewOf p (IsObjectView segments p) (Accepts p TakesAll) (RejectsReading p) (λ kind. ⊥) result
+  pub is_object_view : (result : Result (Reader S ghosts) Error) → MatchResult result (IsObjectView segments p) (λ error. ObjectError p error.kind)
+      → IsViewOf p (IsObjectView segments p) (Accepts p TakesAll) (ObjectError p) (λ kind. ⊥) result
   is_object_view result returned =
-      let view = is_view_of p TakesAll DeclinesNone (IsObjectView segments p) all_decide taken result (refused result returned) in record {
+      let view = is_view_of p TakesAll NoFormError (IsObjectView segments p) all_decide taken result (errors result returned) in record {
         returned = returned;
         found = view.found;
         unlimited = view.unlimited;
         exact = view.exact;
-        declined = λ kind declined. absurd declined;
+        form_errors = λ kind form_errors. absurd form_errors;
       }

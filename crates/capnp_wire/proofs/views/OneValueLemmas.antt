@@ -3,21 +3,21 @@ use Rattle.std.proofs.Common.{◌≡◌, ℕ, Bool, List, [], ◌∷◌, Option,
 use Rattle.std.specs.Result.{IsErrAnd}
 use Rattle.capnp_frame.specs.declared.error.Error.{Error}
 use Rattle.capnp_frame.specs.declared.error.ErrorKind.{ErrorKind}
-use Rattle.capnp_layout.specs.Prelude.{null, struct, Trees, none, tree, total_words, output, StopsWalk, too_large}
-use Rattle.capnp_wire.specs.Prelude.{Pointer, Struct, TreeAt, HasWords, LacksWords, LeadsToTree, StopsWalkFrom, IsTreeOf, StopsInside}
+use Rattle.capnp_layout.specs.Prelude.{null, struct, Trees, none, tree, total_words, output, WalkError, too_large}
+use Rattle.capnp_wire.specs.Prelude.{Pointer, Struct, TreeAt, HasWords, WordsError, LeadsToTree, WalkErrorFrom, IsTreeOf, WalkErrorInside}
 use Rattle.capnp_layout.specs.declared.place.Place.{Place}
 use Rattle.capnp_layout.proofs.objects.ObjectLemmas.{one_tree}
-use Rattle.capnp_wire.proofs.walks.StopLemmas.{stops_has_no_trees, one_stop}
+use Rattle.capnp_wire.proofs.walks.WalkErrorLemmas.{walk_error_has_no_trees, one_walk_error}
 use Rattle.capnp_wire.proofs.views.SetterLemmas.{from_tree}
 
-pub record IsOne (has_tree : Trees → Type 0) (refuses : ErrorKind → Type 0) : Type 0 where
+pub record IsOne (has_tree : Trees → Type 0) (fails : ErrorKind → Type 0) : Type 0 where
   pub same_tree : (a b : Trees) → has_tree a → has_tree b → a ≡ b
-  pub same_refusal : (a b : ErrorKind) → refuses a → refuses b → a ≡ b
-  pub apart : (kind : ErrorKind) (trees : Trees) → refuses kind → has_tree trees → ⊥
+  pub same_error : (a b : ErrorKind) → fails a → fails b → a ≡ b
+  pub apart : (kind : ErrorKind) (trees : Trees) → fails kind → has_tree trees → ⊥
 
-has_or_lacks : (h : Trees → Type 0) (r : ErrorKind → Type 0) → IsOne h r → (c : Bool) (words : ℕ) (kind : ErrorKind) → HasWords h c words → LacksWords h r c kind → ⊥
-has_or_lacks h r one c words kind w (inl refused) = one.apart kind w.trees refused w.tree_is
-has_or_lacks h r one c words kind w (inr many) =
+has_or_error : (h : Trees → Type 0) (r : ErrorKind → Type 0) → IsOne h r → (c : Bool) (words : ℕ) (kind : ErrorKind) → HasWords h c words → WordsError h r c kind → ⊥
+has_or_error h r one c words kind w (inl errors) = one.apart kind w.trees errors w.tree_is
+has_or_error h r one c words kind w (inr many) =
     let same : total_words (output c w.trees) ≡ total_words (output c many.0) = ap (λ (t : Trees). total_words (output c t)) (one.same_tree w.trees many.0 w.tree_is many.1) in
     omega (arith, w.words_are, w.few, many.2, same)
 
@@ -25,26 +25,26 @@ one_measure : (h : Trees → Type 0) (r : ErrorKind → Type 0) → IsOne h r �
 one_measure h r one c words others w o =
     w.words_are ∙ ap (λ (t : Trees). total_words (output c t)) (one.same_tree w.trees o.trees w.tree_is o.tree_is) ∙ sym o.words_are
 
-one_lack : (h : Trees → Type 0) (r : ErrorKind → Type 0) → IsOne h r → (c : Bool) (a b : ErrorKind) → LacksWords h r c a → LacksWords h r c b → a ≡ b
-one_lack h r one c a b (inl x) (inl y) = one.same_refusal a b x y
-one_lack h r one c a b (inl x) (inr y) = absurd (one.apart a y.0 x y.1)
-one_lack h r one c a b (inr x) (inl y) = absurd (one.apart b x.0 y x.1)
-one_lack h r one c a b (inr x) (inr y) =
+one_words_error : (h : Trees → Type 0) (r : ErrorKind → Type 0) → IsOne h r → (c : Bool) (a b : ErrorKind) → WordsError h r c a → WordsError h r c b → a ≡ b
+one_words_error h r one c a b (inl x) (inl y) = one.same_error a b x y
+one_words_error h r one c a b (inl x) (inr y) = absurd (one.apart a y.0 x y.1)
+one_words_error h r one c a b (inr x) (inl y) = absurd (one.apart b x.0 y x.1)
+one_words_error h r one c a b (inr x) (inr y) =
     x.3 ∙ ap (λ (t : Trees). too_large c (total_words (output c t))) (one.same_tree x.0 y.0 x.1 y.1) ∙ sym y.3
 
 -- a value that lacks words fails for exactly this reason
 pub measured_exactly : (h : Trees → Type 0) (r : ErrorKind → Type 0) → IsOne h r → (c : Bool) (returned : Result ℕ Error)
-    → MatchResult returned (λ words. HasWords h c words) (λ error. LacksWords h r c error.kind)
-    → (kind : ErrorKind) → LacksWords h r c kind → IsErrAnd returned (λ error. error.kind ≡ kind)
-measured_exactly h r one c (Ok words) m kind lacks = absurd (has_or_lacks h r one c words kind m lacks)
-measured_exactly h r one c (Err error) m kind lacks = one_lack h r one c error.kind kind m lacks
+    → MatchResult returned (λ words. HasWords h c words) (λ error. WordsError h r c error.kind)
+    → (kind : ErrorKind) → WordsError h r c kind → IsErrAnd returned (λ error. error.kind ≡ kind)
+measured_exactly h r one c (Ok words) m kind words_error = absurd (has_or_error h r one c words kind m words_error)
+measured_exactly h r one c (Err error) m kind words_error = one_words_error h r one c error.kind kind m words_error
 
 -- and for one that has words exactly these are returned
 pub measured_found : (h : Trees → Type 0) (r : ErrorKind → Type 0) → IsOne h r → (c : Bool) (returned : Result ℕ Error)
-    → MatchResult returned (λ words. HasWords h c words) (λ error. LacksWords h r c error.kind)
+    → MatchResult returned (λ words. HasWords h c words) (λ error. WordsError h r c error.kind)
     → (words : ℕ) → HasWords h c words → returned ≡ Ok words
 measured_found h r one c (Ok others) m words w = ap (λ (n : ℕ). Ok n) (one_measure h r one c others words m w)
-measured_found h r one c (Err error) m words w = absurd (has_or_lacks h r one c words error.kind w m)
+measured_found h r one c (Err error) m words w = absurd (has_or_error h r one c words error.kind w m)
 
 -- the tree that a pointer leads to
 pub one_there : (o : Option Place) (m : List (List ℕ)) (nesting : ℕ) (limit : Option ℕ) (a b : Trees) → MatchOption o (a ≡ tree null none none) (λ place. TreeAt m place nesting limit a)
@@ -52,30 +52,30 @@ pub one_there : (o : Option Place) (m : List (List ℕ)) (nesting : ℕ) (limit 
 one_there None m nesting limit a b x y = x ∙ sym y
 one_there (Some place) m nesting limit a b x y = (one_tree m (place ∷ []) a b x.traversed y.traversed x.stand y.stand).0
 
-one_way : (p : Pointer) (a b : ErrorKind) → StopsWalkFrom p a → StopsWalkFrom p b → a ≡ b
+one_way : (p : Pointer) (a b : ErrorKind) → WalkErrorFrom p a → WalkErrorFrom p b → a ≡ b
 one_way p a b x y =
     let there = x.1 in
     let there_too = y.1 in
     let same : y.0 ≡ x.0 = cc in
-    one_stop p.message (x.0 ∷ []) p.nesting p.limit a b x.2 (subst (λ (place : Place). StopsWalk p.message (place ∷ []) p.nesting p.limit b) same y.2)
+    one_walk_error p.message (x.0 ∷ []) p.nesting p.limit a b x.2 (subst (λ (place : Place). WalkError p.message (place ∷ []) p.nesting p.limit b) same y.2)
 
-stops_or_leads : (p : Pointer) (kind : ErrorKind) (trees : Trees) → StopsWalkFrom p kind → LeadsToTree p trees → ⊥
-stops_or_leads p kind trees stops leads =
-    let t = from_tree p stops.0 trees stops.1 leads in
-    stops_has_no_trees p.message (stops.0 ∷ []) p.nesting t.traversed p.limit kind trees stops.2 t.stand t.shallow t.within
+error_or_leads : (p : Pointer) (kind : ErrorKind) (trees : Trees) → WalkErrorFrom p kind → LeadsToTree p trees → ⊥
+error_or_leads p kind trees walk_error leads =
+    let t = from_tree p walk_error.0 trees walk_error.1 leads in
+    walk_error_has_no_trees p.message (walk_error.0 ∷ []) p.nesting t.traversed p.limit kind trees walk_error.2 t.stand t.shallow t.within
 
-pub one_of_pointer : (p : Pointer) → IsOne (LeadsToTree p) (StopsWalkFrom p)
+pub one_of_pointer : (p : Pointer) → IsOne (LeadsToTree p) (WalkErrorFrom p)
 one_of_pointer p = record {
   same_tree = one_there p.place p.message p.nesting p.limit;
-  same_refusal = one_way p;
-  apart = stops_or_leads p;
+  same_error = one_way p;
+  apart = error_or_leads p;
 }
 
 -- the tree of a struct
-pub one_of_struct : (fields : Struct) → IsOne (IsTreeOf fields) (StopsInside fields)
+pub one_of_struct : (fields : Struct) → IsOne (IsTreeOf fields) (WalkErrorInside fields)
 one_of_struct fields = record {
   same_tree = λ a b x y.
       x.whole ∙ ap (λ (t : Trees). tree (struct fields.words) t none) (one_tree fields.message fields.children x.children y.children x.traversed y.traversed x.stand y.stand).0 ∙ sym y.whole;
-  same_refusal = one_stop fields.message fields.children fields.nesting fields.limit;
-  apart = λ kind trees stops t. stops_has_no_trees fields.message fields.children fields.nesting t.traversed fields.limit kind t.children stops t.stand t.shallow t.within;
+  same_error = one_walk_error fields.message fields.children fields.nesting fields.limit;
+  apart = λ kind trees walk_error t. walk_error_has_no_trees fields.message fields.children fields.nesting t.traversed fields.limit kind t.children walk_error t.stand t.shallow t.within;
 }

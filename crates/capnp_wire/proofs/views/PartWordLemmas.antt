@@ -113,5 +113,5 @@ null_at (Some place) p trees result e told is =
     ])
     (λ null_is. told.1 (at_place e (null_stands p.message place trees is.traversed is.stand null_is) (λ not. absurd (cc))))
 
-pub null_declared : (p : Pointer) (trees : Trees) (result : Bool) → (IsTrue result ↔ Denotes p nothing) → LeadsToTree p trees → result ≡ starts_with_null trees
-null_declared p trees result told is = null_at p.place p trees result refl told is
+pub null_reported : (p : Pointer) (trees : Trees) (result : Bool) → (IsTrue result ↔ Denotes p nothing) → LeadsToTree p trees → result ≡ starts_with_null trees
+null_reported p trees result told is = null_at p.place p trees result refl told is

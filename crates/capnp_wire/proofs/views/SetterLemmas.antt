@@ -9,7 +9,7 @@ use Rattle.capnp_frame.specs.Prelude.{bytes_of}
 use Rattle.capnp_frame.specs.declared.error.Error.{Error}
 use Rattle.capnp_frame.specs.declared.words.Word.{Word}
 use Rattle.capnp_layout.specs.Prelude.{number_of, words_of, Form, null, Trees, none, tree, total_words, trim, trim_form, trim_children, At, nowhere, at, root, body, layout, canon, output, AllHaveRoom, AllReach, numbers_of}
-use Rattle.capnp_wire.specs.Prelude.{IsCanonical, Pointer, IsCopied, TreeAt, Measured, RejectsTreeSize, HasWords, LacksWords, LeadsToTree, StopsWalkFrom, IsCanonicalForm}
+use Rattle.capnp_wire.specs.Prelude.{IsCanonical, Pointer, IsCopied, TreeAt, Measured, TreeSizeError, HasWords, WordsError, LeadsToTree, WalkErrorFrom, IsCanonicalForm}
 use Rattle.capnp_wire.specs.declared.layout.copy.Copied.{Copied}
 use Rattle.capnp_layout.specs.declared.place.Place.{Place}
 use Rattle.capnp_wire.proofs.forms.CanonLemmas.{root_of_canon, canon_tells}
@@ -44,10 +44,10 @@ none_has_words p c e = record {
 }
 
 pub measured_value : (p : Pointer) (place : Place) (c : Bool) (r : Result ℕ Error) → p.place ≡ Some place
-    → MatchResult r (λ words. Measured p.message place p.nesting p.limit c words) (λ error. RejectsTreeSize p.message place p.nesting p.limit c error.kind)
-    → MatchResult r (λ words. HasWords (LeadsToTree p) c words) (λ error. LacksWords (LeadsToTree p) (StopsWalkFrom p) c error.kind)
+    → MatchResult r (λ words. Measured p.message place p.nesting p.limit c words) (λ error. TreeSizeError p.message place p.nesting p.limit c error.kind)
+    → MatchResult r (λ words. HasWords (LeadsToTree p) c words) (λ error. WordsError (LeadsToTree p) (WalkErrorFrom p) c error.kind)
 measured_value p place c (Ok words) e m = record { trees = m.trees; tree_is = to_tree p place m.trees e m.tree_is; rooms = m.rooms; words_are = m.words_are; few = m.few }
-measured_value p place c (Err error) e (inl stops) = inl (place, e, stops)
+measured_value p place c (Err error) e (inl walk_error) = inl (place, e, walk_error)
 measured_value p place c (Err error) e (inr many) = inr (many.0, to_tree p place many.0 e many.1, many.2, many.3)
 
 -- a block after the eight bytes of its pointer

@@ -2,16 +2,16 @@
 use Rattle.std.proofs.lemmas.List.{length-map, get_or-map, get_or-take, get_or-drop}
 use Rattle.std.proofs.Common.{◌≡◌, ℕ, zero, suc, ◌+◌, ◌*◌, ◌/◌, ◌%◌, ◌^◌, ◌<◌, ◌≤◌, List, [], length, drop, slice_index_or, sym, ◌∙◌, ap, arith}
 use Rattle.capnp_layout.specs.Prelude.{words_from, width, Form, null, struct, numbers, pointers, structs, rows_from}
-use Rattle.capnp_wire.specs.Prelude.{Pointer, Accepts, Reads, first_fields, ReadsAsNumbers, TakesFields, DeclinesFields}
+use Rattle.capnp_wire.specs.Prelude.{Pointer, Accepts, Reads, first_fields, ReadsAsNumbers, TakesFields, FieldsFormError}
 use Rattle.capnp_layout.proofs.objects.RowLemmas.{row_within}
 use Rattle.capnp_layout.proofs.trees.RoomLemmas.{length-rows_from}
 use Rattle.capnp_wire.proofs.views.ViewLemmas.{Decides, wrong_kind_once, wrong_kind_unlimited}
 
-pub fields_decide : (code : ℕ) → Decides (TakesFields code) (DeclinesFields code)
+pub fields_decide : (code : ℕ) → Decides (TakesFields code) (FieldsFormError code)
 fields_decide code = record {
-  apart = λ form kind declined. declined.0;
+  apart = λ form kind form_errors. form_errors.0;
   once = λ form kind other p q. wrong_kind_once kind other p.1 q.1;
-  unlimited = λ form kind declined. wrong_kind_unlimited kind declined.1;
+  unlimited = λ form kind form_errors. wrong_kind_unlimited kind form_errors.1;
 }
 
 fields_taken : (form : Form) (code : ℕ) (values : List ℕ) → ReadsAsNumbers code form values → TakesFields code form

@@ -4,7 +4,7 @@ use Rattle.std.proofs.Common.{◌≡◌, ℕ, zero, suc, ◌+◌, ◌-◌, ◌*�
 use Rattle.capnp_frame.specs.declared.error.ErrorKind.{ErrorKind}
 use Rattle.capnp_frame.specs.declared.error.ErrorKind.TheVariants.{WrongPointerKind}
 use Rattle.capnp_layout.specs.Prelude.{words_of, Form, null, struct, numbers, pointers, structs, places, row_places, rows_from, shape_of}
-use Rattle.capnp_wire.specs.Prelude.{Pointer, Accepts, Refuses, IsEntered, PointerList, first_pointers, ReadsAsPointers, TakesFirstPointers, DeclinesFirstPointers, IsUpgradedPointers, stepped_places, pointers_from}
+use Rattle.capnp_wire.specs.Prelude.{Pointer, Accepts, ViewError, IsEntered, PointerList, first_pointers, ReadsAsPointers, TakesFirstPointers, FirstPointersFormError, IsUpgradedPointers, stepped_places, pointers_from}
 use Rattle.capnp_layout.specs.declared.place.Place.{Place}
 use Rattle.capnp_layout.specs.declared.object.Body.{Body}
 use Rattle.capnp_layout.specs.declared.object.Body.TheVariants.{Struct, Numbers, Pointers, Structs}
@@ -15,11 +15,11 @@ use Rattle.capnp_layout.proofs.trees.RoomLemmas.{length-rows_from}
 use Rattle.capnp_wire.proofs.views.FormLemmas.{entered_shown, entered_shows}
 use Rattle.capnp_wire.proofs.views.ViewLemmas.{Decides, wrong_kind_once, wrong_kind_unlimited}
 
-pub first_pointers_decide : Decides TakesFirstPointers DeclinesFirstPointers
+pub first_pointers_decide : Decides TakesFirstPointers FirstPointersFormError
 first_pointers_decide = record {
-  apart = λ form kind declined. declined.0;
+  apart = λ form kind form_errors. form_errors.0;
   once = λ form kind other p q. wrong_kind_once kind other p.1 q.1;
-  unlimited = λ form kind declined. wrong_kind_unlimited kind declined.1;
+  unlimited = λ form kind form_errors. wrong_kind_unlimited kind form_errors.1;
 }
 
 first_pointers_taken : (form : Form) (children there : List Place) → ReadsAsPointers form children there → TakesFirstPointers form
@@ -121,6 +121,6 @@ no_pointers_taken words start (Pointers n) none bare t = none n refl
 no_pointers_taken words start (Structs there following) none bare t = let no : there.size.pointers ≡ 0 = bare there following refl in absurd (omega (arith, no, t))
 
 pub no_first_pointers : (p : Pointer) (object : ReadObject) (kind : ErrorKind) → IsEntered p object → ((n : ℕ) → object.body ≡ Pointers n → ⊥)
-    → ((there : Elements) (following : ℕ) → object.body ≡ Structs there following → there.size.pointers ≡ 0) → kind ≡ WrongPointerKind → Refuses p DeclinesFirstPointers kind
+    → ((there : Elements) (following : ℕ) → object.body ≡ Structs there following → there.size.pointers ≡ 0) → kind ≡ WrongPointerKind → ViewError p FirstPointersFormError kind
 no_first_pointers p object kind entered none bare is =
-    inr (entered_shows p object (λ form. DeclinesFirstPointers form kind) entered (no_pointers_taken (words_of object.segment.now) object.start object.body none bare, is))
+    inr (entered_shows p object (λ form. FirstPointersFormError form kind) entered (no_pointers_taken (words_of object.segment.now) object.start object.body none bare, is))

@@ -5,7 +5,7 @@ use Rattle.std.specs.Prelude.{replicate}
 use Rattle.capnp_frame.specs.declared.error.ErrorKind.{ErrorKind}
 use Rattle.capnp_frame.specs.declared.error.ErrorKind.TheVariants.{WrongPointerKind}
 use Rattle.capnp_layout.specs.Prelude.{words_of, code_of, width, Form, null, struct, numbers, pointers, structs, elements, places, row_places, rows_from, shape_of}
-use Rattle.capnp_wire.specs.Prelude.{Pointer, Accepts, Refuses, IsEntered, form_of, StructList, structs_in, number_row, ReadsAsRows, TakesRows, DeclinesRows, IsUpgradedStructs, elements_without_data}
+use Rattle.capnp_wire.specs.Prelude.{Pointer, Accepts, ViewError, IsEntered, form_of, StructList, structs_in, number_row, ReadsAsRows, TakesRows, ElementsFormError, IsUpgradedStructs, elements_without_data}
 use Rattle.capnp_layout.specs.declared.place.Place.{Place}
 use Rattle.capnp_layout.specs.declared.element_size.ElementSize.{ElementSize}
 use Rattle.capnp_layout.specs.declared.element_size.ElementSize.TheVariants.{Void, Bit, Byte, TwoBytes, FourBytes, EightBytes}
@@ -19,11 +19,11 @@ use Rattle.capnp_layout.proofs.objects.FieldLemmas.{length-places}
 use Rattle.capnp_wire.proofs.views.FormLemmas.{entered_shown, entered_shows}
 use Rattle.capnp_wire.proofs.views.ViewLemmas.{Decides, wrong_kind_once, wrong_kind_unlimited}
 
-pub rows_decide : Decides TakesRows DeclinesRows
+pub rows_decide : Decides TakesRows ElementsFormError
 rows_decide = record {
-  apart = λ form kind declined. declined.0;
+  apart = λ form kind form_errors. form_errors.0;
   once = λ form kind other p q. wrong_kind_once kind other p.1 q.1;
-  unlimited = λ form kind declined. wrong_kind_unlimited kind declined.1;
+  unlimited = λ form kind form_errors. wrong_kind_unlimited kind form_errors.1;
 }
 
 rows_taken : (form : Form) (n p : ℕ) (rows : List (List ℕ)) → ReadsAsRows form n p rows → TakesRows form
@@ -163,18 +163,18 @@ numbers_upgraded p object size n values list entered body no_bits values_are is 
     (upgraded p object wanted entered refl refl refl (subst fact (sym body) ((no_bits, refl, ap (map (number_row (code_of size))) values_are), refl)))
 
 -- a struct, and bits
-pub struct_declined : (p : Pointer) (object : ReadObject) (size : StructSize) (kind : ErrorKind) → IsEntered p object → object.body ≡ Struct size → kind ≡ WrongPointerKind
-    → Refuses p DeclinesRows kind
-struct_declined p object size kind entered body is =
+pub struct_form_error : (p : Pointer) (object : ReadObject) (size : StructSize) (kind : ErrorKind) → IsEntered p object → object.body ≡ Struct size → kind ≡ WrongPointerKind
+    → ViewError p ElementsFormError kind
+struct_form_error p object size kind entered body is =
     let words = words_of object.segment.now in
     let untaken : TakesRows (form_of object) → ⊥ = subst (λ (b : Body). TakesRows (shape_of words object.start b).form → ⊥) (sym body) (λ t. t) in
-    inr (entered_shows p object (λ form. DeclinesRows form kind) entered (untaken, is))
+    inr (entered_shows p object (λ form. ElementsFormError form kind) entered (untaken, is))
 
-pub bits_declined : (p : Pointer) (object : ReadObject) (n : ℕ) (kind : ErrorKind) → IsEntered p object → object.body ≡ Numbers Bit n → kind ≡ WrongPointerKind → Refuses p DeclinesRows kind
-bits_declined p object n kind entered body is =
+pub bits_form_error : (p : Pointer) (object : ReadObject) (n : ℕ) (kind : ErrorKind) → IsEntered p object → object.body ≡ Numbers Bit n → kind ≡ WrongPointerKind → ViewError p ElementsFormError kind
+bits_form_error p object n kind entered body is =
     let words = words_of object.segment.now in
     let untaken : TakesRows (form_of object) → ⊥ = subst (λ (b : Body). TakesRows (shape_of words object.start b).form → ⊥) (sym body) (λ t. t refl) in
-    inr (entered_shows p object (λ form. DeclinesRows form kind) entered (untaken, is))
+    inr (entered_shows p object (λ form. ElementsFormError form kind) entered (untaken, is))
 
 -- an element that was a number
 pub some_row : (code value : ℕ) → 0 < code → number_row code value ≡ value ∷ []

@@ -3,7 +3,7 @@ use Rattle.std.proofs.Common.{◌≡◌, List, ℕ, inl, inr, sym, ◌∙◌}
 use Rattle.capnp_frame.specs.declared.error.ErrorKind.{ErrorKind}
 use Rattle.capnp_frame.specs.declared.message.segments.ReaderSegments.{Ghosts}
 use Rattle.capnp_layout.specs.Prelude.{code_of, Trees, pointers}
-use Rattle.capnp_wire.specs.Prelude.{struct_list_of, structs_of, pointers_in, upgraded_pointers_of, IsRowsValue, RefusesRows, numbers_in_rows, IsPointerListValue, RefusesPointerList}
+use Rattle.capnp_wire.specs.Prelude.{struct_list_of, structs_of, pointers_in, upgraded_pointers_of, IsRowsValue, ElementsValueError, numbers_in_rows, IsPointerListValue, PointerListValueError}
 use Rattle.capnp_wire.specs.declared.upgraded.pointer_list.PointerList.{PointerList}
 use Rattle.capnp_wire.specs.declared.upgraded.struct_list.Rows.{Rows}
 use Rattle.capnp_wire.specs.declared.upgraded.struct_list.Rows.TheVariants.{InPlace, Numbers}
@@ -12,24 +12,24 @@ use Rattle.capnp_wire.proofs.views.ListValueLemmas.{one_of_list}
 use Rattle.capnp_wire.proofs.views.NumberValueLemmas.{one_of_numbers}
 
 -- one that is read as a list of structs is one tree
-pub one_of_rows : {S : Type 0} {ghosts : Ghosts S} (segments : S → List (List ℕ)) (rows : Rows S ghosts) → IsOne (IsRowsValue segments rows) (RefusesRows segments rows)
+pub one_of_rows : {S : Type 0} {ghosts : Ghosts S} (segments : S → List (List ℕ)) (rows : Rows S ghosts) → IsOne (IsRowsValue segments rows) (ElementsValueError segments rows)
 one_of_rows segments (InPlace list) = one_of_list (structs_of segments list) (pointers_in (struct_list_of segments list))
 one_of_rows segments (Numbers rows) = one_of_numbers (code_of rows.size) (numbers_in_rows rows)
 
 -- and so is one that is read as a list of pointers
-one_refusal : {S : Type 0} (segments : S → List (List ℕ)) (list : PointerList S) (a b : ErrorKind) → RefusesPointerList segments list a → RefusesPointerList segments list b → a ≡ b
-one_refusal segments list a b (inl x) (inl y) = (one_of_list pointers (upgraded_pointers_of segments list)).same_refusal a b x.1 y.1
-one_refusal segments list a b (inl x) (inr y) = absurd (y.0 x.0)
-one_refusal segments list a b (inr x) (inl y) = absurd (x.0 y.0)
-one_refusal segments list a b (inr x) (inr y) = x.1 ∙ sym y.1
+one_error : {S : Type 0} (segments : S → List (List ℕ)) (list : PointerList S) (a b : ErrorKind) → PointerListValueError segments list a → PointerListValueError segments list b → a ≡ b
+one_error segments list a b (inl x) (inl y) = (one_of_list pointers (upgraded_pointers_of segments list)).same_error a b x.1 y.1
+one_error segments list a b (inl x) (inr y) = absurd (y.0 x.0)
+one_error segments list a b (inr x) (inl y) = absurd (x.0 y.0)
+one_error segments list a b (inr x) (inr y) = x.1 ∙ sym y.1
 
-refused_or_tree : {S : Type 0} (segments : S → List (List ℕ)) (list : PointerList S) (kind : ErrorKind) (trees : Trees) → RefusesPointerList segments list kind → IsPointerListValue segments list trees → ⊥
-refused_or_tree segments list kind trees (inl x) t = (one_of_list pointers (upgraded_pointers_of segments list)).apart kind trees x.1 t.1
-refused_or_tree segments list kind trees (inr x) t = x.0 t.0
+error_or_tree : {S : Type 0} (segments : S → List (List ℕ)) (list : PointerList S) (kind : ErrorKind) (trees : Trees) → PointerListValueError segments list kind → IsPointerListValue segments list trees → ⊥
+error_or_tree segments list kind trees (inl x) t = (one_of_list pointers (upgraded_pointers_of segments list)).apart kind trees x.1 t.1
+error_or_tree segments list kind trees (inr x) t = x.0 t.0
 
-pub one_of_pointers : {S : Type 0} (segments : S → List (List ℕ)) (list : PointerList S) → IsOne (IsPointerListValue segments list) (RefusesPointerList segments list)
+pub one_of_pointers : {S : Type 0} (segments : S → List (List ℕ)) (list : PointerList S) → IsOne (IsPointerListValue segments list) (PointerListValueError segments list)
 one_of_pointers segments list = record {
   same_tree = λ a b x y. (one_of_list pointers (upgraded_pointers_of segments list)).same_tree a b x.1 y.1;
-  same_refusal = one_refusal segments list;
-  apart = refused_or_tree segments list;
+  same_error = one_error segments list;
+  apart = error_or_tree segments list;
 }

@@ -4,7 +4,7 @@ use Rattle.std.proofs.Common.{◌≡◌, ℕ, zero, suc, ◌+◌, ◌<◌, ◌�
 use Rattle.capnp_frame.specs.declared.error.ErrorKind.{ErrorKind}
 use Rattle.capnp_frame.specs.declared.error.Error.{Error}
 use Rattle.capnp_layout.specs.Prelude.{total_words, output, put, too_large}
-use Rattle.capnp_wire.specs.Prelude.{Walked, TreeAt, Measured, RejectsTreeSize}
+use Rattle.capnp_wire.specs.Prelude.{Walked, TreeAt, Measured, TreeSizeError}
 use Rattle.capnp_layout.specs.declared.place.Place.{Place}
 
 pub drop_past : (n : ℕ) (xs : List ℕ) → length xs ≤ n → drop n xs ≡ []
@@ -35,13 +35,13 @@ measured m place nesting limit left c now words w is few = record {
 
 pub unmeasured : (m : List (List ℕ)) (place : Place) (nesting : ℕ) (limit left : Option ℕ) (c : Bool) (now : Option ℕ) (kind : ErrorKind)
     (w : Walked m c place nesting limit left (Some 0) now) → 2 ^ 29 ≤ 0 + w.words → kind ≡ too_large c (0 + w.words)
-    → RejectsTreeSize m place nesting limit c kind
+    → TreeSizeError m place nesting limit c kind
 unmeasured m place nesting limit left c now kind w many is =
     let words_are : 0 + w.words ≡ total_words (output c w.stand.trees) = omega (arith, w.stand.words_are) in
     inr (w.stand.trees, tree_at m place nesting limit left c (Some 0) now w, omega (arith, words_are), is ∙ ap (too_large c) words_are)
 
 pub result_fits : (m : List (List ℕ)) (place : Place) (nesting : ℕ) (limit left : Option ℕ) (c : Bool) (now : Option ℕ) (w : Walked m c place nesting limit left (Some 0) now) (r : Result ℕ Error)
     → MatchResult r (λ number. (number ≡ 0 + w.words) × (number < 2 ^ 29)) (λ error. (2 ^ 29 ≤ 0 + w.words) × (error.kind ≡ too_large c (0 + w.words)))
-    → MatchResult r (λ words. Measured m place nesting limit c words) (λ error. RejectsTreeSize m place nesting limit c error.kind)
+    → MatchResult r (λ words. Measured m place nesting limit c words) (λ error. TreeSizeError m place nesting limit c error.kind)
 result_fits m place nesting limit left c now w (Ok number) returned = measured m place nesting limit left c now number w returned.0 returned.1
 result_fits m place nesting limit left c now w (Err error) returned = unmeasured m place nesting limit left c now error.kind w returned.0 returned.1

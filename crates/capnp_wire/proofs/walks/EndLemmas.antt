@@ -2,8 +2,8 @@
 use Rattle.std.proofs.Common.{◌≡◌, ℕ, ◌+◌, ◌-◌, ◌^◌, ◌<◌, ◌≤◌, List, [], ◌∷◌, length, Option, Some, slice_get, slice_index_or, refl, sym, ◌∙◌, ap, subst, arith}
 use Rattle.std.specs.Prelude.{All}
 use Rattle.capnp_frame.specs.declared.error.ErrorKind.{ErrorKind}
-use Rattle.capnp_layout.specs.Prelude.{pointer_kind, Trees, none, tree, count, object_size, total_words, trim_form, trim_children, Shape, At, nowhere, at, less, TreesAt, StopsWalk, at_pointer as stops_at, over_limit as stops_over, inside as stops_inside, later as stops_later, pointer, slots, HasRoom, placed, Trimmed}
-use Rattle.capnp_wire.specs.Prelude.{Padded, IsInPreorder, IsFarAt, IsLaidOut, MeetsObject, Passes, refused, not_canonical, Ends, far, at_pointer, over_limit, elsewhere, inside, later}
+use Rattle.capnp_layout.specs.Prelude.{pointer_kind, Trees, none, tree, count, object_size, total_words, trim_form, trim_children, Shape, At, nowhere, at, less, TreesAt, WalkError, at_pointer as error_at, over_limit as error_over, inside as error_inside, later as error_later, pointer, slots, HasRoom, placed, Trimmed}
+use Rattle.capnp_wire.specs.Prelude.{Padded, IsInPreorder, IsFarAt, IsLaidOut, MeetsObject, Passes, fails_with, not_canonical, Ends, far, at_pointer, over_limit, elsewhere, inside, later}
 use Rattle.capnp_layout.specs.declared.place.Place.{Place}
 use Rattle.capnp_layout.proofs.objects.ObjectLemmas.{one_object, one_tree}
 use Rattle.capnp_layout.proofs.layouts.SizeLemmas.{Before, slots_before}
@@ -19,14 +19,14 @@ use Rattle.capnp_layout.proofs.trees.PlacedLemmas.{pointer_local}
 stand_of : (segment : List ℕ) (places : List Place) (nesting traversed next after : ℕ) (p : Passes segment places nesting traversed next after) → TreesAt (segment ∷ []) places nesting traversed (total_words p.trees)
 stand_of segment places nesting traversed next after p = record { trees = p.trees; stand = p.stand; shallow = p.shallow; words_are = refl }
 
-pub ends_stops : (segment : List ℕ) (places : List Place) (nesting next : ℕ) (limit : Option ℕ) (kind : ErrorKind) → Ends segment places nesting limit next (refused kind)
-    → StopsWalk (segment ∷ []) places nesting limit kind
-ends_stops segment places nesting next limit kind (at_pointer n f) = stops_at f
-ends_stops segment places nesting next limit kind (over_limit n o d p) = stops_over o d p
-ends_stops segment places nesting next limit kind (inside {shape = s} m l e) =
-    stops_inside m.object m.deep m.within (ends_stops segment s.children (nesting - 1) (next + object_size s.form (length s.children)) (less limit s.traversed) kind e)
-ends_stops segment places nesting next limit kind (later {place = place} {others = others} {traversed = traversed} {after = after} p w e) =
-    stops_later (stand_of segment (place ∷ []) nesting traversed next after p) w (ends_stops segment others nesting after (less limit traversed) kind e)
+pub ends_error : (segment : List ℕ) (places : List Place) (nesting next : ℕ) (limit : Option ℕ) (kind : ErrorKind) → Ends segment places nesting limit next (fails_with kind)
+    → WalkError (segment ∷ []) places nesting limit kind
+ends_error segment places nesting next limit kind (at_pointer n f) = error_at f
+ends_error segment places nesting next limit kind (over_limit n o d p) = error_over o d p
+ends_error segment places nesting next limit kind (inside {shape = s} m l e) =
+    error_inside m.object m.deep m.within (ends_error segment s.children (nesting - 1) (next + object_size s.form (length s.children)) (less limit s.traversed) kind e)
+ends_error segment places nesting next limit kind (later {place = place} {others = others} {traversed = traversed} {after = after} p w e) =
+    error_later (stand_of segment (place ∷ []) nesting traversed next after p) w (ends_error segment others nesting after (less limit traversed) kind e)
 
 far_is_not_local : (segment : List ℕ) (place : Place) (tag : ℕ) → IsFarAt segment place → slice_get segment place.word ≡ Some tag → pointer_kind tag < 2 → ⊥
 far_is_not_local segment place tag f there is_local =

@@ -5,7 +5,7 @@ use Rattle.std.proofs.lemmas.List.{append-nil}
 use Rattle.std.specs.Prelude.{All}
 use Rattle.capnp_frame.specs.declared.error.Error.{Error}
 use Rattle.capnp_layout.specs.Prelude.{Trees, none, tree, null, count, depth, object_size, total_words, before, nothing, is_null, At, nowhere, at, Within, less, places_in, Trimmed}
-use Rattle.capnp_wire.specs.Prelude.{IsInPreorder, Passes, PassesAt, MeetsPointers, Ending, refused, not_canonical, Ends, far, at_pointer, over_limit, elsewhere, inside, later}
+use Rattle.capnp_wire.specs.Prelude.{IsInPreorder, Passes, PassesAt, MeetsPointers, Ending, fails_with, not_canonical, Ends, far, at_pointer, over_limit, elsewhere, inside, later}
 use Rattle.capnp_layout.specs.declared.place.Place.{Place}
 use Rattle.capnp_layout.specs.declared.pointer_slots.PointerSlots.{PointerSlots}
 use Rattle.capnp_layout.proofs.trees.StandLemmas.{within_none, less_none, within_both, within_first, within_rest, less_both, at_both, depth_both}
@@ -203,8 +203,8 @@ pub pointers_end : {segment : List ℕ} {place : Place} {nesting : ℕ} {limit l
 pointers_end (Ok passes) m ends = λ is. met_ends m (ends is)
 pointers_end (Err error) m ends = tt
 
-pub pointers_refused : {segment : List ℕ} {place : Place} {nesting : ℕ} {limit left : Option ℕ} {next now : ℕ} {pointers : PointerSlots} (result : Result Bool Error)
+pub pointers_error : {segment : List ℕ} {place : Place} {nesting : ℕ} {limit left : Option ℕ} {next now : ℕ} {pointers : PointerSlots} (result : Result Bool Error)
     → MeetsPointers segment place nesting limit left next now pointers
-    → IfErr result (λ error. Ends segment (places_in pointers) (nesting - 1) left now (refused error.kind)) → IfErr result (λ error. Ends segment (place ∷ []) nesting limit next (refused error.kind))
-pointers_refused (Ok passes) m ends = tt
-pointers_refused (Err error) m ends = met_ends m ends
+    → IfErr result (λ error. Ends segment (places_in pointers) (nesting - 1) left now (fails_with error.kind)) → IfErr result (λ error. Ends segment (place ∷ []) nesting limit next (fails_with error.kind))
+pointers_error (Ok passes) m ends = tt
+pointers_error (Err error) m ends = met_ends m ends

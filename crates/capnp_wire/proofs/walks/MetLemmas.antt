@@ -4,15 +4,15 @@ use Rattle.std.proofs.Common.{refl, sym, ◌∙◌, ap, subst, arith}
 use Rattle.std.specs.Prelude.{◌↔◌}
 use Rattle.capnp_frame.specs.declared.error.ErrorKind.{ErrorKind}
 use Rattle.capnp_frame.specs.declared.error.ErrorKind.TheVariants.{ReadLimitExceeded}
-use Rattle.capnp_layout.specs.Prelude.{pointer_kind, offset, words_of, word_at, Within, Exceeds, less, places_in, end_of, NoWord, Fault, no_word, minus_one, IsObject, shape_of, words_in}
+use Rattle.capnp_layout.specs.Prelude.{pointer_kind, offset, words_of, word_at, Within, IsPastLimit, less, places_in, end_of, NoWord, PointerError, no_word, minus_one, IsObject, shape_of, words_in}
 use Rattle.capnp_layout.specs.Tree.{is_null}
-use Rattle.capnp_wire.specs.Prelude.{IsFarAt, LeadsTo, NextOf, PaddedOf, IsTruncated, links_at, IsLaidOut, MeetsObject, MeetsPointers, Ends, refused, at_pointer, over_limit}
+use Rattle.capnp_wire.specs.Prelude.{IsFarAt, LeadsTo, NextOf, PaddedOf, IsTruncated, links_at, IsLaidOut, MeetsObject, MeetsPointers, Ends, fails_with, at_pointer, over_limit}
 use Rattle.capnp_layout.specs.declared.place.Place.{Place}
 use Rattle.capnp_layout.specs.declared.pointer_slots.PointerSlots.{PointerSlots}
 use Rattle.capnp_layout.specs.declared.object.Body.{Body}
 use Rattle.capnp_layout.specs.declared.object.Body.TheVariants.{Struct, Numbers, Pointers, Structs}
 use Rattle.capnp_layout.specs.declared.object.Object.{Object as ReadObject}
-use Rattle.capnp_layout.proofs.pointers.FaultLemmas.{no_word_there}
+use Rattle.capnp_layout.proofs.pointers.PointerErrorLemmas.{no_word_there}
 use Rattle.capnp_layout.proofs.pointers.NextLemmas.{lead_start}
 use Rattle.capnp_layout.proofs.objects.ReadLocalLemmas.{ReadLocal, read_local, shape_as}
 use Rattle.capnp_wire.proofs.objects.ReadLocalLemmas.{read_room, laid_out_is}
@@ -134,23 +134,23 @@ met_pointers {segment} {word} {nesting} {next} {pointer} {limit} {object} left m
 
 -- errors
 pub no_word_ends : (segment : List ℕ) (m : List (List ℕ)) (word nesting next : ℕ) (limit : Option ℕ) (kind : ErrorKind) → m ≡ segment ∷ [] → NoWord m (record { segment = 0; word = word }) kind
-    → Ends segment (record { segment = 0; word = word } ∷ []) nesting limit next (refused kind)
+    → Ends segment (record { segment = 0; word = word } ∷ []) nesting limit next (fails_with kind)
 no_word_ends segment m word nesting next limit kind one none =
     let here : NoWord (segment ∷ []) (record { segment = 0; word = word }) kind = subst (λ (x : List (List ℕ)). NoWord x (record { segment = 0; word = word }) kind) one none in
     at_pointer (λ f. (let past = no_word_there (segment ∷ []) (record { segment = 0; word = word }) kind here in let there = f.1 in cc)) (no_word here)
 
-pub fault_ends : (segment : List ℕ) (m : List (List ℕ)) (word nesting next pointer : ℕ) (limit : Option ℕ) (kind : ErrorKind) → m ≡ segment ∷ []
+pub error_ends : (segment : List ℕ) (m : List (List ℕ)) (word nesting next pointer : ℕ) (limit : Option ℕ) (kind : ErrorKind) → m ≡ segment ∷ []
     → word_at m (record { segment = 0; word = word }) ≡ Some pointer
-    → (pointer_kind pointer ≡ 2 → ⊥) → Fault m (record { segment = 0; word = word }) nesting kind → Ends segment (record { segment = 0; word = word } ∷ []) nesting limit next (refused kind)
-fault_ends segment m word nesting next pointer limit kind one there not_far fault =
+    → (pointer_kind pointer ≡ 2 → ⊥) → PointerError m (record { segment = 0; word = word }) nesting kind → Ends segment (record { segment = 0; word = word } ∷ []) nesting limit next (fails_with kind)
+error_ends segment m word nesting next pointer limit kind one there not_far invalid =
     let here : slice_get segment word ≡ Some pointer = subst (λ (x : List (List ℕ)). word_at x (record { segment = 0; word = word }) ≡ Some pointer) one there in
-    at_pointer (not_far_at segment word pointer here not_far) (subst (λ (x : List (List ℕ)). Fault x (record { segment = 0; word = word }) nesting kind) one fault)
+    at_pointer (not_far_at segment word pointer here not_far) (subst (λ (x : List (List ℕ)). PointerError x (record { segment = 0; word = word }) nesting kind) one invalid)
 
 pub limit_ends : {segment : List ℕ} {word nesting next pointer : ℕ} {limit : Option ℕ} {object : ReadObject} (kind : ErrorKind) → Met segment word nesting next pointer limit object
     → (pointer_kind pointer ≡ 2 → ⊥) → 0 < nesting
-    → Exceeds limit object.traversed → kind ≡ ReadLimitExceeded → Ends segment (record { segment = 0; word = word } ∷ []) nesting limit next (refused kind)
+    → IsPastLimit limit object.traversed → kind ≡ ReadLimitExceeded → Ends segment (record { segment = 0; word = word } ∷ []) nesting limit next (fails_with kind)
 limit_ends {segment} {word} {nesting} {next} {pointer} {limit} {object} kind m not_far deep past is =
-    let there : Ends segment (record { segment = 0; word = word } ∷ []) nesting (Some past.0) next (refused ReadLimitExceeded) =
+    let there : Ends segment (record { segment = 0; word = word } ∷ []) nesting (Some past.0) next (fails_with ReadLimitExceeded) =
     over_limit (not_far_at segment word pointer m.there not_far) m.local.object_is deep past.2 in
-    subst (λ (l : Option ℕ). Ends segment (record { segment = 0; word = word } ∷ []) nesting l next (refused kind)) (sym past.1)
-    (subst (λ (k : ErrorKind). Ends segment (record { segment = 0; word = word } ∷ []) nesting (Some past.0) next (refused k)) (sym is) there)
+    subst (λ (l : Option ℕ). Ends segment (record { segment = 0; word = word } ∷ []) nesting l next (fails_with kind)) (sym past.1)
+    (subst (λ (k : ErrorKind). Ends segment (record { segment = 0; word = word } ∷ []) nesting (Some past.0) next (fails_with k)) (sym is) there)

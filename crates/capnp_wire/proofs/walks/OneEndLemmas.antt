@@ -3,19 +3,19 @@ use Rattle.std.proofs.Common.{◌≡◌, ℕ, ◌+◌, ◌-◌, ◌^◌, ◌<◌
 use Rattle.std.specs.Prelude.{All}
 use Rattle.capnp_frame.specs.declared.error.ErrorKind.{ErrorKind}
 use Rattle.capnp_layout.specs.Prelude.{object_size, total_words, Shape, Within, less}
-use Rattle.capnp_wire.specs.Prelude.{IsLaidOut, MeetsObject, Passes, refused, not_canonical, Ends, far, at_pointer, over_limit, elsewhere, inside, later}
+use Rattle.capnp_wire.specs.Prelude.{IsLaidOut, MeetsObject, Passes, fails_with, not_canonical, Ends, far, at_pointer, over_limit, elsewhere, inside, later}
 use Rattle.capnp_layout.specs.declared.place.Place.{Place}
 use Rattle.capnp_layout.proofs.objects.ObjectLemmas.{one_object, one_tree}
-use Rattle.capnp_layout.proofs.pointers.FaultLemmas.{invalid_pointer_has_no_object}
-use Rattle.capnp_wire.proofs.walks.StopLemmas.{stops_has_no_trees, one_stop}
+use Rattle.capnp_layout.proofs.pointers.PointerErrorLemmas.{invalid_pointer_has_no_object}
+use Rattle.capnp_wire.proofs.walks.WalkErrorLemmas.{walk_error_has_no_trees, one_walk_error}
 use Rattle.capnp_wire.proofs.layouts.LaidOutLemmas.{laid_room}
-use Rattle.capnp_wire.proofs.walks.EndLemmas.{AllBefore, ends_stops, ends_not, children_before, before_later, in_first}
+use Rattle.capnp_wire.proofs.walks.EndLemmas.{AllBefore, ends_error, ends_not, children_before, before_later, in_first}
 
 -- a walk that fails does not pass
-pub refused_passes : (segment : List ℕ) (places : List Place) (nesting traversed next start after : ℕ) (limit : Option ℕ) (kind : ErrorKind) → Ends segment places nesting limit next (refused kind)
+pub error_passes : (segment : List ℕ) (places : List Place) (nesting traversed next start after : ℕ) (limit : Option ℕ) (kind : ErrorKind) → Ends segment places nesting limit next (fails_with kind)
     → Passes segment places nesting traversed start after → Within limit traversed → ⊥
-refused_passes segment places nesting traversed next start after limit kind ends p fits =
-    stops_has_no_trees (segment ∷ []) places nesting traversed limit kind p.trees (ends_stops segment places nesting next limit kind ends) p.stand p.shallow fits
+error_passes segment places nesting traversed next start after limit kind ends p fits =
+    walk_error_has_no_trees (segment ∷ []) places nesting traversed limit kind p.trees (ends_error segment places nesting next limit kind ends) p.stand p.shallow fits
 
 -- nor does one that meets what is not canonical
 pub not_passes : (segment : List ℕ) (places : List Place) (nesting traversed next after : ℕ) (limit : Option ℕ) → All (λ w. w < 2 ^ 64) segment → AllBefore next places → next ≤ length segment
@@ -27,14 +27,14 @@ within_or_past : (most traversed : ℕ) → most < traversed → Within (Some mo
 within_or_past most traversed past fits = omega arith
 
 pub one_way_to_end : (segment : List ℕ) (places : List Place) (nesting next : ℕ) (limit : Option ℕ) (kind : ErrorKind) → All (λ w. w < 2 ^ 64) segment → AllBefore next places → next ≤ length segment
-    → Ends segment places nesting limit next (refused kind) → Ends segment places nesting limit next not_canonical → ⊥
+    → Ends segment places nesting limit next (fails_with kind) → Ends segment places nesting limit next not_canonical → ⊥
 one_way_to_end segment places nesting next limit kind all before within (at_pointer n f) (far x) = n x
 one_way_to_end segment places nesting next limit kind all before within (at_pointer {place = place} n f) (elsewhere {shape = s} meets not_laid) = invalid_pointer_has_no_object
     (segment ∷ []) place nesting kind s f meets.object (λ some. meets.deep)
 one_way_to_end segment places nesting next limit kind all before within (at_pointer {place = place} n f) (inside {shape = s} meets laid e) = invalid_pointer_has_no_object
     (segment ∷ []) place nesting kind s f meets.object (λ some. meets.deep)
 one_way_to_end segment places nesting next limit kind all before within (at_pointer {place = place} n f) (later {traversed = traversed} {after = after} p w e) =
-    refused_passes segment (place ∷ []) nesting traversed next next after limit kind (at_pointer n f) p w
+    error_passes segment (place ∷ []) nesting traversed next next after limit kind (at_pointer n f) p w
 one_way_to_end segment places nesting next limit kind all before within (over_limit n o d past) (far x) = n x
 one_way_to_end segment places nesting next limit kind all before within (over_limit {place = place} {most = most} {shape = s} n o d past) (elsewhere {shape = t} meets not_laid) =
     let same : t ≡ s = one_object (segment ∷ []) place t s meets.object o in
@@ -43,7 +43,7 @@ one_way_to_end segment places nesting next limit kind all before within (over_li
     let same : t ≡ s = one_object (segment ∷ []) place t s meets.object o in
     within_or_past most s.traversed past (subst (λ (x : Shape). Within (Some most) x.traversed) same meets.within)
 one_way_to_end segment places nesting next limit kind all before within (over_limit {place = place} {most = most} n o d past) (later {traversed = traversed} {after = after} p w e) =
-    refused_passes segment (place ∷ []) nesting traversed next next after (Some most) _ (over_limit n o d past) p w
+    error_passes segment (place ∷ []) nesting traversed next next after (Some most) _ (over_limit n o d past) p w
 one_way_to_end segment places nesting next limit kind all before within (inside meets laid e) (far x) = meets.not_far x
 one_way_to_end segment places nesting next limit kind all before within (inside {place = place} {shape = s} meets laid e) (elsewhere {shape = t} others not_laid) =
     let same : s ≡ t = one_object (segment ∷ []) place s t meets.object others.object in
@@ -58,7 +58,7 @@ one_way_to_end segment places nesting next limit kind all before within (inside 
     (children_before segment place.word nesting next limit s all before.1 within meets_first laid_first)
     (laid_room segment place.word nesting next limit s meets_first laid_first before.1 within) e there
 one_way_to_end segment places nesting next limit kind all before within (inside {place = place} meets laid e) (later {traversed = traversed} {after = after} p w f) =
-    refused_passes segment (place ∷ []) nesting traversed next next after limit kind (inside meets laid e) p w
+    error_passes segment (place ∷ []) nesting traversed next next after limit kind (inside meets laid e) p w
 one_way_to_end segment places nesting next limit kind all before within (later {place = place} {traversed = traversed} {after = after} p w e) (far x) =
     not_passes segment (place ∷ []) nesting traversed next after limit all (before.0, before.1, tt) within (far x) p
 one_way_to_end segment places nesting next limit kind all before within (later {place = place} {traversed = traversed} {after = after} p w e) (elsewhere meets not_laid) =
@@ -73,7 +73,7 @@ one_way_to_end segment places nesting next limit kind all before within (later {
     one_way_to_end segment others nesting after (less limit x) kind all (before_later next after others (omega (arith, p.after_is)) before.2) p.room e there
 
 -- with only one error
-pub one_refusal_ends : (segment : List ℕ) (places : List Place) (nesting next : ℕ) (limit : Option ℕ) (a b : ErrorKind) → Ends segment places nesting limit next (refused a)
-    → Ends segment places nesting limit next (refused b) → a ≡ b
-one_refusal_ends segment places nesting next limit a b x y =
-    one_stop (segment ∷ []) places nesting limit a b (ends_stops segment places nesting next limit a x) (ends_stops segment places nesting next limit b y)
+pub one_error_ends : (segment : List ℕ) (places : List Place) (nesting next : ℕ) (limit : Option ℕ) (a b : ErrorKind) → Ends segment places nesting limit next (fails_with a)
+    → Ends segment places nesting limit next (fails_with b) → a ≡ b
+one_error_ends segment places nesting next limit a b x y =
+    one_walk_error (segment ∷ []) places nesting limit a b (ends_error segment places nesting next limit a x) (ends_error segment places nesting next limit b y)

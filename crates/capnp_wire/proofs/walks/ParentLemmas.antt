@@ -1,13 +1,13 @@
 -- A walk comes to an object that has a run of pointers, and then goes over these.
 use Rattle.std.proofs.Common.{◌≡◌, ◌≢◌, Bool, ℕ, ◌+◌, ◌-◌, List, [], ◌∷◌, ◌++◌, length, slice_get, Option, refl, ◌∙◌, ap, arith, length-append}
 use Rattle.capnp_frame.specs.declared.error.ErrorKind.{ErrorKind}
-use Rattle.capnp_layout.specs.Prelude.{places, local_struct_of, StopsWalk, places_in}
+use Rattle.capnp_layout.specs.Prelude.{places, local_struct_of, WalkError, places_in}
 use Rattle.capnp_wire.specs.Prelude.{EntersObject, EntersRun, Walked, WalkedAll, WalkedTo}
 use Rattle.capnp_layout.specs.declared.place.Place.{Place}
 use Rattle.capnp_layout.specs.declared.pointer_slots.PointerSlots.{PointerSlots}
 use Rattle.capnp_layout.specs.declared.fast_path.LocalStruct.{LocalStruct}
 use Rattle.capnp_layout.specs.declared.pointer_run.PointerRun.{PointerRun}
-use Rattle.capnp_wire.proofs.walks.ProgressLemmas.{Progress, Going, entered, progress_front, progress_over, progress_next, progress_stops, walk_over, walk_stops_inside}
+use Rattle.capnp_wire.proofs.walks.ProgressLemmas.{Progress, Going, entered, progress_front, progress_over, progress_next, progress_error, walk_over, walk_fails_inside}
 
 -- a struct that is entered has its pointers
 pub struct_holds : {m : List (List ℕ)} {c : Bool} {place : Place} {nesting : ℕ} {limit left counted_then counted_now : Option ℕ} (found : LocalStruct) (children : PointerRun)
@@ -27,10 +27,10 @@ pub run_walked : {m : List (List ℕ)} {c : Bool} {place : Place} {children : Po
     → WalkedAll m c pointers (nesting - 1) mid after counted_mid counted_after → Walked m c place nesting limit after counted_then counted_after
 run_walked e all walked = walk_over (entered e.enters) (all ∙ e.children_are) walked
 
-pub run_stops : {m : List (List ℕ)} {c : Bool} {place : Place} {children : PointerRun} {pointers : List Place} {nesting : ℕ} {limit mid counted_then counted_mid : Option ℕ} {kind : ErrorKind}
+pub run_error : {m : List (List ℕ)} {c : Bool} {place : Place} {children : PointerRun} {pointers : List Place} {nesting : ℕ} {limit mid counted_then counted_mid : Option ℕ} {kind : ErrorKind}
     → EntersRun m c place children nesting limit mid counted_then counted_mid → pointers ≡ places children.first.segment children.first.word children.count
-    → StopsWalk m pointers (nesting - 1) mid kind → StopsWalk m (place ∷ []) nesting limit kind
-run_stops e all stops = walk_stops_inside (entered e.enters) (all ∙ e.children_are) stops
+    → WalkError m pointers (nesting - 1) mid kind → WalkError m (place ∷ []) nesting limit kind
+run_error e all walk_error = walk_fails_inside (entered e.enters) (all ∙ e.children_are) walk_error
 
 -- among other pointers a walk comes to it
 pub parent_met : {m : List (List ℕ)} {c : Bool} {children rest others : List Place} {place : Place} {run : PointerRun} {nesting : ℕ} {limit left after counted_then counted_now counted_after : Option ℕ}
@@ -58,10 +58,10 @@ pub parent_walked : {m : List (List ℕ)} {c : Bool} {children at rest pointers 
     → Progress m c children rest nesting limit after counted_then counted_after
 parent_walked p w all walked = progress_next refl (progress_over w.at_is p w.in_front) (run_walked w.enters all walked)
 
-pub parent_stops : {m : List (List ℕ)} {c : Bool} {children at rest pointers : List Place} {run : PointerRun} {nesting : ℕ} {limit left mid counted_then counted_now counted_mid : Option ℕ} {kind : ErrorKind}
+pub parent_fails : {m : List (List ℕ)} {c : Bool} {children at rest pointers : List Place} {run : PointerRun} {nesting : ℕ} {limit left mid counted_then counted_now counted_mid : Option ℕ} {kind : ErrorKind}
     → Progress m c children at nesting limit left counted_then counted_now → WalkedTo m c at rest run nesting left mid counted_now counted_mid
-    → pointers ≡ places run.first.segment run.first.word run.count → StopsWalk m pointers (nesting - 1) mid kind → StopsWalk m children nesting limit kind
-parent_stops p w all stops = progress_stops refl (progress_over w.at_is p w.in_front) (run_stops w.enters all stops)
+    → pointers ≡ places run.first.segment run.first.word run.count → WalkError m pointers (nesting - 1) mid kind → WalkError m children nesting limit kind
+parent_fails p w all walk_error = progress_error refl (progress_over w.at_is p w.in_front) (run_error w.enters all walk_error)
 
 pub going_below : {m : List (List ℕ)} {segment : List ℕ} {c : Bool} {whole at rest : PointerSlots} {pointers : List Place} {run : PointerRun} {nesting : ℕ}
     {limit left mid after counted_then counted_now counted_mid counted_after : Option ℕ} → Going m segment c whole at nesting limit left counted_then counted_now

@@ -3,7 +3,7 @@ use Rattle.std.proofs.Common.{◌≡◌, ◌≢◌, arith, length, Bool, ℕ, �
 use Rattle.std.proofs.lemmas.List.{append-nil}
 use Rattle.capnp_frame.specs.declared.error.Error.{Error}
 use Rattle.capnp_frame.specs.declared.error.ErrorKind.{ErrorKind}
-use Rattle.capnp_layout.specs.Prelude.{words_of, total_words, Shape, PointsTo, nothing, shape_of, words_in, Within, less, output_body_of, StopsWalk, inside, places_in, Takes}
+use Rattle.capnp_layout.specs.Prelude.{words_of, total_words, Shape, PointsTo, nothing, shape_of, words_in, Within, less, output_body_of, WalkError, inside, places_in, Takes}
 use Rattle.capnp_wire.specs.Prelude.{CountsMore, EntersObject, Walked, WalkedAll, TreesWithRoom}
 use Rattle.capnp_layout.specs.declared.place.Place.{Place}
 use Rattle.capnp_layout.specs.declared.pointer_slots.PointerSlots.{PointerSlots}
@@ -12,7 +12,7 @@ use Rattle.capnp_layout.proofs.trees.StandLemmas.{within_none, less_none, within
 use Rattle.capnp_wire.proofs.trees.StandLemmas.{counts_none, counts_both}
 use Rattle.capnp_layout.proofs.trees.StoodLemmas.{OwnOf, own_output}
 use Rattle.capnp_wire.proofs.trees.StoodLemmas.{stood_nowhere, stood_both, stood_over, stood_null, plain_stand}
-use Rattle.capnp_wire.proofs.walks.StopLemmas.{stops_more, stops_after}
+use Rattle.capnp_wire.proofs.walks.WalkErrorLemmas.{walk_error_more, walk_error_after}
 
 -- How far a walk over the pointers of an object has come: which are done, and what is left of the
 -- limit, and has been counted since.
@@ -65,17 +65,17 @@ progress_next {m} {c} {children} {rest} {others} {place} {nesting} {limit} {left
     progress_over {front = place ∷ []} is p w
 
 -- it stops among those that are left, or at the first of them
-pub progress_stopped : {m : List (List ℕ)} {c : Bool} {children rest : List Place} {nesting : ℕ} {limit left counted_then counted_now : Option ℕ} {kind : ErrorKind}
-    → Progress m c children rest nesting limit left counted_then counted_now → StopsWalk m rest nesting left kind → StopsWalk m children nesting limit kind
-progress_stopped {m} {c} {children} {rest} {nesting} {limit} {left} {kind = kind} p stops =
-    subst (λ (l : List Place). StopsWalk m l nesting limit kind) (sym p.children_is)
-    (stops_after m p.front rest nesting p.traversed (total_words p.stand.trees) limit kind (plain_stand m p.front nesting p.traversed c p.words p.stand) p.within
-    (subst (λ (l : Option ℕ). StopsWalk m rest nesting l kind) p.left_is stops))
+pub progress_fails_there : {m : List (List ℕ)} {c : Bool} {children rest : List Place} {nesting : ℕ} {limit left counted_then counted_now : Option ℕ} {kind : ErrorKind}
+    → Progress m c children rest nesting limit left counted_then counted_now → WalkError m rest nesting left kind → WalkError m children nesting limit kind
+progress_fails_there {m} {c} {children} {rest} {nesting} {limit} {left} {kind = kind} p walk_error =
+    subst (λ (l : List Place). WalkError m l nesting limit kind) (sym p.children_is)
+    (walk_error_after m p.front rest nesting p.traversed (total_words p.stand.trees) limit kind (plain_stand m p.front nesting p.traversed c p.words p.stand) p.within
+    (subst (λ (l : Option ℕ). WalkError m rest nesting l kind) p.left_is walk_error))
 
-pub progress_stops : {m : List (List ℕ)} {c : Bool} {children rest others : List Place} {place : Place} {nesting : ℕ} {limit left counted_then counted_now : Option ℕ} {kind : ErrorKind}
-    → rest ≡ place ∷ others → Progress m c children rest nesting limit left counted_then counted_now → StopsWalk m (place ∷ []) nesting left kind → StopsWalk m children nesting limit kind
-progress_stops {m} {others = others} {place = place} {nesting = nesting} {left = left} {kind = kind} is p stops =
-    progress_stopped p (subst (λ (l : List Place). StopsWalk m l nesting left kind) (sym is) (stops_more m place others nesting left kind stops))
+pub progress_error : {m : List (List ℕ)} {c : Bool} {children rest others : List Place} {place : Place} {nesting : ℕ} {limit left counted_then counted_now : Option ℕ} {kind : ErrorKind}
+    → rest ≡ place ∷ others → Progress m c children rest nesting limit left counted_then counted_now → WalkError m (place ∷ []) nesting left kind → WalkError m children nesting limit kind
+progress_error {m} {others = others} {place = place} {nesting = nesting} {left = left} {kind = kind} is p walk_error =
+    progress_fails_there p (subst (λ (l : List Place). WalkError m l nesting left kind) (sym is) (walk_error_more m place others nesting left kind walk_error))
 
 -- what it is over
 pub progress_front : {m : List (List ℕ)} {c : Bool} {children rest : List Place} {nesting : ℕ} {limit left counted_then counted_now : Option ℕ}
@@ -176,11 +176,11 @@ pub walk_over : {m : List (List ℕ)} {c : Bool} {place : Place} {shape : Shape}
 walk_over {m} {c} {place} {shape} {nesting} {limit} {left} {after} {counted_then = a} {counted_now = b} {counted_after = d} e all w =
     walked_over m c place shape nesting limit left after a b d e (subst (λ (l : List Place). WalkedAll m c l (nesting - 1) left after b d) all w)
 
-pub walk_stops_inside : {m : List (List ℕ)} {c : Bool} {place : Place} {shape : Shape} {nesting : ℕ} {limit left counted_then counted_now : Option ℕ} {pointers : List Place} {kind : ErrorKind}
-    → Entered m c place shape nesting limit left counted_then counted_now → pointers ≡ shape.children → StopsWalk m pointers (nesting - 1) left kind → StopsWalk m (place ∷ []) nesting limit kind
-walk_stops_inside {m = m} {shape = shape} {nesting = nesting} {left = left} {kind = kind} e all stops =
-    inside e.object e.deep e.within (subst (λ (l : Option ℕ). StopsWalk m shape.children (nesting - 1) l kind) e.left_is (subst (λ (l : List Place). StopsWalk m l
-    (nesting - 1) left kind) all stops))
+pub walk_fails_inside : {m : List (List ℕ)} {c : Bool} {place : Place} {shape : Shape} {nesting : ℕ} {limit left counted_then counted_now : Option ℕ} {pointers : List Place} {kind : ErrorKind}
+    → Entered m c place shape nesting limit left counted_then counted_now → pointers ≡ shape.children → WalkError m pointers (nesting - 1) left kind → WalkError m (place ∷ []) nesting limit kind
+walk_fails_inside {m = m} {shape = shape} {nesting = nesting} {left = left} {kind = kind} e all walk_error =
+    inside e.object e.deep e.within (subst (λ (l : Option ℕ). WalkError m shape.children (nesting - 1) l kind) e.left_is (subst (λ (l : List Place). WalkError m l
+    (nesting - 1) left kind) all walk_error))
 
 pub walk_goes_on : {Y : Type 0} {m : List (List ℕ)} {c : Bool} {place : Place} {shape : Shape} {nesting : ℕ} {limit left counted_then counted_now : Option ℕ} (after counted_after : Option ℕ)
     (pointers : List Place) (result : Result Y Error)
@@ -189,9 +189,9 @@ pub walk_goes_on : {Y : Type 0} {m : List (List ℕ)} {c : Bool} {place : Place}
 walk_goes_on after d pointers (Ok y) e all w = walk_over e all w
 walk_goes_on after d pointers (Err error) e all w = tt
 
-pub walk_stops : {Y : Type 0} {m : List (List ℕ)} {c : Bool} {place : Place} {shape : Shape} {nesting : ℕ} {limit left counted_then counted_now : Option ℕ} (pointers : List Place)
+pub walk_fails : {Y : Type 0} {m : List (List ℕ)} {c : Bool} {place : Place} {shape : Shape} {nesting : ℕ} {limit left counted_then counted_now : Option ℕ} (pointers : List Place)
     (result : Result Y Error)
     → Entered m c place shape nesting limit left counted_then counted_now → pointers ≡ shape.children
-    → IfErr result (λ error. StopsWalk m pointers (nesting - 1) left error.kind) → IfErr result (λ error. StopsWalk m (place ∷ []) nesting limit error.kind)
-walk_stops pointers (Ok y) e all stops = tt
-walk_stops pointers (Err error) e all stops = walk_stops_inside e all stops
+    → IfErr result (λ error. WalkError m pointers (nesting - 1) left error.kind) → IfErr result (λ error. WalkError m (place ∷ []) nesting limit error.kind)
+walk_fails pointers (Ok y) e all walk_error = tt
+walk_fails pointers (Err error) e all walk_error = walk_fails_inside e all walk_error

@@ -27,14 +27,14 @@ pub enum Reader<'a, S: ReaderSegments> {
 
 impl<'a, S: ReaderSegments> Reader<'a, S> {
     ghost use Rattle.capnp_wire.specs.Readers.{pointer_of, IsEntered};
-    ghost use Rattle.capnp_wire.specs.Views.{RejectsReading};
+    ghost use Rattle.capnp_wire.specs.Views.{ObjectError};
     ghost use Rattle.capnp_wire.specs.ObjectViews.{IsObjectView};
 
     // The view of what a pointer leads to.
     fn read(reader: &any_pointer::Reader<'a, S>) -> Result<Reader<'a, S>>
         ensures { let pointer = pointer_of S.segments reader.now in MatchResult result
             (λ view. IsObjectView S.segments pointer view)
-            (λ error. RejectsReading pointer error.kind) }
+            (λ error. ObjectError pointer error.kind) }
     {
         let Some(object) = reader.enter()? else {
             return Ok(Reader::Null);
@@ -85,21 +85,21 @@ impl<'a, S: ReaderSegments> Reader<'a, S> {
 impl<'a, S: ReaderSegments> FromPointerReader<'a, S> for Reader<'a, S> {
     ghost use Rattle.std.specs.Prelude.{⊤};
     ghost use Rattle.capnp_wire.specs.Readers.{pointer_of};
-    ghost use Rattle.capnp_wire.specs.Views.{IsViewOf, Accepts, RejectsReading};
+    ghost use Rattle.capnp_wire.specs.Views.{IsViewOf, Accepts, ObjectError};
     ghost use Rattle.capnp_wire.specs.ObjectViews.{IsObjectView, TakesAll};
 
     ghost shows = { λ pointer view. IsObjectView S.segments pointer view };
 
     ghost accepts = { λ pointer. Accepts pointer TakesAll };
 
-    ghost refuses = { λ pointer kind. RejectsReading pointer kind };
+    ghost fails = { λ pointer kind. ObjectError pointer kind };
 
-    ghost declines = { λ pointer kind. ⊥ };
+    ghost form_error = { λ pointer kind. ⊥ };
 
     fn get_from_pointer(reader: any_pointer::Reader<'a, S>) -> Result<Self>
         ensures { let pointer = pointer_of S.segments reader.entry in IsViewOf pointer
             (λ view. IsObjectView S.segments pointer view) (Accepts pointer TakesAll)
-            (RejectsReading pointer) (λ kind. ⊥) result }
+            (ObjectError pointer) (λ kind. ⊥) result }
     {
         Reader::read(&reader)
     }

@@ -4,7 +4,7 @@ ghost use Rattle.std.specs.Result.{IsErrAnd};
 ghost use Rattle.capnp_frame.specs.declared.error.ErrorKind.{ErrorKind};
 ghost use Rattle.capnp_frame.specs.declared.error.ErrorKind.TheVariants.{ReadLimitExceeded};
 ghost use Rattle.capnp_layout.specs.Prelude.{nothing};
-ghost use Rattle.capnp_wire.specs.Views.{Pointer, IsViewOf, Denotes, RejectsReading, IsInvalidPointer, MeetsLimit, Measures, RejectsMeasuring};
+ghost use Rattle.capnp_wire.specs.Views.{Pointer, IsViewOf, Denotes, ObjectError, IsInvalidPointer, MeetsLimit, Measures, MeasuringError};
 ghost use Rattle.capnp_wire.specs.Readers.{pointer_of, unlimited_root, IsEntered};
 
 use crate::layout::walk::Walk;
@@ -70,10 +70,10 @@ impl<'a, S: ReaderSegments> Reader<'a, S> {
     pub fn target_size(&self) -> Result<MessageSize>
         ensures returned { let pointer = pointer_of S.segments self.now in MatchResult result
             (λ size. Measures pointer size.word_count × (size.cap_count ≡ 0))
-            (λ error. RejectsMeasuring pointer error.kind) }
+            (λ error. MeasuringError pointer error.kind) }
         ensures measured { (words : ℕ) → Measures (pointer_of S.segments self.now) words →
             words < 2 ^ 64 → IsOk result }
-        ensures exact { (kind : ErrorKind) → RejectsMeasuring (pointer_of S.segments self.now) kind →
+        ensures exact { (kind : ErrorKind) → MeasuringError (pointer_of S.segments self.now) kind →
             IsErrAnd result (λ error. error.kind ≡ kind) }
     {
         self.measure()
@@ -83,7 +83,7 @@ impl<'a, S: ReaderSegments> Reader<'a, S> {
     fn measure(&self) -> Result<MessageSize>
         ensures returned { let pointer = pointer_of S.segments self.now in MatchResult result
             (λ size. Measures pointer size.word_count × (size.cap_count ≡ 0))
-            (λ error. RejectsMeasuring pointer error.kind) }
+            (λ error. MeasuringError pointer error.kind) }
         ensures bound { IfOk result (λ size. size.word_count < 2 ^ 64) }
     {
         let mut walk = Walk::new(limit_in_words(self.limiter));
@@ -113,7 +113,7 @@ impl<'a, S: ReaderSegments> Reader<'a, S> {
     #[inline(always)]
     pub fn get_as<T: FromPointerReader<'a, S>>(&self) -> Result<T>
         ensures returned { let pointer = pointer_of S.segments self.now in MatchResult result
-            (λ view. T.shows pointer view) (λ error. T.refuses pointer error.kind) }
+            (λ view. T.shows pointer view) (λ error. T.fails pointer error.kind) }
         ensures found { let pointer = pointer_of S.segments self.now in
             pointer.limit ≡ None → T.accepts pointer → IsOk result }
         ensures unlimited { let pointer = pointer_of S.segments self.now in
@@ -123,9 +123,9 @@ impl<'a, S: ReaderSegments> Reader<'a, S> {
         ensures exact { let pointer = pointer_of S.segments self.now in
             (kind : ErrorKind) → IsInvalidPointer pointer kind → (T.accepts pointer → ⊥) →
             IsErrAnd result (λ error. error.kind ≡ kind) }
-        // Where an object is there that the view declines.
-        ensures declined { let pointer = pointer_of S.segments self.now in
-            (kind : ErrorKind) → T.declines pointer kind →
+        // Where an object is there that the view rejects.
+        ensures form_errors { let pointer = pointer_of S.segments self.now in
+            (kind : ErrorKind) → T.form_error pointer kind →
             IsErrAnd result (λ error. (error.kind ≡ kind) ⊎ MeetsLimit pointer error.kind) }
     {
         T::get_from_pointer(self.copied())
@@ -153,8 +153,8 @@ impl<'a, S: ReaderSegments> Reader<'a, S> {
         ensures found { let pointer = pointer_of S.segments self.now in
             IfOk result (λ found. MatchOption found (Denotes pointer nothing)
             (λ object. IsEntered pointer object)) }
-        ensures refused { let pointer = pointer_of S.segments self.now in
-            IfErr result (λ error. RejectsReading pointer error.kind) }
+        ensures errors { let pointer = pointer_of S.segments self.now in
+            IfErr result (λ error. ObjectError pointer error.kind) }
     {
         let Some(place) = self.place else {
             return Ok(None);
@@ -173,9 +173,9 @@ impl<'a, S: ReaderSegments> FromPointerReader<'a, S> for Reader<'a, S> {
 
     ghost accepts = { λ pointer. ⊤ };
 
-    ghost refuses = { λ pointer kind. ⊥ };
+    ghost fails = { λ pointer kind. ⊥ };
 
-    ghost declines = { λ pointer kind. ⊥ };
+    ghost form_error = { λ pointer kind. ⊥ };
 
     fn get_from_pointer(reader: Reader<'a, S>) -> Result<Self>
         ensures { let pointer = pointer_of S.segments reader.entry in IsViewOf pointer

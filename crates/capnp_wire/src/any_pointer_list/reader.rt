@@ -30,8 +30,8 @@ pub struct Reader<'a, S> {
 impl<'a, S: ReaderSegments> Reader<'a, S> {
     ghost use Rattle.capnp_wire.specs.Lists.{FindsElement, IsIterator};
     ghost use Rattle.capnp_wire.specs.Readers.{pointer_of, IsEntered};
-    ghost use Rattle.capnp_wire.specs.Views.{HasSegment, Refuses};
-    ghost use Rattle.capnp_wire.specs.ListViews.{pointer_list_of, pointer_at, IsPointerList, DeclinesPointers};
+    ghost use Rattle.capnp_wire.specs.Views.{HasSegment, ViewError};
+    ghost use Rattle.capnp_wire.specs.ListViews.{pointer_list_of, pointer_at, IsPointerList, PointersFormError};
 
     /// The number of elements.
     pub fn len(&self) -> u32
@@ -80,12 +80,12 @@ impl<'a, S: ReaderSegments> Reader<'a, S> {
 
 impl<'a, S: ReaderSegments> ObjectView<'a, S> for Reader<'a, S> {
     ghost use Rattle.std.proofs.Common.{inl};
-    ghost use Rattle.capnp_wire.specs.Views.{Refuses};
-    ghost use Rattle.capnp_wire.specs.ListViews.{pointer_list_of, IsPointerList, DeclinesPointers};
+    ghost use Rattle.capnp_wire.specs.Views.{ViewError};
+    ghost use Rattle.capnp_wire.specs.ListViews.{pointer_list_of, IsPointerList, PointersFormError};
 
     ghost shows = { λ pointer view. IsPointerList pointer (pointer_list_of S.segments view) };
 
-    ghost refuses = { λ pointer kind. Refuses pointer DeclinesPointers kind };
+    ghost fails = { λ pointer kind. ViewError pointer PointersFormError kind };
 
     #[inline(always)]
     fn kind() -> ObjectKind {
@@ -123,7 +123,7 @@ impl<'a, S: ReaderSegments> ObjectView<'a, S> for Reader<'a, S> {
         })
     }
 
-    ghost unread = { λ pointer kind rejected. inl rejected };
+    ghost unread = { λ pointer kind error. inl error };
 }
 
 impl<'a, S: ReaderSegments> IndexMove for Reader<'a, S> {
@@ -153,23 +153,23 @@ impl<'a, S: ReaderSegments> IndexMove for Reader<'a, S> {
 // Null is an empty list; any object other than a list of pointers fails with `WrongPointerKind`.
 impl<'a, S: ReaderSegments> FromPointerReader<'a, S> for Reader<'a, S> {
     ghost use Rattle.capnp_wire.specs.Readers.{pointer_of};
-    ghost use Rattle.capnp_wire.specs.Views.{IsViewOf, Accepts, Refuses, Declines};
-    ghost use Rattle.capnp_wire.specs.ListViews.{pointer_list_of, IsPointerList, TakesPointers, DeclinesPointers};
+    ghost use Rattle.capnp_wire.specs.Views.{IsViewOf, Accepts, ViewError, FormError};
+    ghost use Rattle.capnp_wire.specs.ListViews.{pointer_list_of, IsPointerList, TakesPointers, PointersFormError};
 
     ghost shows = { λ pointer view. IsPointerList pointer (pointer_list_of S.segments view) };
 
     ghost accepts = { λ pointer. Accepts pointer TakesPointers };
 
-    ghost refuses = { λ pointer kind. Refuses pointer DeclinesPointers kind };
+    ghost fails = { λ pointer kind. ViewError pointer PointersFormError kind };
 
-    ghost declines = { λ pointer kind. Declines pointer DeclinesPointers kind };
+    ghost form_error = { λ pointer kind. FormError pointer PointersFormError kind };
 
     #[inline(always)]
     fn get_from_pointer(reader: any_pointer::Reader<'a, S>) -> Result<Self>
         ensures { let pointer = pointer_of S.segments reader.entry in IsViewOf pointer
             (λ view. IsPointerList pointer (pointer_list_of S.segments view))
-            (Accepts pointer TakesPointers) (Refuses pointer DeclinesPointers)
-            (Declines pointer DeclinesPointers) result }
+            (Accepts pointer TakesPointers) (ViewError pointer PointersFormError)
+            (FormError pointer PointersFormError) result }
     {
         read(&reader, None)
     }
@@ -177,16 +177,16 @@ impl<'a, S: ReaderSegments> FromPointerReader<'a, S> for Reader<'a, S> {
 
 impl<'a, S: ReaderSegments> FromPointerInSegment<'a, S> for Reader<'a, S> {
     ghost use Rattle.capnp_wire.specs.Readers.{pointer_of};
-    ghost use Rattle.capnp_wire.specs.Views.{HasSegment, IsViewOf, Accepts, Refuses, Declines};
-    ghost use Rattle.capnp_wire.specs.ListViews.{pointer_list_of, IsPointerList, TakesPointers, DeclinesPointers};
+    ghost use Rattle.capnp_wire.specs.Views.{HasSegment, IsViewOf, Accepts, ViewError, FormError};
+    ghost use Rattle.capnp_wire.specs.ListViews.{pointer_list_of, IsPointerList, TakesPointers, PointersFormError};
 
     #[inline(always)]
     fn get_from_segment(reader: any_pointer::Reader<'a, S>, segment: &'a [u8]) -> Result<Self>
         requires { HasSegment (pointer_of S.segments reader) (words_of segment.now) }
         ensures { let pointer = pointer_of S.segments reader.entry in IsViewOf pointer
             (λ view. IsPointerList pointer (pointer_list_of S.segments view))
-            (Accepts pointer TakesPointers) (Refuses pointer DeclinesPointers)
-            (Declines pointer DeclinesPointers) result }
+            (Accepts pointer TakesPointers) (ViewError pointer PointersFormError)
+            (FormError pointer PointersFormError) result }
     {
         read(&reader, Some(segment))
     }

@@ -55,7 +55,7 @@ impl<'a, S: ReaderSegments> StructReader<'a, S> {
             result ≡ Ok default }
         ensures view { let pointer = pointer_in (struct_of S.segments self.now) index in
             (Denotes pointer nothing → ⊥) → IsViewOf pointer (T.shows pointer)
-            (T.accepts pointer) (T.refuses pointer) (T.declines pointer) result }
+            (T.accepts pointer) (T.fails pointer) (T.form_error pointer) result }
     {
         if !self.has_pointer(index) {
             return Ok(default);

@@ -37,7 +37,7 @@ pub struct StructReader<'a, S: ReaderSegments> {
 
 impl<'a, S: ReaderSegments> StructReader<'a, S> {
     ghost use Rattle.capnp_wire.specs.Readers.{struct_of, pointer_of, IsEntered};
-    ghost use Rattle.capnp_wire.specs.Views.{data_struct, pointer_in, HasSegment, IsStruct, IsViewOf, Refuses, DeclinesStruct};
+    ghost use Rattle.capnp_wire.specs.Views.{data_struct, pointer_in, HasSegment, IsStruct, IsViewOf, ViewError, StructFormError};
 
     /// The number of data words.
     pub fn data_words(&self) -> u16
@@ -91,8 +91,8 @@ impl<'a, S: ReaderSegments> StructReader<'a, S> {
     #[inline(always)]
     pub fn get_pointer_as<T: FromPointerInSegment<'a, S>>(&self, index: u16) -> Result<T>
         ensures { let pointer = pointer_in (struct_of S.segments self.now) index in
-            IsViewOf pointer (T.shows pointer) (T.accepts pointer) (T.refuses pointer)
-            (T.declines pointer) result }
+            IsViewOf pointer (T.shows pointer) (T.accepts pointer) (T.fails pointer)
+            (T.form_error pointer) result }
     {
         T::get_from_segment(self.get_pointer(index), self.segment)
     }
@@ -124,11 +124,11 @@ impl<'a, S: ReaderSegments> StructReader<'a, S> {
 impl<'a, S: ReaderSegments> ObjectView<'a, S> for StructReader<'a, S> {
     ghost use Rattle.std.proofs.Common.{inl};
     ghost use Rattle.capnp_wire.specs.Readers.{struct_of};
-    ghost use Rattle.capnp_wire.specs.Views.{Refuses, IsStruct, DeclinesStruct};
+    ghost use Rattle.capnp_wire.specs.Views.{ViewError, IsStruct, StructFormError};
 
     ghost shows = { λ pointer view. IsStruct pointer (struct_of S.segments view) };
 
-    ghost refuses = { λ pointer kind. Refuses pointer DeclinesStruct kind };
+    ghost fails = { λ pointer kind. ViewError pointer StructFormError kind };
 
     #[inline(always)]
     fn kind() -> ObjectKind {
@@ -171,29 +171,29 @@ impl<'a, S: ReaderSegments> ObjectView<'a, S> for StructReader<'a, S> {
         })
     }
 
-    ghost unread = { λ pointer kind rejected. inl rejected };
+    ghost unread = { λ pointer kind error. inl error };
 }
 
 // Null is a struct without data and pointers; any object other than a struct fails with
 // `WrongPointerKind`.
 impl<'a, S: ReaderSegments> FromPointerReader<'a, S> for StructReader<'a, S> {
     ghost use Rattle.capnp_wire.specs.Readers.{struct_of, pointer_of};
-    ghost use Rattle.capnp_wire.specs.Views.{IsViewOf, Accepts, Refuses, Declines, IsStruct, TakesStruct, DeclinesStruct};
+    ghost use Rattle.capnp_wire.specs.Views.{IsViewOf, Accepts, ViewError, FormError, IsStruct, TakesStruct, StructFormError};
 
     ghost shows = { λ pointer view. IsStruct pointer (struct_of S.segments view) };
 
     ghost accepts = { λ pointer. Accepts pointer TakesStruct };
 
-    ghost refuses = { λ pointer kind. Refuses pointer DeclinesStruct kind };
+    ghost fails = { λ pointer kind. ViewError pointer StructFormError kind };
 
-    ghost declines = { λ pointer kind. Declines pointer DeclinesStruct kind };
+    ghost form_error = { λ pointer kind. FormError pointer StructFormError kind };
 
     #[inline(always)]
     fn get_from_pointer(reader: any_pointer::Reader<'a, S>) -> Result<Self>
         ensures { let pointer = pointer_of S.segments reader.entry in IsViewOf pointer
             (λ view. IsStruct pointer (struct_of S.segments view))
-            (Accepts pointer TakesStruct) (Refuses pointer DeclinesStruct)
-            (Declines pointer DeclinesStruct) result }
+            (Accepts pointer TakesStruct) (ViewError pointer StructFormError)
+            (FormError pointer StructFormError) result }
     {
         read(&reader, None)
     }
@@ -201,15 +201,15 @@ impl<'a, S: ReaderSegments> FromPointerReader<'a, S> for StructReader<'a, S> {
 
 impl<'a, S: ReaderSegments> FromPointerInSegment<'a, S> for StructReader<'a, S> {
     ghost use Rattle.capnp_wire.specs.Readers.{struct_of, pointer_of};
-    ghost use Rattle.capnp_wire.specs.Views.{HasSegment, IsViewOf, Accepts, Refuses, Declines, IsStruct, TakesStruct, DeclinesStruct};
+    ghost use Rattle.capnp_wire.specs.Views.{HasSegment, IsViewOf, Accepts, ViewError, FormError, IsStruct, TakesStruct, StructFormError};
 
     #[inline(always)]
     fn get_from_segment(reader: any_pointer::Reader<'a, S>, segment: &'a [u8]) -> Result<Self>
         requires { HasSegment (pointer_of S.segments reader) (words_of segment.now) }
         ensures { let pointer = pointer_of S.segments reader.entry in IsViewOf pointer
             (λ view. IsStruct pointer (struct_of S.segments view))
-            (Accepts pointer TakesStruct) (Refuses pointer DeclinesStruct)
-            (Declines pointer DeclinesStruct) result }
+            (Accepts pointer TakesStruct) (ViewError pointer StructFormError)
+            (FormError pointer StructFormError) result }
     {
         read(&reader, Some(segment))
     }

@@ -3,9 +3,9 @@ ghost use Rattle.std.specs.Prelude.{◌≡◌, ◌≢◌, ◌↔◌, ◌<◌, �
 ghost use Rattle.std.specs.Result.{IsErrAnd};
 ghost use Rattle.capnp_frame.specs.Prelude.{size_in_words};
 ghost use Rattle.capnp_frame.specs.declared.error.ErrorKind.{ErrorKind};
-ghost use Rattle.capnp_layout.specs.Prelude.{message_of, word_at, Form, Trees, none, tree, depth, root, Root, Within, NoWord, StopsWalk};
+ghost use Rattle.capnp_layout.specs.Prelude.{message_of, word_at, Form, Trees, none, tree, depth, root, Root, Within, NoWord, WalkError};
 ghost use Rattle.capnp_wire.specs.Canonical.{IsCanonical};
-ghost use Rattle.capnp_wire.specs.Tested.{RejectsCanonicity};
+ghost use Rattle.capnp_wire.specs.Tested.{CanonicityError};
 ghost use Rattle.capnp_wire.specs.Readers.{pointer_of, nesting_of};
 
 use crate::any_pointer;
@@ -80,18 +80,18 @@ impl<S: ReaderSegments> ReaderArena<S> {
         ensures returned { let m = message_of (S.segments self.now.segments) in
             let nesting = nesting_of self.now.nesting_limit in
             MatchResult result (λ is. IsTrue is ↔ IsCanonical m)
-            (λ error. RejectsCanonicity m nesting self.now.limiter.limit error.kind) }
+            (λ error. CanonicityError m nesting self.now.limiter.limit error.kind) }
         ensures exact { let m = message_of (S.segments self.now.segments) in
             let nesting = nesting_of self.now.nesting_limit in
-            (kind : ErrorKind) → RejectsCanonicity m nesting self.now.limiter.limit kind →
+            (kind : ErrorKind) → CanonicityError m nesting self.now.limiter.limit kind →
             IsErrAnd result (λ error. error.kind ≡ kind) }
         ensures found { let m = message_of (S.segments self.now.segments) in
             (form : Form) (children : Trees) (traversed : ℕ) → Root m form children traversed →
             depth (tree form children none) ≤ nesting_of self.now.nesting_limit →
             Within self.now.limiter.limit traversed → IsOk result }
-        ensures stops { let m = message_of (S.segments self.now.segments) in
+        ensures walk_error { let m = message_of (S.segments self.now.segments) in
             let nesting = nesting_of self.now.nesting_limit in
-            IfErr result (λ error. StopsWalk m (root ∷ []) nesting self.now.limiter.limit error.kind) }
+            IfErr result (λ error. WalkError m (root ∷ []) nesting self.now.limiter.limit error.kind) }
     {
         let Some(segment) = self.segments.get_segment(0) else {
             return Err(Error::from_kind(ErrorKind::InvalidSegmentId(0)));

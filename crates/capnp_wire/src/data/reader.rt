@@ -2,7 +2,7 @@
 ghost use Rattle.std.specs.Prelude.{◌+◌, ◌/◌, ◌≤◌, length, MatchResult};
 ghost use Rattle.std.specs.Option.{ForSome};
 ghost use Rattle.capnp_layout.specs.Prelude.{words_of, room_of};
-ghost use Rattle.capnp_wire.specs.Views.{HasSegment, IsViewOf, Accepts, Reads, Refuses, Declines, IsData, TakesNumbers, DeclinesNumbers};
+ghost use Rattle.capnp_wire.specs.Views.{HasSegment, IsViewOf, Accepts, Reads, ViewError, FormError, IsData, TakesNumbers, NumbersFormError};
 ghost use Rattle.capnp_wire.specs.Readers.{pointer_of, form_of};
 
 use crate::any_pointer;
@@ -24,16 +24,16 @@ impl<'a: 'v, 'v, S: ReaderSegments> FromPointerReader<'a, S> for &'v [u8] {
 
     ghost accepts = { λ pointer. Accepts pointer (TakesNumbers 2) };
 
-    ghost refuses = { λ pointer kind. Refuses pointer (DeclinesNumbers 2) kind };
+    ghost fails = { λ pointer kind. ViewError pointer (NumbersFormError 2) kind };
 
-    ghost declines = { λ pointer kind. Declines pointer (DeclinesNumbers 2) kind };
+    ghost form_error = { λ pointer kind. FormError pointer (NumbersFormError 2) kind };
 
     #[inline(always)]
     fn get_from_pointer(reader: any_pointer::Reader<'a, S>) -> Result<Self>
         ensures { let pointer = pointer_of S.segments reader.entry in IsViewOf pointer
             (λ view. Reads pointer (λ form. IsData form view.now))
-            (Accepts pointer (TakesNumbers 2)) (Refuses pointer (DeclinesNumbers 2))
-            (Declines pointer (DeclinesNumbers 2)) result }
+            (Accepts pointer (TakesNumbers 2)) (ViewError pointer (NumbersFormError 2))
+            (FormError pointer (NumbersFormError 2)) result }
     {
         read(&reader, None)
     }
@@ -45,8 +45,8 @@ impl<'a: 'v, 'v, S: ReaderSegments> FromPointerInSegment<'a, S> for &'v [u8] {
         requires { HasSegment (pointer_of S.segments reader) (words_of segment.now) }
         ensures { let pointer = pointer_of S.segments reader.entry in IsViewOf pointer
             (λ view. Reads pointer (λ form. IsData form view.now))
-            (Accepts pointer (TakesNumbers 2)) (Refuses pointer (DeclinesNumbers 2))
-            (Declines pointer (DeclinesNumbers 2)) result }
+            (Accepts pointer (TakesNumbers 2)) (ViewError pointer (NumbersFormError 2))
+            (FormError pointer (NumbersFormError 2)) result }
     {
         read(&reader, Some(segment))
     }
@@ -57,7 +57,7 @@ impl<'a: 'v, 'v, S: ReaderSegments> ObjectView<'a, S> for &'v [u8] {
 
     ghost shows = { λ pointer view. Reads pointer (λ form. IsData form view.now) };
 
-    ghost refuses = { λ pointer kind. Refuses pointer (DeclinesNumbers 2) kind };
+    ghost fails = { λ pointer kind. ViewError pointer (NumbersFormError 2) kind };
 
     #[inline(always)]
     fn kind() -> ObjectKind {
@@ -74,7 +74,7 @@ impl<'a: 'v, 'v, S: ReaderSegments> ObjectView<'a, S> for &'v [u8] {
         bytes_in(object)
     }
 
-    ghost unread = { λ pointer kind rejected. inl rejected };
+    ghost unread = { λ pointer kind error. inl error };
 }
 
 // The bytes of an object that is a list of bytes.
@@ -83,7 +83,7 @@ fn bytes_in<'a>(object: &Object<'a>) -> Result<&'a [u8]>
     requires { object.now.start.word + room_of object.now.body
         ≤ length object.now.segment.now / 8 }
     ensures { MatchResult result (λ bytes. IsData (form_of object.now) bytes.now)
-        (λ error. DeclinesNumbers 2 (form_of object.now) error.kind) }
+        (λ error. NumbersFormError 2 (form_of object.now) error.kind) }
 {
     let bytes = object_bytes(object)?;
     Ok(bytes)

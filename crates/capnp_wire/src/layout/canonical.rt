@@ -4,7 +4,7 @@ ghost use Rattle.capnp_layout.specs.Prelude.{words_of, pointer_kind, message_of,
 ghost use Rattle.std.specs.Result.{IsErrAnd};
 ghost use Rattle.capnp_frame.specs.declared.error.ErrorKind.{ErrorKind};
 ghost use Rattle.capnp_wire.specs.Canonical.{IsCanonical};
-ghost use Rattle.capnp_wire.specs.Tested.{NextOf, PaddedOf, IsTruncated, links_at, PassesAt, MeetsAt, FailsAt, Ends, refused, not_canonical};
+ghost use Rattle.capnp_wire.specs.Tested.{NextOf, PaddedOf, IsTruncated, links_at, PassesAt, MeetsAt, FailsAt, Ends, fails_with, not_canonical};
 ghost use Rattle.capnp_layout.specs.declared.place.Place.{Place};
 
 use crate::layout::canonical_rules::{body_has_zero_padding, is_next, is_truncated};
@@ -74,9 +74,9 @@ impl CanonicalWalk {
         ensures ended { let place : Place = record { segment = 0; word = word } in
             IfOk result (λ passes. passes ≡ false → Ends (words_of segment.now) (place ∷ []) nesting
             self.old.walk.left self.old.next not_canonical) }
-        ensures refused { let place : Place = record { segment = 0; word = word } in
+        ensures errors { let place : Place = record { segment = 0; word = word } in
             IfErr result (λ error. Ends (words_of segment.now) (place ∷ []) nesting
-            self.old.walk.left self.old.next (refused error.kind)) }
+            self.old.walk.left self.old.next (fails_with error.kind)) }
     {
         match self.visit(segments, segment, word, nesting)? {
             Met::Null => Ok(true),
@@ -112,9 +112,9 @@ impl CanonicalWalk {
             self.old.walk.left self.new.walk.left self.old.next self.new.next) }
         ensures ended { IfOk result (λ passes. passes ≡ false → Ends (words_of segment.now)
             (places_in pointers) nesting self.old.walk.left self.old.next not_canonical) }
-        ensures refused { IfErr result (λ error.
+        ensures errors { IfErr result (λ error.
             Ends (words_of segment.now) (places_in pointers) nesting
-            self.old.walk.left self.old.next (refused error.kind)) }
+            self.old.walk.left self.old.next (fails_with error.kind)) }
     {
         'pointers: while !pointers.is_empty() {
             let place = pointers.take();
@@ -139,7 +139,7 @@ impl CanonicalWalk {
         requires before { word < self.now.next }
         requires within { self.now.next ≤ length segment.now / 8 }
         ensures found { MeetsAt (words_of segment.now) word nesting self.old self.new result }
-        ensures refused { FailsAt (words_of segment.now) word nesting self.old result }
+        ensures errors { FailsAt (words_of segment.now) word nesting self.old result }
     {
         let pointer = existing_word(segment, word)?;
         if pointer == 0 {
@@ -174,7 +174,7 @@ impl CanonicalWalk {
         requires there { slice_get (words_of segment.now) word ≡ Some pointer }
         requires not_far { pointer_kind pointer ≢ 2 }
         ensures found { MeetsAt (words_of segment.now) word nesting self.old self.new result }
-        ensures refused { FailsAt (words_of segment.now) word nesting self.old result }
+        ensures errors { FailsAt (words_of segment.now) word nesting self.old result }
     {
         let place = Place { segment: 0, word };
         let Some(object) = object_in(segments, segment, place, nesting)? else {
@@ -200,7 +200,7 @@ impl CanonicalWalk {
             IsObject (words_of segment.now ∷ []) place object.now }
         ensures found { (nesting : ℕ) → 0 < nesting →
             MeetsAt (words_of segment.now) word nesting self.old self.new result }
-        ensures refused { (nesting : ℕ) → 0 < nesting →
+        ensures errors { (nesting : ℕ) → 0 < nesting →
             FailsAt (words_of segment.now) word nesting self.old result }
     {
         self.walk.count_traversed(object.traversed)?;
@@ -225,10 +225,10 @@ pub(crate) fn is_canonical<S: ReaderSegments>(
 ) -> Result<bool>
     requires { message_of (S.segments segments.now) ≡ words_of segment.now ∷ [] }
     ensures said { IfOk result (λ is. IsTrue is ↔ IsCanonical (words_of segment.now ∷ [])) }
-    ensures refused { IfErr result (λ error.
-        Ends (words_of segment.now) (root ∷ []) nesting limit 1 (refused error.kind)) }
+    ensures errors { IfErr result (λ error.
+        Ends (words_of segment.now) (root ∷ []) nesting limit 1 (fails_with error.kind)) }
     ensures exact { (kind : ErrorKind) →
-        Ends (words_of segment.now) (root ∷ []) nesting limit 1 (refused kind) →
+        Ends (words_of segment.now) (root ∷ []) nesting limit 1 (fails_with kind) →
         IsErrAnd result (λ error. error.kind ≡ kind) }
 {
     let root = Place {

@@ -1,10 +1,10 @@
 //! Lists of pointers that are read, as values: they are measured, and written into a block.
 ghost use Rattle.std.specs.Prelude.{◌≡◌, ◌+◌, ◌-◌, ◌^◌, ◌<◌, ◌≤◌, ℕ, Option, length, IfErr, MatchResult, OnOk};
-ghost use Rattle.capnp_layout.specs.Prelude.{words_of, pointers, Trees, message_of, places, StopsWalk, output};
+ghost use Rattle.capnp_layout.specs.Prelude.{words_of, pointers, Trees, message_of, places, WalkError, output};
 ghost use Rattle.capnp_wire.specs.Traversed.{counted, WalkedAll};
 ghost use Rattle.capnp_wire.specs.Copy.{IsCopied};
-ghost use Rattle.capnp_wire.specs.Values.{HasWords, LacksWords, HasRoomAt};
-ghost use Rattle.capnp_wire.specs.ListValues.{IsListTree, StopsInList, pointers_along};
+ghost use Rattle.capnp_wire.specs.Values.{HasWords, WordsError, HasRoomAt};
+ghost use Rattle.capnp_wire.specs.ListValues.{IsListTree, WalkErrorInList, pointers_along};
 
 use crate::layout::copy::{Copied, CopySource, Destination};
 use crate::layout::copy_rows::copy_run;
@@ -31,7 +31,7 @@ pub(crate) fn measure<S: ReaderSegments>(
     ensures { let list = pointers_along (message_of (S.segments segments.now))
         first count nesting limit in
         MatchResult result (λ words. HasWords (IsListTree pointers list) canonical words)
-        (λ error. LacksWords (IsListTree pointers list) (StopsInList list) canonical error.kind) }
+        (λ error. WordsError (IsListTree pointers list) (WalkErrorInList list) canonical error.kind) }
 {
     let mut walk = Walk::new(limit);
     walk.count(count as u64);
@@ -52,8 +52,8 @@ fn walk_list<S: ReaderSegments>(
     ensures found { let m = message_of (S.segments segments.now) in
         OnOk result (WalkedAll m canonical (places first.segment first.word count) nesting
         walk.old.left walk.new.left (counted walk.old) (counted walk.new)) }
-    ensures refused { let m = message_of (S.segments segments.now) in
-        IfErr result (λ error. StopsWalk m (places first.segment first.word count) nesting
+    ensures errors { let m = message_of (S.segments segments.now) in
+        IfErr result (λ error. WalkError m (places first.segment first.word count) nesting
         walk.old.left error.kind) }
 {
     if count == 0 {

@@ -2,8 +2,8 @@
 ghost use Rattle.std.specs.Prelude.{◌≡◌, if◌then◌else◌, ◌+◌, ◌-◌, ◌*◌, ◌/◌, ◌^◌, ◌<◌, ◌≤◌, ℕ, Option, length, MatchResult};
 ghost use Rattle.capnp_layout.specs.Prelude.{words_of, Trees, message_of, output, least_size};
 ghost use Rattle.capnp_wire.specs.Copy.{IsCopied};
-ghost use Rattle.capnp_wire.specs.Values.{HasWords, LacksWords, HasRoomAt, HoldsPointers};
-ghost use Rattle.capnp_wire.specs.ListValues.{IsListTree, StopsInList, pointers_of_structs, structs_along};
+ghost use Rattle.capnp_wire.specs.Values.{HasWords, WordsError, HasRoomAt, HoldsPointers};
+ghost use Rattle.capnp_wire.specs.ListValues.{IsListTree, WalkErrorInList, pointers_of_structs, structs_along};
 
 use crate::layout::copy::{Copied, CopySource, Destination};
 use crate::layout::copy_cursor::CopyCursor;
@@ -50,7 +50,7 @@ pub(crate) fn measure<S: ReaderSegments>(
         let pointers = pointers_of_structs (message_of (S.segments segments.now))
         list.entry.first list.entry.elements nesting limit in
         MatchResult result (λ words. HasWords (IsListTree form pointers) canonical words)
-        (λ error. LacksWords (IsListTree form pointers) (StopsInList pointers) canonical error.kind) }
+        (λ error. WordsError (IsListTree form pointers) (WalkErrorInList pointers) canonical error.kind) }
 {
     // For the prover: each word is below 2^64, and so is the number of bytes.
     words_fit(list.segment);

@@ -2,7 +2,7 @@
 ghost use Rattle.std.specs.Prelude.{◌≡◌, ◌+◌, ◌-◌, ◌/◌, ◌^◌, ◌<◌, ◌≤◌, ℕ, Option, length, MatchResult};
 ghost use Rattle.capnp_layout.specs.Prelude.{words_of, Trees, message_of, output};
 ghost use Rattle.capnp_wire.specs.Copy.{IsCopied};
-ghost use Rattle.capnp_wire.specs.Values.{HasWords, LacksWords, HasRoomAt, IsTreeOf, StopsInside, HoldsPointers, fields_at};
+ghost use Rattle.capnp_wire.specs.Values.{HasWords, WordsError, HasRoomAt, IsTreeOf, WalkErrorInside, HoldsPointers, fields_at};
 
 use crate::layout::copy::{Copied, CopySource, Destination};
 use crate::layout::copy_rows::copy_pointers;
@@ -32,7 +32,7 @@ pub(crate) fn measure<S: ReaderSegments>(
     ensures { let shown = fields_at (message_of (S.segments segments.now))
         (words_of fields.entry.segment.now) fields.entry.start fields.entry.size nesting limit in
         MatchResult result (λ words. HasWords (IsTreeOf shown) canonical words)
-        (λ error. LacksWords (IsTreeOf shown) (StopsInside shown) canonical error.kind) }
+        (λ error. WordsError (IsTreeOf shown) (WalkErrorInside shown) canonical error.kind) }
 {
     // For the prover: each word is below 2^64, and so is the number of bytes.
     words_fit(fields.segment);

@@ -5,7 +5,7 @@ ghost use Rattle.capnp_frame.specs.declared.error.ErrorKind.TheVariants.{Allocat
 ghost use Rattle.capnp_layout.specs.Prelude.{digits, number_of, words_of, code_of, width, words_for, numbers, none, tree, elements, message_of, too_large, put};
 ghost use Rattle.capnp_wire.specs.Traversed.{Counts};
 ghost use Rattle.capnp_wire.specs.Copy.{IsCopied};
-ghost use Rattle.capnp_wire.specs.Values.{Measured, RejectsTreeSize, ManyBytes, IsFreeFrom};
+ghost use Rattle.capnp_wire.specs.Values.{Measured, TreeSizeError, ManyBytes, IsFreeFrom};
 
 use crate::layout::copy::Copied;
 use crate::layout::walk::Walk;
@@ -30,7 +30,7 @@ pub(crate) fn measure<S: ReaderSegments>(
 ) -> Result<u32>
     ensures returned { let m = message_of (S.segments segments.now) in MatchResult result
         (λ words. Measured m place nesting limit canonical words)
-        (λ error. RejectsTreeSize m place nesting limit canonical error.kind) }
+        (λ error. TreeSizeError m place nesting limit canonical error.kind) }
 {
     let mut walk = Walk::new(limit);
     walk.walk(segments, place, nesting, canonical)?;

@@ -1,6 +1,6 @@
 //! What a walk does at one pointer, without going below.
 ghost use Rattle.std.specs.Prelude.{◌≡◌, ◌+◌, ◌/◌, ◌<◌, ◌≤◌, Bool, ℕ, List, [], ◌∷◌, length, slice_get, Some, IfErr, IfOk, OnOk, MatchOption, IsTrue};
-ghost use Rattle.capnp_layout.specs.Prelude.{words_of, message_of, IsObject, object_of, local_struct_of, pointers_of, StopsWalk};
+ghost use Rattle.capnp_layout.specs.Prelude.{words_of, message_of, IsObject, object_of, local_struct_of, pointers_of, WalkError};
 ghost use Rattle.capnp_wire.specs.Traversed.{counted, EntersObject, Walked};
 
 use crate::layout::walk::Walk;
@@ -32,8 +32,8 @@ impl Walk {
             self.old.left self.new.left (counted self.old) (counted self.new))
             (λ object. EntersObject m canonical place object nesting
             self.old.left self.new.left (counted self.old) (counted self.new))) }
-        ensures refused { let m = message_of (S.segments segments.now) in
-            IfErr result (λ error. StopsWalk m (place ∷ []) nesting self.old.left error.kind) }
+        ensures errors { let m = message_of (S.segments segments.now) in
+            IfErr result (λ error. WalkError m (place ∷ []) nesting self.old.left error.kind) }
     {
         let Some(object) = object_in(segments, segment, place, nesting)? else {
             return Ok(None);
@@ -54,9 +54,9 @@ impl Walk {
             self.old.left self.new.left (counted self.old) (counted self.new)
             × (IsTrue alone → Walked m canonical place nesting
             self.old.left self.new.left (counted self.old) (counted self.new))) }
-        ensures refused { (m : List (List ℕ)) (place : Place) (nesting : ℕ) →
+        ensures errors { (m : List (List ℕ)) (place : Place) (nesting : ℕ) →
             IsObject m place (local_struct_of found.now) → 0 < nesting → IfErr result (λ error.
-            StopsWalk m (place ∷ []) nesting self.old.left error.kind) }
+            WalkError m (place ∷ []) nesting self.old.left error.kind) }
     {
         self.count_traversed(found.size.words())?;
         self.count(found.output(canonical).words());
@@ -70,9 +70,9 @@ impl Walk {
             IsObject m place (object_of list.now) → 0 < nesting →
             OnOk result (Walked m canonical place nesting
             self.old.left self.new.left (counted self.old) (counted self.new)) }
-        ensures refused { (m : List (List ℕ)) (place : Place) (nesting : ℕ) →
+        ensures errors { (m : List (List ℕ)) (place : Place) (nesting : ℕ) →
             IsObject m place (object_of list.now) → 0 < nesting → IfErr result (λ error.
-            StopsWalk m (place ∷ []) nesting self.old.left error.kind) }
+            WalkError m (place ∷ []) nesting self.old.left error.kind) }
     {
         self.count_traversed(list.traversed())?;
         self.count(list.words());
@@ -87,9 +87,9 @@ impl Walk {
             IsObject m place (pointers_of list.now) → 0 < nesting →
             OnOk result (EntersObject m canonical place (pointers_of list.now) nesting
             self.old.left self.new.left (counted self.old) (counted self.new)) }
-        ensures refused { (m : List (List ℕ)) (place : Place) (nesting : ℕ) →
+        ensures errors { (m : List (List ℕ)) (place : Place) (nesting : ℕ) →
             IsObject m place (pointers_of list.now) → 0 < nesting → IfErr result (λ error.
-            StopsWalk m (place ∷ []) nesting self.old.left error.kind) }
+            WalkError m (place ∷ []) nesting self.old.left error.kind) }
     {
         let words = list.count as u64;
         self.count_traversed(words)?;

@@ -1,7 +1,7 @@
 //! Walks over all objects that a pointer leads to.
 ghost use Rattle.std.specs.Prelude.{◌≡◌, ◌≢◌, ◌+◌, ◌-◌, ◌/◌, ◌^◌, ◌<◌, ◌≤◌, [], ◌∷◌, length, slice_get, Some, IfErr, IfOk, OnOk, MatchOption};
 ghost use Rattle.capnp_frame.specs.declared.error.ErrorKind.{ErrorKind};
-ghost use Rattle.capnp_layout.specs.Prelude.{words_of, message_of, places, room_of, words_in, Within, Exceeds, less, StopsWalk, output_body_of, segment_of, places_in};
+ghost use Rattle.capnp_layout.specs.Prelude.{words_of, message_of, places, room_of, words_in, Within, IsPastLimit, less, WalkError, output_body_of, segment_of, places_in};
 ghost use Rattle.capnp_wire.specs.Traversed.{counted, CountsMore, Walked, WalkedAll, WalkedTo};
 
 use capnp_frame::message::ReaderSegments;
@@ -62,7 +62,7 @@ impl Walk {
         ensures words { OnOk result (CountsMore (counted self.old) (counted self.new)
             (words_in (output_body_of canonical
             (words_of object.now.segment.now) object.now.start.word object.now.body))) }
-        ensures refused { IfErr result (λ error. Exceeds self.old.left object.now.traversed
+        ensures errors { IfErr result (λ error. IsPastLimit self.old.left object.now.traversed
             × (error.kind ≡ ErrorKind.ReadLimitExceeded)) }
     {
         self.count_traversed(object.traversed)?;
@@ -77,7 +77,7 @@ impl Walk {
         ensures within { OnOk result (Within self.old.left words) }
         ensures left { OnOk result (self.new.left ≡ less self.old.left words) }
         ensures words { counted self.new ≡ counted self.old }
-        ensures refused { IfErr result (λ error. Exceeds self.old.left words
+        ensures errors { IfErr result (λ error. IsPastLimit self.old.left words
             × (error.kind ≡ ErrorKind.ReadLimitExceeded)) }
     {
         if let Some(left) = self.left {
@@ -114,8 +114,8 @@ impl Walk {
         ensures found { let m = message_of (S.segments segments.now) in
             OnOk result (Walked m canonical place nesting
             self.old.left self.new.left (counted self.old) (counted self.new)) }
-        ensures refused { let m = message_of (S.segments segments.now) in
-            IfErr result (λ error. StopsWalk m (place ∷ []) nesting self.old.left error.kind) }
+        ensures errors { let m = message_of (S.segments segments.now) in
+            IfErr result (λ error. WalkError m (place ∷ []) nesting self.old.left error.kind) }
     {
         let segment = segment(segments, place.segment)?;
         if let Some(_) = null_or_empty_struct(segment, place.word, nesting) {
@@ -160,8 +160,8 @@ impl Walk {
         ensures found { let m = message_of (S.segments segments.now) in
             OnOk result (Walked m canonical place nesting
             self.old.left self.new.left (counted self.old) (counted self.new)) }
-        ensures refused { let m = message_of (S.segments segments.now) in
-            IfErr result (λ error. StopsWalk m (place ∷ []) nesting self.old.left error.kind) }
+        ensures errors { let m = message_of (S.segments segments.now) in
+            IfErr result (λ error. WalkError m (place ∷ []) nesting self.old.left error.kind) }
     {
         let Some(object) = self.visit(segments, segment, place, nesting, canonical)? else {
             return Ok(());
@@ -194,9 +194,9 @@ impl Walk {
         ensures found { let m = message_of (S.segments segments.now) in
             OnOk result (WalkedAll m canonical (places_in pointers) nesting
             self.old.left self.new.left (counted self.old) (counted self.new)) }
-        ensures refused { let m = message_of (S.segments segments.now) in
+        ensures errors { let m = message_of (S.segments segments.now) in
             IfErr result (λ error.
-            StopsWalk m (places_in pointers) nesting self.old.left error.kind) }
+            WalkError m (places_in pointers) nesting self.old.left error.kind) }
     {
         // Speed: there is a call only for what the children of a child have
         // (`tools/time-building`).
@@ -252,9 +252,9 @@ impl Walk {
             (λ children. WalkedTo m canonical (places_in pointers.old) (places_in pointers.new)
             children nesting self.old.left self.new.left (counted self.old) (counted self.new)
             × (segment_of pointers.new ≡ segment_of pointers.old))) }
-        ensures refused { let m = message_of (S.segments segments.now) in
+        ensures errors { let m = message_of (S.segments segments.now) in
             IfErr result (λ error.
-            StopsWalk m (places_in pointers.old) nesting self.old.left error.kind) }
+            WalkError m (places_in pointers.old) nesting self.old.left error.kind) }
     {
         'pointers: while !pointers.is_empty() {
             let place = pointers.take();
@@ -296,8 +296,8 @@ impl Walk {
         ensures found { let m = message_of (S.segments segments.now) in
             OnOk result (WalkedAll m canonical (places first.segment first.word count) nesting
             self.old.left self.new.left (counted self.old) (counted self.new)) }
-        ensures refused { let m = message_of (S.segments segments.now) in
-            IfErr result (λ error. StopsWalk m (places first.segment first.word count) nesting
+        ensures errors { let m = message_of (S.segments segments.now) in
+            IfErr result (λ error. WalkError m (places first.segment first.word count) nesting
             self.old.left error.kind) }
     {
         let pointers = PointerSlots::run(first, count);

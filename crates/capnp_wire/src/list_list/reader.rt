@@ -36,8 +36,8 @@ impl<'a, S: ReaderSegments, T: FromPointerReader<'a, S>> Reader<'a, S, T> {
     pub fn get(&self, index: u32) -> Result<T>
         requires { index < length (pointer_list_of S.segments self.now.pointers).children }
         ensures { let pointer = pointer_at (pointer_list_of S.segments self.now.pointers) index in
-            IsViewOf pointer (T.shows pointer) (T.accepts pointer) (T.refuses pointer)
-            (T.declines pointer) result }
+            IsViewOf pointer (T.shows pointer) (T.accepts pointer) (T.fails pointer)
+            (T.form_error pointer) result }
     {
         T::get_from_pointer(self.pointers.get(index))
     }
@@ -49,7 +49,7 @@ impl<'a, S: ReaderSegments, T: FromPointerReader<'a, S>> Reader<'a, S, T> {
         ensures { FindsElement (length (pointer_list_of S.segments self.now.pointers).children) index
             (let pointer = pointer_at (pointer_list_of S.segments self.now.pointers) index in
             IsViewOf pointer (T.shows pointer) (T.accepts pointer)
-            (T.refuses pointer) (T.declines pointer)) result }
+            (T.fails pointer) (T.form_error pointer)) result }
     {
         match self.pointers.try_get(index) {
             Some(pointer) => Some(T::get_from_pointer(pointer)),
@@ -68,23 +68,23 @@ impl<'a, S: ReaderSegments, T: FromPointerReader<'a, S>> Reader<'a, S, T> {
 // Null is an empty list; any object other than a list of pointers fails with `WrongPointerKind`.
 impl<'a, S: ReaderSegments, T> FromPointerReader<'a, S> for Reader<'a, S, T> {
     ghost use Rattle.capnp_wire.specs.Readers.{pointer_of};
-    ghost use Rattle.capnp_wire.specs.Views.{IsViewOf, Accepts, Refuses, Declines};
-    ghost use Rattle.capnp_wire.specs.ListViews.{pointer_list_of, IsPointerList, TakesPointers, DeclinesPointers};
+    ghost use Rattle.capnp_wire.specs.Views.{IsViewOf, Accepts, ViewError, FormError};
+    ghost use Rattle.capnp_wire.specs.ListViews.{pointer_list_of, IsPointerList, TakesPointers, PointersFormError};
 
     ghost shows = { λ pointer view. IsPointerList pointer (pointer_list_of S.segments view.pointers) };
 
     ghost accepts = { λ pointer. Accepts pointer TakesPointers };
 
-    ghost refuses = { λ pointer kind. Refuses pointer DeclinesPointers kind };
+    ghost fails = { λ pointer kind. ViewError pointer PointersFormError kind };
 
-    ghost declines = { λ pointer kind. Declines pointer DeclinesPointers kind };
+    ghost form_error = { λ pointer kind. FormError pointer PointersFormError kind };
 
     #[inline(always)]
     fn get_from_pointer(reader: any_pointer::Reader<'a, S>) -> Result<Self>
         ensures { let pointer = pointer_of S.segments reader.entry in IsViewOf pointer
             (λ view. IsPointerList pointer (pointer_list_of S.segments view.pointers))
-            (Accepts pointer TakesPointers) (Refuses pointer DeclinesPointers)
-            (Declines pointer DeclinesPointers) result }
+            (Accepts pointer TakesPointers) (ViewError pointer PointersFormError)
+            (FormError pointer PointersFormError) result }
     {
         match any_pointer_list::Reader::get_from_pointer(reader) {
             Ok(pointers) => Ok(Reader {
@@ -98,16 +98,16 @@ impl<'a, S: ReaderSegments, T> FromPointerReader<'a, S> for Reader<'a, S, T> {
 
 impl<'a, S: ReaderSegments, T> FromPointerInSegment<'a, S> for Reader<'a, S, T> {
     ghost use Rattle.capnp_wire.specs.Readers.{pointer_of};
-    ghost use Rattle.capnp_wire.specs.Views.{HasSegment, IsViewOf, Accepts, Refuses, Declines};
-    ghost use Rattle.capnp_wire.specs.ListViews.{pointer_list_of, IsPointerList, TakesPointers, DeclinesPointers};
+    ghost use Rattle.capnp_wire.specs.Views.{HasSegment, IsViewOf, Accepts, ViewError, FormError};
+    ghost use Rattle.capnp_wire.specs.ListViews.{pointer_list_of, IsPointerList, TakesPointers, PointersFormError};
 
     #[inline(always)]
     fn get_from_segment(reader: any_pointer::Reader<'a, S>, segment: &'a [u8]) -> Result<Self>
         requires { HasSegment (pointer_of S.segments reader) (words_of segment.now) }
         ensures { let pointer = pointer_of S.segments reader.entry in IsViewOf pointer
             (λ view. IsPointerList pointer (pointer_list_of S.segments view.pointers))
-            (Accepts pointer TakesPointers) (Refuses pointer DeclinesPointers)
-            (Declines pointer DeclinesPointers) result }
+            (Accepts pointer TakesPointers) (ViewError pointer PointersFormError)
+            (FormError pointer PointersFormError) result }
     {
         match any_pointer_list::Reader::get_from_segment(reader, segment) {
             Ok(pointers) => Ok(Reader {

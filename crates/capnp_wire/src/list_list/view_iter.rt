@@ -42,8 +42,8 @@ where
 
     ghost next_gives = { YieldsView (L.seen) (elements_left L.size L.element)
         (λ reader view. let pointer = pointer_of S.segments reader in
-        IsViewOf pointer (T.shows pointer) (T.accepts pointer) (T.refuses pointer)
-        (T.declines pointer) view) };
+        IsViewOf pointer (T.shows pointer) (T.accepts pointer) (T.fails pointer)
+        (T.form_error pointer) view) };
 
     ghost remaining = { λ views. item_count (elements_left L.size L.element) views.pointers };
 

@@ -29,7 +29,7 @@ pub struct Reader<'a, T: PrimitiveElement> {
 impl<'a, T: PrimitiveElement> Reader<'a, T> {
     ghost use Rattle.capnp_wire.specs.Lists.{FindsElement, IsIterator};
     ghost use Rattle.capnp_wire.specs.NumberViews.{numbers_of, IsNumbers};
-    ghost use Rattle.capnp_wire.specs.Views.{HasSegment, Reads, Refuses, DeclinesNumbers};
+    ghost use Rattle.capnp_wire.specs.Views.{HasSegment, Reads, ViewError, NumbersFormError};
     ghost use Rattle.capnp_wire.specs.Readers.{pointer_of, form_of};
 
     /// The number of elements.
@@ -96,7 +96,7 @@ impl<'a, T: PrimitiveElement> Reader<'a, T> {
             ≤ length object.now.segment.now / 8 }
         ensures { MatchResult result
             (λ view. IsNumbers T.code (form_of object.now) (numbers_of T.code view))
-            (λ error. DeclinesNumbers T.code (form_of object.now) error.kind) }
+            (λ error. NumbersFormError T.code (form_of object.now) error.kind) }
     {
         let list = object_numbers(object, T::size())?;
         Ok(Reader {
@@ -134,7 +134,7 @@ impl<'a, T: PrimitiveElement> IndexMove for Reader<'a, T> {
 impl<'a: 'v, 'v, S: ReaderSegments, T: PrimitiveElement> FromPointerReader<'a, S>
     for Reader<'v, T> {
     ghost use Rattle.capnp_wire.specs.NumberViews.{numbers_of, IsNumbers};
-    ghost use Rattle.capnp_wire.specs.Views.{IsViewOf, Accepts, Reads, Refuses, Declines, TakesNumbers, DeclinesNumbers};
+    ghost use Rattle.capnp_wire.specs.Views.{IsViewOf, Accepts, Reads, ViewError, FormError, TakesNumbers, NumbersFormError};
     ghost use Rattle.capnp_wire.specs.Readers.{pointer_of};
 
     ghost shows = { λ pointer view.
@@ -142,16 +142,16 @@ impl<'a: 'v, 'v, S: ReaderSegments, T: PrimitiveElement> FromPointerReader<'a, S
 
     ghost accepts = { λ pointer. Accepts pointer (TakesNumbers T.code) };
 
-    ghost refuses = { λ pointer kind. Refuses pointer (DeclinesNumbers T.code) kind };
+    ghost fails = { λ pointer kind. ViewError pointer (NumbersFormError T.code) kind };
 
-    ghost declines = { λ pointer kind. Declines pointer (DeclinesNumbers T.code) kind };
+    ghost form_error = { λ pointer kind. FormError pointer (NumbersFormError T.code) kind };
 
     #[inline(always)]
     fn get_from_pointer(reader: any_pointer::Reader<'a, S>) -> Result<Self>
         ensures { let pointer = pointer_of S.segments reader.entry in IsViewOf pointer
             (λ view. Reads pointer (λ form. IsNumbers T.code form (numbers_of T.code view)))
-            (Accepts pointer (TakesNumbers T.code)) (Refuses pointer (DeclinesNumbers T.code))
-            (Declines pointer (DeclinesNumbers T.code)) result }
+            (Accepts pointer (TakesNumbers T.code)) (ViewError pointer (NumbersFormError T.code))
+            (FormError pointer (NumbersFormError T.code)) result }
     {
         read(&reader, None)
     }
@@ -160,7 +160,7 @@ impl<'a: 'v, 'v, S: ReaderSegments, T: PrimitiveElement> FromPointerReader<'a, S
 impl<'a: 'v, 'v, S: ReaderSegments, T: PrimitiveElement> FromPointerInSegment<'a, S>
     for Reader<'v, T> {
     ghost use Rattle.capnp_wire.specs.NumberViews.{numbers_of, IsNumbers};
-    ghost use Rattle.capnp_wire.specs.Views.{HasSegment, IsViewOf, Accepts, Reads, Refuses, Declines, TakesNumbers, DeclinesNumbers};
+    ghost use Rattle.capnp_wire.specs.Views.{HasSegment, IsViewOf, Accepts, Reads, ViewError, FormError, TakesNumbers, NumbersFormError};
     ghost use Rattle.capnp_wire.specs.Readers.{pointer_of};
 
     #[inline(always)]
@@ -168,8 +168,8 @@ impl<'a: 'v, 'v, S: ReaderSegments, T: PrimitiveElement> FromPointerInSegment<'a
         requires { HasSegment (pointer_of S.segments reader) (words_of segment.now) }
         ensures { let pointer = pointer_of S.segments reader.entry in IsViewOf pointer
             (λ view. Reads pointer (λ form. IsNumbers T.code form (numbers_of T.code view)))
-            (Accepts pointer (TakesNumbers T.code)) (Refuses pointer (DeclinesNumbers T.code))
-            (Declines pointer (DeclinesNumbers T.code)) result }
+            (Accepts pointer (TakesNumbers T.code)) (ViewError pointer (NumbersFormError T.code))
+            (FormError pointer (NumbersFormError T.code)) result }
     {
         read(&reader, Some(segment))
     }
@@ -178,12 +178,12 @@ impl<'a: 'v, 'v, S: ReaderSegments, T: PrimitiveElement> FromPointerInSegment<'a
 impl<'a: 'v, 'v, S: ReaderSegments, T: PrimitiveElement> ObjectView<'a, S> for Reader<'v, T> {
     ghost use Rattle.std.proofs.Common.{inl};
     ghost use Rattle.capnp_wire.specs.NumberViews.{numbers_of, IsNumbers};
-    ghost use Rattle.capnp_wire.specs.Views.{Reads, Refuses, DeclinesNumbers};
+    ghost use Rattle.capnp_wire.specs.Views.{Reads, ViewError, NumbersFormError};
 
     ghost shows = { λ pointer view.
         Reads pointer (λ form. IsNumbers T.code form (numbers_of T.code view)) };
 
-    ghost refuses = { λ pointer kind. Refuses pointer (DeclinesNumbers T.code) kind };
+    ghost fails = { λ pointer kind. ViewError pointer (NumbersFormError T.code) kind };
 
     #[inline(always)]
     fn kind() -> ObjectKind {
@@ -204,5 +204,5 @@ impl<'a: 'v, 'v, S: ReaderSegments, T: PrimitiveElement> ObjectView<'a, S> for R
         Reader::in_object(object)
     }
 
-    ghost unread = { λ pointer kind rejected. inl rejected };
+    ghost unread = { λ pointer kind error. inl error };
 }

@@ -39,8 +39,8 @@ pub struct Reader<'a, S: ReaderSegments> {
 impl<'a, S: ReaderSegments> Reader<'a, S> {
     ghost use Rattle.capnp_wire.specs.Lists.{FindsElement, IsIterator};
     ghost use Rattle.capnp_wire.specs.Readers.{struct_of, pointer_of, IsEntered};
-    ghost use Rattle.capnp_wire.specs.Views.{HasSegment, Refuses};
-    ghost use Rattle.capnp_wire.specs.ListViews.{struct_list_of, element_of, no_structs, structs_in, IsStructList, DeclinesStructs};
+    ghost use Rattle.capnp_wire.specs.Views.{HasSegment, ViewError};
+    ghost use Rattle.capnp_wire.specs.ListViews.{struct_list_of, element_of, no_structs, structs_in, IsStructList, StructsFormError};
 
     /// The number of elements.
     pub fn len(&self) -> u32
@@ -150,12 +150,12 @@ impl<'a, S: ReaderSegments> Reader<'a, S> {
 
 impl<'a, S: ReaderSegments> ObjectView<'a, S> for Reader<'a, S> {
     ghost use Rattle.std.proofs.Common.{inl};
-    ghost use Rattle.capnp_wire.specs.Views.{Refuses};
-    ghost use Rattle.capnp_wire.specs.ListViews.{struct_list_of, IsStructList, DeclinesStructs};
+    ghost use Rattle.capnp_wire.specs.Views.{ViewError};
+    ghost use Rattle.capnp_wire.specs.ListViews.{struct_list_of, IsStructList, StructsFormError};
 
     ghost shows = { λ pointer view. IsStructList pointer (struct_list_of S.segments view) };
 
-    ghost refuses = { λ pointer kind. Refuses pointer DeclinesStructs kind };
+    ghost fails = { λ pointer kind. ViewError pointer StructsFormError kind };
 
     #[inline(always)]
     fn kind() -> ObjectKind {
@@ -174,7 +174,7 @@ impl<'a, S: ReaderSegments> ObjectView<'a, S> for Reader<'a, S> {
         Ok(Reader::within(reader, object, 1, elements))
     }
 
-    ghost unread = { λ pointer kind rejected. inl rejected };
+    ghost unread = { λ pointer kind error. inl error };
 }
 
 impl<'a, S: ReaderSegments> IndexMove for Reader<'a, S> {
@@ -204,23 +204,23 @@ impl<'a, S: ReaderSegments> IndexMove for Reader<'a, S> {
 // Null is an empty list; any object other than a list of structs fails with `WrongPointerKind`.
 impl<'a, S: ReaderSegments> FromPointerReader<'a, S> for Reader<'a, S> {
     ghost use Rattle.capnp_wire.specs.Readers.{pointer_of};
-    ghost use Rattle.capnp_wire.specs.Views.{IsViewOf, Accepts, Refuses, Declines};
-    ghost use Rattle.capnp_wire.specs.ListViews.{struct_list_of, IsStructList, TakesStructs, DeclinesStructs};
+    ghost use Rattle.capnp_wire.specs.Views.{IsViewOf, Accepts, ViewError, FormError};
+    ghost use Rattle.capnp_wire.specs.ListViews.{struct_list_of, IsStructList, TakesStructs, StructsFormError};
 
     ghost shows = { λ pointer view. IsStructList pointer (struct_list_of S.segments view) };
 
     ghost accepts = { λ pointer. Accepts pointer TakesStructs };
 
-    ghost refuses = { λ pointer kind. Refuses pointer DeclinesStructs kind };
+    ghost fails = { λ pointer kind. ViewError pointer StructsFormError kind };
 
-    ghost declines = { λ pointer kind. Declines pointer DeclinesStructs kind };
+    ghost form_error = { λ pointer kind. FormError pointer StructsFormError kind };
 
     #[inline(always)]
     fn get_from_pointer(reader: any_pointer::Reader<'a, S>) -> Result<Self>
         ensures { let pointer = pointer_of S.segments reader.entry in IsViewOf pointer
             (λ view. IsStructList pointer (struct_list_of S.segments view))
-            (Accepts pointer TakesStructs) (Refuses pointer DeclinesStructs)
-            (Declines pointer DeclinesStructs) result }
+            (Accepts pointer TakesStructs) (ViewError pointer StructsFormError)
+            (FormError pointer StructsFormError) result }
     {
         read(&reader, None)
     }
@@ -228,16 +228,16 @@ impl<'a, S: ReaderSegments> FromPointerReader<'a, S> for Reader<'a, S> {
 
 impl<'a, S: ReaderSegments> FromPointerInSegment<'a, S> for Reader<'a, S> {
     ghost use Rattle.capnp_wire.specs.Readers.{pointer_of};
-    ghost use Rattle.capnp_wire.specs.Views.{HasSegment, IsViewOf, Accepts, Refuses, Declines};
-    ghost use Rattle.capnp_wire.specs.ListViews.{struct_list_of, IsStructList, TakesStructs, DeclinesStructs};
+    ghost use Rattle.capnp_wire.specs.Views.{HasSegment, IsViewOf, Accepts, ViewError, FormError};
+    ghost use Rattle.capnp_wire.specs.ListViews.{struct_list_of, IsStructList, TakesStructs, StructsFormError};
 
     #[inline(always)]
     fn get_from_segment(reader: any_pointer::Reader<'a, S>, segment: &'a [u8]) -> Result<Self>
         requires { HasSegment (pointer_of S.segments reader) (words_of segment.now) }
         ensures { let pointer = pointer_of S.segments reader.entry in IsViewOf pointer
             (λ view. IsStructList pointer (struct_list_of S.segments view))
-            (Accepts pointer TakesStructs) (Refuses pointer DeclinesStructs)
-            (Declines pointer DeclinesStructs) result }
+            (Accepts pointer TakesStructs) (ViewError pointer StructsFormError)
+            (FormError pointer StructsFormError) result }
     {
         read(&reader, Some(segment))
     }

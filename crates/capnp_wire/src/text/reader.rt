@@ -2,7 +2,7 @@
 ghost use Rattle.std.specs.Prelude.{◌≡◌, ◌↔◌, ◌+◌, ◌/◌, ◌≤◌, ◌++◌, ◌∷◌, [], ℕ, List, length, IsTrue, MatchResult, MatchOption};
 ghost use Rattle.std.specs.Str.{IsUtf8, IsValidUpTo, valid_up_to};
 ghost use Rattle.capnp_layout.specs.Prelude.{words_of, room_of};
-ghost use Rattle.capnp_wire.specs.Views.{HasSegment, IsViewOf, Accepts, Reads, Refuses, Declines, IsText, TakesText, DeclinesText};
+ghost use Rattle.capnp_wire.specs.Views.{HasSegment, IsViewOf, Accepts, Reads, ViewError, FormError, IsText, TakesText, TextFormError};
 ghost use Rattle.capnp_wire.specs.Readers.{pointer_of, form_of};
 
 use crate::any_pointer;
@@ -72,16 +72,16 @@ impl<'a: 'v, 'v, S: ReaderSegments> FromPointerReader<'a, S> for Reader<'v> {
 
     ghost accepts = { λ pointer. Accepts pointer TakesText };
 
-    ghost refuses = { λ pointer kind. Refuses pointer DeclinesText kind };
+    ghost fails = { λ pointer kind. ViewError pointer TextFormError kind };
 
-    ghost declines = { λ pointer kind. Declines pointer DeclinesText kind };
+    ghost form_error = { λ pointer kind. FormError pointer TextFormError kind };
 
     #[inline(always)]
     fn get_from_pointer(reader: any_pointer::Reader<'a, S>) -> Result<Self>
         ensures { let pointer = pointer_of S.segments reader.entry in IsViewOf pointer
             (λ view. Reads pointer (λ form. IsText form view.bytes.now))
-            (Accepts pointer TakesText) (Refuses pointer DeclinesText)
-            (Declines pointer DeclinesText) result }
+            (Accepts pointer TakesText) (ViewError pointer TextFormError)
+            (FormError pointer TextFormError) result }
     {
         read(&reader, None)
     }
@@ -93,8 +93,8 @@ impl<'a: 'v, 'v, S: ReaderSegments> FromPointerInSegment<'a, S> for Reader<'v> {
         requires { HasSegment (pointer_of S.segments reader) (words_of segment.now) }
         ensures { let pointer = pointer_of S.segments reader.entry in IsViewOf pointer
             (λ view. Reads pointer (λ form. IsText form view.bytes.now))
-            (Accepts pointer TakesText) (Refuses pointer DeclinesText)
-            (Declines pointer DeclinesText) result }
+            (Accepts pointer TakesText) (ViewError pointer TextFormError)
+            (FormError pointer TextFormError) result }
     {
         read(&reader, Some(segment))
     }
@@ -105,7 +105,7 @@ impl<'a: 'v, 'v, S: ReaderSegments> ObjectView<'a, S> for Reader<'v> {
 
     ghost shows = { λ pointer view. Reads pointer (λ form. IsText form view.bytes.now) };
 
-    ghost refuses = { λ pointer kind. Refuses pointer DeclinesText kind };
+    ghost fails = { λ pointer kind. ViewError pointer TextFormError kind };
 
     #[inline(always)]
     fn kind() -> ObjectKind {
@@ -122,7 +122,7 @@ impl<'a: 'v, 'v, S: ReaderSegments> ObjectView<'a, S> for Reader<'v> {
         text_in(object)
     }
 
-    ghost unread = { λ pointer kind rejected. inl rejected };
+    ghost unread = { λ pointer kind error. inl error };
 }
 
 // The `Text` that an object is.
@@ -131,7 +131,7 @@ fn text_in<'a>(object: &Object<'a>) -> Result<Reader<'a>>
     requires { object.now.start.word + room_of object.now.body
         ≤ length object.now.segment.now / 8 }
     ensures { MatchResult result (λ view. IsText (form_of object.now) view.bytes.now)
-        (λ error. DeclinesText (form_of object.now) error.kind) }
+        (λ error. TextFormError (form_of object.now) error.kind) }
 {
     let bytes = object_bytes(object)?;
     match before_zero(bytes) {

@@ -106,8 +106,8 @@ impl<'a, E: EnumElement> IndexMove for EnumList<'a, E> {
 // Null is empty; else it shows what a list of numbers of 16 bits does, each as a value of the enum.
 impl<'a: 'v, 'v, S: ReaderSegments, E> FromPointerReader<'a, S> for EnumList<'v, E> {
     ghost use Rattle.capnp_wire.specs.Readers.{pointer_of};
-    ghost use Rattle.capnp_wire.specs.Views.{IsViewOf, Accepts, Reads, Refuses, Declines};
-    ghost use Rattle.capnp_wire.specs.UpgradedViews.{ReadsAsNumbers, TakesFields, DeclinesFields};
+    ghost use Rattle.capnp_wire.specs.Views.{IsViewOf, Accepts, Reads, ViewError, FormError};
+    ghost use Rattle.capnp_wire.specs.UpgradedViews.{ReadsAsNumbers, TakesFields, FieldsFormError};
     ghost use Rattle.capnp_wire.specs.UpgradedReaders.{upgraded_numbers_of};
 
     ghost shows = { λ pointer view.
@@ -115,17 +115,17 @@ impl<'a: 'v, 'v, S: ReaderSegments, E> FromPointerReader<'a, S> for EnumList<'v,
 
     ghost accepts = { λ pointer. Accepts pointer (TakesFields 3) };
 
-    ghost refuses = { λ pointer kind. Refuses pointer (DeclinesFields 3) kind };
+    ghost fails = { λ pointer kind. ViewError pointer (FieldsFormError 3) kind };
 
-    ghost declines = { λ pointer kind. Declines pointer (DeclinesFields 3) kind };
+    ghost form_error = { λ pointer kind. FormError pointer (FieldsFormError 3) kind };
 
     #[inline(always)]
     fn get_from_pointer(reader: any_pointer::Reader<'a, S>) -> Result<Self>
         ensures { let pointer = pointer_of S.segments reader.entry in IsViewOf pointer
             (λ view. Reads pointer (λ form.
             ReadsAsNumbers 3 form (upgraded_numbers_of 3 view.numbers)))
-            (Accepts pointer (TakesFields 3)) (Refuses pointer (DeclinesFields 3))
-            (Declines pointer (DeclinesFields 3)) result }
+            (Accepts pointer (TakesFields 3)) (ViewError pointer (FieldsFormError 3))
+            (FormError pointer (FieldsFormError 3)) result }
     {
         match NumberList::get_from_pointer(reader) {
             Ok(numbers) => Ok(EnumList {
@@ -139,8 +139,8 @@ impl<'a: 'v, 'v, S: ReaderSegments, E> FromPointerReader<'a, S> for EnumList<'v,
 
 impl<'a: 'v, 'v, S: ReaderSegments, E> FromPointerInSegment<'a, S> for EnumList<'v, E> {
     ghost use Rattle.capnp_wire.specs.Readers.{pointer_of};
-    ghost use Rattle.capnp_wire.specs.Views.{HasSegment, IsViewOf, Accepts, Reads, Refuses, Declines};
-    ghost use Rattle.capnp_wire.specs.UpgradedViews.{ReadsAsNumbers, TakesFields, DeclinesFields};
+    ghost use Rattle.capnp_wire.specs.Views.{HasSegment, IsViewOf, Accepts, Reads, ViewError, FormError};
+    ghost use Rattle.capnp_wire.specs.UpgradedViews.{ReadsAsNumbers, TakesFields, FieldsFormError};
     ghost use Rattle.capnp_wire.specs.UpgradedReaders.{upgraded_numbers_of};
 
     #[inline(always)]
@@ -149,8 +149,8 @@ impl<'a: 'v, 'v, S: ReaderSegments, E> FromPointerInSegment<'a, S> for EnumList<
         ensures { let pointer = pointer_of S.segments reader.entry in IsViewOf pointer
             (λ view. Reads pointer (λ form.
             ReadsAsNumbers 3 form (upgraded_numbers_of 3 view.numbers)))
-            (Accepts pointer (TakesFields 3)) (Refuses pointer (DeclinesFields 3))
-            (Declines pointer (DeclinesFields 3)) result }
+            (Accepts pointer (TakesFields 3)) (ViewError pointer (FieldsFormError 3))
+            (FormError pointer (FieldsFormError 3)) result }
     {
         match NumberList::get_from_segment(reader, segment) {
             Ok(numbers) => Ok(EnumList {

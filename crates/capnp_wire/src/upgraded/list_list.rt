@@ -38,8 +38,8 @@ impl<'a, S: ReaderSegments, T: FromPointerReader<'a, S>> ListList<'a, S, T> {
     pub fn get(&self, index: u32) -> Result<T>
         requires { index < length (upgraded_pointers_of S.segments self.now.pointers).children }
         ensures { let pointer = pointer_at (upgraded_pointers_of S.segments self.now.pointers) index in
-            IsViewOf pointer (T.shows pointer) (T.accepts pointer) (T.refuses pointer)
-            (T.declines pointer) result }
+            IsViewOf pointer (T.shows pointer) (T.accepts pointer) (T.fails pointer)
+            (T.form_error pointer) result }
     {
         T::get_from_pointer(self.pointers.get(index))
     }
@@ -52,7 +52,7 @@ impl<'a, S: ReaderSegments, T: FromPointerReader<'a, S>> ListList<'a, S, T> {
             (length (upgraded_pointers_of S.segments self.now.pointers).children) index
             (let pointer = pointer_at (upgraded_pointers_of S.segments self.now.pointers) index in
             IsViewOf pointer (T.shows pointer) (T.accepts pointer)
-            (T.refuses pointer) (T.declines pointer)) result }
+            (T.fails pointer) (T.form_error pointer)) result }
     {
         match self.pointers.try_get(index) {
             Some(pointer) => Some(T::get_from_pointer(pointer)),
@@ -72,8 +72,8 @@ impl<'a, S: ReaderSegments, T: FromPointerReader<'a, S>> ListList<'a, S, T> {
 // fails with `WrongPointerKind`.
 impl<'a, S: ReaderSegments, T> FromPointerReader<'a, S> for ListList<'a, S, T> {
     ghost use Rattle.capnp_wire.specs.Readers.{pointer_of};
-    ghost use Rattle.capnp_wire.specs.Views.{IsViewOf, Accepts, Refuses, Declines};
-    ghost use Rattle.capnp_wire.specs.UpgradedViews.{IsUpgradedPointers, TakesFirstPointers, DeclinesFirstPointers};
+    ghost use Rattle.capnp_wire.specs.Views.{IsViewOf, Accepts, ViewError, FormError};
+    ghost use Rattle.capnp_wire.specs.UpgradedViews.{IsUpgradedPointers, TakesFirstPointers, FirstPointersFormError};
     ghost use Rattle.capnp_wire.specs.UpgradedReaders.{upgraded_pointers_of};
 
     ghost shows = { λ pointer view.
@@ -81,16 +81,16 @@ impl<'a, S: ReaderSegments, T> FromPointerReader<'a, S> for ListList<'a, S, T> {
 
     ghost accepts = { λ pointer. Accepts pointer TakesFirstPointers };
 
-    ghost refuses = { λ pointer kind. Refuses pointer DeclinesFirstPointers kind };
+    ghost fails = { λ pointer kind. ViewError pointer FirstPointersFormError kind };
 
-    ghost declines = { λ pointer kind. Declines pointer DeclinesFirstPointers kind };
+    ghost form_error = { λ pointer kind. FormError pointer FirstPointersFormError kind };
 
     #[inline(always)]
     fn get_from_pointer(reader: any_pointer::Reader<'a, S>) -> Result<Self>
         ensures { let pointer = pointer_of S.segments reader.entry in IsViewOf pointer
             (λ view. IsUpgradedPointers pointer (upgraded_pointers_of S.segments view.pointers))
-            (Accepts pointer TakesFirstPointers) (Refuses pointer DeclinesFirstPointers)
-            (Declines pointer DeclinesFirstPointers) result }
+            (Accepts pointer TakesFirstPointers) (ViewError pointer FirstPointersFormError)
+            (FormError pointer FirstPointersFormError) result }
     {
         match PointerList::get_from_pointer(reader) {
             Ok(pointers) => Ok(ListList {
@@ -104,8 +104,8 @@ impl<'a, S: ReaderSegments, T> FromPointerReader<'a, S> for ListList<'a, S, T> {
 
 impl<'a, S: ReaderSegments, T> FromPointerInSegment<'a, S> for ListList<'a, S, T> {
     ghost use Rattle.capnp_wire.specs.Readers.{pointer_of};
-    ghost use Rattle.capnp_wire.specs.Views.{HasSegment, IsViewOf, Accepts, Refuses, Declines};
-    ghost use Rattle.capnp_wire.specs.UpgradedViews.{IsUpgradedPointers, TakesFirstPointers, DeclinesFirstPointers};
+    ghost use Rattle.capnp_wire.specs.Views.{HasSegment, IsViewOf, Accepts, ViewError, FormError};
+    ghost use Rattle.capnp_wire.specs.UpgradedViews.{IsUpgradedPointers, TakesFirstPointers, FirstPointersFormError};
     ghost use Rattle.capnp_wire.specs.UpgradedReaders.{upgraded_pointers_of};
 
     #[inline(always)]
@@ -113,8 +113,8 @@ impl<'a, S: ReaderSegments, T> FromPointerInSegment<'a, S> for ListList<'a, S, T
         requires { HasSegment (pointer_of S.segments reader) (words_of segment.now) }
         ensures { let pointer = pointer_of S.segments reader.entry in IsViewOf pointer
             (λ view. IsUpgradedPointers pointer (upgraded_pointers_of S.segments view.pointers))
-            (Accepts pointer TakesFirstPointers) (Refuses pointer DeclinesFirstPointers)
-            (Declines pointer DeclinesFirstPointers) result }
+            (Accepts pointer TakesFirstPointers) (ViewError pointer FirstPointersFormError)
+            (FormError pointer FirstPointersFormError) result }
     {
         match PointerList::get_from_segment(reader, segment) {
             Ok(pointers) => Ok(ListList {

@@ -64,8 +64,8 @@ impl<'a, T: PrimitiveElement> FirstFields<'a, T> {
 impl<'a, T: PrimitiveElement> NumberList<'a, T> {
     ghost use Rattle.capnp_wire.specs.Lists.{FindsElement, IsIterator};
     ghost use Rattle.capnp_wire.specs.Readers.{pointer_of, form_of};
-    ghost use Rattle.capnp_wire.specs.Views.{HasSegment, Reads, Refuses};
-    ghost use Rattle.capnp_wire.specs.UpgradedViews.{ReadsAsNumbers, DeclinesFields};
+    ghost use Rattle.capnp_wire.specs.Views.{HasSegment, Reads, ViewError};
+    ghost use Rattle.capnp_wire.specs.UpgradedViews.{ReadsAsNumbers, FieldsFormError};
     ghost use Rattle.capnp_wire.specs.UpgradedReaders.{upgraded_numbers_of};
 
     /// The number of elements.
@@ -112,7 +112,7 @@ impl<'a, T: PrimitiveElement> NumberList<'a, T> {
         requires elements { words_in object.now.body ≤ room_of object.now.body }
         ensures { MatchResult result (λ view.
             ReadsAsNumbers T.code (form_of object.now) (upgraded_numbers_of T.code view))
-            (λ error. DeclinesFields T.code (form_of object.now) error.kind) }
+            (λ error. FieldsFormError T.code (form_of object.now) error.kind) }
     {
         let Some(elements) = object.body.as_structs() else {
             let list = object_numbers(object, T::size())?;
@@ -176,8 +176,8 @@ impl<'a, T: PrimitiveElement> IndexMove for NumberList<'a, T> {
 impl<'a: 'v, 'v, S: ReaderSegments, T: PrimitiveElement> FromPointerReader<'a, S>
     for NumberList<'v, T> {
     ghost use Rattle.capnp_wire.specs.Readers.{pointer_of};
-    ghost use Rattle.capnp_wire.specs.Views.{IsViewOf, Accepts, Reads, Refuses, Declines};
-    ghost use Rattle.capnp_wire.specs.UpgradedViews.{ReadsAsNumbers, TakesFields, DeclinesFields};
+    ghost use Rattle.capnp_wire.specs.Views.{IsViewOf, Accepts, Reads, ViewError, FormError};
+    ghost use Rattle.capnp_wire.specs.UpgradedViews.{ReadsAsNumbers, TakesFields, FieldsFormError};
     ghost use Rattle.capnp_wire.specs.UpgradedReaders.{upgraded_numbers_of};
 
     ghost shows = { λ pointer view.
@@ -185,17 +185,17 @@ impl<'a: 'v, 'v, S: ReaderSegments, T: PrimitiveElement> FromPointerReader<'a, S
 
     ghost accepts = { λ pointer. Accepts pointer (TakesFields T.code) };
 
-    ghost refuses = { λ pointer kind. Refuses pointer (DeclinesFields T.code) kind };
+    ghost fails = { λ pointer kind. ViewError pointer (FieldsFormError T.code) kind };
 
-    ghost declines = { λ pointer kind. Declines pointer (DeclinesFields T.code) kind };
+    ghost form_error = { λ pointer kind. FormError pointer (FieldsFormError T.code) kind };
 
     #[inline(always)]
     fn get_from_pointer(reader: any_pointer::Reader<'a, S>) -> Result<Self>
         ensures { let pointer = pointer_of S.segments reader.entry in IsViewOf pointer
             (λ view. Reads pointer (λ form.
             ReadsAsNumbers T.code form (upgraded_numbers_of T.code view)))
-            (Accepts pointer (TakesFields T.code)) (Refuses pointer (DeclinesFields T.code))
-            (Declines pointer (DeclinesFields T.code)) result }
+            (Accepts pointer (TakesFields T.code)) (ViewError pointer (FieldsFormError T.code))
+            (FormError pointer (FieldsFormError T.code)) result }
     {
         read(&reader, None)
     }
@@ -204,8 +204,8 @@ impl<'a: 'v, 'v, S: ReaderSegments, T: PrimitiveElement> FromPointerReader<'a, S
 impl<'a: 'v, 'v, S: ReaderSegments, T: PrimitiveElement> FromPointerInSegment<'a, S>
     for NumberList<'v, T> {
     ghost use Rattle.capnp_wire.specs.Readers.{pointer_of};
-    ghost use Rattle.capnp_wire.specs.Views.{HasSegment, IsViewOf, Accepts, Reads, Refuses, Declines};
-    ghost use Rattle.capnp_wire.specs.UpgradedViews.{ReadsAsNumbers, TakesFields, DeclinesFields};
+    ghost use Rattle.capnp_wire.specs.Views.{HasSegment, IsViewOf, Accepts, Reads, ViewError, FormError};
+    ghost use Rattle.capnp_wire.specs.UpgradedViews.{ReadsAsNumbers, TakesFields, FieldsFormError};
     ghost use Rattle.capnp_wire.specs.UpgradedReaders.{upgraded_numbers_of};
 
     #[inline(always)]
@@ -214,8 +214,8 @@ impl<'a: 'v, 'v, S: ReaderSegments, T: PrimitiveElement> FromPointerInSegment<'a
         ensures { let pointer = pointer_of S.segments reader.entry in IsViewOf pointer
             (λ view. Reads pointer (λ form.
             ReadsAsNumbers T.code form (upgraded_numbers_of T.code view)))
-            (Accepts pointer (TakesFields T.code)) (Refuses pointer (DeclinesFields T.code))
-            (Declines pointer (DeclinesFields T.code)) result }
+            (Accepts pointer (TakesFields T.code)) (ViewError pointer (FieldsFormError T.code))
+            (FormError pointer (FieldsFormError T.code)) result }
     {
         read(&reader, Some(segment))
     }
@@ -223,14 +223,14 @@ impl<'a: 'v, 'v, S: ReaderSegments, T: PrimitiveElement> FromPointerInSegment<'a
 
 impl<'a: 'v, 'v, S: ReaderSegments, T: PrimitiveElement> ObjectView<'a, S> for NumberList<'v, T> {
     ghost use Rattle.std.proofs.Common.{inl};
-    ghost use Rattle.capnp_wire.specs.Views.{Reads, Refuses};
-    ghost use Rattle.capnp_wire.specs.UpgradedViews.{ReadsAsNumbers, DeclinesFields};
+    ghost use Rattle.capnp_wire.specs.Views.{Reads, ViewError};
+    ghost use Rattle.capnp_wire.specs.UpgradedViews.{ReadsAsNumbers, FieldsFormError};
     ghost use Rattle.capnp_wire.specs.UpgradedReaders.{upgraded_numbers_of};
 
     ghost shows = { λ pointer view.
         Reads pointer (λ form. ReadsAsNumbers T.code form (upgraded_numbers_of T.code view)) };
 
-    ghost refuses = { λ pointer kind. Refuses pointer (DeclinesFields T.code) kind };
+    ghost fails = { λ pointer kind. ViewError pointer (FieldsFormError T.code) kind };
 
     #[inline(always)]
     fn kind() -> ObjectKind {
@@ -253,5 +253,5 @@ impl<'a: 'v, 'v, S: ReaderSegments, T: PrimitiveElement> ObjectView<'a, S> for N
         NumberList::of(object)
     }
 
-    ghost unread = { λ pointer kind rejected. inl rejected };
+    ghost unread = { λ pointer kind error. inl error };
 }

@@ -33,9 +33,9 @@ pub struct PointerList<'a, S> {
 impl<'a, S: ReaderSegments> PointerList<'a, S> {
     ghost use Rattle.capnp_wire.specs.Lists.{FindsElement, IsIterator};
     ghost use Rattle.capnp_wire.specs.Readers.{pointer_of, IsEntered};
-    ghost use Rattle.capnp_wire.specs.Views.{HasSegment, Refuses};
+    ghost use Rattle.capnp_wire.specs.Views.{HasSegment, ViewError};
     ghost use Rattle.capnp_wire.specs.ListViews.{pointer_at, pointer_list_of};
-    ghost use Rattle.capnp_wire.specs.UpgradedViews.{IsUpgradedPointers, DeclinesFirstPointers};
+    ghost use Rattle.capnp_wire.specs.UpgradedViews.{IsUpgradedPointers, FirstPointersFormError};
     ghost use Rattle.capnp_wire.specs.UpgradedReaders.{upgraded_pointers_of, pointers_from};
     ghost use Rattle.capnp_wire.specs.UpgradedValues.{IsConsecutive};
     ghost use Rattle.capnp_layout.specs.Object.{places};
@@ -147,14 +147,14 @@ impl<'a, S: ReaderSegments> PointerList<'a, S> {
 impl<'a, S: ReaderSegments> ObjectView<'a, S> for PointerList<'a, S> {
     ghost use Rattle.std.proofs.Common.{inl};
     ghost use Rattle.capnp_wire.specs.Readers.{pointer_of};
-    ghost use Rattle.capnp_wire.specs.Views.{IsViewOf, Accepts, Refuses, Declines};
-    ghost use Rattle.capnp_wire.specs.UpgradedViews.{IsUpgradedPointers, TakesFirstPointers, DeclinesFirstPointers};
+    ghost use Rattle.capnp_wire.specs.Views.{IsViewOf, Accepts, ViewError, FormError};
+    ghost use Rattle.capnp_wire.specs.UpgradedViews.{IsUpgradedPointers, TakesFirstPointers, FirstPointersFormError};
     ghost use Rattle.capnp_wire.specs.UpgradedReaders.{upgraded_pointers_of};
 
     ghost shows = { λ pointer view.
         IsUpgradedPointers pointer (upgraded_pointers_of S.segments view) };
 
-    ghost refuses = { λ pointer kind. Refuses pointer DeclinesFirstPointers kind };
+    ghost fails = { λ pointer kind. ViewError pointer FirstPointersFormError kind };
 
     #[inline(always)]
     fn kind() -> ObjectKind {
@@ -191,7 +191,7 @@ impl<'a, S: ReaderSegments> ObjectView<'a, S> for PointerList<'a, S> {
         Ok(PointerList::new(reader, first, step, elements.count))
     }
 
-    ghost unread = { λ pointer kind rejected. inl rejected };
+    ghost unread = { λ pointer kind error. inl error };
 }
 
 impl<'a, S: ReaderSegments> IndexMove for PointerList<'a, S> {
@@ -223,8 +223,8 @@ impl<'a, S: ReaderSegments> IndexMove for PointerList<'a, S> {
 // fails with `WrongPointerKind`.
 impl<'a, S: ReaderSegments> FromPointerReader<'a, S> for PointerList<'a, S> {
     ghost use Rattle.capnp_wire.specs.Readers.{pointer_of};
-    ghost use Rattle.capnp_wire.specs.Views.{IsViewOf, Accepts, Refuses, Declines};
-    ghost use Rattle.capnp_wire.specs.UpgradedViews.{IsUpgradedPointers, TakesFirstPointers, DeclinesFirstPointers};
+    ghost use Rattle.capnp_wire.specs.Views.{IsViewOf, Accepts, ViewError, FormError};
+    ghost use Rattle.capnp_wire.specs.UpgradedViews.{IsUpgradedPointers, TakesFirstPointers, FirstPointersFormError};
     ghost use Rattle.capnp_wire.specs.UpgradedReaders.{upgraded_pointers_of};
 
     ghost shows = { λ pointer view.
@@ -232,16 +232,16 @@ impl<'a, S: ReaderSegments> FromPointerReader<'a, S> for PointerList<'a, S> {
 
     ghost accepts = { λ pointer. Accepts pointer TakesFirstPointers };
 
-    ghost refuses = { λ pointer kind. Refuses pointer DeclinesFirstPointers kind };
+    ghost fails = { λ pointer kind. ViewError pointer FirstPointersFormError kind };
 
-    ghost declines = { λ pointer kind. Declines pointer DeclinesFirstPointers kind };
+    ghost form_error = { λ pointer kind. FormError pointer FirstPointersFormError kind };
 
     #[inline(always)]
     fn get_from_pointer(reader: any_pointer::Reader<'a, S>) -> Result<Self>
         ensures { let pointer = pointer_of S.segments reader.entry in IsViewOf pointer
             (λ view. IsUpgradedPointers pointer (upgraded_pointers_of S.segments view))
-            (Accepts pointer TakesFirstPointers) (Refuses pointer DeclinesFirstPointers)
-            (Declines pointer DeclinesFirstPointers) result }
+            (Accepts pointer TakesFirstPointers) (ViewError pointer FirstPointersFormError)
+            (FormError pointer FirstPointersFormError) result }
     {
         read(&reader, None)
     }
@@ -249,8 +249,8 @@ impl<'a, S: ReaderSegments> FromPointerReader<'a, S> for PointerList<'a, S> {
 
 impl<'a, S: ReaderSegments> FromPointerInSegment<'a, S> for PointerList<'a, S> {
     ghost use Rattle.capnp_wire.specs.Readers.{pointer_of};
-    ghost use Rattle.capnp_wire.specs.Views.{HasSegment, IsViewOf, Accepts, Refuses, Declines};
-    ghost use Rattle.capnp_wire.specs.UpgradedViews.{IsUpgradedPointers, TakesFirstPointers, DeclinesFirstPointers};
+    ghost use Rattle.capnp_wire.specs.Views.{HasSegment, IsViewOf, Accepts, ViewError, FormError};
+    ghost use Rattle.capnp_wire.specs.UpgradedViews.{IsUpgradedPointers, TakesFirstPointers, FirstPointersFormError};
     ghost use Rattle.capnp_wire.specs.UpgradedReaders.{upgraded_pointers_of};
 
     #[inline(always)]
@@ -258,8 +258,8 @@ impl<'a, S: ReaderSegments> FromPointerInSegment<'a, S> for PointerList<'a, S> {
         requires { HasSegment (pointer_of S.segments reader) (words_of segment.now) }
         ensures { let pointer = pointer_of S.segments reader.entry in IsViewOf pointer
             (λ view. IsUpgradedPointers pointer (upgraded_pointers_of S.segments view))
-            (Accepts pointer TakesFirstPointers) (Refuses pointer DeclinesFirstPointers)
-            (Declines pointer DeclinesFirstPointers) result }
+            (Accepts pointer TakesFirstPointers) (ViewError pointer FirstPointersFormError)
+            (FormError pointer FirstPointersFormError) result }
     {
         read(&reader, Some(segment))
     }

@@ -36,9 +36,9 @@ pub(crate) enum Rows<'a, S: ReaderSegments> {
 impl<'a, S: ReaderSegments> StructList<'a, S> {
     ghost use Rattle.capnp_wire.specs.Lists.{FindsElement, IsIterator};
     ghost use Rattle.capnp_wire.specs.Readers.{struct_of, pointer_of, IsEntered};
-    ghost use Rattle.capnp_wire.specs.Views.{HasSegment, Refuses};
+    ghost use Rattle.capnp_wire.specs.Views.{HasSegment, ViewError};
     ghost use Rattle.capnp_wire.specs.ListViews.{element_of, structs_in};
-    ghost use Rattle.capnp_wire.specs.UpgradedViews.{IsUpgradedStructs, DeclinesRows};
+    ghost use Rattle.capnp_wire.specs.UpgradedViews.{IsUpgradedStructs, ElementsFormError};
     ghost use Rattle.capnp_wire.specs.UpgradedReaders.{upgraded_structs_of};
 
     /// The number of elements.
@@ -93,7 +93,7 @@ impl<'a, S: ReaderSegments> StructList<'a, S> {
         requires numbers { object.now.body ≡ Body.Numbers size count }
         ensures { let pointer = pointer_of S.segments reader.now in MatchResult result
             (λ view. IsUpgradedStructs pointer (upgraded_structs_of S.segments view))
-            (λ error. Refuses pointer DeclinesRows error.kind) }
+            (λ error. ViewError pointer ElementsFormError error.kind) }
     {
         let bits = size.bits();
         if bits == 1 {
@@ -142,14 +142,14 @@ impl<'a, S: ReaderSegments> StructList<'a, S> {
 impl<'a, S: ReaderSegments> ObjectView<'a, S> for StructList<'a, S> {
     ghost use Rattle.std.proofs.Common.{inl};
     ghost use Rattle.capnp_wire.specs.Readers.{pointer_of};
-    ghost use Rattle.capnp_wire.specs.Views.{IsViewOf, Accepts, Refuses, Declines};
-    ghost use Rattle.capnp_wire.specs.UpgradedViews.{IsUpgradedStructs, TakesRows, DeclinesRows};
+    ghost use Rattle.capnp_wire.specs.Views.{IsViewOf, Accepts, ViewError, FormError};
+    ghost use Rattle.capnp_wire.specs.UpgradedViews.{IsUpgradedStructs, TakesRows, ElementsFormError};
     ghost use Rattle.capnp_wire.specs.UpgradedReaders.{upgraded_structs_of};
 
     ghost shows = { λ pointer view.
         IsUpgradedStructs pointer (upgraded_structs_of S.segments view) };
 
-    ghost refuses = { λ pointer kind. Refuses pointer DeclinesRows kind };
+    ghost fails = { λ pointer kind. ViewError pointer ElementsFormError kind };
 
     #[inline(always)]
     fn kind() -> ObjectKind {
@@ -175,7 +175,7 @@ impl<'a, S: ReaderSegments> ObjectView<'a, S> for StructList<'a, S> {
         }
     }
 
-    ghost unread = { λ pointer kind rejected. inl rejected };
+    ghost unread = { λ pointer kind error. inl error };
 }
 
 impl<'a, S: ReaderSegments> IndexMove for StructList<'a, S> {
@@ -219,8 +219,8 @@ fn elements_without_data(pointers: u16, count: u32) -> Elements
 // Null is an empty list; a struct, and a list of bits, fail with `WrongPointerKind`.
 impl<'a, S: ReaderSegments> FromPointerReader<'a, S> for StructList<'a, S> {
     ghost use Rattle.capnp_wire.specs.Readers.{pointer_of};
-    ghost use Rattle.capnp_wire.specs.Views.{IsViewOf, Accepts, Refuses, Declines};
-    ghost use Rattle.capnp_wire.specs.UpgradedViews.{IsUpgradedStructs, TakesRows, DeclinesRows};
+    ghost use Rattle.capnp_wire.specs.Views.{IsViewOf, Accepts, ViewError, FormError};
+    ghost use Rattle.capnp_wire.specs.UpgradedViews.{IsUpgradedStructs, TakesRows, ElementsFormError};
     ghost use Rattle.capnp_wire.specs.UpgradedReaders.{upgraded_structs_of};
 
     ghost shows = { λ pointer view.
@@ -228,16 +228,16 @@ impl<'a, S: ReaderSegments> FromPointerReader<'a, S> for StructList<'a, S> {
 
     ghost accepts = { λ pointer. Accepts pointer TakesRows };
 
-    ghost refuses = { λ pointer kind. Refuses pointer DeclinesRows kind };
+    ghost fails = { λ pointer kind. ViewError pointer ElementsFormError kind };
 
-    ghost declines = { λ pointer kind. Declines pointer DeclinesRows kind };
+    ghost form_error = { λ pointer kind. FormError pointer ElementsFormError kind };
 
     #[inline(always)]
     fn get_from_pointer(reader: any_pointer::Reader<'a, S>) -> Result<Self>
         ensures { let pointer = pointer_of S.segments reader.entry in IsViewOf pointer
             (λ view. IsUpgradedStructs pointer (upgraded_structs_of S.segments view))
-            (Accepts pointer TakesRows) (Refuses pointer DeclinesRows)
-            (Declines pointer DeclinesRows) result }
+            (Accepts pointer TakesRows) (ViewError pointer ElementsFormError)
+            (FormError pointer ElementsFormError) result }
     {
         read(&reader, None)
     }
@@ -245,8 +245,8 @@ impl<'a, S: ReaderSegments> FromPointerReader<'a, S> for StructList<'a, S> {
 
 impl<'a, S: ReaderSegments> FromPointerInSegment<'a, S> for StructList<'a, S> {
     ghost use Rattle.capnp_wire.specs.Readers.{pointer_of};
-    ghost use Rattle.capnp_wire.specs.Views.{HasSegment, IsViewOf, Accepts, Refuses, Declines};
-    ghost use Rattle.capnp_wire.specs.UpgradedViews.{IsUpgradedStructs, TakesRows, DeclinesRows};
+    ghost use Rattle.capnp_wire.specs.Views.{HasSegment, IsViewOf, Accepts, ViewError, FormError};
+    ghost use Rattle.capnp_wire.specs.UpgradedViews.{IsUpgradedStructs, TakesRows, ElementsFormError};
     ghost use Rattle.capnp_wire.specs.UpgradedReaders.{upgraded_structs_of};
 
     #[inline(always)]
@@ -254,8 +254,8 @@ impl<'a, S: ReaderSegments> FromPointerInSegment<'a, S> for StructList<'a, S> {
         requires { HasSegment (pointer_of S.segments reader) (words_of segment.now) }
         ensures { let pointer = pointer_of S.segments reader.entry in IsViewOf pointer
             (λ view. IsUpgradedStructs pointer (upgraded_structs_of S.segments view))
-            (Accepts pointer TakesRows) (Refuses pointer DeclinesRows)
-            (Declines pointer DeclinesRows) result }
+            (Accepts pointer TakesRows) (ViewError pointer ElementsFormError)
+            (FormError pointer ElementsFormError) result }
     {
         read(&reader, Some(segment))
     }

@@ -20,11 +20,11 @@ use capnp_frame::message::ReaderSegments;
 
 // The value is the list of the numbers.
 impl<'a, T: PrimitiveElement> SetterInput<primitive_list::Owned<T>> for NumberList<'a, T> {
-    ghost use Rattle.capnp_wire.specs.UpgradedValues.{IsNumberListValue, RefusesNumberList, one_number_list};
+    ghost use Rattle.capnp_wire.specs.UpgradedValues.{IsNumberListValue, NumberListValueError, one_number_list};
 
     ghost has_tree = { λ list trees. IsNumberListValue T.code list trees };
 
-    ghost refuses = { λ list kind. RefusesNumberList T.code list kind };
+    ghost fails = { λ list kind. NumberListValueError T.code list kind };
 
     ghost one = { λ list trees is. one_number_list T.code list trees is };
 
@@ -49,11 +49,11 @@ impl<'a, T: PrimitiveElement> SetterInput<primitive_list::Owned<T>> for NumberLi
 
 // The value is the list of the enum's numbers.
 impl<'a, E> SetterInput<primitive_list::Owned<u16>> for EnumList<'a, E> {
-    ghost use Rattle.capnp_wire.specs.UpgradedValues.{IsNumberListValue, RefusesNumberList, one_number_list};
+    ghost use Rattle.capnp_wire.specs.UpgradedValues.{IsNumberListValue, NumberListValueError, one_number_list};
 
     ghost has_tree = { λ list trees. IsNumberListValue 3 list.numbers trees };
 
-    ghost refuses = { λ list kind. RefusesNumberList 3 list.numbers kind };
+    ghost fails = { λ list kind. NumberListValueError 3 list.numbers kind };
 
     ghost one = { λ list trees is. one_number_list 3 list.numbers trees is };
 
@@ -73,11 +73,11 @@ impl<'a, E> SetterInput<primitive_list::Owned<u16>> for EnumList<'a, E> {
 // The value is the list of the structs. Numbers that are read as structs stay a list of numbers, and
 // pointers that are become structs of one pointer each.
 impl<'a, S: ReaderSegments> SetterInput<struct_list::Owned> for StructList<'a, S> {
-    ghost use Rattle.capnp_wire.specs.UpgradedValues.{IsStructListValue, RefusesStructList, one_struct_list};
+    ghost use Rattle.capnp_wire.specs.UpgradedValues.{IsStructListValue, StructListValueError, one_struct_list};
 
     ghost has_tree = { λ list trees. IsStructListValue S.segments list trees };
 
-    ghost refuses = { λ list kind. RefusesStructList S.segments list kind };
+    ghost fails = { λ list kind. StructListValueError S.segments list kind };
 
     ghost one = { λ list trees is. one_struct_list S.segments list trees is };
 
@@ -102,13 +102,13 @@ impl<'a, S: ReaderSegments> SetterInput<struct_list::Owned> for StructList<'a, S
 
 // The value is the list of the pointers.
 impl<'a, S: ReaderSegments> SetterInput<any_pointer_list::Owned> for PointerList<'a, S> {
-    ghost use Rattle.capnp_wire.specs.UpgradedValues.{IsPointerListValue, RefusesPointerList};
+    ghost use Rattle.capnp_wire.specs.UpgradedValues.{IsPointerListValue, PointerListValueError};
     ghost use Rattle.capnp_layout.specs.Tree.{count};
     ghost use Rattle.std.proofs.Common.{ap};
 
     ghost has_tree = { λ list trees. IsPointerListValue S.segments list trees };
 
-    ghost refuses = { λ list kind. RefusesPointerList S.segments list kind };
+    ghost fails = { λ list kind. PointerListValueError S.segments list kind };
 
     ghost one = { λ list trees is. ap count is.1.whole };
 
@@ -134,13 +134,13 @@ impl<'a, S: ReaderSegments> SetterInput<any_pointer_list::Owned> for PointerList
 // The value is the list of the pointers, whose views are values of the elements' type.
 impl<'a, S: ReaderSegments, T, V: SetterInput<T>> SetterInput<list_list::Owned<T>>
     for ListList<'a, S, V> {
-    ghost use Rattle.capnp_wire.specs.UpgradedValues.{IsPointerListValue, RefusesPointerList};
+    ghost use Rattle.capnp_wire.specs.UpgradedValues.{IsPointerListValue, PointerListValueError};
     ghost use Rattle.capnp_layout.specs.Tree.{count};
     ghost use Rattle.std.proofs.Common.{ap};
 
     ghost has_tree = { λ list trees. IsPointerListValue S.segments list.pointers trees };
 
-    ghost refuses = { λ list kind. RefusesPointerList S.segments list.pointers kind };
+    ghost fails = { λ list kind. PointerListValueError S.segments list.pointers kind };
 
     ghost one = { λ list trees is. ap count is.1.whole };
 

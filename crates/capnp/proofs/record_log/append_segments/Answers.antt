@@ -11,7 +11,7 @@ returns-in-Ok g c = record {
   added = c.in-Ok.ensures.text (λ chunk text same. same);
   unchanged = tt;
   count = c.in-Ok.ensures.count;
-  refused = tt;
+  errors = tt;
 }
 
 pub returns-in-Err : goal.returns-in-Err
@@ -22,5 +22,5 @@ returns-in-Err g c =
       added = tt;
       unchanged = kept_back c.args.log.now.items c.write_message_segments.new.sink.items _ _ c.write_message_segments.ensures.grows.front end c.truncate.ensures.items;
       count = c.in-Err.ensures.count;
-      refused = packed_memory (g.S.ReaderSegments.segments c.args.segments.now) c.in-Err.error.kind c.requires c.in-Err.ensures.refused c.in-Err.ensures.failed;
+      errors = packed_memory (g.S.ReaderSegments.segments c.args.segments.now) c.in-Err.error.kind c.requires c.in-Err.ensures.errors c.in-Err.ensures.failed;
     }

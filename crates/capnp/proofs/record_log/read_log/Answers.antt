@@ -2,21 +2,21 @@
 use Rattle.std.proofs.Common.{drop}
 use Rattle.capnp_frame.specs.declared.serialize.segment_table.Padding.TheVariants.{Zero}
 use Rattle.capnp.specs.declared.streams.Format.TheVariants.{Packed}
-use Rattle.capnp.proofs.LogLemmas.{log_is_read, cut_is_declared, cut_declared}
-use Rattle.capnp.proofs.StreamLemmas.{ends_or_lacks}
+use Rattle.capnp.proofs.LogLemmas.{log_is_read, cut_is_reported, cut_reported}
+use Rattle.capnp.proofs.StreamLemmas.{ends_or_memory}
 use Rattle.capnp.proofs.record_log.read_log.Goals as goal
 
 pub returns-clause-read : goal.returns-clause-read
 returns-clause-read c =
     let limit = c.args.options.traversal_limit_in_words in
-    let refusal = c.every_message.result.refusal in
+    let reason = c.every_message.result.error in
     let end = c.every_message.result.end in
     let read = c.every_message.ensures.read in
-    let ends = ends_or_lacks Zero Packed limit refusal c.args.log.now (drop end c.args.log.now) read.ends in
+    let ends = ends_or_memory Zero Packed limit reason c.args.log.now (drop end c.args.log.now) read.ends in
     record {
       within = read.within;
-      back = log_is_read limit _ refusal c.args.log.now end read.within ends read.exact;
-      cut = cut_is_declared limit _ refusal c.args.log.now end read.within read.texts ends;
+      back = log_is_read limit _ reason c.args.log.now end read.within ends read.exact;
+      cut = cut_is_reported limit _ reason c.args.log.now end read.within read.texts ends;
       ends = ends;
-      declared = cut_declared limit _ refusal c.args.log.now end read.within read.texts ends;
+      reported = cut_reported limit _ reason c.args.log.now end read.within read.texts ends;
     }

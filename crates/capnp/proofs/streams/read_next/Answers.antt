@@ -10,7 +10,7 @@ use Rattle.capnp.proofs.streams.read_next.Goals as goal
 
 pub returns-in-Framed : goal.returns-in-Framed
 returns-in-Framed g c =
-    let plain : IsPlainSource g.R.Read.gives g.R.Read.refuses = record { given = g.met.R.BufRead.plain; refused = g.met.R.BufRead.plain_refusals } in
+    let plain : IsPlainSource g.R.Read.gives g.R.Read.refuses = record { given = g.met.R.BufRead.plain; errors = g.met.R.BufRead.plain_errors } in
     rw c.in-Framed.is (plain_reads_reusing c.args.rules.padding g.R.Read plain c.args.rules.limit_in_words c.args.spare _ _ _ c.try_read_segments_reusing.ensures)
 
 pub returns-in-Packed : goal.returns-in-Packed

@@ -1,5 +1,5 @@
 -- What was written is the encodings.
-use Rattle.capnp.specs.Prelude.{input_of, Transcodes, DeclinesTranscoded, IsOtherText}
+use Rattle.capnp.specs.Prelude.{input_of, Transcodes, TranscodedErrors, IsOtherText}
 use Rattle.capnp.proofs.TranscodingLemmas.{WritesEach-weaker, other_text_added}
 use Rattle.capnp.proofs.transcoding.transcode_by.Goals as goal
 
@@ -9,7 +9,7 @@ returns-in-Ok g c =
     record {
       texts = λ plain. WritesEach-weaker g.R.Read _ _ g.W.Write _ _ c.args.padding (input_of c.args.way)
           c.args.options.traversal_limit_in_words (Transcodes c.args.way g.W.Write.appends) (IsOtherText c.args.way)
-          (DeclinesTranscoded c.args.way g.W.Write.appends g.W.Write.leaves g.W.Write.refuses) (other_text_added c.args.way g.W.Write.appends plain) _ runs;
+          (TranscodedErrors c.args.way g.W.Write.appends g.W.Write.leaves g.W.Write.refuses) (other_text_added c.args.way g.W.Write.appends plain) _ runs;
       runs = runs;
     }
 
@@ -18,10 +18,10 @@ returns-in-Err g c =
     let runs = rw c.new-rules.ensures at (rw c.input.ensures at c.in-Err.ensures) in
     record {
       texts = λ plain. (
-        c.in-Err.stop.message,
+        c.in-Err.failure.message,
         WritesEach-weaker g.R.Read _ _ g.W.Write _ _ c.args.padding (input_of c.args.way)
             c.args.options.traversal_limit_in_words (Transcodes c.args.way g.W.Write.appends) (IsOtherText c.args.way)
-            (DeclinesTranscoded c.args.way g.W.Write.appends g.W.Write.leaves g.W.Write.refuses) (other_text_added c.args.way g.W.Write.appends plain) _ runs,
+            (TranscodedErrors c.args.way g.W.Write.appends g.W.Write.leaves g.W.Write.refuses) (other_text_added c.args.way g.W.Write.appends plain) _ runs,
       );
-      runs = (c.in-Err.stop.message, runs);
+      runs = (c.in-Err.failure.message, runs);
     }

@@ -3,7 +3,7 @@ ghost use Rattle.std.specs.Prelude.{◌≡◌, ◌<◌, ◌≤◌, ◌↔◌, []
 ghost use Rattle.std.specs.Borrow.{sem};
 ghost use Rattle.std.specs.Io.BufRead.{Rests};
 ghost use Rattle.std.specs.Io.KnownBytes.{Keeps, Consumes, IsAtEnd};
-ghost use Rattle.capnp.specs.Passed.{ErrorKind, Splits, RunsShort, Fails, Fills, IfKnown, IsFront, IsRefused, Advances, ReturnsPart, splitting, always};
+ghost use Rattle.capnp.specs.Passed.{ErrorKind, Splits, RunsShort, Fails, Fills, IfKnown, IsFront, RequestError, Advances, ReturnsPart, splitting, always};
 ghost use Rattle.capnp.specs.Devices.{read_ahead, coming, unread_of};
 ghost use Rattle.capnp.specs.contracts.devices.input.Input.{the_row};
 
@@ -37,7 +37,7 @@ impl<R: io::Read> Read for Input<R> {
             IsAtEnd (coming R.remaining self.old)) }
         // `read_exact` fails with this kind where `read` returns no byte.
         ensures spent { IfOk result (λ count. count ≡ 0 → 0 < length buffer.new →
-            IsRefused RunsShort (length buffer.new) (unread_of R.remaining self.old)
+            RequestError RunsShort (length buffer.new) (unread_of R.remaining self.old)
             ErrorKind.FailedToFillTheWholeBuffer) }
 
         // With which kind it fails.
@@ -99,5 +99,5 @@ impl<R: io::Read> BufRead for Input<R> {
 
     ghost plain = { λ _ _ _ _. (λ p. p, λ p. p) };
 
-    ghost plain_refusals = { λ _ _ _. (λ p. p, λ p. p) };
+    ghost plain_errors = { λ _ _ _. (λ p. p, λ p. p) };
 }

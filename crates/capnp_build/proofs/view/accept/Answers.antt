@@ -1,8 +1,8 @@
--- A failure declines the root.
-use Rattle.capnp_build.proofs.roots.AcceptLemmas.{declined_there}
+-- A failure rejects the root.
+use Rattle.capnp_build.proofs.roots.AcceptLemmas.{form_error_there}
 use Rattle.capnp_build.proofs.view.accept.Goals as goal
 
 pub returns-clause-kind : goal.returns-clause-kind
 returns-clause-kind g c =
-    declined_there _ _ c.root_kind.result c.root_bytes.result.now c.accept.result
-    c.root_kind.ensures.form c.root_kind.ensures.stands c.root_bytes.ensures.form c.accept.ensures.declined
+    form_error_there _ _ c.root_kind.result c.root_bytes.result.now c.accept.result
+    c.root_kind.ensures.form c.root_kind.ensures.stands c.root_bytes.ensures.form c.accept.ensures.form_errors

@@ -15,9 +15,9 @@ returns-in_err-segments-clause-accepted c segments rest front =
     let never = c.in_err-segments.ensures.reads.accepted segments rest front in absurd (cc)
 
 pub returns-in_err-segments-clause-exact : goal.returns-in_err-segments-clause-exact
-returns-in_err-segments-clause-exact c kind refused =
+returns-in_err-segments-clause-exact c kind errors =
     let p = err_from_is_err_and c.from_residual.result c.from_residual.ensures.1 in
-    rw (p.1, p.2) (c.in_err-segments.ensures.reads.exact kind refused)
+    rw (p.1, p.2) (c.in_err-segments.ensures.reads.exact kind errors)
 
 pub returns-clause-exact : goal.returns-clause-exact
-returns-clause-exact c kind refused = absurd (c.in_ok-segments.ensures.reads.exact kind refused)
+returns-clause-exact c kind errors = absurd (c.in_ok-segments.ensures.reads.exact kind errors)

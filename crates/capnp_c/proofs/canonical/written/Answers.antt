@@ -3,20 +3,20 @@ use Rattle.std.proofs.Common.{◌≡◌, ◌*◌, inl, inr, length, subst, arith
 use Rattle.std.proofs.lemmas.Result.{err_from_is_err_and}
 use Rattle.capnp_layout.specs.Prelude.{words_of}
 use Rattle.capnp_wire.specs.Prelude.{IsCanonicalForm}
-use Rattle.capnp_c.specs.Fronts.{root_by, RootHasForm, RootLacksForm}
+use Rattle.capnp_c.specs.Fronts.{root_by, RootHasForm, RootCanonicalFormError}
 use Rattle.capnp_c.proofs.FrontLemmas.{front_form}
 use Rattle.capnp_c.proofs.canonical.written.Goals as goal
 
-pub returns-in_err-arena-clause-lacks : goal.returns-in_err-arena-clause-lacks
-returns-in_err-arena-clause-lacks c segments rest front = let never = c.in_err-arena.ensures.accepted segments rest front in absurd (cc)
+pub returns-in_err-arena-clause-form_error : goal.returns-in_err-arena-clause-form_error
+returns-in_err-arena-clause-form_error c segments rest front = let never = c.in_err-arena.ensures.accepted segments rest front in absurd (cc)
 
-pub returns-in_err-root-clause-lacks : goal.returns-in_err-root-clause-lacks
-returns-in_err-root-clause-lacks c segments rest front =
+pub returns-in_err-root-clause-form_error : goal.returns-in_err-root-clause-form_error
+returns-in_err-root-clause-form_error c segments rest front =
     let p = err_from_is_err_and c.from_residual-in_err-root.result c.from_residual-in_err-root.ensures.1 in
-    rw (p.1, p.2) (inl (subst (λ pointer. RootLacksForm pointer c.in_err-root.field-0.0.kind) (c.in_ok-arena.ensures.front segments rest front) c.in_err-root.ensures.lacks))
+    rw (p.1, p.2) (inl (subst (λ pointer. RootCanonicalFormError pointer c.in_err-root.field-0.0.kind) (c.in_ok-arena.ensures.front segments rest front) c.in_err-root.ensures.form_error))
 
-pub returns-then-block-words-clause-lacks : goal.returns-then-block-words-clause-lacks
-returns-then-block-words-clause-lacks c segments rest front = inr (
+pub returns-then-block-words-clause-form_error : goal.returns-then-block-words-clause-form_error
+returns-then-block-words-clause-form_error c segments rest front = inr (
   c.in_ok-root.words,
   subst (λ pointer. RootHasForm pointer c.in_ok-root.words) (c.in_ok-arena.ensures.front segments rest front) c.in_ok-root.ensures.size,
   omega (arith, c.if-block-words.true),
@@ -35,15 +35,15 @@ pub returns-clause-size : goal.returns-clause-size
 returns-clause-size c segments rest front = subst (λ pointer. RootHasForm pointer c.in_ok-root.words) (c.in_ok-arena.ensures.front segments rest front) c.in_ok-root.ensures.size
 
 pub returns-in_err-arena-clause-exact : goal.returns-in_err-arena-clause-exact
-returns-in_err-arena-clause-exact c kind refused =
+returns-in_err-arena-clause-exact c kind errors =
     let p = err_from_is_err_and c.from_residual.result c.from_residual.ensures.1 in
-    rw (p.1, p.2) (c.in_err-arena.ensures.exact kind refused)
+    rw (p.1, p.2) (c.in_err-arena.ensures.exact kind errors)
 
 pub returns-in_err-root-clause-exact : goal.returns-in_err-root-clause-exact
-returns-in_err-root-clause-exact c kind refused = absurd (c.in_ok-arena.ensures.exact kind refused)
+returns-in_err-root-clause-exact c kind errors = absurd (c.in_ok-arena.ensures.exact kind errors)
 
 pub returns-then-block-words-clause-exact : goal.returns-then-block-words-clause-exact
-returns-then-block-words-clause-exact c kind refused = absurd (c.in_ok-arena.ensures.exact kind refused)
+returns-then-block-words-clause-exact c kind errors = absurd (c.in_ok-arena.ensures.exact kind errors)
 
 pub returns-clause-exact : goal.returns-clause-exact
-returns-clause-exact c kind refused = absurd (c.in_ok-arena.ensures.exact kind refused)
+returns-clause-exact c kind errors = absurd (c.in_ok-arena.ensures.exact kind errors)

@@ -16,7 +16,7 @@ returns-in-Some c =
       accepted = search rules;
       none = λ segments rest front outside. absurd (segment_there segments own c.args.id c.in-Some.segment.now
           (one_front c.args.options c.args.bytes.now found.0 rest own segments found.1 front) here outside);
-      refused = λ kind refused. absurd (c.in-Ok.ensures.reads.exact kind refused);
+      errors = λ kind errors. absurd (c.in-Ok.ensures.reads.exact kind errors);
       stays = search rules;
     }
 
@@ -30,7 +30,7 @@ returns-in-None c =
       accepted = λ segments rest front inside. absurd (no_segment_there segments own c.args.id
           (one_front c.args.options c.args.bytes.now found.0 rest own segments found.1 front) none inside);
       none = search rules;
-      refused = λ kind refused. absurd (c.in-Ok.ensures.reads.exact kind refused);
+      errors = λ kind errors. absurd (c.in-Ok.ensures.reads.exact kind errors);
       stays = search rules;
     }
 
@@ -39,6 +39,6 @@ returns-in-Err c = record {
   words_are = search rules;
   accepted = λ segments rest front inside. let never = c.in-Err.ensures.reads.accepted segments rest front in absurd (cc);
   none = λ segments rest front outside. let never = c.in-Err.ensures.reads.accepted segments rest front in absurd (cc);
-  refused = λ kind refused. c.number-in-Err.ensures ∙ ap kind_number (c.in-Err.ensures.reads.exact kind refused);
+  errors = λ kind errors. c.number-in-Err.ensures ∙ ap kind_number (c.in-Err.ensures.reads.exact kind errors);
   stays = search rules;
 }

@@ -17,7 +17,7 @@ returns-in-Ok c =
         omega (arith, ap length front.spelled, length-append front.text left),
       );
       accepted = search rules;
-      refused = λ kind refused. absurd (c.in-Ok.ensures.exact kind refused);
+      errors = λ kind errors. absurd (c.in-Ok.ensures.exact kind errors);
       stays = search rules;
     }
 
@@ -25,6 +25,6 @@ pub returns-in-Err : goal.returns-in-Err
 returns-in-Err c = record {
   found = search rules;
   accepted = λ segments rest front. let never = c.in-Err.ensures.accepted segments rest front in absurd (cc);
-  refused = λ kind refused. c.number.ensures ∙ ap kind_number (c.in-Err.ensures.exact kind refused);
+  errors = λ kind errors. c.number.ensures ∙ ap kind_number (c.in-Err.ensures.exact kind errors);
   stays = search rules;
 }

@@ -14,7 +14,7 @@ returns-in-Ok c =
       found = λ zero. inr (c.in-Ok.field-0.segments, left, front, omega (arith, whole));
       end = λ none. absurd (omega (arith, ap length none, table));
       accepted = λ segments rest there. (refl, omega (arith, table));
-      refused = λ kind some refused. absurd (c.in-Ok.ensures.exact kind refused);
+      errors = λ kind some errors. absurd (c.in-Ok.ensures.exact kind errors);
       stays = search rules;
     }
 
@@ -23,6 +23,6 @@ returns-in-Err c = record {
   found = search rules;
   end = search rules;
   accepted = λ segments rest front. let never = c.in-Err.ensures.accepted segments rest front in absurd (cc);
-  refused = λ kind some refused. c.number.ensures ∙ ap kind_number (c.in-Err.ensures.exact kind refused);
+  errors = λ kind some errors. c.number.ensures ∙ ap kind_number (c.in-Err.ensures.exact kind errors);
   stays = search rules;
 }

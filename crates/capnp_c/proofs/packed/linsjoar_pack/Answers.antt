@@ -2,7 +2,7 @@
 use Rattle.std.proofs.Common.{rules, arith, ◌≤◌, ◌+◌, length, ap, ◌∙◌}
 use Rattle.std.proofs.lemmas.Bool.{false≢true}
 use Rattle.capnp_frame.specs.Prelude.{kind_number}
-use Rattle.capnp_c.proofs.PackedLemmas.{packed_alone, block_refused, packed_fits}
+use Rattle.capnp_c.proofs.PackedLemmas.{packed_alone, block_error, packed_fits}
 use Rattle.capnp_c.proofs.packed.linsjoar_pack.Goals as goal
 
 pub returns-in-Ok-clause-short : goal.returns-in-Ok-clause-short
@@ -17,7 +17,7 @@ returns-in-Ok-clause-packed c zero =
 
 pub returns-in-Err-clause-short : goal.returns-in-Err-clause-short
 returns-in-Err-clause-short c packed packs short =
-    c.number.ensures ∙ ap kind_number (block_refused c.args.words.now packed c.in-Err.error.kind packs c.in-Err.ensures.refused c.in-Err.ensures.failed)
+    c.number.ensures ∙ ap kind_number (block_error c.args.words.now packed c.in-Err.error.kind packs c.in-Err.ensures.errors c.in-Err.ensures.failed)
 
 pub returns-in-Err-clause-accepted : goal.returns-in-Err-clause-accepted
 returns-in-Err-clause-accepted c packed packs fits =

@@ -2,16 +2,16 @@
 use Rattle.std.proofs.Common.{ap, ◌∙◌}
 use Rattle.capnp_frame.specs.Prelude.{kind_number}
 use Rattle.capnp_pack.specs.Prelude.{unpacking}
-use Rattle.capnp_c.proofs.PackedLemmas.{chunk_refused}
+use Rattle.capnp_c.proofs.PackedLemmas.{chunk_error}
 use Rattle.capnp_c.proofs.packed.linsjoar_unpack.Goals as goal
 
-pub returns-in-Ok-clause-refused : goal.returns-in-Ok-clause-refused
-returns-in-Ok-clause-refused c kind refused = absurd (unpacking.apart _ _ _ _ kind c.in-Ok.ensures.given refused)
+pub returns-in-Ok-clause-errors : goal.returns-in-Ok-clause-errors
+returns-in-Ok-clause-errors c kind errors = absurd (unpacking.apart _ _ _ _ kind c.in-Ok.ensures.given errors)
 
 pub returns-in-Err-clause-accepted : goal.returns-in-Err-clause-accepted
 returns-in-Err-clause-accepted c bytes rest given =
-    absurd (unpacking.apart _ _ bytes rest _ given (chunk_refused _ _ c.in-Err.error.kind c.in-Err.ensures.refused c.in-Err.ensures.failed))
+    absurd (unpacking.apart _ _ bytes rest _ given (chunk_error _ _ c.in-Err.error.kind c.in-Err.ensures.errors c.in-Err.ensures.failed))
 
-pub returns-in-Err-clause-refused : goal.returns-in-Err-clause-refused
-returns-in-Err-clause-refused c kind refused =
-    c.number.ensures ∙ ap kind_number (unpacking.one_kind _ _ c.in-Err.error.kind kind (chunk_refused _ _ c.in-Err.error.kind c.in-Err.ensures.refused c.in-Err.ensures.failed) refused)
+pub returns-in-Err-clause-errors : goal.returns-in-Err-clause-errors
+returns-in-Err-clause-errors c kind errors =
+    c.number.ensures ∙ ap kind_number (unpacking.one_kind _ _ c.in-Err.error.kind kind (chunk_error _ _ c.in-Err.error.kind c.in-Err.ensures.errors c.in-Err.ensures.failed) errors)

@@ -4,7 +4,7 @@ use Rattle.std.proofs.lemmas.Bool.{false≢true}
 use Rattle.capnp_frame.specs.Prelude.{kind_number}
 use Rattle.capnp_pack.specs.Prelude.{IsPackedEncoding}
 use Rattle.capnp_c.proofs.FrontLemmas.{one_front}
-use Rattle.capnp_c.proofs.MessageLemmas.{one_rest, message_alone, message_fits, message_refused, text_of_parts}
+use Rattle.capnp_c.proofs.MessageLemmas.{one_rest, message_alone, message_fits, message_error, text_of_parts}
 use Rattle.capnp_c.proofs.packed_messages.pack_message.Goals as goal
 
 pub returns-in-Err : goal.returns-in-Err
@@ -14,7 +14,7 @@ returns-in-Err c = record {
   accepted = λ segments text message packed fits. let never = c.in-Err.ensures.accepted segments message in absurd (cc);
   short = λ segments text message packed short. let never = c.in-Err.ensures.accepted segments message in absurd (cc);
   trailing = λ segments rest front some. c.number.ensures ∙ c.in-Err.ensures.trailing segments rest front some;
-  refused = λ kind refused. c.number.ensures ∙ ap kind_number (c.in-Err.ensures.exact kind refused);
+  errors = λ kind errors. c.number.ensures ∙ ap kind_number (c.in-Err.ensures.exact kind errors);
   stays = search rules;
 }
 
@@ -31,14 +31,14 @@ returns-in-Ok-pack_chunks c =
           absurd (message_fits own text _ c.len.result (subst (λ s. IsPackedEncoding text s) (sym same) packed) short (search (rules, written)));
       trailing = λ segments rest front some.
           absurd (omega (arith, some, ap length (one_rest c.args.options c.args.framed.now [] rest own segments c.in-Ok.ensures.whole front)));
-      refused = λ kind refused. absurd (c.in-Ok.ensures.exact kind refused);
+      errors = λ kind errors. absurd (c.in-Ok.ensures.exact kind errors);
       stays = search rules;
     }
 
 pub returns-in-Err-pack_chunks : goal.returns-in-Err-pack_chunks
 returns-in-Err-pack_chunks c =
     let own = c.in-Ok.segments.segments in
-    let declared = c.in-Err-pack_chunks.ensures in
+    let reported = c.in-Err-pack_chunks.ensures in
     record {
       packed_is = search rules;
       within = search rules;
@@ -46,14 +46,14 @@ returns-in-Err-pack_chunks c =
           let same : own ≡ segments = one_front c.args.options c.args.framed.now [] [] own segments c.in-Ok.ensures.whole message in
           let parts = text_of_parts own c.table_of-table.result.now text c.table_of-table.ensures.table (subst (λ s. IsPackedEncoding text s) (sym same) packed) in
           let block : length text ≤ length c.pack_chunks.new.sink.block.now = search (rules, fits) in
-          let room : c.new-text.result.used + (length text + 0) ≤ length c.new-text.result.block.now = omega (arith, block, declared.grows.same_sink.1, c.new-text.ensures.used) in
-          absurd (false≢true (declared.granted text 0 parts room).0);
+          let room : c.new-text.result.used + (length text + 0) ≤ length c.new-text.result.block.now = omega (arith, block, reported.grows.same_sink.1, c.new-text.ensures.used) in
+          absurd (false≢true (reported.granted text 0 parts room).0);
       short = λ segments text message packed short.
           let same : own ≡ segments = one_front c.args.options c.args.framed.now [] [] own segments c.in-Ok.ensures.whole message in
-          c.number-in-Err-pack_chunks.ensures ∙ ap kind_number (message_refused own c.table_of-table.result.now text _ c.table_of-table.ensures.table
-          (subst (λ s. IsPackedEncoding text s) (sym same) packed) declared.refused declared.failed);
+          c.number-in-Err-pack_chunks.ensures ∙ ap kind_number (message_error own c.table_of-table.result.now text _ c.table_of-table.ensures.table
+          (subst (λ s. IsPackedEncoding text s) (sym same) packed) reported.errors reported.failed);
       trailing = λ segments rest front some.
           absurd (omega (arith, some, ap length (one_rest c.args.options c.args.framed.now [] rest own segments c.in-Ok.ensures.whole front)));
-      refused = λ kind refused. absurd (c.in-Ok.ensures.exact kind refused);
+      errors = λ kind errors. absurd (c.in-Ok.ensures.exact kind errors);
       stays = search rules;
     }

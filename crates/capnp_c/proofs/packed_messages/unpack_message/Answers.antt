@@ -17,7 +17,7 @@ returns-in-Ok-Some c =
       within = search rules;
       accepted = search rules;
       none = λ none room. absurd (none_stands _ _ _ reads.found none);
-      refused = λ kind left refused. absurd (reads.exact kind left (in_room c.args.options _ left kind _ _ long refused));
+      errors = λ kind left errors. absurd (reads.exact kind left (in_room c.args.options _ left kind _ _ long errors));
       stays = search rules;
     }
 
@@ -30,7 +30,7 @@ returns-in-Ok-None c =
       within = search rules;
       accepted = λ segments rest stands within room. absurd (none_stands _ _ _ stands reads.none);
       none = search rules;
-      refused = λ kind left refused. absurd (reads.exact kind left (in_room c.args.options _ left kind _ _ long refused));
+      errors = λ kind left errors. absurd (reads.exact kind left (in_room c.args.options _ left kind _ _ long errors));
       stays = search rules;
     }
 
@@ -44,7 +44,7 @@ returns-in-Err c =
       accepted = λ segments rest stands within room.
           absurd (never_fails c.in-Err.error.kind reads.failed (reads.accepted segments rest stands within (search (rules, room))));
       none = λ none room. absurd (never_fails c.in-Err.error.kind reads.failed (reads.end (ap Some none) (search (rules, room))));
-      refused = λ kind left refused.
-          c.number-in-Err.ensures ∙ ap kind_number (own_kind c.in-Err.error.kind kind (reads.exact kind left (in_room c.args.options _ left kind _ _ long refused)) reads.failed);
+      errors = λ kind left errors.
+          c.number-in-Err.ensures ∙ ap kind_number (own_kind c.in-Err.error.kind kind (reads.exact kind left (in_room c.args.options _ left kind _ _ long errors)) reads.failed);
       stays = search rules;
     }

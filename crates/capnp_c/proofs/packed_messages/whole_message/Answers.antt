@@ -19,7 +19,7 @@ returns-then-not-is_empty-clause-accepted c segments message =
     absurd (omega (arith, ap length none, some))
 
 pub returns-then-not-is_empty-clause-exact : goal.returns-then-not-is_empty-clause-exact
-returns-then-not-is_empty-clause-exact c kind refused = absurd (c.in_ok-segments.ensures.exact kind refused)
+returns-then-not-is_empty-clause-exact c kind errors = absurd (c.in_ok-segments.ensures.exact kind errors)
 
 pub returns-clause-trailing : goal.returns-clause-trailing
 returns-clause-trailing c segments rest front some =
@@ -29,4 +29,4 @@ returns-clause-trailing c segments rest front some =
     absurd (omega (arith, ap length same, some, none))
 
 pub returns-clause-exact : goal.returns-clause-exact
-returns-clause-exact c kind refused = absurd (c.in_ok-segments.ensures.exact kind refused)
+returns-clause-exact c kind errors = absurd (c.in_ok-segments.ensures.exact kind errors)

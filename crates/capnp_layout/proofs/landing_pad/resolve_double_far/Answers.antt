@@ -5,7 +5,7 @@ use Rattle.capnp_layout.specs.declared.place.Place.{Place}
 use Rattle.capnp_frame.specs.declared.error.ErrorKind.TheVariants.{InvalidSegmentId}
 use Rattle.capnp_layout.proofs.words.MessageLemmas.{segment_stands, no_segment_stands}
 use Rattle.capnp_frame.proofs.sources.AskLemmas.{passed_on}
-use Rattle.capnp_layout.proofs.pointers.LandingPadLemmas.{wide_refused, is_far_word, not_far_word, wide_landing, content_place}
+use Rattle.capnp_layout.proofs.pointers.LandingPadLemmas.{wide_error, is_far_word, not_far_word, wide_landing, content_place}
 use Rattle.capnp_layout.proofs.landing_pad.resolve_double_far.Given as given
 use Rattle.capnp_layout.proofs.landing_pad.resolve_double_far.Goals as goal
 use Rattle.capnp_layout.proofs.landing_pad.resolve_double_far.Goals.{In_ok-content}
@@ -23,27 +23,27 @@ content_there g c =
       place = content_place c.args.first content.0 c.in_ok-content.content content.1.0 content.2;
     }
 
-pub returns-in_err-content-clause-refused : goal.returns-in_err-content-clause-refused
-returns-in_err-content-clause-refused g c =
+pub returns-in_err-content-clause-errors : goal.returns-in_err-content-clause-errors
+returns-in_err-content-clause-errors g c =
     passed_on _ _ c.from_residual.ensures.1 (λ word landing_pad.
     subst (BadLandingPad _ word) (sym c.in_err-content.ensures.1) (not_far landing_pad.wide.wide landing_pad.first_there landing_pad.tag_there (not_far_word c.args.first c.in_err-content.ensures.0)))
 
-pub returns-in_err-segment-clause-refused : goal.returns-in_err-segment-clause-refused
-returns-in_err-segment-clause-refused g c =
+pub returns-in_err-segment-clause-errors : goal.returns-in_err-segment-clause-errors
+returns-in_err-segment-clause-errors g c =
     let m = message_of (g.S.ReaderSegments.segments c.args.segments.now) in
-    let content = content_there g (goal.at.returns-in_err-segment-clause-refused g c).In_ok-content in
+    let content = content_there g (goal.at.returns-in_err-segment-clause-errors g c).In_ok-content in
     let number : c.in_ok-content.content.segment ≡ landing_pad_segment c.args.first = ap (λ (x : Place). x.segment) content.place in
     let none = subst (λ (n : ℕ). slice_get m n ≡ None) number (no_segment_stands _ c.in_ok-content.content.segment c.in_err-segment.ensures.0) in
     passed_on _ _ c.from_residual-in_err-segment.ensures.1 (λ word landing_pad.
     subst (BadLandingPad m word) (sym (c.in_err-segment.ensures.1 ∙ ap InvalidSegmentId number)) (no_content landing_pad.wide.wide landing_pad.first_there landing_pad.tag_there content.is_far none))
 
-pub returns-in_err-local-clause-refused : goal.returns-in_err-local-clause-refused
-returns-in_err-local-clause-refused g c =
+pub returns-in_err-local-clause-errors : goal.returns-in_err-local-clause-errors
+returns-in_err-local-clause-errors g c =
     let segments = g.S.ReaderSegments.segments c.args.segments.now in
-    let content = content_there g (goal.at.returns-in_err-local-clause-refused g c).In_ok-content in
+    let content = content_there g (goal.at.returns-in_err-local-clause-errors g c).In_ok-content in
     let there = rw (ap (λ (x : Place). x.segment) content.place) at (segment_stands segments c.in_ok-content.content.segment _ c.in_ok-segment.ensures) in
     passed_on _ _ c.from_residual-in_err-local.ensures.1 (λ word landing_pad.
-    wide_refused _ word c.args.first c.args.tag _ _ landing_pad.wide.wide landing_pad.first_there landing_pad.tag_there content.is_far there c.in_err-local.ensures.refused)
+    wide_error _ word c.args.first c.args.tag _ _ landing_pad.wide.wide landing_pad.first_there landing_pad.tag_there content.is_far there c.in_err-local.ensures.errors)
 
 pub returns-clause-found : goal.returns-clause-found
 returns-clause-found g c = λ place word there landing_pad.

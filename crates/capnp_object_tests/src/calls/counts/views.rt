@@ -3,7 +3,7 @@ use crate::calls::counts::{Asked, Root, Way};
 use crate::fixtures::{Arena, Unnamed, root_as};
 use capnp_frame::message::SegmentArray;
 use capnp_frame::{Error, ErrorKind, Result};
-use capnp_frame_tests::refusals::refusal;
+use capnp_frame_tests::errors::error_of;
 use capnp_wire::any_struct::StructReader;
 use capnp_wire::traits::{FromPointerInSegment, FromPointerReader};
 use capnp_wire::upgraded::{EnumList, ListList, NumberList, PointerList, StructList};
@@ -133,7 +133,7 @@ fn views_as<'a, T: FromPointerInSegment<'a, Segments<'a>> + Drop>(
 }
 
 fn is_limited<T: Drop>(view: Result<T>) -> bool {
-    refusal(view) == 20
+    error_of(view) == 20
 }
 
 // As the pointer of a struct, by the segment of the struct.

@@ -162,16 +162,16 @@ fn pointers_may_be_left_out(rt: HostRuntime) -> Result<()> {
 
 // The copies would take 11 words, and the region has room for three.
 #[test]
-fn a_copy_lacks_room(rt: HostRuntime) -> Result<()> {
+fn a_copy_without_room(rt: HostRuntime) -> Result<()> {
     let segments = [FILLED];
     let message = message_of(&segments);
     let read = sample_of(&message)?;
     let mut region = [1u8; 8 * 4];
     let mut objects = Orphanage::in_region(&mut region)?;
-    let refused = copy(&read, &mut objects);
-    let is_refused =
-        matches!(refused, Err(error) if error.kind == ErrorKind::AllocationTooLarge(3));
-    expect_that(&rt, "refusal", is_refused);
+    let failed = copy(&read, &mut objects);
+    let has_failed =
+        matches!(failed, Err(error) if error.kind == ErrorKind::AllocationTooLarge(3));
+    expect_that(&rt, "refusal", has_failed);
     expect(&rt, "bytes", objects.bytes().len(), 8 * 3);
     Ok(())
 }

@@ -8,7 +8,7 @@ use crate::fixtures::expect;
 use crate::sample_capnp::{palette, sample, tree};
 use capnp_frame::message::{ReaderOptions, SegmentArray};
 use capnp_frame::{Error, ErrorKind, Result};
-use capnp_frame_tests::refusals::refusal;
+use capnp_frame_tests::errors::error_of;
 use capnp_wire::arena::ReaderArena;
 use capnp_wire::traits::FromPointerReader;
 use std::process::Abort;
@@ -78,7 +78,7 @@ const ROWS: [(Getter, &[u8], usize, usize); 21] = [
 ];
 
 fn is_limited<T: Drop>(view: Result<T>) -> bool {
-    refusal(view) == 20
+    error_of(view) == 20
 }
 
 fn missing() -> Error {

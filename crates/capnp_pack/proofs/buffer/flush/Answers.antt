@@ -5,5 +5,5 @@ use Rattle.capnp_pack.proofs.buffer.flush.Goals as goal
 
 pub returns-clause-hands : goal.returns-clause-hands
 returns-clause-hands g c =
-    let declared = c.write_all.ensures in
-    hands_chunk g.W.Write _ _ _ _ c.write_all.result (search rules) declared.added declared.left declared.refused declared.failed declared.grows
+    let reported = c.write_all.ensures in
+    hands_chunk g.W.Write _ _ _ _ c.write_all.result (search rules) reported.added reported.left reported.errors reported.failed reported.grows

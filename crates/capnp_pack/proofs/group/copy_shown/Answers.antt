@@ -7,4 +7,4 @@ pub returns-clause-takes : goal.returns-clause-takes
 returns-clause-takes g c =
     let found = shown_taken c.min-count.result c.in_ok-shown.shown.now (take c.min-count.result c.copy_front.new.buffer) _ _ _ c.in_ok-shown.ensures.front
     (search rules) c.consume.ensures.taken (search rules) c.copy_front.ensures in
-    record { found = found; refused = tt; asked = search rules }
+    record { found = found; errors = tt; asked = search rules }

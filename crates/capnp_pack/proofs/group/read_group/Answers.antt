@@ -2,23 +2,23 @@
 use Rattle.std.proofs.Common.{rules, refl}
 use Rattle.capnp_pack.proofs.packing.CallLemmas.{next_err, next_ok}
 use Rattle.capnp_frame.proofs.sources.AskLemmas.{passed_on}
-use Rattle.capnp_pack.proofs.faults.OverrunLemmas.{device_is_other, first_over}
+use Rattle.capnp_pack.proofs.errors.OverrunLemmas.{device_is_other, first_over}
 use Rattle.capnp_pack.proofs.unpacking.GroupLemmas.{group_found}
-use Rattle.capnp_pack.proofs.faults.FaultLemmas.{group_refused}
+use Rattle.capnp_pack.proofs.errors.GroupErrorLemmas.{group_error}
 use Rattle.capnp_pack.proofs.group.read_group.Goals as goal
 
 pub returns-in_err-count-in-0-clause-takes : goal.returns-in_err-count-in-0-clause-takes
 returns-in_err-count-in-0-clause-takes g c =
     let tag = rw c.in-Some.is at c.in_ok-tag.ensures.found in
     next_err g.R.Read g.met.R.Read.keeps _ _ _ _ _ _ _ c.in-Some.tag tag c.from_residual-in_err-count-in-0.ensures.1
-    (group_refused _ _ 0 _ _ _ (rw c.in-0.is at tag) c.in_err-count-in-0.ensures.takes.refused)
+    (group_error _ _ 0 _ _ _ (rw c.in-0.is at tag) c.in_err-count-in-0.ensures.takes.errors)
     c.next_byte.ensures.asked.advances c.in_err-count-in-0.ensures.takes.asked
 
 pub returns-in_err-count-in_default-tag-clause-takes : goal.returns-in_err-count-in_default-tag-clause-takes
 returns-in_err-count-in_default-tag-clause-takes g c =
     let tag = rw c.in-Some.is at c.in_ok-tag.ensures.found in
     next_err g.R.Read g.met.R.Read.keeps _ _ _ _ _ _ _ c.in-Some.tag tag c.from_residual-in_err-count-in_default-tag.ensures.1
-    (group_refused _ _ c.in-Some.tag _ _ _ tag c.in_err-count-in_default-tag.ensures.takes.refused)
+    (group_error _ _ c.in-Some.tag _ _ _ tag c.in_err-count-in_default-tag.ensures.takes.errors)
     c.next_byte.ensures.asked.advances c.in_err-count-in_default-tag.ensures.takes.asked
 
 pub returns-in_ok-count-in-0-clause-takes : goal.returns-in_ok-count-in-0-clause-takes
@@ -37,7 +37,7 @@ returns-in_ok-count-in_default-tag-clause-takes g c =
     c.next_byte.ensures.asked.advances c.read_words.ensures.takes.asked.advances
 
 pub returns-in_err-tag-clause-overrun : goal.returns-in_err-tag-clause-overrun
-returns-in_err-tag-clause-overrun g c = passed_on _ _ c.from_residual.ensures.1 (λ over. absurd (device_is_other _ c.in_err-tag.ensures.refused over))
+returns-in_err-tag-clause-overrun g c = passed_on _ _ c.from_residual.ensures.1 (λ over. absurd (device_is_other _ c.in_err-tag.ensures.errors over))
 
 pub returns-in_err-count-in-0-clause-overrun : goal.returns-in_err-count-in-0-clause-overrun
 returns-in_err-count-in-0-clause-overrun g c =

@@ -13,4 +13,4 @@ returns-clause-takes g c =
     let shown = shown_some taken.used taken.filled c.in_ok-fill_buf.field-0.now buffer _ c.in_ok-fill_buf.ensures.front is some in
     let takes = shown_takes taken.used taken.filled c.in_ok-fill_buf.field-0.now buffer _ _ _ c.in_ok-fill_buf.ensures.front (search rules) c.consume.ensures.taken is in
     let groups = shown_taken taken.used taken.filled c.in_ok-fill_buf.field-0.now buffer _ _ _ c.in_ok-fill_buf.ensures.front (search rules) c.consume.ensures.taken is in
-    record { found = (some, is.filled_within, is.whole, shown, groups, takes); none = tt; refused = tt; at_end = tt; asked = search rules }
+    record { found = (some, is.filled_within, is.whole, shown, groups, takes); none = tt; errors = tt; at_end = tt; asked = search rules }

@@ -7,8 +7,8 @@ use Rattle.capnp_pack.proofs.group.read_stored.Goals as goal
 pub returns-in_err-read_exact : goal.returns-in_err-read_exact
 returns-in_err-read_exact g c =
     takes_err {X = Unit {0}} g.R.Read g.met.R.Read.keeps _ _ _ _ _ _ _ c.from_residual-in_err-read_exact.ensures.1
-    (stored_short _ g.R.Read.refuses c.in_ok-copied.copied c.copy_shown.new.buffer c.read_exact.new.buffer _ _ _ g.met.R.BufRead.plain_refusals
-    (search rules) (search rules) c.in_ok-copied.ensures.takes.found c.in_err-read_exact.ensures.refused) c.copy_shown.ensures.takes.asked.advances
+    (stored_short _ g.R.Read.refuses c.in_ok-copied.copied c.copy_shown.new.buffer c.read_exact.new.buffer _ _ _ g.met.R.BufRead.plain_errors
+    (search rules) (search rules) c.in_ok-copied.ensures.takes.found c.in_err-read_exact.ensures.errors) c.copy_shown.ensures.takes.asked.advances
     (record { failed = c.in_err-read_exact.ensures.failed; advances = c.read_exact.ensures.advances })
 
 pub returns : goal.returns

@@ -3,8 +3,8 @@ use Rattle.std.proofs.Common.{rules, arith, ◌+◌, ◌*◌, refl}
 use Rattle.std.proofs.lemmas.Grind.{common_steps}
 use Rattle.capnp_pack.proofs.packing.CallLemmas.{takes_own}
 use Rattle.capnp_frame.proofs.sources.AskLemmas.{passed_on}
-use Rattle.capnp_pack.proofs.faults.OverrunLemmas.{device_is_other, zeros_over}
-use Rattle.capnp_pack.proofs.faults.FaultLemmas.{run_refused, count_refused}
+use Rattle.capnp_pack.proofs.errors.OverrunLemmas.{device_is_other, zeros_over}
+use Rattle.capnp_pack.proofs.errors.GroupErrorLemmas.{run_error, count_error}
 use Rattle.capnp_pack.proofs.unpacking.GroupLemmas.{zeros_found}
 use Rattle.capnp_pack.proofs.group.read_zeros.Goals as goal
 
@@ -12,24 +12,24 @@ pub returns-then-count-buffer-clause-takes : goal.returns-then-count-buffer-clau
 returns-then-count-buffer-clause-takes g c =
     let found = rw c.in-Some.is at c.in_ok-further.ensures.found in
     takes_own g.R.Read _ _ _ _ _ _ c.from_kind-then-count-buffer.ensures (λ device. cc)
-    (run_refused _ c.in-Some.further _ _ (search rules) (search rules) (search rules) found) c.next_byte.ensures.asked.advances
+    (run_error _ c.in-Some.further _ _ (search rules) (search rules) (search rules) found) c.next_byte.ensures.asked.advances
 
 pub returns-clause-takes : goal.returns-clause-takes
 returns-clause-takes g c =
     let found = rw c.in-Some.is at c.in_ok-further.ensures.found in
     record {
       found = zeros_found c.in-Some.further (8 * (c.in-Some.further + 1)) _ _ _ (search rules) refl (grind (arith, common_steps)) found;
-      refused = tt;
+      errors = tt;
       asked = record { failed = tt; advances = c.next_byte.ensures.asked.advances };
     }
 
 pub returns-in_default-clause-takes : goal.returns-in_default-clause-takes
 returns-in_default-clause-takes g c =
     let none = rw c.in_default.is at c.in_ok-further.ensures.none in
-    takes_own g.R.Read _ _ _ _ _ _ c.from_kind.ensures (λ device. cc) (count_refused _ _ (search rules) none) c.next_byte.ensures.asked.advances
+    takes_own g.R.Read _ _ _ _ _ _ c.from_kind.ensures (λ device. cc) (count_error _ _ (search rules) none) c.next_byte.ensures.asked.advances
 
 pub returns-in_err-further-clause-overrun : goal.returns-in_err-further-clause-overrun
-returns-in_err-further-clause-overrun g c = passed_on _ _ c.from_residual.ensures.1 (λ over. absurd (device_is_other _ c.in_err-further.ensures.refused over))
+returns-in_err-further-clause-overrun g c = passed_on _ _ c.from_residual.ensures.1 (λ over. absurd (device_is_other _ c.in_err-further.ensures.errors over))
 
 pub returns-then-count-buffer-clause-overrun : goal.returns-then-count-buffer-clause-overrun
 returns-then-count-buffer-clause-overrun g c =

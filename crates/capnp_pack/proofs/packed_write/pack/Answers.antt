@@ -3,7 +3,7 @@ use Rattle.std.proofs.Common.{arith, ◌-◌, ap, length, length-drop, take, dro
 use Rattle.std.proofs.lemmas.List.{nil_from_length}
 use Rattle.capnp_frame.proofs.sources.SourceLemmas.{Grows-join}
 use Rattle.capnp_pack.proofs.packing.BufferedLemmas.{handed_on, taken_on, words_from}
-use Rattle.capnp_pack.proofs.packing.CallLemmas.{hands_last, hands_stopped}
+use Rattle.capnp_pack.proofs.packing.CallLemmas.{hands_last, hands_failed}
 use Rattle.capnp_pack.proofs.words.Chunks.{whole_words}
 use Rattle.capnp_pack.proofs.packing.GrantingLemmas.{granted_kept, granted_last, granted_on}
 use Rattle.capnp_pack.proofs.packing.LeavingLemmas.{left_last, left_rest}
@@ -52,7 +52,7 @@ returns-in_err-next-clause-writes g c =
     let packed = c.pack_buffered-packed in
     let rest = take (length left - packed.result.words) (drop packed.result.words left) in
     let taken = taken_on g.W.Write.appends words left packed.result.words rest [] _ _ _ _ (words_from left packed.result.words) c.loop-left.invariant.2 packed.ensures.packs.packed in
-    hands_stopped g.W.Write g.met.W.Write.keeps _ _ _ _ _ _ _ _ _ c.from_residual.ensures.1
+    hands_failed g.W.Write g.met.W.Write.keeps _ _ _ _ _ _ _ _ _ c.from_residual.ensures.1
     (left_rest g.W.Write.appends g.W.Write.leaves c.args.chunk.now words rest _ _ _ _ cut.0 taken)
     c.loop-left.invariant.3 c.in_err-next.ensures.hands
 

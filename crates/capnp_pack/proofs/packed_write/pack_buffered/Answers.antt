@@ -12,10 +12,10 @@ returns-clause-packs c =
     let others = take (length words - (count + 1)) (drop (count + 1) words) in
     let low : tag < 255 = omega arith in
     let is : length (get_or words count []) ≡ 8 = search rules in
-    let declared = c.push_word.ensures in
+    let reported = c.push_word.ensures in
     let size = c.group_bytes.ensures in
     let made = tagged_group (get_or words count []) others tag c.pack_stretch-packed.result.used c.push_word.result c.group_bytes.result _ _ is c.tag-tag.ensures low
-    (λ none. last_word words count _ (omega arith)) declared.word declared.zero declared.used size.zero (λ some. size.tagged some low) in
+    (λ none. last_word words count _ (omega arith)) reported.word reported.zero reported.used size.zero (λ some. size.tagged some low) in
     let before = c.pack_stretch-packed.ensures.packs in
     record {
       within = omega arith;

@@ -19,7 +19,7 @@ returns-clause-hands g c =
     record {
       handed = (words, refl, group, made, handed);
       left = tt;
-      refused = tt;
+      errors = tt;
       failed = tt;
       grows = c.pack_run.ensures.hands.grows;
     }

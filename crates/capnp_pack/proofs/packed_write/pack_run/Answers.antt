@@ -16,7 +16,7 @@ returns-clause-hands g c =
     record {
       handed = IfKnown-literal g.W.Write.appends _ _ _ _ _ words _ _ _ c.push-used.ensures.added refl flat c.in_ok-flush.ensures.hands.handed c.in_ok-write_all.ensures.added;
       left = tt;
-      refused = tt;
+      errors = tt;
       failed = tt;
       grows = Grows-join _ _ _ (g.met.W.Write.keeps.transitive _ _ _) c.flush.ensures.hands.grows c.write_all.ensures.grows;
     }
@@ -28,12 +28,12 @@ returns-in_err-flush-clause-hands g c =
 
 pub returns-in_err-write_all-clause-hands : goal.returns-in_err-write_all-clause-hands
 returns-in_err-write_all-clause-hands g c =
-    let declared = c.in_err-write_all.ensures in
+    let reported = c.in_err-write_all.ensures in
     let flat : c.as_flattened-run.result.now ≡ flat_map (λ x. x) (take c.args.words c.args.others.now) = search rules in
     let left = left_words g.W.Write.appends g.W.Write.leaves c.args.words _ _ _ c.args.others.now _ _ _
-    c.requires.run c.push-used.ensures.added flat c.in_ok-flush.ensures.hands.handed declared.left in
-    hands_err g.W.Write g.met.W.Write.keeps _ _ _ _ _ _ _ _ c.from_residual-in_err-write_all.ensures.1 left declared.refused declared.failed
-    c.flush.ensures.hands.grows declared.grows
+    c.requires.run c.push-used.ensures.added flat c.in_ok-flush.ensures.hands.handed reported.left in
+    hands_err g.W.Write g.met.W.Write.keeps _ _ _ _ _ _ _ _ c.from_residual-in_err-write_all.ensures.1 left reported.errors reported.failed
+    c.flush.ensures.hands.grows reported.grows
 
 pub returns-in_err-flush-clause-granted : goal.returns-in_err-flush-clause-granted
 returns-in_err-flush-clause-granted g c count more run granted =

@@ -14,11 +14,11 @@ loop-end-preserved c =
     let others = take (length words - (count + 1)) (drop (count + 1) words) in
     let low : tag < 255 = omega arith in
     let is : length (get_or words count []) ≡ 8 = search rules in
-    let declared = c.push_word-filled.ensures in
+    let reported = c.push_word-filled.ensures in
     let size = c.group_bytes-end.ensures in
     let made = tagged_group (get_or words count []) others tag c.loop-end.end c.push_word-filled.result c.group_bytes-end.result _ _ is c.tag-tag.ensures low
     (λ none. c.first_mark.ensures (mark_left tag c.first_mark.result none c.if-tag-first_mark-eq0.false))
-    declared.word declared.zero declared.used size.zero (λ some. size.tagged some low) in
+    reported.word reported.zero reported.used size.zero (λ some. size.tagged some low) in
     record {
       within = omega arith;
       fits = omega (arith, size.few);

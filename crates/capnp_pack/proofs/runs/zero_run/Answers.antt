@@ -6,7 +6,7 @@ use Rattle.std.specs.List.{concat}
 use Rattle.capnp_pack.specs.Prelude.{IsWord, IfFirst, IsZero, tag_of}
 use Rattle.capnp_pack.proofs.words.AllLemmas.{AllByRecursion-take, AllByRecursion-drop}
 use Rattle.capnp_pack.proofs.words.Chunks.{each_word}
-use Rattle.capnp_pack.proofs.words.EightLemmas.{all_one, all_zero, all_more, first_of_part, zeros_declared}
+use Rattle.capnp_pack.proofs.words.EightLemmas.{all_one, all_zero, all_more, first_of_part, zeros_reported}
 use Rattle.capnp_pack.proofs.runs.zero_run.Goals as goal
 
 pub returns-then-marks-ne0 : goal.returns-then-marks-ne0
@@ -19,15 +19,15 @@ returns-then-marks-ne0 c =
     let room : 8 ≤ c.min-most.result - count = search rules in
     let eight : length part ≡ 8 = omega (arith, low, room, length-take (count + 8 - count) (drop count words), length-drop count words) in
     let all = AllByRecursion-take IsWord (count + 8 - count) (drop count words) (AllByRecursion-drop IsWord count words (each_word words c.told-words)) in
-    let declared = zeros_declared part c.marks_of_eight-marks.result all eight c.marks_of_eight-marks.ensures (search rules) in
+    let reported = zeros_reported part c.marks_of_eight-marks.result all eight c.marks_of_eight-marks.ensures (search rules) in
     let zeros = count_trailing_zeros 64 c.marks_of_eight-marks.result / 8 in
-    let less : zeros < 8 = declared.0 in
+    let less : zeros < 8 = reported.0 in
     record {
       most = omega (arith, top, room, less);
       within = omega (arith, low, room, less);
-      each = all_more IsZero count zeros (count + 8 - count) words (omega (arith, less)) c.loop-count.invariant.1 declared.1.1;
+      each = all_more IsZero count zeros (count + 8 - count) words (omega (arith, less)) c.loop-count.invariant.1 reported.1.1;
       ends = λ _. subst (λ l. IfFirst l (λ word. IsZero word → ⊥)) (drop-drop zeros count words)
-          (first_of_part (λ word. IsZero word → ⊥) zeros (count + 8 - count) (drop count words) (omega (arith, less)) declared.1.2);
+          (first_of_part (λ word. IsZero word → ⊥) zeros (count + 8 - count) (drop count words) (omega (arith, less)) reported.1.2);
     }
 
 pub loop-count-preserved : goal.loop-count-preserved

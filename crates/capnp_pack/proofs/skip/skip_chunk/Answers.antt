@@ -2,16 +2,16 @@
 use Rattle.std.proofs.Common.{rules, arith, inr, ◌+◌, ◌-◌, ◌≡◌}
 use Rattle.capnp_frame.proofs.sources.AskLemmas.{passed_on, Asked-err}
 use Rattle.capnp_frame.proofs.sources.SourceLemmas.{Advances-join, not_empty_before}
-use Rattle.capnp_pack.proofs.faults.OverrunLemmas.{over_after}
+use Rattle.capnp_pack.proofs.errors.OverrunLemmas.{over_after}
 use Rattle.capnp_pack.proofs.unpacking.ProgressLemmas.{more_taken}
 use Rattle.capnp_pack.proofs.unpacking.SkippedLemmas.{skip_failed, skip_missing, skip_none, chunk_skipped}
 use Rattle.capnp_pack.proofs.skip.skip_chunk.Goals as goal
 
-pub returns-in_err-size-clause-refused : goal.returns-in_err-size-clause-refused
-returns-in_err-size-clause-refused g c =
+pub returns-in_err-size-clause-errors : goal.returns-in_err-size-clause-errors
+returns-in_err-size-clause-errors g c =
     let so_far = c.loop-skipped.invariant in
-    let declared = c.in_err-size.ensures.takes in
-    passed_on _ _ c.from_residual.ensures.1 (skip_failed c.args.count c.loop-skipped.skipped _ _ _ c.requires so_far.some so_far.start so_far.groups declared.at_end declared.refused)
+    let reported = c.in_err-size.ensures.takes in
+    passed_on _ _ c.from_residual.ensures.1 (skip_failed c.args.count c.loop-skipped.skipped _ _ _ c.requires so_far.some so_far.start so_far.groups reported.at_end reported.errors)
 
 pub returns-in_err-size-clause-overrun : goal.returns-in_err-size-clause-overrun
 returns-in_err-size-clause-overrun g c =
@@ -34,13 +34,13 @@ loop-skipped-preserved g c =
       advances = Advances-join _ _ _ (g.met.R.Read.keeps.transitive _ _ _) so_far.advances c.skip_groups.ensures.takes.asked.advances;
     }
 
-pub returns-in-None-clause-refused : goal.returns-in-None-clause-refused
-returns-in-None-clause-refused g c =
+pub returns-in-None-clause-errors : goal.returns-in-None-clause-errors
+returns-in-None-clause-errors g c =
     rw c.from_kind.ensures (inr (skip_none c.args.count _ _ c.requires (omega arith) (c.loop-skipped.invariant.start c.if-skipped-eq0.true)
     (rw c.in-None.is at c.in_ok-size.ensures.takes.none)))
 
-pub returns-in-None-2-clause-refused : goal.returns-in-None-2-clause-refused
-returns-in-None-2-clause-refused g c =
+pub returns-in-None-2-clause-errors : goal.returns-in-None-2-clause-errors
+returns-in-None-2-clause-errors g c =
     let so_far = c.loop-skipped.invariant in
     rw c.from_kind-in-None-2.ensures (inr (skip_missing c.args.count c.loop-skipped.skipped _ _ c.requires (search rules) (so_far.some (search rules)) so_far.groups
     (rw c.in-None.is at c.in_ok-size.ensures.takes.none)))

@@ -12,4 +12,4 @@ pub returns-clause-overrun : goal.returns-clause-overrun
 returns-clause-overrun g c =
     let room : length c.read_group.new.buffer ≡ c.min-room.result = search rules in
     over_skipped c.args.most (length c.read_group.new.buffer) _ _ c.read_group.result (room_of c.args.most _ (room ∙ c.min-room.ensures))
-    c.read_group.ensures.takes.refused c.read_group.ensures.overrun
+    c.read_group.ensures.takes.errors c.read_group.ensures.overrun

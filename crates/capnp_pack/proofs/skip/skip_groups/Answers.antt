@@ -10,4 +10,4 @@ returns-clause-takes g c =
     let some : 0 < passed.filled = omega arith in
     let more = passes_some c.args.most passed.used passed.filled c.in_ok-fill_buf.field-0.now _ c.in_ok-fill_buf.ensures.front is some in
     let groups = passes_taken c.args.most passed.used passed.filled c.in_ok-fill_buf.field-0.now _ _ _ c.in_ok-fill_buf.ensures.front (search rules) c.consume.ensures.taken is in
-    record { found = (some, is.filled_within, is.whole, more, groups); none = tt; refused = tt; at_end = tt; asked = search rules }
+    record { found = (some, is.filled_within, is.whole, more, groups); none = tt; errors = tt; at_end = tt; asked = search rules }

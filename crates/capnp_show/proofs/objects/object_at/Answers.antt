@@ -1,31 +1,31 @@
 -- What a pointer leads to, and each error on the way.
 use Rattle.std.proofs.Common.{sym, subst}
 use Rattle.capnp_frame.proofs.sources.AskLemmas.{passed_on}
-use Rattle.capnp_layout.specs.Prelude.{words_of, message_of, IsStart, IsLanding, Fault, no_word, no_segment, no_start, misfits}
+use Rattle.capnp_layout.specs.Prelude.{words_of, message_of, IsStart, IsLanding, PointerError, no_word, no_segment, no_start, misfits}
 use Rattle.capnp_layout.proofs.words.MessageLemmas.{segment_stands, no_segment_stands}
 use Rattle.capnp_show.proofs.ObjectLemmas.{landing_pad_is}
 use Rattle.capnp_show.proofs.objects.object_at.Goals as goal
 
-pub returns-in_err-pointers-clause-refused : goal.returns-in_err-pointers-clause-refused
-returns-in_err-pointers-clause-refused g c = passed_on _ _ c.from_residual.ensures.1 (λ nesting some.
-    subst (Fault (message_of (g.S.ReaderSegments.segments c.args.segments.now)) c.args.place nesting) (sym c.in_err-pointers.ensures.1)
+pub returns-in_err-pointers-clause-errors : goal.returns-in_err-pointers-clause-errors
+returns-in_err-pointers-clause-errors g c = passed_on _ _ c.from_residual.ensures.1 (λ nesting some.
+    subst (PointerError (message_of (g.S.ReaderSegments.segments c.args.segments.now)) c.args.place nesting) (sym c.in_err-pointers.ensures.1)
     (no_word (no_segment (no_segment_stands _ c.args.place.segment c.in_err-pointers.ensures.0))))
 
 pub resolve-requires : goal.resolve-requires
 resolve-requires g c = record { content = segment_stands _ c.args.place.segment _ c.in_ok-pointers.ensures }
 
-pub returns-in_default-start-clause-refused : goal.returns-in_default-start-clause-refused
-returns-in_default-start-clause-refused g c = λ nesting some.
+pub returns-in_default-start-clause-errors : goal.returns-in_default-start-clause-errors
+returns-in_default-start-clause-errors g c = λ nesting some.
     let m = message_of (g.S.ReaderSegments.segments c.args.segments.now) in
     let landing : IsLanding m c.args.place c.in-Some.landing = rw c.in-Some.is at c.in_ok-landing.ensures.found in
-    subst (Fault m c.args.place nesting) (sym c.from_kind.ensures) (no_start landing.lands some (rw c.in_default-start.is at landing.start))
+    subst (PointerError m c.args.place nesting) (sym c.from_kind.ensures) (no_start landing.lands some (rw c.in_default-start.is at landing.start))
 
-pub returns-in_err-body-clause-refused : goal.returns-in_err-body-clause-refused
-returns-in_err-body-clause-refused g c = passed_on _ _ c.from_residual-in_err-body.ensures.1 (λ nesting some.
+pub returns-in_err-body-clause-errors : goal.returns-in_err-body-clause-errors
+returns-in_err-body-clause-errors g c = passed_on _ _ c.from_residual-in_err-body.ensures.1 (λ nesting some.
     let m = message_of (g.S.ReaderSegments.segments c.args.segments.now) in
     let landing : IsLanding m c.args.place c.in-Some.landing = rw c.in-Some.is at c.in_ok-landing.ensures.found in
     let begins : IsStart landing.landing.origin landing.landing.tag c.in-Some-start.start = rw c.in-Some-start.is at landing.start in
-    misfits landing.lands some begins landing.content (c.in_err-body.ensures.refused landing.landing.tag landing.shape))
+    misfits landing.lands some begins landing.content (c.in_err-body.ensures.errors landing.landing.tag landing.shape))
 
 pub returns-clause-found : goal.returns-clause-found
 returns-clause-found g c =

@@ -1,12 +1,12 @@
 -- One account more, and then the list of all.
 use Rattle.capnp_frame.proofs.sources.AskLemmas.{passed_on}
 use Rattle.capnp_orphans.specs.Held.{word_of}
-use Rattle.capnp_uses.proofs.AccountListLemmas.{drafted_next, list_drafted, list_len, name_refused, all_drafted, list_kind}
+use Rattle.capnp_uses.proofs.AccountListLemmas.{drafted_next, list_drafted, list_len, name_error, all_drafted, list_kind}
 use Rattle.capnp_uses.proofs.account_list.list_of_accounts.Goals as goal
 
-pub returns-in_err-name-clause-refused : goal.returns-in_err-name-clause-refused
-returns-in_err-name-clause-refused g c = passed_on _ _ c.from_residual.ensures.1 (name_refused c.args.accounts.now c.loop-account.account-index _ c.args.objects.now c.loop-account.objects c.loop-account.drafts.items
-    c.in_err-name.field-0.0.kind c.loop-account-test.true c.loop-account.invariant c.in_err-name.ensures.writes.fails.kind)
+pub returns-in_err-name-clause-errors : goal.returns-in_err-name-clause-errors
+returns-in_err-name-clause-errors g c = passed_on _ _ c.from_residual.ensures.1 (name_error c.args.accounts.now c.loop-account.account-index _ c.args.objects.now c.loop-account.objects c.loop-account.drafts.items
+    c.in_err-name.field-0.0.kind c.loop-account-test.true c.loop-account.invariant c.in_err-name.ensures.writes.failing.kind)
 
 pub loop-account-preserved : goal.loop-account-preserved
 loop-account-preserved g c =
@@ -26,7 +26,7 @@ returns-clause-words g c =
     let are = all_drafted c.args.accounts.now c.loop-account.account-index c.args.objects.now c.loop-account.objects c.loop-account.drafts.items c.deref.result.now c.loop-account-test.false c.deref.ensures.value c.loop-account.invariant in
     list_len c.args.accounts.now c.args.objects.now c.loop-account.objects c.struct_list.new.self c.deref.result.now c.struct_list.result are c.struct_list.ensures.writes.appended
 
-pub returns-clause-refused : goal.returns-clause-refused
-returns-clause-refused g c =
+pub returns-clause-errors : goal.returns-clause-errors
+returns-clause-errors g c =
     let are = all_drafted c.args.accounts.now c.loop-account.account-index c.args.objects.now c.loop-account.objects c.loop-account.drafts.items c.deref.result.now c.loop-account-test.false c.deref.ensures.value c.loop-account.invariant in
-    list_kind c.args.accounts.now c.args.objects.now c.loop-account.objects c.deref.result.now c.struct_list.result are c.struct_list.ensures.writes.fails.kind
+    list_kind c.args.accounts.now c.args.objects.now c.loop-account.objects c.deref.result.now c.struct_list.result are c.struct_list.ensures.writes.failing.kind

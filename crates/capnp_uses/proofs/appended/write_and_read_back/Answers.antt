@@ -10,20 +10,20 @@ use Rattle.capnp_uses.proofs.appended.write_and_read_back.Goals as goal
 pub returns-in_err-write_messages : goal.returns-in_err-write_messages
 returns-in_err-write_messages g c =
     let p = err_from_is_err_and c.from_residual.result c.from_residual.ensures.1 in
-    let refused = appending_memory c.args.format (map g.S.ReaderSegments.segments c.args.messages.now) _ c.requires.writable c.in_err-write_messages.ensures.failed c.in_err-write_messages.ensures.refused in
-    rw (p.1, p.2) (record { written = tt; read = tt; back = tt; options_are = tt; ends = tt; few = tt; refused = refused })
+    let errors = appending_memory c.args.format (map g.S.ReaderSegments.segments c.args.messages.now) _ c.requires.writable c.in_err-write_messages.ensures.failed c.in_err-write_messages.ensures.errors in
+    rw (p.1, p.2) (record { written = tt; read = tt; back = tt; options_are = tt; ends = tt; few = tt; errors = errors })
 
 pub returns-in_err-readers : goal.returns-in_err-readers
 returns-in_err-readers g c =
     let p = err_from_is_err_and c.from_residual-in_err-readers.result c.from_residual-in_err-readers.ensures.1 in
-    let declared = c.in_err-readers.ensures in
+    let reported = c.in_err-readers.ensures in
     let texts = read_texts Zero c.args.format c.args.options.traversal_limit_in_words
     (map g.S.ReaderSegments.segments c.args.messages.now) c.new-text.result.items _ c.deref-source.result.now
     c.new-text.ensures.items c.deref-source.ensures.value c.requires.writable c.in_ok-write_messages.ensures.few
     c.requires.size (c.in_ok-write_messages.ensures.text (λ chunk text same. same)) in
-    let memory = memory_only c.in_err-readers.field-0.0.kind (declared.accepted (map g.S.ReaderSegments.segments c.args.messages.now) [] texts
-    (length-map c.args.messages.now g.S.ReaderSegments.segments)) declared.failed in
-    rw (p.1, p.2) (record { written = tt; read = tt; back = tt; options_are = tt; ends = tt; few = tt; refused = inr memory })
+    let memory = memory_only c.in_err-readers.field-0.0.kind (reported.accepted (map g.S.ReaderSegments.segments c.args.messages.now) [] texts
+    (length-map c.args.messages.now g.S.ReaderSegments.segments)) reported.failed in
+    rw (p.1, p.2) (record { written = tt; read = tt; back = tt; options_are = tt; ends = tt; few = tt; errors = inr memory })
 
 pub returns-in_err-end : goal.returns-in_err-end
 returns-in_err-end g c =
@@ -36,7 +36,7 @@ returns-in_err-end g c =
     c.in_ok-readers.readers.items c.args.messages.now c.deref-source.result.now _ c.in_ok-readers.ensures.found texts
     c.in_ok-readers.ensures.counted in
     let memory = memory_only c.in_err-end.field-0.0.kind (inl (c.in_err-end.ensures.reads.end (ap Some same.1))) c.in_err-end.ensures.reads.failed in
-    rw (p.1, p.2) (record { written = tt; read = tt; back = tt; options_are = tt; ends = tt; few = tt; refused = inr memory })
+    rw (p.1, p.2) (record { written = tt; read = tt; back = tt; options_are = tt; ends = tt; few = tt; errors = inr memory })
 
 pub returns : goal.returns
 returns g c =
@@ -55,5 +55,5 @@ returns g c =
       options_are = c.in_ok-readers.ensures.options_are;
       ends = none_left Zero c.args.format limit (λ reader. reader.segments) c.in_ok-end.end _ _ _ (ap Some same.1) c.in_ok-end.ensures.reads;
       few = c.in_ok-write_messages.ensures.few;
-      refused = tt;
+      errors = tt;
     }

@@ -8,9 +8,9 @@ pub returns : goal.returns
 returns g c =
     let there = root_is_read _ (numbers 2 c.args.bytes.now) (λ form. IsData form c.in_ok-data.data.now)
     c.in_ok-write_data.ensures.stands c.in_ok-data.ensures.returned in
-    record { stands = c.in_ok-write_data.ensures.stands; back = search rules; refused = tt }
+    record { stands = c.in_ok-write_data.ensures.stands; back = search rules; errors = tt }
 
-pub returns-in_err-data-clause-refused : goal.returns-in_err-data-clause-refused
-returns-in_err-data-clause-refused g c =
+pub returns-in_err-data-clause-errors : goal.returns-in_err-data-clause-errors
+returns-in_err-data-clause-errors g c =
     let never = c.in_err-data.ensures.found refl (root_accepts _ (numbers 2 c.args.bytes.now) (TakesNumbers 2) c.in_ok-write_data.ensures.stands refl) in
     absurd (cc)

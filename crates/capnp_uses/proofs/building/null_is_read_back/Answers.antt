@@ -8,4 +8,4 @@ pub returns : goal.returns
 returns g c =
     let null = null_is_read _ c.in_ok-write_null.ensures.stands in
     let is = c.is_null.ensures.1 (subst (λ p. Denotes p nothing) (sym c.in_ok-root.ensures.returned) null) in
-    record { stands = c.in_ok-write_null.ensures.stands; back = search rules; refused = tt }
+    record { stands = c.in_ok-write_null.ensures.stands; back = search rules; errors = tt }

@@ -2,7 +2,7 @@
 use Rattle.std.proofs.lemmas.Result.{err_from_is_err_and}
 use Rattle.capnp_uses.proofs.building.write_text.Goals as goal
 
-pub returns-in_err-view-clause-refused : goal.returns-in_err-view-clause-refused
-returns-in_err-view-clause-refused g c =
+pub returns-in_err-view-clause-errors : goal.returns-in_err-view-clause-errors
+returns-in_err-view-clause-errors g c =
     let p = err_from_is_err_and c.from_residual.result c.from_residual.ensures.1 in
     rw (p.1, p.2) c.in_err-view.ensures.inits.kind

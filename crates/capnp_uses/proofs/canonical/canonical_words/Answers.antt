@@ -4,13 +4,13 @@ use Rattle.std.proofs.lemmas.Result.{err_from_is_err_and}
 use Rattle.capnp_frame.specs.declared.error.ErrorKind.TheVariants.{OutOfMemory}
 use Rattle.capnp_wire.specs.Block.{numbers_of}
 use Rattle.capnp_message.specs.Canonical.{HasForm}
-use Rattle.capnp_uses.proofs.ReadingLemmas.{root_is_default, form_of_root, form_stands, form_refused, no_form}
+use Rattle.capnp_uses.proofs.ReadingLemmas.{root_is_default, form_of_root, form_stands, no_form_error, no_form}
 use Rattle.capnp_uses.proofs.canonical.canonical_words.Goals as goal
 
 pub returns-in_err-message : goal.returns-in_err-message
 returns-in_err-message c =
     let p = err_from_is_err_and c.from_residual.result c.from_residual.ensures.1 in
-    rw (p.1, p.2) (no_form _ c.args.bytes.now _ c.in_err-message.ensures.exact c.in_err-message.ensures.refused)
+    rw (p.1, p.2) (no_form _ c.args.bytes.now _ c.in_err-message.ensures.exact c.in_err-message.ensures.errors)
 
 pub returns : goal.returns
 returns c =
@@ -26,6 +26,6 @@ returns c =
           subst (λ pointer. HasForm pointer → IfErr c.canonicalize.result (λ error. error.kind ≡ OutOfMemory))
           (root_is_default reader.segments.segments message reader.options (c.in_ok-message.ensures.exact message rest begins) c.in_ok-message.ensures.options)
           c.canonicalize.ensures.found;
-      refused = form_refused _ _ reader.segments.segments c.args.bytes.now _ c.canonicalize.result own
+      errors = no_form_error _ _ reader.segments.segments c.args.bytes.now _ c.canonicalize.result own
           c.in_ok-message.ensures.found c.canonicalize.ensures.returned;
     }

@@ -32,7 +32,7 @@ returns-in_err-message-clause-all g c =
     let p = err_from_is_err_and c.from_residual.result c.from_residual.ensures.1 in
     rw (p.1, p.2) (fails_after c.args.format c.args.options.traversal_limit_in_words _ c.in_err-message.field-0.0
     (map (λ reader. reader.segments) c.loop-count.messages.items) _ _ _ _ c.loop-count.invariant.texts c.in_err-message.ensures.reads.end
-    c.in_err-message.ensures.reads.refused)
+    c.in_err-message.ensures.reads.errors)
 
 pub returns-in_err-message-clause-failed : goal.returns-in_err-message-clause-failed
 returns-in_err-message-clause-failed g c =

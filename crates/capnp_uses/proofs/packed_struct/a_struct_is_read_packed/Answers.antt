@@ -1,6 +1,6 @@
 -- What is read was written.
 use Rattle.capnp_uses.proofs.SetLemmas.{root_has_segment}
-use Rattle.capnp_uses.proofs.PackedStructLemmas.{shown_text, packed_refused}
+use Rattle.capnp_uses.proofs.PackedStructLemmas.{shown_text, packed_struct_error}
 use Rattle.capnp_uses.proofs.packed_struct.a_struct_is_read_packed.Goals as goal
 
 pub packed_text-requires : goal.packed_text-requires
@@ -10,6 +10,6 @@ pub returns-clause-back : goal.returns-clause-back
 returns-clause-back g c = c.read_packed_words.ensures.words _ c.args.first c.args.second c.in_ok-text.ensures.packed.0
     (shown_text _ _ _ c.deref.ensures.value c.in_ok-text.ensures.packed.2) c.in_ok-write_struct.ensures.stands
 
-pub returns-clause-refused : goal.returns-clause-refused
-returns-clause-refused g c = packed_refused _ _ _ _ _ c.read_packed_words.result
-    (shown_text _ _ _ c.deref.ensures.value c.in_ok-text.ensures.packed.2) c.read_packed_words.ensures.refused
+pub returns-clause-errors : goal.returns-clause-errors
+returns-clause-errors g c = packed_struct_error _ _ _ _ _ c.read_packed_words.result
+    (shown_text _ _ _ c.deref.ensures.value c.in_ok-text.ensures.packed.2) c.read_packed_words.ensures.errors

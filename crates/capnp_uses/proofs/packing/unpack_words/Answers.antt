@@ -6,5 +6,5 @@ use Rattle.capnp_uses.proofs.packing.unpack_words.Goals as goal
 
 pub returns-clause-found : goal.returns-clause-found
 returns-clause-found c bytes rest given =
-    unpack_succeeds _ _ c.read_exact.result c.read_exact.ensures.failed c.read_exact.ensures.refused bytes rest
+    unpack_succeeds _ _ c.read_exact.result c.read_exact.ensures.failed c.read_exact.ensures.errors bytes rest
     (subst (λ raw. Unpacks raw (length c.read_exact.new.buffer) bytes rest) (sym (ap (λ s. s.now) c.new-packed.ensures.source)) given)

@@ -18,5 +18,5 @@ returns g c =
         ends = elim read [ inl memory ↦ inl memory | inr same ↦ inr (_, shown, same.2) ];
       };
       options = c.read_log.ensures.options;
-      refused = tt;
+      errors = tt;
     }

@@ -4,8 +4,8 @@ use Rattle.capnp_frame.proofs.sources.AskLemmas.{passed_on}
 use Rattle.capnp_uses.proofs.WrittenLemmas.{has_segment, tree_again, unread, holds_at_ok}
 use Rattle.capnp_uses.proofs.roots.set_and_read_back.Goals as goal
 
-pub returns-in_err-set_root-clause-refused : goal.returns-in_err-set_root-clause-refused
-returns-in_err-set_root-clause-refused g c = passed_on _ _ c.from_residual.ensures.1 (inl (record { cleared = c.in_err-set_root.ensures.nulled; refused = c.in_err-set_root.ensures.kind }))
+pub returns-in_err-set_root-clause-errors : goal.returns-in_err-set_root-clause-errors
+returns-in_err-set_root-clause-errors g c = passed_on _ _ c.from_residual.ensures.1 (inl (record { cleared = c.in_err-set_root.ensures.nulled; errors = c.in_err-set_root.ensures.kind }))
 
 pub write_and_read_back-requires : goal.write_and_read_back-requires
 write_and_read_back-requires g c =
@@ -14,11 +14,11 @@ write_and_read_back-requires g c =
 pub returns-clause-placed : goal.returns-clause-placed
 returns-clause-placed g c = holds_at_ok c.write_and_read_back.result c.in_ok-set_root.ensures.placed
 
-pub returns-clause-refused : goal.returns-clause-refused
-returns-clause-refused g c =
+pub returns-clause-errors : goal.returns-clause-errors
+returns-clause-errors g c =
     let sets = c.in_ok-set_root.ensures in
-    unread g.A.Allocator (g.V.SetterInput.has_tree c.args.value) (g.V.SetterInput.refuses c.args.value) _ _ _ c.write_and_read_back.result sets.set sets.placed
-    (rw c.get_segments_for_output.ensures.segments at c.write_and_read_back.ensures.refused)
+    unread g.A.Allocator (g.V.SetterInput.has_tree c.args.value) (g.V.SetterInput.fails c.args.value) _ _ _ c.write_and_read_back.result sets.set sets.placed
+    (rw c.get_segments_for_output.ensures.segments at c.write_and_read_back.ensures.errors)
 
 pub returns-clause-tree : goal.returns-clause-tree
 returns-clause-tree g c =

@@ -13,7 +13,7 @@ returns-clause-back g c =
     let same = text_read _ _ _ c.in_ok-set_root.ensures.set c.in_ok-view.ensures.returned in
     bytes_same _ _ _ c.eq.ensures (c.as_bytes.ensures ∙ same ∙ sym c.as_bytes-2.ensures.value)
 
-pub returns-in_err-view-clause-refused : goal.returns-in_err-view-clause-refused
-returns-in_err-view-clause-refused g c =
+pub returns-in_err-view-clause-errors : goal.returns-in_err-view-clause-errors
+returns-in_err-view-clause-errors g c =
     let never = c.in_err-view.ensures.found refl (text_accepted _ _ c.in_ok-set_root.ensures.set) in
     absurd (cc)

@@ -10,13 +10,13 @@ pub returns-in_err-write_message : goal.returns-in_err-write_message
 returns-in_err-write_message g c =
     let p = err_from_is_err_and c.from_residual.result c.from_residual.ensures.1 in
     let written = c.in_err-write_message.ensures in
-    let refused = format_memory c.args.format (g.S.ReaderSegments.segments c.args.message.now) _ c.requires written.refused written.failed in
+    let errors = format_memory c.args.format (g.S.ReaderSegments.segments c.args.message.now) _ c.requires written.errors written.failed in
     rw (p.1, p.2) (record {
       back = tt;
       size = tt;
       few = tt;
       options_are = tt;
-      refused = elim refused [ inl many ↦ inl many | inr memory ↦ inr (inr memory) ];
+      errors = elim errors [ inl many ↦ inl many | inr memory ↦ inr (inr memory) ];
     })
 
 pub returns-in_err-reader : goal.returns-in_err-reader

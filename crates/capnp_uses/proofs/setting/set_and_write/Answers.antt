@@ -10,17 +10,17 @@ returns-clause-written g c =
     added_frame (output_of c.set_root.new.self) c.new-text.result.items c.write_message.new.sink.items c.new-text.ensures.items
     (c.in_ok-write_message.ensures.text (λ chunk text same. same))
 
-pub returns-in_err-write_message-clause-refused : goal.returns-in_err-write_message-clause-refused
-returns-in_err-write_message-clause-refused g c =
+pub returns-in_err-write_message-clause-errors : goal.returns-in_err-write_message-clause-errors
+returns-in_err-write_message-clause-errors g c =
     let p = err_from_is_err_and c.from_residual-in_err-write_message.result c.from_residual-in_err-write_message.ensures.1 in
     rw (p.1, p.2) (inr (record {
       set = c.in_ok-set_root.ensures.set;
       placed = c.in_ok-set_root.ensures.placed;
-      refused = not_written (output_of c.set_root.new.self) c.in_err-write_message.field-0.0
-          c.in_err-write_message.ensures.refused c.in_err-write_message.ensures.failed;
+      errors = not_written (output_of c.set_root.new.self) c.in_err-write_message.field-0.0
+          c.in_err-write_message.ensures.errors c.in_err-write_message.ensures.failed;
     }))
 
-pub returns-in_err-set_root-clause-refused : goal.returns-in_err-set_root-clause-refused
-returns-in_err-set_root-clause-refused g c =
+pub returns-in_err-set_root-clause-errors : goal.returns-in_err-set_root-clause-errors
+returns-in_err-set_root-clause-errors g c =
     let p = err_from_is_err_and c.from_residual.result c.from_residual.ensures.1 in
-    rw (p.1, p.2) (inl (record { cleared = c.in_err-set_root.ensures.nulled; refused = c.in_err-set_root.ensures.kind }))
+    rw (p.1, p.2) (inl (record { cleared = c.in_err-set_root.ensures.nulled; errors = c.in_err-set_root.ensures.kind }))

@@ -3,12 +3,12 @@ use Rattle.std.proofs.Common.{rules, inl, inr, refl, sym, subst, arith}
 use Rattle.std.proofs.lemmas.Result.{err_from_is_err_and}
 use Rattle.capnp_wire.specs.Prelude.{struct, Root, pointer_of}
 use Rattle.capnp_build.specs.Prelude.{Built, message}
-use Rattle.capnp_uses.proofs.SetLemmas.{root_has_segment, set_form, word_set, word_kept, declined_tree}
+use Rattle.capnp_uses.proofs.SetLemmas.{root_has_segment, set_form, word_set, word_kept, form_error_tree}
 use Rattle.capnp_uses.proofs.setting.set_tree_and_word.Goals as goal
 
 pub returns-then-data_words-gt0 : goal.returns-then-data_words-gt0
 returns-then-data_words-gt0 g c = record {
-  refused = tt;
+  errors = tt;
   stands =
       let pointer = pointer_of g.S.ReaderSegments.segments c.args.source in
       let set = set_form pointer _ c.in_ok-set_tree.ensures.root.set in
@@ -27,7 +27,7 @@ returns-then-data_words-gt0 g c = record {
 
 pub returns-else-data_words-gt0 : goal.returns-else-data_words-gt0
 returns-else-data_words-gt0 g c = record {
-  refused = tt;
+  errors = tt;
   stands =
       let pointer = pointer_of g.S.ReaderSegments.segments c.args.source in
       let set = set_form pointer _ c.in_ok-set_tree.ensures.root.set in
@@ -44,12 +44,12 @@ returns-else-data_words-gt0 g c = record {
       absurd (omega (arith, counted, some));
 }
 
-pub returns-in_err-set_tree-clause-refused : goal.returns-in_err-set_tree-clause-refused
-returns-in_err-set_tree-clause-refused g c =
+pub returns-in_err-set_tree-clause-errors : goal.returns-in_err-set_tree-clause-errors
+returns-in_err-set_tree-clause-errors g c =
     let p = err_from_is_err_and c.from_residual.result c.from_residual.ensures.1 in
-    rw (p.1, p.2) (inl (record { cleared = c.in_err-set_tree.ensures.root.nulled; refused = c.in_err-set_tree.ensures.root.kind }))
+    rw (p.1, p.2) (inl (record { cleared = c.in_err-set_tree.ensures.root.nulled; errors = c.in_err-set_tree.ensures.root.kind }))
 
-pub returns-in_err-fields-clause-refused : goal.returns-in_err-fields-clause-refused
-returns-in_err-fields-clause-refused g c =
+pub returns-in_err-fields-clause-errors : goal.returns-in_err-fields-clause-errors
+returns-in_err-fields-clause-errors g c =
     let p = err_from_is_err_and c.from_residual-in_err-fields.result c.from_residual-in_err-fields.ensures.1 in
-    rw (p.1, p.2) (inr (declined_tree g.A.Allocator _ c.set_tree.new.built _ c.in_ok-set_tree.ensures.root.set c.in_err-fields.ensures.gets.kind))
+    rw (p.1, p.2) (inr (form_error_tree g.A.Allocator _ c.set_tree.new.built _ c.in_ok-set_tree.ensures.root.set c.in_err-fields.ensures.gets.kind))

@@ -15,10 +15,10 @@ returns g c =
           c.set_and_read_back.ensures.tree;
       written = c.set_and_read_back.ensures.back;
       options = c.set_and_read_back.ensures.options;
-      refused = back_as g.A.Allocator _ _ _ _
+      errors = back_as g.A.Allocator _ _ _ _
           (λ trees is. contact_is (λ p. p.words) (λ p. p.fields.value.now) v.fields.rest.rest.value.items.now a.phones.now v.words a.id v.fields.value.now v.fields.rest.value.now
           a.name.now a.mail.now trees e.id e.name e.mail e.phones is)
           (contact_fails (λ p. p.words) (λ p. p.fields.value.now) v.fields.rest.rest.value.items.now a.phones.now v.words a.id v.fields.value.now v.fields.rest.value.now
           a.name.now a.mail.now e.id e.name e.mail e.phones)
-          a.options.traversal_limit_in_words _ _ c.set_and_read_back.result c.set_and_read_back.ensures.refused;
+          a.options.traversal_limit_in_words _ _ c.set_and_read_back.result c.set_and_read_back.ensures.errors;
     }

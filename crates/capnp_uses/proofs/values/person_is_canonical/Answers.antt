@@ -3,8 +3,8 @@ use Rattle.capnp_uses.proofs.ContactLemmas.{person_is}
 use Rattle.capnp_uses.proofs.LargeLemmas.{alone_as, person_fails}
 use Rattle.capnp_uses.proofs.values.person_is_canonical.Goals as goal
 
-pub returns-clause-refused : goal.returns-clause-refused
-returns-clause-refused g c =
+pub returns-clause-errors : goal.returns-clause-errors
+returns-clause-errors g c =
     let v = c.person-value.result in
     let e = c.person-value.ensures in
     let a = c.args in

@@ -2,13 +2,13 @@
 use Rattle.std.proofs.Common.{rules, ◌≡◌, Err, Result, false, subst, sym, ap, arith}
 use Rattle.capnp_frame.specs.declared.error.Error.{Error}
 use Rattle.capnp_wire.specs.declared.traits.TreeWords.{TreeWords}
-use Rattle.capnp_values.proofs.lists.ItemLemmas.{MeasuresItems, measuring_begins, measuring_goes_on, measuring_stops, measuring_ends}
-use Rattle.capnp_values.proofs.values.AsIsLemmas.{as_part, as_parts, as_is_part, part_found, part_refused}
-use Rattle.capnp_values.proofs.values.SourceLemmas.{part_declared, part_made, lacks_declared, lacks_made}
+use Rattle.capnp_values.proofs.lists.ItemLemmas.{MeasuresItems, measuring_begins, measuring_goes_on, measuring_fails, measuring_ends}
+use Rattle.capnp_values.proofs.values.AsIsLemmas.{as_part, as_parts, as_is_part, part_found, part_error}
+use Rattle.capnp_values.proofs.values.SourceLemmas.{part_declared, part_made, words_error_declared, words_error_made}
 use Rattle.capnp_values.proofs.items.as_is_items.Goals as goal
 
 pub loop-index-init : goal.loop-index-init
-loop-index-init g c = measuring_begins (g.S.ValueSource.has_tree c.args.items.now) (g.S.ValueSource.refuses c.args.items.now) false (g.S.ValueSource.items c.args.items.now)
+loop-index-init g c = measuring_begins (g.S.ValueSource.has_tree c.args.items.now) (g.S.ValueSource.fails c.args.items.now) false (g.S.ValueSource.items c.args.items.now)
 
 pub overflow_add-words : goal.overflow_add-words
 overflow_add-words g c = record { fits = omega (arith, c.loop-index.invariant.as_is_few, c.in_ok-own.ensures.returned.few, c.loop-index-test.true, c.len-count.ensures, c.requires) }
@@ -16,19 +16,19 @@ overflow_add-words g c = record { fits = omega (arith, c.loop-index.invariant.as
 pub loop-index-preserved : goal.loop-index-preserved
 loop-index-preserved g c =
     let h = g.S.Value.SetterInput.has_tree c.get-item.result in
-    measuring_goes_on (g.S.ValueSource.has_tree c.args.items.now) (g.S.ValueSource.refuses c.args.items.now) false (g.S.ValueSource.items c.args.items.now) c.loop-index.index _ c.get-item.ensures.0 (as_parts c.measure.result) (as_part c.in_ok-own.own)
+    measuring_goes_on (g.S.ValueSource.has_tree c.args.items.now) (g.S.ValueSource.fails c.args.items.now) false (g.S.ValueSource.items c.args.items.now) c.loop-index.index _ c.get-item.ensures.0 (as_parts c.measure.result) (as_part c.in_ok-own.own)
     (omega (arith, c.loop-index-test.true, c.len-count.ensures)) c.get-item.ensures.1 (ap as_parts c.in_ok-own.was) (part_declared c.get-item.ensures.2 false (as_part c.in_ok-own.own) (as_is_part h c.in_ok-own.own c.in_ok-own.ensures.returned)) (λ t is. g.met.S.Value.SetterInput.one c.get-item.result t (c.get-item.ensures.2.trees_are t is))
-    (λ words has. part_found h c.measure.result c.measure.ensures.found words (part_made c.get-item.ensures.2 false words has)) (λ k lacks. part_refused c.measure.result k (c.measure.ensures.exact k (lacks_made c.get-item.ensures.2 false k lacks))) c.loop-index.invariant
+    (λ words has. part_found h c.measure.result c.measure.ensures.found words (part_made c.get-item.ensures.2 false words has)) (λ k words_error. part_error c.measure.result k (c.measure.ensures.exact k (words_error_made c.get-item.ensures.2 false k words_error))) c.loop-index.invariant
 
 pub returns-in_err-own : goal.returns-in_err-own
 returns-in_err-own g c =
     let h = (g.S.ValueSource.has_tree c.args.items.now) in
-    let r = (g.S.ValueSource.refuses c.args.items.now) in
+    let r = (g.S.ValueSource.fails c.args.items.now) in
     let was : c.from_residual.result ≡ Err c.in_err-own.field-0.0 = search rules in
     subst (λ (x : Result TreeWords Error). MeasuresItems h r (g.S.ValueSource.items c.args.items.now) false x) (sym was)
-    (measuring_stops h r false (g.S.ValueSource.items c.args.items.now) c.loop-index.index _ c.get-item.ensures.0 (as_parts c.measure.result) c.in_err-own.field-0.0 (omega (arith, c.loop-index-test.true, c.len-count.ensures)) c.get-item.ensures.1
-    (ap as_parts c.in_err-own.was) (lacks_declared c.get-item.ensures.2 false c.in_err-own.field-0.0.kind c.in_err-own.ensures.returned) (λ words has. part_found (g.S.Value.SetterInput.has_tree c.get-item.result) c.measure.result c.measure.ensures.found words (part_made c.get-item.ensures.2 false words has))
-    (λ k lacks. part_refused c.measure.result k (c.measure.ensures.exact k (lacks_made c.get-item.ensures.2 false k lacks))) c.loop-index.invariant)
+    (measuring_fails h r false (g.S.ValueSource.items c.args.items.now) c.loop-index.index _ c.get-item.ensures.0 (as_parts c.measure.result) c.in_err-own.field-0.0 (omega (arith, c.loop-index-test.true, c.len-count.ensures)) c.get-item.ensures.1
+    (ap as_parts c.in_err-own.was) (words_error_declared c.get-item.ensures.2 false c.in_err-own.field-0.0.kind c.in_err-own.ensures.returned) (λ words has. part_found (g.S.Value.SetterInput.has_tree c.get-item.result) c.measure.result c.measure.ensures.found words (part_made c.get-item.ensures.2 false words has))
+    (λ k words_error. part_error c.measure.result k (c.measure.ensures.exact k (words_error_made c.get-item.ensures.2 false k words_error))) c.loop-index.invariant)
 
 pub returns : goal.returns
-returns g c = measuring_ends (g.S.ValueSource.has_tree c.args.items.now) (g.S.ValueSource.refuses c.args.items.now) false (g.S.ValueSource.items c.args.items.now) c.loop-index.index _ (omega arith) c.loop-index.invariant
+returns g c = measuring_ends (g.S.ValueSource.has_tree c.args.items.now) (g.S.ValueSource.fails c.args.items.now) false (g.S.ValueSource.items c.args.items.now) c.loop-index.index _ (omega arith) c.loop-index.invariant

@@ -3,4 +3,4 @@ use Rattle.capnp_values.proofs.lists.ItemLemmas.{ItemsMeasured}
 use Rattle.capnp_values.proofs.items.measure_items.Given as goal
 
 abbrev pub invariant-loop-index : goal.invariant-loop-index
-invariant-loop-index g l = ItemsMeasured (g.S.ValueSource.has_tree l.items) (g.S.ValueSource.refuses l.items) l.canonical (g.S.ValueSource.items l.items) l.index l.words
+invariant-loop-index g l = ItemsMeasured (g.S.ValueSource.has_tree l.items) (g.S.ValueSource.fails l.items) l.canonical (g.S.ValueSource.items l.items) l.index l.words

@@ -3,22 +3,22 @@ use Rattle.std.proofs.Common.{rules, ◌≡◌, ◌+◌, ◌-◌, ◌^◌, ◌�
 use Rattle.capnp_frame.specs.declared.error.Error.{Error}
 use Rattle.capnp_frame.specs.declared.error.ErrorKind.TheVariants.{AllocationTooLarge}
 use Rattle.capnp_values.specs.Measured.{Measures}
-use Rattle.capnp_values.specs.Lists.{AreItems, IsPointerList, RefusesPointerList}
+use Rattle.capnp_values.specs.Lists.{AreItems, IsPointerList, PointerListError}
 use Rattle.capnp_wire.specs.declared.traits.TreeWords.{TreeWords}
 use Rattle.capnp_values.proofs.lists.ItemLemmas.{items_settled, measured_few}
-use Rattle.capnp_values.proofs.lists.PointerListLemmas.{list_measured, list_too_long, list_refused}
+use Rattle.capnp_values.proofs.lists.PointerListLemmas.{list_measured, list_too_long, list_error}
 use Rattle.capnp_values.proofs.pointer_list.measure_list.Goals as goal
 
 pub returns-then-count : goal.returns-then-count
-returns-then-count g c = list_too_long (g.S.ValueSource.has_tree c.args.items.now) (g.S.ValueSource.refuses c.args.items.now) (g.S.ValueSource.items c.args.items.now) c.args.canonical c.allocation_too_large.result (omega arith) (c.allocation_too_large.ensures ∙ ap (λ (k : ℕ). AllocationTooLarge (min k (2 ^ 32 - 1))) c.len-count.ensures)
+returns-then-count g c = list_too_long (g.S.ValueSource.has_tree c.args.items.now) (g.S.ValueSource.fails c.args.items.now) (g.S.ValueSource.items c.args.items.now) c.args.canonical c.allocation_too_large.result (omega arith) (c.allocation_too_large.ensures ∙ ap (λ (k : ℕ). AllocationTooLarge (min k (2 ^ 32 - 1))) c.len-count.ensures)
 
 pub returns-in_err-words : goal.returns-in_err-words
 returns-in_err-words g c =
     let h = (g.S.ValueSource.has_tree c.args.items.now) in
-    let r = (g.S.ValueSource.refuses c.args.items.now) in
+    let r = (g.S.ValueSource.fails c.args.items.now) in
     let was : c.from_residual.result ≡ Err c.in_err-words.field-0.0 = search rules in
-    subst (λ (x : Result TreeWords Error). Measures (λ t. IsPointerList h (g.S.ValueSource.items c.args.items.now) t) (λ k. RefusesPointerList h r (g.S.ValueSource.items c.args.items.now) k) c.args.canonical x) (sym was)
-    (list_refused h r (g.S.ValueSource.items c.args.items.now) c.args.canonical c.measure_items.result c.in_err-words.field-0.0 (omega arith) c.in_err-words.was c.measure_items.ensures)
+    subst (λ (x : Result TreeWords Error). Measures (λ t. IsPointerList h (g.S.ValueSource.items c.args.items.now) t) (λ k. PointerListError h r (g.S.ValueSource.items c.args.items.now) k) c.args.canonical x) (sym was)
+    (list_error h r (g.S.ValueSource.items c.args.items.now) c.args.canonical c.measure_items.result c.in_err-words.field-0.0 (omega arith) c.in_err-words.was c.measure_items.ensures)
 
 pub overflow_add-as_is : goal.overflow_add-as_is
 overflow_add-as_is g c =
@@ -35,8 +35,8 @@ overflow_add-output g c =
 pub returns : goal.returns
 returns g c =
     let h = g.S.ValueSource.has_tree c.args.items.now in
-    let r = g.S.ValueSource.refuses c.args.items.now in
+    let r = g.S.ValueSource.fails c.args.items.now in
     let values = g.S.ValueSource.items c.args.items.now in
     let own = c.in_ok-words.words in
-    subst (λ (k : ℕ). Measures (λ t. IsPointerList h values t) (λ e. RefusesPointerList h r values e) c.args.canonical (Ok (record { as_is = k + own.as_is; output = k + own.output }))) (sym c.len-count.ensures)
+    subst (λ (k : ℕ). Measures (λ t. IsPointerList h values t) (λ e. PointerListError h r values e) c.args.canonical (Ok (record { as_is = k + own.as_is; output = k + own.output }))) (sym c.len-count.ensures)
     (list_measured h r values c.args.canonical c.measure_items.result own (omega (arith, c.if-count.false, c.len-count.ensures)) c.in_ok-words.was c.measure_items.ensures)

@@ -4,5 +4,5 @@ use Rattle.capnp_values.proofs.rows.measure_rows.Given as goal
 
 abbrev pub invariant-loop-index : goal.invariant-loop-index
 invariant-loop-index g l =
-    RowsMeasured (g.S.StructSource.words l.items) (g.S.StructSource.has_trees l.items) (g.S.StructSource.refuses l.items) l.canonical g.S.Value.Element.data_words g.S.Value.Fields.size (g.S.StructSource.items l.items) l.index
+    RowsMeasured (g.S.StructSource.words l.items) (g.S.StructSource.has_trees l.items) (g.S.StructSource.fails l.items) l.canonical g.S.Value.Element.data_words g.S.Value.Fields.size (g.S.StructSource.items l.items) l.index
     l.words

@@ -2,27 +2,27 @@
 use Rattle.std.proofs.Common.{rules, ◌≡◌, false, Err, IsTrue, Result, length, subst, sym, arith}
 use Rattle.capnp_frame.specs.declared.error.Error.{Error}
 use Rattle.capnp_values.specs.Measured.{Measures}
-use Rattle.capnp_values.specs.Structs.{IsStruct, RefusesStruct}
+use Rattle.capnp_values.specs.Structs.{IsStruct, StructError}
 use Rattle.capnp_wire.specs.declared.traits.TreeWords.{TreeWords}
 use Rattle.capnp_values.proofs.lists.ItemLemmas.{measured_few}
-use Rattle.capnp_values.proofs.structs.StructLemmas.{not_fitting, struct_too_large, struct_refused, struct_measured}
+use Rattle.capnp_values.proofs.structs.StructLemmas.{not_fitting, struct_too_large, struct_error, struct_measured}
 use Rattle.capnp_values.proofs.struct_value.measure_struct.Goals as goal
 
 pub returns-then-not-fits : goal.returns-then-not-fits
 returns-then-not-fits g c =
     let no_fit : c.fits.result ≡ false = search rules in
     let no = not_fitting (length c.args.words.now) c.count.result g.F.Fields.size c.fits.result c.fits.ensures no_fit c.count.ensures in
-    struct_too_large c.args.canonical c.args.words.now g.F.Fields.size (g.F.Fields.has_trees c.args.fields.now) (g.F.Fields.refuses c.args.fields.now) c.from_kind.result no c.from_kind.ensures
+    struct_too_large c.args.canonical c.args.words.now g.F.Fields.size (g.F.Fields.has_trees c.args.fields.now) (g.F.Fields.fails c.args.fields.now) c.from_kind.result no c.from_kind.ensures
 
 pub returns-in_err-children : goal.returns-in_err-children
 returns-in_err-children g c =
     let yes : IsTrue c.fits.result = search rules in
     let small = c.fits.ensures.0 yes in
     let hs = g.F.Fields.has_trees c.args.fields.now in
-    let rs = g.F.Fields.refuses c.args.fields.now in
+    let rs = g.F.Fields.fails c.args.fields.now in
     let was : c.from_residual.result ≡ Err c.in_err-children.field-0.0 = search rules in
-    subst (λ (x : Result TreeWords Error). Measures (λ t. IsStruct c.args.words.now g.F.Fields.size hs t) (λ k. RefusesStruct (length c.args.words.now) g.F.Fields.size rs k) c.args.canonical x) (sym was)
-    (struct_refused c.args.canonical c.args.words.now g.F.Fields.size hs rs c.measure.result c.in_err-children.field-0.0 c.in_err-children.was c.measure.ensures small.0 (omega (arith, small.1, c.count.ensures)))
+    subst (λ (x : Result TreeWords Error). Measures (λ t. IsStruct c.args.words.now g.F.Fields.size hs t) (λ k. StructError (length c.args.words.now) g.F.Fields.size rs k) c.args.canonical x) (sym was)
+    (struct_error c.args.canonical c.args.words.now g.F.Fields.size hs rs c.measure.result c.in_err-children.field-0.0 c.in_err-children.was c.measure.ensures small.0 (omega (arith, small.1, c.count.ensures)))
 
 pub overflow_add-as_is-2 : goal.overflow_add-as_is-2
 overflow_add-as_is-2 g c =
@@ -48,6 +48,6 @@ pub returns : goal.returns
 returns g c =
     let yes : IsTrue c.fits.result = search rules in
     let small = c.fits.ensures.0 yes in
-    struct_measured c.args.canonical c.args.words.now g.F.Fields.size (g.F.Fields.has_trees c.args.fields.now) (g.F.Fields.refuses c.args.fields.now) c.measure.result c.in_ok-children.children
+    struct_measured c.args.canonical c.args.words.now g.F.Fields.size (g.F.Fields.has_trees c.args.fields.now) (g.F.Fields.fails c.args.fields.now) c.measure.result c.in_ok-children.children
     c.kept-pointers.result _ _ (g.met.F.Fields.settled c.args.fields.now) c.in_ok-children.was c.measure.ensures c.kept-pointers.ensures.kept small.0 (omega (arith, small.1, c.count.ensures)) c.words_fit.ensures
     (omega (arith, c.count-2.ensures, small.1, c.count.ensures)) (omega (arith, c.kept_data-data.ensures.value))

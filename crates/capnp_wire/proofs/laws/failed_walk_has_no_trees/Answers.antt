@@ -1,6 +1,6 @@
--- The law, as StopLemmas proves it.
-use Rattle.capnp_wire.proofs.walks.StopLemmas as law
+-- The law, as WalkErrorLemmas proves it.
+use Rattle.capnp_wire.proofs.walks.WalkErrorLemmas as law
 use Rattle.capnp_wire.proofs.laws.failed_walk_has_no_trees.Goals as goal
 
 pub returns : goal.returns
-returns c = law.stops_has_no_trees
+returns c = law.walk_error_has_no_trees

@@ -5,18 +5,18 @@ use Rattle.capnp_frame.specs.Prelude.{IsWritable}
 use Rattle.capnp_message.specs.Seen.{root_of}
 use Rattle.capnp.specs.Prelude.{IsFrameEncoding, IsForm}
 use Rattle.capnp.proofs.WriterLemmas.{frame_bytes_added, Adds-weaker}
-use Rattle.capnp.proofs.FormLemmas.{one_writable, form_lacking, form_written, form_untouched}
+use Rattle.capnp.proofs.FormLemmas.{one_writable, without_form, form_written, form_untouched}
 use Rattle.capnp.proofs.serialize.canonical.write_canonical_message.Given as given
 use Rattle.capnp.proofs.serialize.canonical.write_canonical_message.Goals as goal
 
 pub returns-in_err-form : goal.returns-in_err-form
 returns-in_err-form g c =
     let p = err_from_is_err_and c.from_residual.result c.from_residual.ensures.1 in
-    let declared = c.in_err-form.ensures in
+    let reported = c.in_err-form.ensures in
     rw (p.1, p.2) (record {
       text = λ plain. tt;
-      lacks = λ kind lacks. (declared.exact kind lacks, refl);
-      writes = form_lacking g.W.Write g.met.W.Write.keeps _ _ _ (Err c.in_err-form.field-0.0) refl declared.returned;
+      form_error = λ kind form_error. (reported.exact kind form_error, refl);
+      writes = without_form g.W.Write g.met.W.Write.keeps _ _ _ (Err c.in_err-form.field-0.0) refl reported.returned;
       untouched = inr (inr refl);
     })
 
@@ -45,7 +45,7 @@ returns g c =
             subst (λ (s : List (List ℕ)). IsFrameEncoding s text) (segment g c) (frame_bytes_added g.W.Write.appends plain _ text p),
           ))
           wrote.parts.written;
-      lacks = λ kind lacks. absurd (c.in_ok-form.ensures.exact kind lacks);
+      form_error = λ kind form_error. absurd (c.in_ok-form.ensures.exact kind form_error);
       writes = form_written g.W.Write _ _ _ _ _ c.write_segments.result (form g c) (segment g c) wrote;
       untouched = form_untouched g.W.Write _ _ _ _ _ c.write_segments.result (form g c) (segment g c) wrote;
     }

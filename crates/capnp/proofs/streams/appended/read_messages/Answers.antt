@@ -5,17 +5,17 @@ use Rattle.std.proofs.lemmas.Result.{err_from_is_err_and}
 use Rattle.capnp_frame.proofs.sources.SourceLemmas.{Advances-join}
 use Rattle.capnp_frame.specs.declared.serialize.segment_table.Padding.TheVariants.{Zero}
 use Rattle.capnp_frame.specs.declared.error.ErrorKind.TheVariants.{DeviceFailed, OutOfMemory}
-use Rattle.capnp.proofs.AppendedLemmas.{texts_next, stops_reading, accepted_at_memory, AllByRecursion-push}
+use Rattle.capnp.proofs.AppendedLemmas.{texts_next, fails_reading, accepted_at_memory, AllByRecursion-push}
 use Rattle.capnp.proofs.streams.appended.read_messages.Goals as goal
 
 pub returns-in_err-reader : goal.returns-in_err-reader
 returns-in_err-reader g c =
     let p = err_from_is_err_and c.from_residual.result c.from_residual.ensures.1 in
     let messages = map (λ reader. reader.segments) c.loop-index.readers.items in
-    let declared = c.loop-index.invariant in
-    let fewer : length messages < c.args.count = omega (arith, length-map c.loop-index.readers.items (λ reader. reader.segments), declared.counted, c.loop-index-test.true) in
-    rw (p.1, p.2) (stops_reading g.R.Read _ _ _ c.args.format c.args.options c.args.count (λ readers. readers.items) (λ reader. reader.segments)
-    (λ reader. reader.options) messages c.in_err-reader.field-0.0 (g.met.R.Read.keeps.transitive _ _ _) fewer declared.texts declared.advances c.in_err-reader.ensures)
+    let reported = c.loop-index.invariant in
+    let fewer : length messages < c.args.count = omega (arith, length-map c.loop-index.readers.items (λ reader. reader.segments), reported.counted, c.loop-index-test.true) in
+    rw (p.1, p.2) (fails_reading g.R.Read _ _ _ c.args.format c.args.options c.args.count (λ readers. readers.items) (λ reader. reader.segments)
+    (λ reader. reader.options) messages c.in_err-reader.field-0.0 (g.met.R.Read.keeps.transitive _ _ _) fewer reported.texts reported.advances c.in_err-reader.ensures)
 
 pub returns-in_err-push : goal.returns-in_err-push
 returns-in_err-push g c =
@@ -26,7 +26,7 @@ returns-in_err-push g c =
       found = tt;
       options_are = tt;
       accepted = accepted_at_memory Zero c.args.format c.args.options.traversal_limit_in_words c.args.count p.0.kind _ p.2;
-      stops = inl (record {
+      fails = inl (record {
         memory = p.2;
         messages = map (λ reader. reader.segments) more;
         some = omega (arith, length-map more (λ reader. reader.segments), length_push c.loop-index.readers.items c.in_ok-reader.reader);

@@ -3,9 +3,9 @@ use Rattle.std.proofs.Common.{arith}
 use Rattle.std.proofs.lemmas.List.{take_all}
 use Rattle.std.proofs.lemmas.Result.{err_from_is_err_and}
 use Rattle.capnp_frame.proofs.sources.SourceLemmas.{Grows-join}
-use Rattle.capnp.specs.Prelude.{IsTextOf, AppendsMessage, StopsMessage, DeclinesAs}
+use Rattle.capnp.specs.Prelude.{IsTextOf, AppendsMessage, FailsAtMessage, ErrorsAs}
 use Rattle.capnp.proofs.AppendedLemmas.{appended_next, writable_at, few_next}
-use Rattle.capnp.proofs.StoppedLemmas.{refused_at, stops_message, stops_at}
+use Rattle.capnp.proofs.FailedRunLemmas.{error_at, fails_at_message, fails_among}
 use Rattle.capnp.proofs.streams.appended.write_messages.Goals as goal
 
 pub write_message-requires : goal.write_message-requires
@@ -15,33 +15,33 @@ pub returns-in_err-write_message : goal.returns-in_err-write_message
 returns-in_err-write_message g c =
     let W = g.W.Write in
     let p = err_from_is_err_and c.from_residual.result c.from_residual.ensures.1 in
-    let declared = c.in_err-write_message.ensures in
+    let reported = c.in_err-write_message.ensures in
     let segments = g.S.ReaderSegments.segments in
     rw (p.1, p.2) (record {
       text = λ plain. tt;
       written = tt;
-      stops = stops_at segments (AppendsMessage c.args.format W.appends) (StopsMessage c.args.format W.appends W.leaves W.refuses) c.args.messages.now
+      fails = fails_among segments (AppendsMessage c.args.format W.appends) (FailsAtMessage c.args.format W.appends W.leaves W.refuses) c.args.messages.now
           c.loop-message.message-index c.message-item.result _ _ _ _ c.loop-message-test.true c.message-item.is c.loop-message.invariant.written
-          (stops_message W.written c.args.format W.appends W.leaves W.refuses (segments c.message-item.result) _ _ _ declared.refused declared.left declared.untouched);
+          (fails_at_message W.written c.args.format W.appends W.leaves W.refuses (segments c.message-item.result) _ _ _ reported.errors reported.left reported.untouched);
       few = tt;
-      refused = refused_at segments (DeclinesAs c.args.format W.refuses) c.args.messages.now c.loop-message.message-index c.message-item.result _
-          c.loop-message-test.true c.message-item.is declared.refused;
-      failed = λ device. let fails = declared.failed device in let counted = c.loop-message.invariant.grows.counted in omega (arith, fails, counted);
-      grows = Grows-join _ _ _ (g.met.W.Write.keeps.transitive _ _ _) c.loop-message.invariant.grows declared.grows;
+      errors = error_at segments (ErrorsAs c.args.format W.refuses) c.args.messages.now c.loop-message.message-index c.message-item.result _
+          c.loop-message-test.true c.message-item.is reported.errors;
+      failed = λ device. let fails = reported.failed device in let counted = c.loop-message.invariant.grows.counted in omega (arith, fails, counted);
+      grows = Grows-join _ _ _ (g.met.W.Write.keeps.transitive _ _ _) c.loop-message.invariant.grows reported.grows;
     })
 
 pub loop-message-preserved : goal.loop-message-preserved
 loop-message-preserved g c =
-    let declared = c.in_ok-write_message.ensures in
+    let reported = c.in_ok-write_message.ensures in
     let segments = g.S.ReaderSegments.segments in record {
       text = λ plain. appended_next segments (IsTextOf c.args.format) c.args.messages.now
           c.loop-message.message-index c.message-item.result _ _ _ c.loop-message-test.true c.message-item.is
-          (c.loop-message.invariant.text plain) (declared.text plain);
+          (c.loop-message.invariant.text plain) (reported.text plain);
       written = appended_next segments (AppendsMessage c.args.format g.W.Write.appends) c.args.messages.now
           c.loop-message.message-index c.message-item.result _ _ _ c.loop-message-test.true c.message-item.is
-          c.loop-message.invariant.written declared.written;
+          c.loop-message.invariant.written reported.written;
       few = few_next segments c.args.messages.now c.loop-message.message-index c.message-item.result c.loop-message-test.true c.message-item.is
-          c.loop-message.invariant.few declared.count.few;
+          c.loop-message.invariant.few reported.count.few;
       grows = Grows-join _ _ _ (g.met.W.Write.keeps.transitive _ _ _) c.loop-message.invariant.grows c.write_message.ensures.grows;
     }
 
@@ -52,9 +52,9 @@ returns g c =
     record {
       text = λ plain. rw all at (kept.text plain);
       written = rw all at kept.written;
-      stops = tt;
+      fails = tt;
       few = rw all at kept.few;
-      refused = tt;
+      errors = tt;
       failed = tt;
       grows = kept.grows;
     }

@@ -7,11 +7,11 @@ use Rattle.capnp_build.specs.declared.object.NewBody.{NewBody}
 use Rattle.capnp_build.proofs.layouts.NewObjectLemmas.{new_object_words}
 use Rattle.capnp_build.proofs.new_object.NewObjectSetterInputOwned.measure.Goals as goal
 
-one_new : (body : NewBody) → IsOne (λ trees. trees ≡ tree (zero_form body) none none) (λ refusal. ⊥)
+one_new : (body : NewBody) → IsOne (λ trees. trees ≡ tree (zero_form body) none none) (λ kind. ⊥)
 one_new body = record {
   same_tree = λ a b p q. p ∙ sym q;
-  same_refusal = λ a b x y. absurd x;
-  apart = λ refusal trees x y. x;
+  same_error = λ a b x y. absurd x;
+  apart = λ kind trees x y. x;
 }
 
 pub returns : goal.returns

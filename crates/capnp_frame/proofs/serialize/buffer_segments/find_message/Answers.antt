@@ -1,17 +1,17 @@
 -- The table is read as from a stream.
 use Rattle.std.proofs.Common.{inr}
 use Rattle.std.proofs.lemmas.Result.{err_from_is_err_and}
-use Rattle.capnp_frame.proofs.slices.HeldLemmas.{slice_refused, slice_cut, slice_holds}
+use Rattle.capnp_frame.proofs.slices.HeldLemmas.{slice_error, slice_cut, slice_holds}
 use Rattle.capnp_frame.proofs.serialize.buffer_segments.find_message.Goals as goal
 
-pub returns-in_err-indices-clause-refused : goal.returns-in_err-indices-clause-refused
-returns-in_err-indices-clause-refused c =
+pub returns-in_err-indices-clause-errors : goal.returns-in_err-indices-clause-errors
+returns-in_err-indices-clause-errors c =
     let p = err_from_is_err_and c.from_residual.result c.from_residual.ensures.1 in
-    rw (p.1, p.2) (slice_refused c.args.empty c.args.rules.padding c.args.rules.limit_in_words _ c.args.bytes.now _ c.in_err-indices.ensures.asks.asked.failed
-    (rw c.empty-spare.ensures at c.in_err-indices.ensures.asks.refused))
+    rw (p.1, p.2) (slice_error c.args.empty c.args.rules.padding c.args.rules.limit_in_words _ c.args.bytes.now _ c.in_err-indices.ensures.asks.asked.failed
+    (rw c.empty-spare.ensures at c.in_err-indices.ensures.asks.errors))
 
-pub returns-then-rest-total-clause-refused : goal.returns-then-rest-total-clause-refused
-returns-then-rest-total-clause-refused c =
+pub returns-then-rest-total-clause-errors : goal.returns-then-rest-total-clause-errors
+returns-then-rest-total-clause-errors c =
     let table = rw c.in-Some.is at c.in_ok-indices.ensures.found in
     let accepts = rw c.in-Some.is at c.in_ok-indices.ensures.within in
     rw c.from_kind-then-rest-total.ensures (inr

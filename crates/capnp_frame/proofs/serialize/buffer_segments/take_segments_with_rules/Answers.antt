@@ -8,7 +8,7 @@ use Rattle.capnp_frame.proofs.serialize.buffer_segments.take_segments_with_rules
 pub returns-in_err-segment_indices : goal.returns-in_err-segment_indices
 returns-in_err-segment_indices c = record {
   buffer = search rules;
-  reads = reads_none _ _ _ _ _ _ c.from_residual.ensures.1 refl c.in_err-segment_indices.ensures.refused;
+  reads = reads_none _ _ _ _ _ _ c.from_residual.ensures.1 refl c.in_err-segment_indices.ensures.errors;
 }
 
 pub returns : goal.returns

@@ -2,7 +2,7 @@
 use Rattle.std.proofs.Common.{Some, length, arith, rules}
 use Rattle.capnp_frame.proofs.sources.AskLemmas.{passed_on, Asked-err}
 use Rattle.capnp_frame.proofs.sources.StepLemmas.{asks_found_into}
-use Rattle.capnp_frame.proofs.errors.MetRefusals.{rest_met, provided_reader_kind}
+use Rattle.capnp_frame.proofs.errors.MetErrors.{rest_met, provided_reader_kind}
 use Rattle.capnp_frame.proofs.tables.TableReading.{table_stands}
 use Rattle.capnp_frame.proofs.slices.ProvidedLemmas.{table_put}
 use Rattle.capnp_frame.proofs.serialize.provided_stream.read_table_into.Goals as goal
@@ -14,9 +14,9 @@ returns-in_err-total-clause-asks g c =
     record {
       none = search rules;
       short = search rules;
-      refused = passed_on _ _ is
+      errors = passed_on _ _ is
           (rest_met c.args.rules.padding g.met.R.Read.lawful _ c.args.rules.limit_in_words (Some (length c.args.buffer.now)) _ _ _ _ c.in-Some.first
-          c.in_ok-count.count (λ lacks. absurd (omega arith)) first c.in_ok-count.ensures.accepted c.in_err-total.ensures.refused);
+          c.in_ok-count.count (λ too_short. absurd (omega arith)) first c.in_ok-count.ensures.accepted c.in_err-total.ensures.errors);
       kinds = passed_on _ _ is (provided_reader_kind c.args.rules.padding g.R.Read.refuses _ c.in_err-total.ensures.kinds);
       end = search rules;
       asked = Asked-err (g.met.R.Read.keeps.transitive _ _ _) is c.read_first.ensures.asked.advances c.in_err-total.ensures.asked;
@@ -25,13 +25,13 @@ returns-in_err-total-clause-asks g c =
 pub returns-clause-table : goal.returns-clause-table
 returns-clause-table g c =
     let first = rw c.in-Some.is at c.in_ok-first.ensures.found in
-    let declared = c.in_ok-total.ensures in
-    let put = table_put c.args.buffer.now c.read_total.new.table c.in_ok-count.count c.table_len-size.result declared.tells (search rules) in
+    let reported = c.in_ok-total.ensures in
+    let put = table_put c.args.buffer.now c.read_total.new.table c.in_ok-count.count c.table_len-size.result reported.tells (search rules) in
     record {
-      found = rw (← put.lengths_are) (table_stands c.args.rules.padding g.R.Read.gives c.in-Some.first _ _ _ _ first declared.found);
+      found = rw (← put.lengths_are) (table_stands c.args.rules.padding g.R.Read.gives c.in-Some.first _ _ _ _ first reported.found);
       tells = put.tells;
-      total_is = rw (← put.lengths_are) declared.total;
-      within = rw (← put.lengths_are) declared.within;
+      total_is = rw (← put.lengths_are) reported.total;
+      within = rw (← put.lengths_are) reported.within;
     }
 
 pub returns-clause-asks : goal.returns-clause-asks

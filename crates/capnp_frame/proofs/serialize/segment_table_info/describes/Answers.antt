@@ -11,5 +11,5 @@ returns-in-Ok g c =
 
 pub returns-in-Err : goal.returns-in-Err
 returns-in-Err g c =
-    let met = rw c.as_bytes.ensures at c.in-Err.ensures.refused in
+    let met = rw c.as_bytes.ensures at c.in-Err.ensures.errors in
     describes_none c.in-Err.field-0.kind (g.T.AsBytes.bytes c.args.buffer.now) c.args.info.now met

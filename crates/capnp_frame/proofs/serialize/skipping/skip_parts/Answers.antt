@@ -12,8 +12,8 @@ returns-in_err-read_exact g c =
     let size : length c.read_exact.new.buffer ≡ length c.args.part.now = search rules in
     record {
       dropped = search rules;
-      refused = passed_on _ _ c.from_residual.ensures.1 (short_after g.R.Read.refuses (c.args.count - c.loop-left.left) (length c.read_exact.new.buffer)
-          c.args.count _ _ _ g.met.R.BufRead.plain_refusals (omega (arith, size)) c.loop-left.invariant.dropped c.in_err-read_exact.ensures.refused);
+      errors = passed_on _ _ c.from_residual.ensures.1 (short_after g.R.Read.refuses (c.args.count - c.loop-left.left) (length c.read_exact.new.buffer)
+          c.args.count _ _ _ g.met.R.BufRead.plain_errors (omega (arith, size)) c.loop-left.invariant.dropped c.in_err-read_exact.ensures.errors);
       asked = Asked-err {X = Unit {0}} (g.met.R.Read.keeps.transitive _ _ _) c.from_residual.ensures.1 c.loop-left.invariant.advances
           (record { failed = c.in_err-read_exact.ensures.failed; advances = c.read_exact.ensures.advances });
     }
@@ -35,7 +35,7 @@ returns g c = record {
       (λ (rest : IfKnown (g.R.Read.unread c.loop-left.source) (g.R.Read.unread c.skip_shown.new.source) (Drops c.loop-left.left)).
       Drops-join (c.args.count - c.loop-left.left) c.loop-left.left c.args.count _ _ _ (omega arith) c.loop-left.invariant.dropped rest)
       c.skip_shown.ensures.dropped;
-  refused = fails_after g.R.Read.refuses (c.args.count - c.loop-left.left) c.loop-left.left c.args.count _ _ c.skip_shown.result
-      g.met.R.BufRead.plain_refusals (omega arith) c.loop-left.invariant.dropped c.skip_shown.ensures.refused;
+  errors = fails_after g.R.Read.refuses (c.args.count - c.loop-left.left) c.loop-left.left c.args.count _ _ c.skip_shown.result
+      g.met.R.BufRead.plain_errors (omega arith) c.loop-left.invariant.dropped c.skip_shown.ensures.errors;
   asked = Asked-after c.skip_shown.result (g.met.R.Read.keeps.transitive _ _ _) c.loop-left.invariant.advances c.skip_shown.ensures.asked;
 }

@@ -8,14 +8,14 @@ use Rattle.capnp_frame.proofs.serialize.skipping.skip_shown.Goals as goal
 pub returns-in_err-taken : goal.returns-in_err-taken
 returns-in_err-taken g c = record {
   dropped = search rules;
-  refused = search rules;
+  errors = search rules;
   asked = Asked-err (g.met.R.Read.keeps.transitive _ _ _) c.from_residual.ensures.1 c.loop-left.invariant.advances c.in_err-taken.ensures.asked;
 }
 
 pub returns-then-taken-eq0 : goal.returns-then-taken-eq0
 returns-then-taken-eq0 g c = record {
   dropped = search rules;
-  refused = inr (short_at_end g.R.Read.refuses (c.args.count - c.loop-left.left) c.args.count _ _ _ g.met.R.BufRead.plain_refusals
+  errors = inr (short_at_end g.R.Read.refuses (c.args.count - c.loop-left.left) c.args.count _ _ _ g.met.R.BufRead.plain_errors
       (omega arith) c.loop-left.invariant.dropped (c.in_ok-taken.ensures.end c.if-taken-eq0.true) c.from_kind.ensures);
   asked = search rules;
 }
@@ -31,6 +31,6 @@ loop-left-preserved g c = record {
 pub returns : goal.returns
 returns g c = record {
   dropped = Drops-as (c.args.count - c.loop-left.left) c.args.count _ _ (omega arith) c.loop-left.invariant.dropped;
-  refused = search rules;
+  errors = search rules;
   asked = search rules;
 }

@@ -11,7 +11,7 @@ returns-in_err-skip_bytes g c =
     let table = rw c.in-Some.is at c.in_ok-found.ensures in
     let skipped = c.in_err-skip_bytes.ensures in
     skips_cut c.args.rules.padding g.R.Read g.met.R.Read.lawful _ _ _ _ _ c.in-Some.found (8 * c.total_words.result) _ _
-    (g.met.R.Read.keeps.transitive _ _ _) c.from_residual-in_err-skip_bytes.ensures.1 table (search rules) skipped.refused skipped.asked
+    (g.met.R.Read.keeps.transitive _ _ _) c.from_residual-in_err-skip_bytes.ensures.1 table (search rules) skipped.errors skipped.asked
 
 pub returns : goal.returns
 returns g c =

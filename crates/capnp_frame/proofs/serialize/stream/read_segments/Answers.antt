@@ -5,8 +5,8 @@ use Rattle.std.specs.Prelude.{sum}
 use Rattle.capnp_frame.specs.Prelude.{cut}
 use Rattle.capnp_frame.proofs.sources.StepLemmas.{asks_found, asks_failed, asks_passed}
 use Rattle.capnp_frame.proofs.encodings.RequestLemmas.{lengths-cut, MessageStands-cut, IsWithin-cut, table_not_empty}
-use Rattle.capnp_frame.proofs.errors.MetRefusals.{reader_kind, source_kind}
-use Rattle.capnp_frame.proofs.errors.MetRefusals.{or_memory, table_met_growing, segments_met}
+use Rattle.capnp_frame.proofs.errors.MetErrors.{reader_kind, source_kind}
+use Rattle.capnp_frame.proofs.errors.MetErrors.{or_memory, table_met_growing, segments_met}
 use Rattle.capnp_frame.proofs.serialize.stream.read_segments.Given as given
 use Rattle.capnp_frame.proofs.serialize.stream.read_segments.Goals as goal
 
@@ -19,7 +19,7 @@ pub returns-in_err-read_chunk-clause-asks : goal.returns-in_err-read_chunk-claus
 returns-in_err-read_chunk-clause-asks g c =
     let table = rw c.in-Some.is at c.in_ok-indices.ensures.found in
     let accepts = rw c.in-Some.is at c.in_ok-indices.ensures.within in
-    let failed = c.in_err-read_chunk.ensures.refused in
+    let failed = c.in_err-read_chunk.ensures.errors in
     asks_failed g.R.Read c.args.rules.padding _ _ _ _ _ _ _ (g.met.R.Read.keeps.transitive _ _ _) c.from_residual-in_err-read_chunk.ensures.1
     (or_memory (segments_met c.args.rules.padding g.met.R.Read.lawful _ c.args.rules.limit_in_words None _ _ _ _ c.in-Some.indices (length c.read_chunk.new.chunk) (λ x. x)
     table accepts c.read_chunk.ensures.asked.advances.tail (search rules) failed))

@@ -9,7 +9,7 @@ use Rattle.capnp_frame.proofs.serialize.stream_table.read_indices.Goals as goal
 pub returns-in_err-first : goal.returns-in_err-first
 returns-in_err-first g c =
     let failed = c.in_err-first.ensures in
-    first_failed g.R.Read c.args.rules.now.padding c.args.rules.now.limit_in_words _ _ _ _ _ c.from_residual.ensures.1 failed.refused failed.end failed.asked
+    first_failed g.R.Read c.args.rules.now.padding c.args.rules.now.limit_in_words _ _ _ _ _ c.from_residual.ensures.1 failed.errors failed.end failed.asked
 
 pub returns-in_err-total : goal.returns-in_err-total
 returns-in_err-total g c =

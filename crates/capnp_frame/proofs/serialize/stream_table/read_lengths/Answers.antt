@@ -4,7 +4,7 @@ use Rattle.std.proofs.lemmas.List.{take_all, length-drop, nil_from_length}
 use Rattle.std.proofs.lemmas.Result.{on_ok_weaker, IfErr-weaker}
 use Rattle.capnp_frame.specs.Prelude.{table_size, Giving, Refusing, IsSource, IsTail, IfKnown}
 use Rattle.capnp_frame.proofs.sources.SourceLemmas.{IfKnown-refl}
-use Rattle.capnp_frame.proofs.errors.MetRefusals.{complete_stops, complete_kind}
+use Rattle.capnp_frame.proofs.errors.MetErrors.{complete_error, complete_kind}
 use Rattle.capnp_frame.proofs.tables.TableReading.{rest_stands}
 use Rattle.capnp_frame.proofs.serialize.stream_table.read_lengths.Goals as goal
 
@@ -23,19 +23,19 @@ returns-then-size-eq8 g c =
     let front : take 8 word ≡ word = take_all 8 word (omega arith) in
     let size : length word ≡ table_size (length c.fill_lengths.new.indices) = search rules in
     let given = no_more g.met.R.Read.lawful word long (g.R.Read.unread source) in
-    let declared = c.fill_lengths.ensures in
+    let reported = c.fill_lengths.ensures in
     let read = c.fill_lengths.result in
     record {
-      table = on_ok_weaker read (λ kept. rw declared.declared (rest_stands c.args.rules.now.padding g.R.Read.gives word word _ _ _ front size declared.tells kept given)) declared.padding;
-      ranges = declared.ranges;
-      bound = declared.bound;
-      each = on_ok_weaker read (λ kept. rw declared.declared declared.tells.lengths.each) declared.padding;
-      within = declared.within;
-      refused = IfErr-weaker read _ _ (λ error met. inr (complete_stops c.args.rules.now.padding g.R.Read.gives g.R.Read.refuses c.args.rules.now.limit_in_words error.kind word word _ _ _
-          front size given met)) declared.refused;
-      kinds = IfErr-weaker read _ _ (λ error met. (complete_kind c.args.rules.now.padding g.R.Read.refuses c.args.rules.now.limit_in_words error.kind word met).0) declared.refused;
+      table = on_ok_weaker read (λ kept. rw reported.declared (rest_stands c.args.rules.now.padding g.R.Read.gives word word _ _ _ front size reported.tells kept given)) reported.padding;
+      ranges = reported.ranges;
+      bound = reported.bound;
+      each = on_ok_weaker read (λ kept. rw reported.declared reported.tells.lengths.each) reported.padding;
+      within = reported.within;
+      errors = IfErr-weaker read _ _ (λ error met. inr (complete_error c.args.rules.now.padding g.R.Read.gives g.R.Read.refuses c.args.rules.now.limit_in_words error.kind word word _ _ _
+          front size given met)) reported.errors;
+      kinds = IfErr-weaker read _ _ (λ error met. (complete_kind c.args.rules.now.padding g.R.Read.refuses c.args.rules.now.limit_in_words error.kind word met).0) reported.errors;
       asked = record {
-        failed = IfErr-weaker read _ _ (λ error met device. absurd ((complete_kind c.args.rules.now.padding g.R.Read.refuses c.args.rules.now.limit_in_words error.kind word met).1 device)) declared.refused;
+        failed = IfErr-weaker read _ _ (λ error met device. absurd ((complete_kind c.args.rules.now.padding g.R.Read.refuses c.args.rules.now.limit_in_words error.kind word met).1 device)) reported.errors;
         advances = record {
           tail = IfKnown-refl IsTail _ (λ raw. ([], refl));
           counted = omega arith;

@@ -9,7 +9,7 @@ use Rattle.capnp_frame.proofs.serialize.stream_table.read_table.Goals as goal
 pub returns-in_err-first : goal.returns-in_err-first
 returns-in_err-first g c =
     let failed = c.in_err-first.ensures in
-    first_failed g.R.Read c.args.rules.padding c.args.rules.limit_in_words _ _ _ _ _ c.from_residual.ensures.1 failed.refused failed.end failed.asked
+    first_failed g.R.Read c.args.rules.padding c.args.rules.limit_in_words _ _ _ _ _ c.from_residual.ensures.1 failed.errors failed.end failed.asked
 
 pub returns-in_err-resize : goal.returns-in_err-resize
 returns-in_err-resize g c =

@@ -1,15 +1,15 @@
 -- The chunks, joined, are the frame, and with few segments it always fits.
 use Rattle.std.proofs.Common.{inl, inr, arith}
 use Rattle.std.proofs.lemmas.Result.{err_from_is_err_and}
-use Rattle.capnp_frame.proofs.encodings.SizeLemmas.{written_frame, lacks_memory_alone, few_fit}
+use Rattle.capnp_frame.proofs.encodings.SizeLemmas.{written_frame, vector_memory_alone, few_fit}
 use Rattle.capnp_frame.proofs.sinks.SinkLemmas.{count_kept}
 use Rattle.capnp_frame.proofs.serialize.writing.segments_to_words.Goals as goal
 
 pub returns-in_err-check_count : goal.returns-in_err-check_count
 returns-in_err-check_count g c =
     let p = err_from_is_err_and c.from_residual.result c.from_residual.ensures.1 in
-    let declared = c.in_err-check_count.ensures in
-    rw (p.1, p.2) (record { text = tt; count = record { few = tt; many = declared.count.many }; kinds = inl declared.refused })
+    let reported = c.in_err-check_count.ensures in
+    rw (p.1, p.2) (record { text = tt; count = record { few = tt; many = reported.count.many }; kinds = inl reported.errors })
 
 pub returns-in_err-words : goal.returns-in_err-words
 returns-in_err-words g c =
@@ -32,8 +32,8 @@ pub returns-in_err-write_segments : goal.returns-in_err-write_segments
 returns-in_err-write_segments g c =
     let segments = g.S.ReaderSegments.segments c.args.segments.now in
     let p = err_from_is_err_and c.from_residual-in_err-write_segments.result c.from_residual-in_err-write_segments.ensures.1 in
-    let declared = c.in_err-write_segments.ensures.parts in
-    rw (p.1, p.2) (record { text = tt; count = count_kept _ _ c.in_ok-check_count.ensures.count.few; kinds = lacks_memory_alone segments _ declared.failed declared.refused })
+    let reported = c.in_err-write_segments.ensures.parts in
+    rw (p.1, p.2) (record { text = tt; count = count_kept _ _ c.in_ok-check_count.ensures.count.few; kinds = vector_memory_alone segments _ reported.failed reported.errors })
 
 pub returns : goal.returns
 returns g c =

@@ -4,7 +4,7 @@ use Rattle.std.proofs.lemmas.List.{take_all}
 use Rattle.std.proofs.lemmas.Result.{err_from_is_err_and}
 use Rattle.capnp_frame.proofs.sources.SourceLemmas.{Grows-join}
 use Rattle.capnp_frame.proofs.sinks.WritingLemmas.{written_next}
-use Rattle.capnp_frame.proofs.sinks.SinkLemmas.{stopped_at}
+use Rattle.capnp_frame.proofs.sinks.SinkLemmas.{failed_at}
 use Rattle.capnp_frame.proofs.sinks.GrantLemmas.{stays_granted, granted_next, never_at}
 use Rattle.capnp_frame.proofs.serialize.writing.write_each.Goals as goal
 
@@ -12,10 +12,10 @@ pub returns-in_err-write_all-clause-writes : goal.returns-in_err-write_all-claus
 returns-in_err-write_all-clause-writes g c =
     let p = err_from_is_err_and c.from_residual.result c.from_residual.ensures.1 in
     let segments = g.S.ReaderSegments.segments c.args.segments.now in
-    let declared = c.in_err-write_all.ensures in
+    let reported = c.in_err-write_all.ensures in
     let here = c.in-Some.ensures.here in
-    rw (p.1, p.2) (stopped_at g.W.Write g.met.W.Write.keeps _ _ _ segments c.loop-segment.index c.in-Some.segment.now _ here
-    c.loop-segment.invariant.written c.loop-segment.invariant.grows declared.left declared.refused declared.failed declared.grows)
+    rw (p.1, p.2) (failed_at g.W.Write g.met.W.Write.keeps _ _ _ segments c.loop-segment.index c.in-Some.segment.now _ here
+    c.loop-segment.invariant.written c.loop-segment.invariant.grows reported.left reported.errors reported.failed reported.grows)
 
 pub returns-in_err-write_all-clause-granted : goal.returns-in_err-write_all-clause-granted
 returns-in_err-write_all-clause-granted g c =
@@ -45,7 +45,7 @@ returns-clause-writes g c =
     let segments = g.S.ReaderSegments.segments c.args.segments.now in
     let past = rw c.in_default.is at c.segment_at.ensures.end in
     let all = take_all c.loop-segment.index segments past in
-    record { written = rw all at c.loop-segment.invariant.written; left = tt; refused = tt; failed = tt; grows = c.loop-segment.invariant.grows }
+    record { written = rw all at c.loop-segment.invariant.written; left = tt; errors = tt; failed = tt; grows = c.loop-segment.invariant.grows }
 
 pub returns-clause-granted : goal.returns-clause-granted
 returns-clause-granted g c =

@@ -1,7 +1,7 @@
 -- The table is written as its chunks, once it is filled.
 use Rattle.std.proofs.Common.{rules, ◌≡◌, ◌∙◌, length}
 use Rattle.std.proofs.lemmas.List.{take_at}
-use Rattle.capnp_frame.specs.Prelude.{table_size, LacksTable}
+use Rattle.capnp_frame.specs.Prelude.{table_size, TableMemoryError}
 use Rattle.capnp_frame.proofs.sinks.GrantLemmas.{granted_as}
 use Rattle.capnp_frame.proofs.sinks.SinkLemmas.{writes_chunks}
 use Rattle.capnp_frame.proofs.serialize.writing.write_table.Goals as goal
@@ -21,10 +21,10 @@ pub returns-then-count-lt4-clause-granted : goal.returns-then-count-lt4-clause-g
 returns-then-count-lt4-clause-granted g c =
     let segments = g.S.ReaderSegments.segments c.args.segments.now in
     let long : length c.fill_table.new.table ≡ table_size (length segments) = search rules in
-    granted_as g.W.Write.grants _ _ (length c.fill_table.new.table) (table_size (length segments)) (LacksTable segments) c.write_in_parts.result long c.write_in_parts.ensures.granted
+    granted_as g.W.Write.grants _ _ (length c.fill_table.new.table) (table_size (length segments)) (TableMemoryError segments) c.write_in_parts.result long c.write_in_parts.ensures.granted
 
 pub returns-clause-granted : goal.returns-clause-granted
 returns-clause-granted g c =
     let segments = g.S.ReaderSegments.segments c.args.segments.now in
     let long : length c.deref.result.now ≡ table_size (length segments) = search rules in
-    granted_as g.W.Write.grants _ _ (length c.deref.result.now) (table_size (length segments)) (LacksTable segments) c.write_in_parts-2.result long c.write_in_parts-2.ensures.granted
+    granted_as g.W.Write.grants _ _ (length c.deref.result.now) (table_size (length segments)) (TableMemoryError segments) c.write_in_parts-2.result long c.write_in_parts-2.ensures.granted

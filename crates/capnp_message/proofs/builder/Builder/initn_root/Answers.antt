@@ -1,7 +1,7 @@
 -- The call fails as making the object does, and leaves a null root.
 use Rattle.std.proofs.Common.{refl}
 use Rattle.std.proofs.lemmas.Result.{err_from_is_err_and}
-use Rattle.capnp_build.proofs.outcomes.InitLemmas.{init_refused}
+use Rattle.capnp_build.proofs.outcomes.InitLemmas.{init_error}
 use Rattle.capnp_message.proofs.builder.Builder.initn_root.Goals as goal
 
 pub returns-in_err-init : goal.returns-in_err-init
@@ -10,5 +10,5 @@ returns-in_err-init g c =
     let told = c.in_err-init.ensures.inits in
     rw (p.1, p.2) (
       (refl, λ w. tt, record { cleared = told.nulled; kind = told.kind; none = told.none }),
-      record { rests = tt; inits = init_refused g.A.Allocator g.K.OwnedBuilder c.args.n (λ message. message) (λ view. view.message) c.args.self _ _ told },
+      record { rests = tt; inits = init_error g.A.Allocator g.K.OwnedBuilder c.args.n (λ message. message) (λ view. view.message) c.args.self _ _ told },
     )

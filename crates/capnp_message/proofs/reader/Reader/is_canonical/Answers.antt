@@ -3,4 +3,4 @@ use Rattle.capnp_message.proofs.CanonicalLemmas.{tree_found}
 use Rattle.capnp_message.proofs.reader.Reader.is_canonical.Goals as goal
 
 pub returns-clause-found : goal.returns-clause-found
-returns-clause-found g c trees leads = tree_found _ _ c.is_canonical.result c.is_canonical.ensures.stops trees (rw (← c.self.view_is) at leads)
+returns-clause-found g c trees leads = tree_found _ _ c.is_canonical.result c.is_canonical.ensures.walk_error trees (rw (← c.self.view_is) at leads)

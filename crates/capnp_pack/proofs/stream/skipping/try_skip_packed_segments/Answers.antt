@@ -18,7 +18,7 @@ returns-in_err-skip_chunk g c =
     let join = g.met.R.Read.keeps.transitive _ _ _ in
     packed_skips c.args.rules.padding g.R.Read _ _ _ _ _ (join table.asks.asked.advances.same_source skipped.asked.advances.same_source)
     (skips_cut c.args.rules.padding (packed_source g.R.Read) unpacking _ _ _ _ _ c.in-Some.found (8 * c.total_words.result) _ _ join
-    c.from_residual-in_err-skip_chunk.ensures.1 table (search rules) skipped.refused skipped.asked)
+    c.from_residual-in_err-skip_chunk.ensures.1 table (search rules) skipped.errors skipped.asked)
 
 pub returns : goal.returns
 returns g c =

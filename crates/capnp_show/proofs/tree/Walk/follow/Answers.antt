@@ -1,8 +1,8 @@
 -- No pointer fails for want of words.
 use Rattle.std.proofs.Common.{refl, arith}
-use Rattle.capnp_wire.proofs.views.ViewLemmas.{fault_unlimited}
+use Rattle.capnp_wire.proofs.views.ViewLemmas.{pointer_error_unlimited}
 use Rattle.capnp_show.proofs.tree.Walk.follow.Goals as goal
 
 pub returns-in-Err-clause-rows : goal.returns-in-Err-clause-rows
 returns-in-Err-clause-rows g c =
-    (λ limit. absurd (fault_unlimited _ _ 1 _ (c.in-Err.ensures.refused 1 (omega arith)) limit), λ other. refl)
+    (λ limit. absurd (pointer_error_unlimited _ _ 1 _ (c.in-Err.ensures.errors 1 (omega arith)) limit), λ other. refl)

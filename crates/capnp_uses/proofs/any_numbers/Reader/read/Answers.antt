@@ -1,9 +1,9 @@
--- What is taken is null and lists of numbers, and other objects are declined.
+-- What is taken is null and lists of numbers, and other objects are rejected.
 use Rattle.std.proofs.Common.{inl, inr}
 use Rattle.std.proofs.lemmas.Result.{err_from_is_err_and}
 use Rattle.capnp_wire.specs.Prelude.{pointer_of, IsObjectView}
 use Rattle.capnp_wire.specs.declared.any_object.reader.Reader.TheVariants.{Null, Numbers}
-use Rattle.capnp_uses.proofs.AnyNumberLemmas.{no_numbers_read, any_numbers_read, others_declined}
+use Rattle.capnp_uses.proofs.AnyNumberLemmas.{no_numbers_read, any_numbers_read, others_form_error}
 use Rattle.capnp_uses.proofs.any_numbers.Reader.read.Goals as goal
 
 pub returns-in_err-object : goal.returns-in_err-object
@@ -26,4 +26,4 @@ returns-in-Numbers g c =
 pub returns-in_default : goal.returns-in_default
 returns-in_default g c =
     let p = pointer_of g.S.ReaderSegments.segments c.args.reader.now in
-    inr (others_declined g.S.ReaderSegments.segments p c.in_ok-object.object _ c.in_ok-object.ensures.returned c.in_default.not-Null c.in_default.not-Numbers c.from_kind.ensures)
+    inr (others_form_error g.S.ReaderSegments.segments p c.in_ok-object.object _ c.in_ok-object.ensures.returned c.in_default.not-Null c.in_default.not-Numbers c.from_kind.ensures)

@@ -8,5 +8,5 @@ returns g c = (
   c.new.result.value.now,
   stands_at c.args.self.now.now c.args.index c.new.result.value.now c.index-structs-index.result c.new.ensures c.index-structs-index.is,
   refl,
-  itself g.E.Fields.has_trees g.E.Fields.refuses c.new.result.value.now,
+  itself g.E.Fields.has_trees g.E.Fields.fails c.new.result.value.now,
 )

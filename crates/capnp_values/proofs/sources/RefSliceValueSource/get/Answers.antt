@@ -6,5 +6,5 @@ pub returns : goal.returns
 returns g c = (
   c.new.result.value.now,
   stands_at c.args.self.now.now c.args.index c.new.result.value.now c.index-values-index.result c.new.ensures c.index-values-index.is,
-  itself g.V.SetterInput.has_tree g.V.SetterInput.refuses c.new.result.value.now,
+  itself g.V.SetterInput.has_tree g.V.SetterInput.fails c.new.result.value.now,
 )

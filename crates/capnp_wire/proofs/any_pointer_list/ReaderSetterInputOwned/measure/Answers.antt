@@ -1,6 +1,6 @@
 -- The words of a list of pointers that is read, with all below it, are those of its tree.
 use Rattle.capnp_layout.specs.Prelude.{pointers}
-use Rattle.capnp_wire.specs.Prelude.{pointer_list_of, IsListTree, StopsInList}
+use Rattle.capnp_wire.specs.Prelude.{pointer_list_of, IsListTree, WalkErrorInList}
 use Rattle.capnp_wire.proofs.views.OneValueLemmas.{measured_found, measured_exactly}
 use Rattle.capnp_wire.proofs.views.ListValueLemmas.{one_of_list}
 use Rattle.capnp_wire.proofs.any_pointer_list.ReaderSetterInputOwned.measure.Goals as goal
@@ -11,6 +11,6 @@ returns g c =
     let returned = rw c.limit_in_words.ensures at c.measure.ensures in
     record {
       returned = returned;
-      found = measured_found (IsListTree pointers list) (StopsInList list) (one_of_list pointers list) c.args.canonical c.measure.result returned;
-      exact = measured_exactly (IsListTree pointers list) (StopsInList list) (one_of_list pointers list) c.args.canonical c.measure.result returned;
+      found = measured_found (IsListTree pointers list) (WalkErrorInList list) (one_of_list pointers list) c.args.canonical c.measure.result returned;
+      exact = measured_exactly (IsListTree pointers list) (WalkErrorInList list) (one_of_list pointers list) c.args.canonical c.measure.result returned;
     }

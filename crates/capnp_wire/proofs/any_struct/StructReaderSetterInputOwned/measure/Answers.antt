@@ -1,7 +1,7 @@
 -- The words of a struct that is read, with all below it, are those of its tree.
 use Rattle.std.proofs.Common.{◌≢◌, ◌^◌, ◌<◌, MatchResult, None, sym, ◌∙◌, subst, refl, arith}
 use Rattle.capnp_layout.specs.Prelude.{words_of, message_of}
-use Rattle.capnp_wire.specs.Prelude.{struct_of, limit_of, Struct, HasWords, LacksWords, IsTreeOf, StopsInside}
+use Rattle.capnp_wire.specs.Prelude.{struct_of, limit_of, Struct, HasWords, WordsError, IsTreeOf, WalkErrorInside}
 use Rattle.capnp_layout.proofs.objects.FieldLemmas.{length-words_from}
 use Rattle.capnp_wire.proofs.objects.PartLemmas.{whole, alone}
 use Rattle.capnp_layout.proofs.objects.PartLemmas.{one_word}
@@ -15,11 +15,11 @@ returns-in-None g c =
     let m = message_of (g.S.ReaderSegments.segments self.segments.now) in
     let same = whole m (words_of self.segment.now) self.start self.size self.part self.nesting (limit_of self.limiter) c.in-None.is in
     let measured = rw c.limit_in_words-limit.ensures at c.measure.ensures in
-    let returned = subst (λ (f : Struct). MatchResult c.measure.result (λ words. HasWords (IsTreeOf f) c.args.canonical words) (λ error. LacksWords (IsTreeOf f) (StopsInside f) c.args.canonical error.kind)) same measured in
+    let returned = subst (λ (f : Struct). MatchResult c.measure.result (λ words. HasWords (IsTreeOf f) c.args.canonical words) (λ error. WordsError (IsTreeOf f) (WalkErrorInside f) c.args.canonical error.kind)) same measured in
     record {
       returned = returned;
-      found = measured_found (IsTreeOf fields) (StopsInside fields) (one_of_struct fields) c.args.canonical c.measure.result returned;
-      exact = measured_exactly (IsTreeOf fields) (StopsInside fields) (one_of_struct fields) c.args.canonical c.measure.result returned;
+      found = measured_found (IsTreeOf fields) (WalkErrorInside fields) (one_of_struct fields) c.args.canonical c.measure.result returned;
+      exact = measured_exactly (IsTreeOf fields) (WalkErrorInside fields) (one_of_struct fields) c.args.canonical c.measure.result returned;
     }
 
 pub returns-in-Some : goal.returns-in-Some
@@ -34,9 +34,9 @@ returns-in-Some g c =
     let same = alone m (words_of self.segment.now) _ self.start (record { segment = 0; word = 0 }) self.size self.part self.nesting (limit_of self.limiter) c.get_word.result own.0 own.1 refl long c.get_word.ensures
     (one_word c.to_le_bytes.result c.get_word.result small c.to_le_bytes.ensures) in
     let measured = rw c.limit_in_words-limit.ensures at c.measure-in-Some.ensures in
-    let returned = subst (λ (f : Struct). MatchResult c.measure-in-Some.result (λ words. HasWords (IsTreeOf f) c.args.canonical words) (λ error. LacksWords (IsTreeOf f) (StopsInside f) c.args.canonical error.kind)) same measured in
+    let returned = subst (λ (f : Struct). MatchResult c.measure-in-Some.result (λ words. HasWords (IsTreeOf f) c.args.canonical words) (λ error. WordsError (IsTreeOf f) (WalkErrorInside f) c.args.canonical error.kind)) same measured in
     record {
       returned = returned;
-      found = measured_found (IsTreeOf fields) (StopsInside fields) (one_of_struct fields) c.args.canonical c.measure-in-Some.result returned;
-      exact = measured_exactly (IsTreeOf fields) (StopsInside fields) (one_of_struct fields) c.args.canonical c.measure-in-Some.result returned;
+      found = measured_found (IsTreeOf fields) (WalkErrorInside fields) (one_of_struct fields) c.args.canonical c.measure-in-Some.result returned;
+      exact = measured_exactly (IsTreeOf fields) (WalkErrorInside fields) (one_of_struct fields) c.args.canonical c.measure-in-Some.result returned;
     }

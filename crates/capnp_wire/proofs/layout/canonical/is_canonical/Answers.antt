@@ -7,23 +7,23 @@ use Rattle.capnp_layout.proofs.objects.ElementLemmas.{all_words_below}
 use Rattle.capnp_frame.proofs.sources.AskLemmas.{passed_on}
 use Rattle.capnp_layout.proofs.pointers.LandingPadLemmas.{passed_kind}
 use Rattle.capnp_wire.proofs.walks.MetLemmas.{no_word_ends}
-use Rattle.capnp_wire.proofs.walks.OneEndLemmas.{refused_passes, one_way_to_end, one_refusal_ends}
+use Rattle.capnp_wire.proofs.walks.OneEndLemmas.{error_passes, one_way_to_end, one_error_ends}
 use Rattle.capnp_wire.proofs.forms.CanonicalLemmas.{ended_is_not, whole_or_not, root_some}
 use Rattle.capnp_wire.proofs.layout.canonical.is_canonical.Goals as goal
 
-pub returns-in_err-pointer_at-clause-refused : goal.returns-in_err-pointer_at-clause-refused
-returns-in_err-pointer_at-clause-refused g c =
+pub returns-in_err-pointer_at-clause-errors : goal.returns-in_err-pointer_at-clause-errors
+returns-in_err-pointer_at-clause-errors g c =
     passed_on _ _ c.from_residual.ensures.1 (no_word_ends (words_of c.args.segment.now) _ 0 c.args.nesting 1 c.args.limit _ c.requires c.in_err-pointer_at.ensures)
 
 pub returns-in_err-pointer_at-clause-exact : goal.returns-in_err-pointer_at-clause-exact
 returns-in_err-pointer_at-clause-exact g c kind ends =
-    passed_kind _ c.from_residual.ensures.1 (one_refusal_ends (words_of c.args.segment.now) (root ∷ []) c.args.nesting 1 c.args.limit _ kind
+    passed_kind _ c.from_residual.ensures.1 (one_error_ends (words_of c.args.segment.now) (root ∷ []) c.args.nesting 1 c.args.limit _ kind
     (no_word_ends (words_of c.args.segment.now) _ 0 c.args.nesting 1 c.args.limit _ c.requires c.in_err-pointer_at.ensures) ends)
 
 pub returns-in_err-passes-clause-exact : goal.returns-in_err-passes-clause-exact
 returns-in_err-passes-clause-exact g c kind ends =
-    let stopped = rw (c.new-walk.ensures.left, c.new-walk.ensures.next) at c.in_err-passes.ensures.refused in
-    passed_kind _ c.from_residual-in_err-passes.ensures.1 (one_refusal_ends (words_of c.args.segment.now) (root ∷ []) c.args.nesting 1 c.args.limit _ kind stopped ends)
+    let ended = rw (c.new-walk.ensures.left, c.new-walk.ensures.next) at c.in_err-passes.ensures.errors in
+    passed_kind _ c.from_residual-in_err-passes.ensures.1 (one_error_ends (words_of c.args.segment.now) (root ∷ []) c.args.nesting 1 c.args.limit _ kind ended ends)
 
 pub returns-then-passes-clause-said : goal.returns-then-passes-clause-said
 returns-then-passes-clause-said g c =
@@ -39,7 +39,7 @@ returns-then-passes-clause-said g c =
 pub returns-then-passes-clause-exact : goal.returns-then-passes-clause-exact
 returns-then-passes-clause-exact g c kind ends =
     let passed = c.in_ok-passes.ensures.passed c.if-passes.true in
-    refused_passes (words_of c.args.segment.now) (root ∷ []) c.args.nesting passed.traversed 1 c.new-walk.result.next c.test.new.self.next c.args.limit kind ends passed.passes
+    error_passes (words_of c.args.segment.now) (root ∷ []) c.args.nesting passed.traversed 1 c.new-walk.result.next c.test.new.self.next c.args.limit kind ends passed.passes
     (rw c.new-walk.ensures.left at passed.within)
 
 pub returns-else-passes-clause-said : goal.returns-else-passes-clause-said

@@ -2,7 +2,7 @@
 use Rattle.std.proofs.Common.{sym}
 use Rattle.capnp_layout.specs.Prelude.{no_word, no_segment}
 use Rattle.capnp_layout.proofs.words.MessageLemmas.{segment_stands, no_segment_stands}
-use Rattle.capnp_layout.proofs.layouts.CopiedLemmas.{fault_no_tree}
+use Rattle.capnp_layout.proofs.layouts.CopiedLemmas.{error_no_tree}
 use Rattle.capnp_wire.proofs.layout.copy.copy.Goals as goal
 
 pub copy_target-requires-clause-content : goal.copy_target-requires-clause-content
@@ -14,4 +14,4 @@ copy_object-requires-clause-content g c = segment_stands _ c.args.place.segment 
 pub returns-in-None-clause-copied : goal.returns-in-None-clause-copied
 returns-in-None-clause-copied g c =
     let can = c.requires.there in
-    absurd (fault_no_tree _ c.args.place c.args.nesting _ can.trees can.traversed (no_word (no_segment (no_segment_stands _ c.args.place.segment (sym c.in-None.ensures)))) can.stand can.shallow)
+    absurd (error_no_tree _ c.args.place c.args.nesting _ can.trees can.traversed (no_word (no_segment (no_segment_stands _ c.args.place.segment (sym c.in-None.ensures)))) can.stand can.shallow)

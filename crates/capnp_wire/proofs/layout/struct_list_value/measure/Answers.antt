@@ -29,7 +29,7 @@ returns-in_err-walk_pointers g c =
     let size = elements.size in
     let p = err_from_is_err_and c.from_residual.result c.from_residual.ensures.1 in
     let places_are = (rw c.row_size-size.ensures at c.new-pointers.ensures.places) ∙ sym (kept_all first.segment first.word size.data_words size.pointers elements.count) in
-    rw (p.1, p.2) (inl (rw (places_are, c.count.ensures.left, c.new-walk.ensures.left) at c.in_err-walk_pointers.ensures.refused))
+    rw (p.1, p.2) (inl (rw (places_are, c.count.ensures.left, c.new-walk.ensures.left) at c.in_err-walk_pointers.ensures.errors))
 
 pub returns : goal.returns
 returns g c =

@@ -1,5 +1,5 @@
 -- The words of a list of structs that is read, with all below it, are those of its tree.
-use Rattle.capnp_wire.specs.Prelude.{struct_list_of, IsListTree, StopsInList, pointers_in, structs_of}
+use Rattle.capnp_wire.specs.Prelude.{struct_list_of, IsListTree, WalkErrorInList, pointers_in, structs_of}
 use Rattle.capnp_wire.proofs.views.OneValueLemmas.{measured_found, measured_exactly}
 use Rattle.capnp_wire.proofs.views.ListValueLemmas.{one_of_list}
 use Rattle.capnp_wire.proofs.struct_list.ReaderSetterInputOwned.measure.Goals as goal
@@ -11,6 +11,6 @@ returns g c =
     let returned = rw c.limit_in_words.ensures at c.measure.ensures in
     record {
       returned = returned;
-      found = measured_found (IsListTree form list) (StopsInList list) (one_of_list form list) c.args.canonical c.measure.result returned;
-      exact = measured_exactly (IsListTree form list) (StopsInList list) (one_of_list form list) c.args.canonical c.measure.result returned;
+      found = measured_found (IsListTree form list) (WalkErrorInList list) (one_of_list form list) c.args.canonical c.measure.result returned;
+      exact = measured_exactly (IsListTree form list) (WalkErrorInList list) (one_of_list form list) c.args.canonical c.measure.result returned;
     }

@@ -3,7 +3,7 @@ use Rattle.std.proofs.Common.{rules, length, ap, arith, refl}
 use Rattle.std.proofs.lemmas.Result.{err_from_is_err_and}
 use Rattle.capnp_build.specs.Prelude.{space_at, free_words_of, Built}
 use Rattle.capnp_build.proofs.outcomes.OutcomeLemmas.{cleared_root, still_granted}
-use Rattle.capnp_build.proofs.outcomes.CanonicalLemmas.{canonical_unmeasured, canonical_full, none_refused}
+use Rattle.capnp_build.proofs.outcomes.CanonicalLemmas.{canonical_unmeasured, canonical_full, none_error}
 use Rattle.capnp_build.proofs.outcomes.FirstLemmas.{first_put}
 use Rattle.capnp_build.proofs.states.KeptLemmas.{zero_stays, outside_stays}
 use Rattle.capnp_build.proofs.layouts.PlaceLemmas.{placed_local}
@@ -32,9 +32,9 @@ returns g c =
       whole = λ none. c.put_local.ensures.whole (clear.new_object none).0 (clear.new_object none).1;
       nulled = tt;
       kind = tt;
-      exact = λ kind refused. absurd (none_refused g.A.Allocator _ _ _ c.clear_root.new.self c.in_ok-words.words kind clear (omega (arith, alone, c.if-len-gt1.false, c.len.ensures)) (search rules)
-          (λ k lacks. c.in_ok-words.ensures.exact k lacks) (λ other has. let same = c.in_ok-words.ensures.found other has in cc) refused);
-      lacks = λ none kind lacks. absurd (c.in_ok-words.ensures.exact kind lacks);
+      exact = λ kind errors. absurd (none_error g.A.Allocator _ _ _ c.clear_root.new.self c.in_ok-words.words kind clear (omega (arith, alone, c.if-len-gt1.false, c.len.ensures)) (search rules)
+          (λ k words_error. c.in_ok-words.ensures.exact k words_error) (λ other has. let same = c.in_ok-words.ensures.found other has in cc) errors);
+      words_error = λ none kind words_error. absurd (c.in_ok-words.ensures.exact kind words_error);
       fits = λ few words has room. refl;
       available = λ none out. tt;
       same = search rules;
@@ -45,7 +45,7 @@ pub returns-in_err-words : goal.returns-in_err-words
 returns-in_err-words g c =
     let p = err_from_is_err_and c.from_residual-in_err-words.result c.from_residual-in_err-words.ensures.1 in
     let alone = ap (λ (v : Built g.row.A.Denot). length v.spaces) c.self.view_is in
-    rw (p.1, p.2) (canonical_unmeasured g.A.Allocator (g.V.SetterInput.has_tree c.args.value.now) (g.V.SetterInput.refuses c.args.value.now) _ c.clear_root.new.self _ c.in_ok-clear_root.ensures
+    rw (p.1, p.2) (canonical_unmeasured g.A.Allocator (g.V.SetterInput.has_tree c.args.value.now) (g.V.SetterInput.fails c.args.value.now) _ c.clear_root.new.self _ c.in_ok-clear_root.ensures
     (omega (arith, alone, c.if-len-gt1.false, c.len.ensures, c.in_ok-clear_root.ensures.there)) c.in_err-words.ensures.returned c.in_err-words.ensures.exact
     (λ words has. let same = c.in_err-words.ensures.found words has in absurd (cc)))
 
@@ -53,6 +53,6 @@ pub returns-then-words-room : goal.returns-then-words-room
 returns-then-words-room g c =
     let alone = ap (λ (v : Built g.row.A.Denot). length v.spaces) c.self.view_is in
     let same = ap (λ (v : Built g.row.A.Denot). free_words_of (space_at v.spaces 0)) c.self.view_is in
-    canonical_full g.A.Allocator (g.V.SetterInput.has_tree c.args.value.now) (g.V.SetterInput.refuses c.args.value.now) _ c.clear_root.new.self _ c.in_ok-words.words c.in_ok-clear_root.ensures
+    canonical_full g.A.Allocator (g.V.SetterInput.has_tree c.args.value.now) (g.V.SetterInput.fails c.args.value.now) _ c.clear_root.new.self _ c.in_ok-words.words c.in_ok-clear_root.ensures
     (omega (arith, alone, c.if-len-gt1.false, c.len.ensures, c.in_ok-clear_root.ensures.there)) (search rules) c.in_ok-words.ensures.returned
-    (omega (arith, same, c.if-words-room.true, c.room.ensures)) (λ k lacks. c.in_ok-words.ensures.exact k lacks) (λ other has. let same = c.in_ok-words.ensures.found other has in cc)
+    (omega (arith, same, c.if-words-room.true, c.room.ensures)) (λ k words_error. c.in_ok-words.ensures.exact k words_error) (λ other has. let same = c.in_ok-words.ensures.found other has in cc)

@@ -6,8 +6,8 @@ use Rattle.capnp_frame.proofs.serialize.buffer_segments.BufferSegments.with_rule
 
 pub returns-in_err-segment_indices : goal.returns-in_err-segment_indices
 returns-in_err-segment_indices g c =
-    let refused = rw c.as_bytes.ensures at c.in_err-segment_indices.ensures.refused in
-    record { buffer = search rules; reads = reads_none _ _ _ _ _ _ c.from_residual.ensures.1 tt refused }
+    let errors = rw c.as_bytes.ensures at c.in_err-segment_indices.ensures.errors in
+    record { buffer = search rules; reads = reads_none _ _ _ _ _ _ c.from_residual.ensures.1 tt errors }
 
 pub returns : goal.returns
 returns g c =

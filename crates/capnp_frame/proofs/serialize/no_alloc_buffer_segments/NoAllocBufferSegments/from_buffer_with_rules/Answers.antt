@@ -5,8 +5,8 @@ use Rattle.capnp_frame.proofs.serialize.no_alloc_buffer_segments.NoAllocBufferSe
 
 pub returns-in_err-info : goal.returns-in_err-info
 returns-in_err-info g c =
-    let refused = rw c.as_bytes.ensures at c.in_err-info.ensures.refused in
-    record { buffer = search rules; reads = reads_none _ _ _ _ _ _ c.from_residual.ensures.1 tt refused }
+    let errors = rw c.as_bytes.ensures at c.in_err-info.ensures.errors in
+    record { buffer = search rules; reads = reads_none _ _ _ _ _ _ c.from_residual.ensures.1 tt errors }
 
 pub returns : goal.returns
 returns g c =

@@ -3,8 +3,8 @@ use Rattle.std.proofs.Common.{rules, ◌≡◌, ap, Ok, Err, ℕ, false}
 use Rattle.capnp_layout.specs.Prelude.{tree, none, total_words}
 use Rattle.capnp_wire.proofs.views.PartWordLemmas.{as_is_words}
 use Rattle.capnp_values.proofs.values.PartLemmas.{words_of_part, has_part}
-use Rattle.capnp_values.proofs.values.ResultLemmas.{ok_not_err, err_kind, refused_first, refused_rest}
-use Rattle.capnp_values.proofs.values.AsIsLemmas.{as_part, as_parts, part_found, part_refused, front_total, front_found}
+use Rattle.capnp_values.proofs.values.ResultLemmas.{ok_not_err, err_kind, error_first, error_rest}
+use Rattle.capnp_values.proofs.values.AsIsLemmas.{as_part, as_parts, part_found, part_error, front_total, front_found}
 use Rattle.capnp_values.proofs.fields.field.FieldFields.as_is.Goals as goal
 
 pub returns-in_err-own-clause-found : goal.returns-in_err-own-clause-found
@@ -15,19 +15,19 @@ returns-in_err-own-clause-found g c trees is =
     absurd (cc)
 
 pub returns-in_err-own-clause-exact : goal.returns-in_err-own-clause-exact
-returns-in_err-own-clause-exact g c kind refused =
+returns-in_err-own-clause-exact g c kind errors =
     let h = g.V.SetterInput.has_tree c.args.self.now.value in
     let same : c.in_err-own.field-0.0.kind ≡ kind =
-    refused_first h (g.V.SetterInput.refuses c.args.self.now.value) (g.F.Fields.refuses c.args.self.now.rest) false (as_parts c.measure.result) c.in_err-own.field-0.0 kind
-    (ap as_parts c.in_err-own.was) (part_found h c.measure.result c.measure.ensures.found) (λ k lacks. part_refused c.measure.result k (c.measure.ensures.exact k lacks)) refused in
+    error_first h (g.V.SetterInput.fails c.args.self.now.value) (g.F.Fields.fails c.args.self.now.rest) false (as_parts c.measure.result) c.in_err-own.field-0.0 kind
+    (ap as_parts c.in_err-own.was) (part_found h c.measure.result c.measure.ensures.found) (λ k words_error. part_error c.measure.result k (c.measure.ensures.exact k words_error)) errors in
     search rules
 
 pub returns-in_err-rest-clause-exact : goal.returns-in_err-rest-clause-exact
-returns-in_err-rest-clause-exact g c kind refused =
+returns-in_err-rest-clause-exact g c kind errors =
     let was_rest : c.as_is.result ≡ Err c.in_err-rest.field-0.0 = c.in_err-rest.was in
-    let others : g.F.Fields.refuses c.args.self.now.rest kind =
-    refused_rest (g.V.SetterInput.has_tree c.args.self.now.value) (g.V.SetterInput.refuses c.args.self.now.value) (g.F.Fields.refuses c.args.self.now.rest) (as_parts c.measure.result)
-    (as_part c.in_ok-own.own) kind (ap as_parts c.in_ok-own.was) (λ k lacks. part_refused c.measure.result k (c.measure.ensures.exact k lacks)) refused in
+    let others : g.F.Fields.fails c.args.self.now.rest kind =
+    error_rest (g.V.SetterInput.has_tree c.args.self.now.value) (g.V.SetterInput.fails c.args.self.now.value) (g.F.Fields.fails c.args.self.now.rest) (as_parts c.measure.result)
+    (as_part c.in_ok-own.own) kind (ap as_parts c.in_ok-own.was) (λ k words_error. part_error c.measure.result k (c.measure.ensures.exact k words_error)) errors in
     let same : c.in_err-rest.field-0.0.kind ≡ kind = err_kind c.as_is.result c.in_err-rest.field-0.0 kind was_rest (c.as_is.ensures.exact kind others) in
     search rules
 
@@ -43,8 +43,8 @@ returns-clause-found g c trees is =
     c.in_ok-rest.was c.measure.ensures.found c.as_is.ensures.found trees is)
 
 pub returns-clause-exact : goal.returns-clause-exact
-returns-clause-exact g c kind refused =
-    let others : g.F.Fields.refuses c.args.self.now.rest kind =
-    refused_rest (g.V.SetterInput.has_tree c.args.self.now.value) (g.V.SetterInput.refuses c.args.self.now.value) (g.F.Fields.refuses c.args.self.now.rest) (as_parts c.measure.result)
-    (as_part c.in_ok-own.own) kind (ap as_parts c.in_ok-own.was) (λ k lacks. part_refused c.measure.result k (c.measure.ensures.exact k lacks)) refused in
+returns-clause-exact g c kind errors =
+    let others : g.F.Fields.fails c.args.self.now.rest kind =
+    error_rest (g.V.SetterInput.has_tree c.args.self.now.value) (g.V.SetterInput.fails c.args.self.now.value) (g.F.Fields.fails c.args.self.now.rest) (as_parts c.measure.result)
+    (as_part c.in_ok-own.own) kind (ap as_parts c.in_ok-own.was) (λ k words_error. part_error c.measure.result k (c.measure.ensures.exact k words_error)) errors in
     ok_not_err c.as_is.result c.in_ok-rest.rest (λ error. error.kind ≡ kind) c.in_ok-rest.was (c.as_is.ensures.exact kind others)

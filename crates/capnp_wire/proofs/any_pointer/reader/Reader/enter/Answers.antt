@@ -9,18 +9,18 @@ use Rattle.capnp_wire.proofs.any_pointer.reader.Reader.enter.Goals as goal
 pub returns-in_default-clause-found : goal.returns-in_default-clause-found
 returns-in_default-clause-found g c = nowhere c.in_default.is
 
-pub returns-in_err-object-clause-refused : goal.returns-in_err-object-clause-refused
-returns-in_err-object-clause-refused g c =
+pub returns-in_err-object-clause-errors : goal.returns-in_err-object-clause-errors
+returns-in_err-object-clause-errors g c =
     let p = err_from_is_err_and c.from_residual.result c.from_residual.ensures.1 in
-    rw (p.1, p.2) (inl (c.in-Some.place, c.in-Some.is, c.in_err-object.ensures.refused))
+    rw (p.1, p.2) (inl (c.in-Some.place, c.in-Some.is, c.in_err-object.ensures.errors))
 
 pub returns-in_default-2-clause-found : goal.returns-in_default-2-clause-found
 returns-in_default-2-clause-found g c =
     let word = rw c.in_default-2.is at c.in_ok-object.ensures.found in
     at_place c.in-Some.is (null_there word) (λ not. cc)
 
-pub returns-in_err-traversed-clause-refused : goal.returns-in_err-traversed-clause-refused
-returns-in_err-traversed-clause-refused g c =
+pub returns-in_err-traversed-clause-errors : goal.returns-in_err-traversed-clause-errors
+returns-in_err-traversed-clause-errors g c =
     let p = err_from_is_err_and c.from_residual-in_err-traversed.result c.from_residual-in_err-traversed.ensures.1 in
     let pointer = pointer_of g.S.ReaderSegments.segments c.args.self.now in
     let found = rw c.in-Some-2.is at c.in_ok-object.ensures.found in

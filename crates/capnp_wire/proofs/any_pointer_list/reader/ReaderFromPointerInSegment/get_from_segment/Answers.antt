@@ -1,6 +1,6 @@
 -- A list of pointers is a view that decides which objects it accepts.
 use Rattle.std.proofs.Common.{refl}
-use Rattle.capnp_wire.specs.Prelude.{pointer_of, TakesPointers, DeclinesPointers, pointer_list_of}
+use Rattle.capnp_wire.specs.Prelude.{pointer_of, TakesPointers, PointersFormError, pointer_list_of}
 use Rattle.capnp_wire.proofs.pointers.OwnSegmentLemmas.{known_segment}
 use Rattle.capnp_wire.proofs.views.ViewLemmas.{is_view_of}
 use Rattle.capnp_wire.proofs.views.ListViewLemmas.{pointers_decide, pointers_accepted}
@@ -9,7 +9,7 @@ use Rattle.capnp_wire.proofs.any_pointer_list.reader.ReaderFromPointerInSegment.
 pub returns : goal.returns
 returns g c =
     let p = pointer_of g.S.ReaderSegments.segments c.args.reader in
-    is_view_of p TakesPointers DeclinesPointers _ pointers_decide (λ view shown. pointers_accepted p (pointer_list_of g.S.ReaderSegments.segments view) shown) c.read.result c.read.ensures
+    is_view_of p TakesPointers PointersFormError _ pointers_decide (λ view shown. pointers_accepted p (pointer_list_of g.S.ReaderSegments.segments view) shown) c.read.result c.read.ensures
 
 pub read-requires : goal.read-requires
 read-requires g c κs = ((refl, tt), known_segment (pointer_of g.S.ReaderSegments.segments c.args.reader) c.args.segment c.requires)

@@ -1,6 +1,6 @@
 -- The pointers of a list are those of the object, with one less of nesting depth left.
 use Rattle.std.proofs.Common.{inr, refl}
-use Rattle.capnp_wire.specs.Prelude.{pointer_of, DeclinesPointers}
+use Rattle.capnp_wire.specs.Prelude.{pointer_of, PointersFormError}
 use Rattle.capnp_wire.proofs.views.FormLemmas.{entered_shows}
 use Rattle.capnp_wire.proofs.views.ListViewLemmas.{other_than_pointers, pointers_show, pointers_within, few_pointers}
 use Rattle.capnp_wire.proofs.any_pointer_list.reader.ReaderObjectView.of_object.Goals as goal
@@ -9,7 +9,7 @@ pub returns-in_default : goal.returns-in_default
 returns-in_default g c =
     let p = pointer_of g.S.ReaderSegments.segments c.args.reader.now in
     let kind = c.wrong_kind.result.kind in
-    inr (entered_shows p c.args.object.now (λ form. DeclinesPointers form kind) c.requires
+    inr (entered_shows p c.args.object.now (λ form. PointersFormError form kind) c.requires
     (other_than_pointers c.args.object.now kind c.in_default.ensures c.wrong_kind.ensures))
 
 pub returns : goal.returns

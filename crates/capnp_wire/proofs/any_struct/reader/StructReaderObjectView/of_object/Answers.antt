@@ -1,6 +1,6 @@
 -- The fields of a struct are those of the object, with one less of nesting depth left.
 use Rattle.std.proofs.Common.{inr, refl}
-use Rattle.capnp_wire.specs.Prelude.{DeclinesStruct, pointer_of}
+use Rattle.capnp_wire.specs.Prelude.{StructFormError, pointer_of}
 use Rattle.capnp_wire.proofs.views.FormLemmas.{entered_shows, other_than_struct, struct_shows}
 use Rattle.capnp_wire.proofs.any_struct.reader.StructReaderObjectView.of_object.Goals as goal
 
@@ -8,7 +8,7 @@ pub returns-in_default : goal.returns-in_default
 returns-in_default g c =
     let p = pointer_of g.S.ReaderSegments.segments c.args.reader.now in
     let kind = c.wrong_kind.result.kind in
-    inr (entered_shows p c.args.object.now (λ form. DeclinesStruct form kind) c.requires
+    inr (entered_shows p c.args.object.now (λ form. StructFormError form kind) c.requires
     (other_than_struct c.args.object.now kind c.in_default.ensures c.wrong_kind.ensures))
 
 pub returns : goal.returns

@@ -1,9 +1,9 @@
 -- What the walk over the one segment says of it holds of the message.
 use Rattle.std.proofs.Common.{ℕ, sym, ◌∙◌, subst}
 use Rattle.capnp_layout.specs.Prelude.{message_of, words_of}
-use Rattle.capnp_wire.specs.Prelude.{RejectsCanonicity, no_first_segment, nesting_of}
-use Rattle.capnp_wire.proofs.forms.CanonicalLemmas.{no_segment_there, one_segment_there, more_is_not, said_of_more, unsaid_of_none, unsaid_stops, said_at}
-use Rattle.capnp_wire.proofs.forms.CanonicalLemmas.{said_exactly, said_where_found, said_stops, second_shown, no_second, none_has_no_root}
+use Rattle.capnp_wire.specs.Prelude.{CanonicityError, no_first_segment, nesting_of}
+use Rattle.capnp_wire.proofs.forms.CanonicalLemmas.{no_segment_there, one_segment_there, more_is_not, said_of_more, unsaid_of_none, unsaid_error, said_at}
+use Rattle.capnp_wire.proofs.forms.CanonicalLemmas.{said_exactly, said_where_found, said_error, second_shown, no_second, none_has_no_root}
 use Rattle.capnp_wire.proofs.arena.reader_arena.ReaderArena.is_canonical.Goals as goal
 
 pub returns-in_default : goal.returns-in_default
@@ -12,12 +12,12 @@ returns-in_default g c =
     let nesting = nesting_of c.args.self.now.nesting_limit in
     let limit = c.args.self.now.limiter.limit in
     let none = no_segment_there _ (sym c.in_default.ensures) in
-    let unsaid : RejectsCanonicity m nesting limit c.from_kind.result.kind = subst (RejectsCanonicity m nesting limit) (sym c.from_kind.ensures) (no_first_segment none) in
+    let unsaid : CanonicityError m nesting limit c.from_kind.result.kind = subst (CanonicityError m nesting limit) (sym c.from_kind.ensures) (no_first_segment none) in
     record {
       returned = unsaid;
       exact = λ kind other. c.from_kind.ensures ∙ unsaid_of_none _ _ _ kind none other;
       found = λ form children traversed stand shallow fits. absurd (none_has_no_root _ form children traversed none stand);
-      stops = unsaid_stops m nesting limit _ unsaid;
+      walk_error = unsaid_error m nesting limit _ unsaid;
     }
 
 pub returns-then-is_some-clause-returned : goal.returns-then-is_some-clause-returned
@@ -46,11 +46,11 @@ returns g c =
     let limit = c.args.self.now.limiter.limit in
     let one = one_segment_there segments c.in-Some.segment.now (sym c.in-Some.ensures)
     (no_second c.get_segment-2.result segments c.is_some.result c.is_some.ensures c.get_segment-2.ensures c.if-is_some.false) in
-    let said = said_at m words c.nesting.result _ limit c.is_canonical.result c.nesting.ensures one c.is_canonical.ensures.said c.is_canonical.ensures.refused in
+    let said = said_at m words c.nesting.result _ limit c.is_canonical.result c.nesting.ensures one c.is_canonical.ensures.said c.is_canonical.ensures.errors in
     record {
       returned = said;
       exact = λ kind unsaid. said_exactly m words c.nesting.result limit c.is_canonical.result kind one c.is_canonical.ensures.exact
-          (subst (λ (l : ℕ). RejectsCanonicity m l limit kind) (sym c.nesting.ensures) unsaid);
+          (subst (λ (l : ℕ). CanonicityError m l limit kind) (sym c.nesting.ensures) unsaid);
       found = said_where_found m nesting limit c.is_canonical.result said;
-      stops = said_stops m nesting limit c.is_canonical.result said;
+      walk_error = said_error m nesting limit c.is_canonical.result said;
     }

@@ -1,9 +1,9 @@
 -- The bytes of a list of bytes in the pointer's segment are those of the pointer.
-use Rattle.capnp_wire.specs.Prelude.{IsData, DeclinesNumbers, pointer_of}
+use Rattle.capnp_wire.specs.Prelude.{IsData, NumbersFormError, pointer_of}
 use Rattle.capnp_wire.proofs.views.FormLemmas.{entered_view}
 use Rattle.capnp_wire.proofs.data.reader.RefSliceU8ObjectView.of_object.Goals as goal
 
 pub returns : goal.returns
 returns g c =
     let pointer = pointer_of g.S.ReaderSegments.segments c.args._reader.now in
-    entered_view pointer c.args.object.now (λ bytes form. IsData form bytes.now) (DeclinesNumbers 2) c.bytes_in.result c.requires c.bytes_in.ensures
+    entered_view pointer c.args.object.now (λ bytes form. IsData form bytes.now) (NumbersFormError 2) c.bytes_in.result c.requires c.bytes_in.ensures

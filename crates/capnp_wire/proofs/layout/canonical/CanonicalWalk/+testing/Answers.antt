@@ -4,11 +4,11 @@ use Rattle.capnp_layout.specs.Prelude.{words_of, places_in}
 use Rattle.capnp_layout.proofs.words.WordLemmas.{length-words_of}
 use Rattle.capnp_layout.proofs.objects.ElementLemmas.{all_words_below}
 use Rattle.capnp_frame.proofs.sources.AskLemmas.{passed_on}
-use Rattle.capnp_wire.proofs.walks.GoingLemmas.{null_passes, going_begins, going_next, going_ends, going_done, met_passes, pointers_pass, pointers_end, pointers_refused}
+use Rattle.capnp_wire.proofs.walks.GoingLemmas.{null_passes, going_begins, going_next, going_ends, going_done, met_passes, pointers_pass, pointers_end, pointers_error}
 use Rattle.capnp_wire.proofs.layout.canonical.CanonicalWalk.+testing.Goals as goal
 
-pub test-returns-in_err-visit-clause-refused : goal.test-returns-in_err-visit-clause-refused
-test-returns-in_err-visit-clause-refused g t c = passed_on _ _ c.from_residual.ensures.1 c.in_err-visit.ensures.refused
+pub test-returns-in_err-visit-clause-errors : goal.test-returns-in_err-visit-clause-errors
+test-returns-in_err-visit-clause-errors g t c = passed_on _ _ c.from_residual.ensures.1 c.in_err-visit.ensures.errors
 
 pub test-returns-in-Null-clause-passed : goal.test-returns-in-Null-clause-passed
 test-returns-in-Null-clause-passed g t c same =
@@ -36,9 +36,9 @@ pub test-returns-else-is_empty-clause-ended : goal.test-returns-else-is_empty-cl
 test-returns-else-is_empty-clause-ended g t c =
     pointers_end c.test_pointers.result (rw c.in-Pointers.is at c.in_ok-visit.ensures.found) c.test_pointers.ensures.ended
 
-pub test-returns-else-is_empty-clause-refused : goal.test-returns-else-is_empty-clause-refused
-test-returns-else-is_empty-clause-refused g t c =
-    pointers_refused c.test_pointers.result (rw c.in-Pointers.is at c.in_ok-visit.ensures.found) c.test_pointers.ensures.refused
+pub test-returns-else-is_empty-clause-errors : goal.test-returns-else-is_empty-clause-errors
+test-returns-else-is_empty-clause-errors g t c =
+    pointers_error c.test_pointers.result (rw c.in-Pointers.is at c.in_ok-visit.ensures.found) c.test_pointers.ensures.errors
 
 pub test_pointers-pointers-init : goal.test_pointers-pointers-init
 test_pointers-pointers-init g t c =
@@ -50,10 +50,10 @@ test_pointers-test-requires g t c κs lives =
     let so_far = c.pointers.invariant in
     (omega (arith, c.decreases), (lives, (c.requires.one, (omega (arith, so_far.2, c.take-place.ensures.within), omega (arith, so_far.0.passes.room, length-words_of c.args.segment.now)))))
 
-pub test_pointers-returns-in_err-test-clause-refused : goal.test_pointers-returns-in_err-test-clause-refused
-test_pointers-returns-in_err-test-clause-refused g t c =
+pub test_pointers-returns-in_err-test-clause-errors : goal.test_pointers-returns-in_err-test-clause-errors
+test_pointers-returns-in_err-test-clause-errors g t c =
     passed_on _ _ c.from_residual.ensures.1
-    (going_ends c.take-place.ensures.taken.places_are (c.take-place.ensures.segment ∙ c.pointers.invariant.1) c.pointers.invariant.0 c.in_err-test.ensures.refused)
+    (going_ends c.take-place.ensures.taken.places_are (c.take-place.ensures.segment ∙ c.pointers.invariant.1) c.pointers.invariant.0 c.in_err-test.ensures.errors)
 
 pub test_pointers-returns-then-not-branch-clause-ended : goal.test_pointers-returns-then-not-branch-clause-ended
 test_pointers-returns-then-not-branch-clause-ended g t c same =

@@ -7,11 +7,11 @@ use Rattle.capnp_frame.proofs.sources.AskLemmas.{passed_on}
 use Rattle.capnp_wire.proofs.walks.MetLemmas.{met, met_pointers, tests_say, limit_ends}
 use Rattle.capnp_wire.proofs.layout.canonical.CanonicalWalk.enter.Goals as goal
 
-pub returns-in_err-count_traversed-clause-refused : goal.returns-in_err-count_traversed-clause-refused
-returns-in_err-count_traversed-clause-refused c nesting deep =
+pub returns-in_err-count_traversed-clause-errors : goal.returns-in_err-count_traversed-clause-errors
+returns-in_err-count_traversed-clause-errors c nesting deep =
     let m = met (words_of c.args.segment.now) _ c.args.word nesting c.args.self.now.next c.args.pointer c.args.self.now.walk.left c.args.object.now refl
     c.requires.object (length-words_of c.args.object.now.segment.now) c.requires.there c.requires.not_far deep in
-    passed_on _ _ c.from_residual.ensures.1 (limit_ends _ m c.requires.not_far deep c.in_err-count_traversed.ensures.refused.0 c.in_err-count_traversed.ensures.refused.1)
+    passed_on _ _ c.from_residual.ensures.1 (limit_ends _ m c.requires.not_far deep c.in_err-count_traversed.ensures.errors.0 c.in_err-count_traversed.ensures.errors.1)
 
 pub returns-then-not-is_laid_out-clause-found : goal.returns-then-not-is_laid_out-clause-found
 returns-then-not-is_laid_out-clause-found c nesting deep =

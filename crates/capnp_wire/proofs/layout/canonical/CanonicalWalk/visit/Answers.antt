@@ -6,8 +6,8 @@ use Rattle.capnp_frame.proofs.sources.AskLemmas.{passed_on}
 use Rattle.capnp_wire.proofs.walks.MetLemmas.{no_word_ends}
 use Rattle.capnp_wire.proofs.layout.canonical.CanonicalWalk.visit.Goals as goal
 
-pub returns-in_err-pointer-clause-refused : goal.returns-in_err-pointer-clause-refused
-returns-in_err-pointer-clause-refused g c =
+pub returns-in_err-pointer-clause-errors : goal.returns-in_err-pointer-clause-errors
+returns-in_err-pointer-clause-errors g c =
     let words = words_of c.args.segment.now in
     passed_on _ _ c.from_residual.ensures.1 (no_word_ends words (words ∷ []) c.args.word c.args.nesting c.args.self.now.next c.args.self.now.walk.left _ refl
     (rw c.in_err-pointer.ensures.1 (past_segment refl c.in_err-pointer.ensures.0)))
@@ -30,8 +30,8 @@ enter-requires g c = record {
 pub returns-in-Some-clause-found : goal.returns-in-Some-clause-found
 returns-in-Some-clause-found g c = c.enter.ensures.found c.args.nesting (c.in-Some.ensures (words_of c.args.segment.now ∷ []) refl).1
 
-pub returns-in-Some-clause-refused : goal.returns-in-Some-clause-refused
-returns-in-Some-clause-refused g c = c.enter.ensures.refused c.args.nesting (c.in-Some.ensures (words_of c.args.segment.now ∷ []) refl).1
+pub returns-in-Some-clause-errors : goal.returns-in-Some-clause-errors
+returns-in-Some-clause-errors g c = c.enter.ensures.errors c.args.nesting (c.in-Some.ensures (words_of c.args.segment.now ∷ []) refl).1
 
 pub enter-requires-in-Some-local_list-clause-object : goal.enter-requires-in-Some-local_list-clause-object
 enter-requires-in-Some-local_list-clause-object g c = rw c.object-in-Some-local_list.ensures (c.in-Some-local_list.ensures (words_of c.args.segment.now ∷ []) refl).0
@@ -39,5 +39,5 @@ enter-requires-in-Some-local_list-clause-object g c = rw c.object-in-Some-local_
 pub returns-in-Some-local_list-clause-found : goal.returns-in-Some-local_list-clause-found
 returns-in-Some-local_list-clause-found g c = c.enter-in-Some-local_list.ensures.found c.args.nesting (c.in-Some-local_list.ensures (words_of c.args.segment.now ∷ []) refl).1
 
-pub returns-in-Some-local_list-clause-refused : goal.returns-in-Some-local_list-clause-refused
-returns-in-Some-local_list-clause-refused g c = c.enter-in-Some-local_list.ensures.refused c.args.nesting (c.in-Some-local_list.ensures (words_of c.args.segment.now ∷ []) refl).1
+pub returns-in-Some-local_list-clause-errors : goal.returns-in-Some-local_list-clause-errors
+returns-in-Some-local_list-clause-errors g c = c.enter-in-Some-local_list.ensures.errors c.args.nesting (c.in-Some-local_list.ensures (words_of c.args.segment.now ∷ []) refl).1

@@ -2,16 +2,16 @@
 use Rattle.std.proofs.Common.{◌≡◌, ◌<◌, List, [], ◌∷◌, Some, ℕ, refl, sym, subst}
 use Rattle.capnp_layout.specs.Prelude.{words_of, IsObject, word_at}
 use Rattle.capnp_frame.proofs.sources.AskLemmas.{passed_on}
-use Rattle.capnp_wire.proofs.walks.MetLemmas.{fault_ends}
+use Rattle.capnp_wire.proofs.walks.MetLemmas.{error_ends}
 use Rattle.capnp_wire.proofs.layout.canonical.CanonicalWalk.visit_object.Given as given
 use Rattle.capnp_wire.proofs.layout.canonical.CanonicalWalk.visit_object.Goals as goal
 use Rattle.capnp_wire.proofs.layout.canonical.CanonicalWalk.visit_object.Goals.{In-Some}
 
-pub returns-in_err-object-clause-refused : goal.returns-in_err-object-clause-refused
-returns-in_err-object-clause-refused g c =
+pub returns-in_err-object-clause-errors : goal.returns-in_err-object-clause-errors
+returns-in_err-object-clause-errors g c =
     let there = subst (λ (x : List (List ℕ)). word_at x (record { segment = 0; word = c.args.word }) ≡ Some c.args.pointer) (sym c.requires.one) c.requires.there in
-    passed_on _ _ c.from_residual.ensures.1 (fault_ends _ _ c.args.word c.args.nesting c.args.self.now.next c.args.pointer c.args.self.now.walk.left _ c.requires.one
-    there c.requires.not_far c.in_err-object.ensures.refused)
+    passed_on _ _ c.from_residual.ensures.1 (error_ends _ _ c.args.word c.args.nesting c.args.self.now.next c.args.pointer c.args.self.now.walk.left _ c.requires.one
+    there c.requires.not_far c.in_err-object.ensures.errors)
 
 pub returns-in_default-clause-found : goal.returns-in_default-clause-found
 returns-in_default-clause-found g c =
@@ -34,5 +34,5 @@ enter-requires g c = record {
 pub returns-clause-found : goal.returns-clause-found
 returns-clause-found g c = c.enter.ensures.found c.args.nesting (found_there g (goal.at.returns-clause-found g c).In-Some).1
 
-pub returns-clause-refused : goal.returns-clause-refused
-returns-clause-refused g c = c.enter.ensures.refused c.args.nesting (found_there g (goal.at.returns-clause-refused g c).In-Some).1
+pub returns-clause-errors : goal.returns-clause-errors
+returns-clause-errors g c = c.enter.ensures.errors c.args.nesting (found_there g (goal.at.returns-clause-errors g c).In-Some).1

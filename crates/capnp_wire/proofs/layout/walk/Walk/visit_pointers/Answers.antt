@@ -2,12 +2,12 @@
 use Rattle.std.proofs.Common.{◌∙◌}
 use Rattle.capnp_wire.proofs.pointers.LocalLemmas.{pointer_list_entered}
 use Rattle.capnp_frame.proofs.sources.AskLemmas.{passed_on}
-use Rattle.capnp_wire.proofs.walks.StopLemmas.{exceeds_stops}
+use Rattle.capnp_wire.proofs.walks.WalkErrorLemmas.{past_limit_error}
 use Rattle.capnp_wire.proofs.layout.walk.Walk.visit_pointers.Goals as goal
 
-pub returns-in_err-count_traversed-clause-refused : goal.returns-in_err-count_traversed-clause-refused
-returns-in_err-count_traversed-clause-refused c m place nesting is deep =
-    passed_on _ _ c.from_residual.ensures.1 (exceeds_stops m place _ nesting _ _ is.object deep c.in_err-count_traversed.ensures.refused.0 c.in_err-count_traversed.ensures.refused.1)
+pub returns-in_err-count_traversed-clause-errors : goal.returns-in_err-count_traversed-clause-errors
+returns-in_err-count_traversed-clause-errors c m place nesting is deep =
+    passed_on _ _ c.from_residual.ensures.1 (past_limit_error m place _ nesting _ _ is.object deep c.in_err-count_traversed.ensures.errors.0 c.in_err-count_traversed.ensures.errors.1)
 
 pub returns-clause-found : goal.returns-clause-found
 returns-clause-found c m canonical place nesting is deep =

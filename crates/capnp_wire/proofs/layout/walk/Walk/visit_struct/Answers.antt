@@ -6,14 +6,14 @@ use Rattle.capnp_layout.proofs.words.WordLemmas.{length-words_of}
 use Rattle.capnp_wire.proofs.pointers.LocalLemmas.{struct_enters}
 use Rattle.capnp_wire.proofs.pointers.NullRunLemmas.{nulls_walked}
 use Rattle.capnp_frame.proofs.sources.AskLemmas.{passed_on}
-use Rattle.capnp_wire.proofs.walks.StopLemmas.{exceeds_stops}
+use Rattle.capnp_wire.proofs.walks.WalkErrorLemmas.{past_limit_error}
 use Rattle.capnp_wire.proofs.walks.ProgressLemmas.{entered, walk_over}
 use Rattle.capnp_wire.proofs.layout.walk.Walk.visit_struct.Goals as goal
 
-pub returns-in_err-count_traversed-clause-refused : goal.returns-in_err-count_traversed-clause-refused
-returns-in_err-count_traversed-clause-refused c m place nesting is deep =
-    let refused = rw c.words.ensures at c.in_err-count_traversed.ensures.refused in
-    passed_on _ _ c.from_residual.ensures.1 (exceeds_stops m place _ nesting _ _ is.object deep refused.0 refused.1)
+pub returns-in_err-count_traversed-clause-errors : goal.returns-in_err-count_traversed-clause-errors
+returns-in_err-count_traversed-clause-errors c m place nesting is deep =
+    let errors = rw c.words.ensures at c.in_err-count_traversed.ensures.errors in
+    passed_on _ _ c.from_residual.ensures.1 (past_limit_error m place _ nesting _ _ is.object deep errors.0 errors.1)
 
 pub returns-clause-found : goal.returns-clause-found
 returns-clause-found c m place nesting is deep =

@@ -1,5 +1,5 @@
 -- The numbers of a list are those of the pointer.
-use Rattle.capnp_wire.specs.Prelude.{DeclinesNumbers, numbers_of, IsNumbers, pointer_of}
+use Rattle.capnp_wire.specs.Prelude.{NumbersFormError, numbers_of, IsNumbers, pointer_of}
 use Rattle.capnp_wire.proofs.views.FormLemmas.{entered_view}
 use Rattle.capnp_wire.proofs.primitive_list.reader.ReaderObjectView.of_object.Goals as goal
 
@@ -7,4 +7,4 @@ pub returns : goal.returns
 returns g c =
     let pointer = pointer_of g.S.ReaderSegments.segments c.args._reader.now in
     let code = g.T.PrimitiveElement.code in
-    entered_view pointer c.args.object.now (λ view form. IsNumbers code form (numbers_of code view)) (DeclinesNumbers code) c.in_object.result c.requires c.in_object.ensures
+    entered_view pointer c.args.object.now (λ view form. IsNumbers code form (numbers_of code view)) (NumbersFormError code) c.in_object.result c.requires c.in_object.ensures

@@ -1,6 +1,6 @@
 -- A list of structs is a view that decides which objects it accepts.
 use Rattle.std.proofs.Common.{refl}
-use Rattle.capnp_wire.specs.Prelude.{pointer_of, TakesStructs, DeclinesStructs, struct_list_of}
+use Rattle.capnp_wire.specs.Prelude.{pointer_of, TakesStructs, StructsFormError, struct_list_of}
 use Rattle.capnp_wire.proofs.pointers.OwnSegmentLemmas.{known_segment}
 use Rattle.capnp_wire.proofs.views.ViewLemmas.{is_view_of}
 use Rattle.capnp_wire.proofs.views.ListViewLemmas.{structs_decide, structs_accepted}
@@ -9,7 +9,7 @@ use Rattle.capnp_wire.proofs.struct_list.reader.ReaderFromPointerInSegment.get_f
 pub returns : goal.returns
 returns g c =
     let p = pointer_of g.S.ReaderSegments.segments c.args.reader in
-    is_view_of p TakesStructs DeclinesStructs _ structs_decide (λ view shown. structs_accepted p (struct_list_of g.S.ReaderSegments.segments view) shown) c.read.result c.read.ensures
+    is_view_of p TakesStructs StructsFormError _ structs_decide (λ view shown. structs_accepted p (struct_list_of g.S.ReaderSegments.segments view) shown) c.read.result c.read.ensures
 
 pub read-requires : goal.read-requires
 read-requires g c κs = ((refl, tt), known_segment (pointer_of g.S.ReaderSegments.segments c.args.reader) c.args.segment c.requires)

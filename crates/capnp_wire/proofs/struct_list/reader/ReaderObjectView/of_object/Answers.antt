@@ -1,6 +1,6 @@
 -- The elements of a list are those of the object, with one less of nesting depth left.
 use Rattle.std.proofs.Common.{inr, sym, subst}
-use Rattle.capnp_wire.specs.Prelude.{pointer_of, DeclinesStructs, IsStructList}
+use Rattle.capnp_wire.specs.Prelude.{pointer_of, StructsFormError, IsStructList}
 use Rattle.capnp_wire.proofs.views.FormLemmas.{entered_shows}
 use Rattle.capnp_wire.proofs.views.ListViewLemmas.{other_than_structs, structs_entered, few_structs}
 use Rattle.capnp_wire.proofs.struct_list.reader.ReaderObjectView.of_object.Goals as goal
@@ -9,7 +9,7 @@ pub returns-in_default : goal.returns-in_default
 returns-in_default g c =
     let p = pointer_of g.S.ReaderSegments.segments c.args.reader.now in
     let kind = c.wrong_kind.result.kind in
-    inr (entered_shows p c.args.object.now (λ form. DeclinesStructs form kind) c.requires
+    inr (entered_shows p c.args.object.now (λ form. StructsFormError form kind) c.requires
     (other_than_structs c.args.object.now kind c.in_default.ensures c.wrong_kind.ensures))
 
 pub returns : goal.returns

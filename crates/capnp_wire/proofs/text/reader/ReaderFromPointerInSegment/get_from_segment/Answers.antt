@@ -1,5 +1,5 @@
 -- `Text` is a view that decides which objects it accepts.
-use Rattle.capnp_wire.specs.Prelude.{DeclinesText, TakesText, pointer_of}
+use Rattle.capnp_wire.specs.Prelude.{TextFormError, TakesText, pointer_of}
 use Rattle.std.proofs.Common.{refl}
 use Rattle.capnp_wire.proofs.pointers.OwnSegmentLemmas.{known_segment}
 use Rattle.capnp_wire.proofs.views.ViewLemmas.{is_view_of, text_decides, text_accepted}
@@ -8,7 +8,7 @@ use Rattle.capnp_wire.proofs.text.reader.ReaderFromPointerInSegment.get_from_seg
 pub returns : goal.returns
 returns g c =
     let p = pointer_of g.S.ReaderSegments.segments c.args.reader in
-    is_view_of p TakesText DeclinesText _ text_decides (λ view shown. text_accepted p view.bytes.now shown) c.read.result c.read.ensures
+    is_view_of p TakesText TextFormError _ text_decides (λ view shown. text_accepted p view.bytes.now shown) c.read.result c.read.ensures
 
 pub read-requires : goal.read-requires
 read-requires g c κs = ((refl, tt), known_segment (pointer_of g.S.ReaderSegments.segments c.args.reader) c.args.segment c.requires)

@@ -1,9 +1,9 @@
 -- The text of a list of bytes is that of the pointer.
-use Rattle.capnp_wire.specs.Prelude.{IsText, DeclinesText, pointer_of}
+use Rattle.capnp_wire.specs.Prelude.{IsText, TextFormError, pointer_of}
 use Rattle.capnp_wire.proofs.views.FormLemmas.{entered_view}
 use Rattle.capnp_wire.proofs.text.reader.ReaderObjectView.of_object.Goals as goal
 
 pub returns : goal.returns
 returns g c =
     let pointer = pointer_of g.S.ReaderSegments.segments c.args._reader.now in
-    entered_view pointer c.args.object.now (λ view form. IsText form view.bytes.now) DeclinesText c.text_in.result c.requires c.text_in.ensures
+    entered_view pointer c.args.object.now (λ view form. IsText form view.bytes.now) TextFormError c.text_in.result c.requires c.text_in.ensures

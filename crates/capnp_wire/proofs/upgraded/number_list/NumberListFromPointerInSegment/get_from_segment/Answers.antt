@@ -1,6 +1,6 @@
 -- A list of numbers is a view that decides which objects it accepts.
 use Rattle.std.proofs.Common.{refl}
-use Rattle.capnp_wire.specs.Prelude.{pointer_of, TakesFields, DeclinesFields, upgraded_numbers_of}
+use Rattle.capnp_wire.specs.Prelude.{pointer_of, TakesFields, FieldsFormError, upgraded_numbers_of}
 use Rattle.capnp_wire.proofs.pointers.OwnSegmentLemmas.{known_segment}
 use Rattle.capnp_wire.proofs.views.ViewLemmas.{is_view_of}
 use Rattle.capnp_wire.proofs.views.UpgradedNumberLemmas.{fields_decide, fields_accepted}
@@ -10,7 +10,7 @@ pub returns : goal.returns
 returns g c =
     let p = pointer_of g.S.ReaderSegments.segments c.args.reader in
     let code = g.T.PrimitiveElement.code in
-    is_view_of p (TakesFields code) (DeclinesFields code) _ (fields_decide code) (λ view shown. fields_accepted p code (upgraded_numbers_of code view) shown) c.read.result c.read.ensures
+    is_view_of p (TakesFields code) (FieldsFormError code) _ (fields_decide code) (λ view shown. fields_accepted p code (upgraded_numbers_of code view) shown) c.read.result c.read.ensures
 
 pub read-requires : goal.read-requires
 read-requires g c κs = ((refl, tt), known_segment (pointer_of g.S.ReaderSegments.segments c.args.reader) c.args.segment c.requires)

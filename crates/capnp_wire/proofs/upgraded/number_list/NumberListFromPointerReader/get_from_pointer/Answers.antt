@@ -1,5 +1,5 @@
 -- A list of numbers is a view that decides which objects it accepts.
-use Rattle.capnp_wire.specs.Prelude.{pointer_of, TakesFields, DeclinesFields, upgraded_numbers_of}
+use Rattle.capnp_wire.specs.Prelude.{pointer_of, TakesFields, FieldsFormError, upgraded_numbers_of}
 use Rattle.capnp_wire.proofs.views.ViewLemmas.{is_view_of}
 use Rattle.capnp_wire.proofs.views.UpgradedNumberLemmas.{fields_decide, fields_accepted}
 use Rattle.capnp_wire.proofs.upgraded.number_list.NumberListFromPointerReader.get_from_pointer.Goals as goal
@@ -8,4 +8,4 @@ pub returns : goal.returns
 returns g c =
     let p = pointer_of g.S.ReaderSegments.segments c.args.reader in
     let code = g.T.PrimitiveElement.code in
-    is_view_of p (TakesFields code) (DeclinesFields code) _ (fields_decide code) (λ view shown. fields_accepted p code (upgraded_numbers_of code view) shown) c.read.result c.read.ensures
+    is_view_of p (TakesFields code) (FieldsFormError code) _ (fields_decide code) (λ view shown. fields_accepted p code (upgraded_numbers_of code view) shown) c.read.result c.read.ensures

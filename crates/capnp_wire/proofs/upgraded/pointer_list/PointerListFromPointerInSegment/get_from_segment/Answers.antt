@@ -1,6 +1,6 @@
 -- A list of pointers is a view that decides which objects it accepts.
 use Rattle.std.proofs.Common.{refl}
-use Rattle.capnp_wire.specs.Prelude.{pointer_of, TakesFirstPointers, DeclinesFirstPointers, upgraded_pointers_of}
+use Rattle.capnp_wire.specs.Prelude.{pointer_of, TakesFirstPointers, FirstPointersFormError, upgraded_pointers_of}
 use Rattle.capnp_wire.proofs.pointers.OwnSegmentLemmas.{known_segment}
 use Rattle.capnp_wire.proofs.views.ViewLemmas.{is_view_of}
 use Rattle.capnp_wire.proofs.views.UpgradedPointerLemmas.{first_pointers_decide, first_pointers_accepted}
@@ -9,7 +9,7 @@ use Rattle.capnp_wire.proofs.upgraded.pointer_list.PointerListFromPointerInSegme
 pub returns : goal.returns
 returns g c =
     let p = pointer_of g.S.ReaderSegments.segments c.args.reader in
-    is_view_of p TakesFirstPointers DeclinesFirstPointers _ first_pointers_decide (λ view shown. first_pointers_accepted p (upgraded_pointers_of g.S.ReaderSegments.segments view) shown) c.read.result c.read.ensures
+    is_view_of p TakesFirstPointers FirstPointersFormError _ first_pointers_decide (λ view shown. first_pointers_accepted p (upgraded_pointers_of g.S.ReaderSegments.segments view) shown) c.read.result c.read.ensures
 
 pub read-requires : goal.read-requires
 read-requires g c κs = ((refl, tt), known_segment (pointer_of g.S.ReaderSegments.segments c.args.reader) c.args.segment c.requires)

@@ -1,5 +1,5 @@
 -- A list of pointers is a view that decides which objects it accepts.
-use Rattle.capnp_wire.specs.Prelude.{pointer_of, TakesFirstPointers, DeclinesFirstPointers, upgraded_pointers_of}
+use Rattle.capnp_wire.specs.Prelude.{pointer_of, TakesFirstPointers, FirstPointersFormError, upgraded_pointers_of}
 use Rattle.capnp_wire.proofs.views.ViewLemmas.{is_view_of}
 use Rattle.capnp_wire.proofs.views.UpgradedPointerLemmas.{first_pointers_decide, first_pointers_accepted}
 use Rattle.capnp_wire.proofs.upgraded.pointer_list.PointerListFromPointerReader.get_from_pointer.Goals as goal
@@ -7,4 +7,4 @@ use Rattle.capnp_wire.proofs.upgraded.pointer_list.PointerListFromPointerReader.
 pub returns : goal.returns
 returns g c =
     let p = pointer_of g.S.ReaderSegments.segments c.args.reader in
-    is_view_of p TakesFirstPointers DeclinesFirstPointers _ first_pointers_decide (λ view shown. first_pointers_accepted p (upgraded_pointers_of g.S.ReaderSegments.segments view) shown) c.read.result c.read.ensures
+    is_view_of p TakesFirstPointers FirstPointersFormError _ first_pointers_decide (λ view shown. first_pointers_accepted p (upgraded_pointers_of g.S.ReaderSegments.segments view) shown) c.read.result c.read.ensures

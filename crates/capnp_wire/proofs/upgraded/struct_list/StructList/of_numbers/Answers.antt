@@ -4,7 +4,7 @@ use Rattle.capnp_layout.specs.Prelude.{code_of, width, words_of, elements}
 use Rattle.capnp_wire.specs.Prelude.{pointer_of, StructList, number_row}
 use Rattle.capnp_layout.specs.declared.element_size.ElementSize.{ElementSize}
 use Rattle.capnp_layout.specs.declared.object.Body.TheVariants.{Numbers}
-use Rattle.capnp_wire.proofs.views.UpgradedRowLemmas.{nothings_upgraded, numbers_upgraded, bits_declined, one_bit, no_bit, other_than_bits}
+use Rattle.capnp_wire.proofs.views.UpgradedRowLemmas.{nothings_upgraded, numbers_upgraded, bits_form_error, one_bit, no_bit, other_than_bits}
 use Rattle.capnp_wire.proofs.views.ListViewLemmas.{few_numbers}
 use Rattle.capnp_wire.proofs.upgraded.struct_list.StructList.of_numbers.Goals as goal
 
@@ -12,7 +12,7 @@ pub returns-then-bits-eq1 : goal.returns-then-bits-eq1
 returns-then-bits-eq1 g c =
     let p = pointer_of g.S.ReaderSegments.segments c.args.reader.now in
     let size = one_bit c.args.size (sym c.bits-bits.ensures.bits ∙ c.if-bits-eq1.true) in
-    bits_declined p c.args.object.now c.args.count _ c.requires.entered (c.requires.numbers ∙ ap (λ (s : ElementSize). Numbers s c.args.count) size) c.wrong_kind.ensures
+    bits_form_error p c.args.object.now c.args.count _ c.requires.entered (c.requires.numbers ∙ ap (λ (s : ElementSize). Numbers s c.args.count) size) c.wrong_kind.ensures
 
 pub returns-then-bits-eq0 : goal.returns-then-bits-eq0
 returns-then-bits-eq0 g c =

@@ -1,7 +1,7 @@
 -- The elements are those of the object, by its kind.
 use Rattle.std.proofs.Common.{arith}
 use Rattle.capnp_wire.specs.Prelude.{pointer_of}
-use Rattle.capnp_wire.proofs.views.UpgradedRowLemmas.{structs_upgraded, pointers_upgraded, struct_declined}
+use Rattle.capnp_wire.proofs.views.UpgradedRowLemmas.{structs_upgraded, pointers_upgraded, struct_form_error}
 use Rattle.capnp_wire.proofs.views.ListViewLemmas.{few_structs, few_pointers}
 use Rattle.capnp_wire.proofs.upgraded.struct_list.StructListObjectView.of_object.Goals as goal
 
@@ -18,7 +18,7 @@ returns-in-Pointers g c =
 pub returns-in-Struct : goal.returns-in-Struct
 returns-in-Struct g c =
     let p = pointer_of g.S.ReaderSegments.segments c.args.reader.now in
-    struct_declined p c.args.object.now c.in-Struct.field-0 _ c.requires c.in-Struct.is c.wrong_kind.ensures
+    struct_form_error p c.args.object.now c.in-Struct.field-0 _ c.requires c.in-Struct.is c.wrong_kind.ensures
 
 pub in_place-requires-clause-few : goal.in_place-requires-clause-few
 in_place-requires-clause-few g c =

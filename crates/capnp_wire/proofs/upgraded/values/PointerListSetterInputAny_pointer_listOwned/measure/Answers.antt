@@ -1,6 +1,6 @@
 -- The words of a list that is read as a list of pointers are those of its tree.
 use Rattle.std.proofs.Common.{rules}
-use Rattle.capnp_wire.specs.Prelude.{IsPointerListValue, RefusesPointerList}
+use Rattle.capnp_wire.specs.Prelude.{IsPointerListValue, PointerListValueError}
 use Rattle.capnp_wire.proofs.views.OneValueLemmas.{measured_found, measured_exactly}
 use Rattle.capnp_wire.proofs.views.UpgradedValueLemmas.{one_of_pointers}
 use Rattle.capnp_wire.proofs.upgraded.values.PointerListSetterInputAny_pointer_listOwned.measure.Goals as goal
@@ -12,10 +12,10 @@ pub returns-in-Some-clause-found : goal.returns-in-Some-clause-found
 returns-in-Some-clause-found g c =
     let segments = g.S.ReaderSegments.segments in
     let list = c.args.self.now in
-    measured_found (IsPointerListValue segments list) (RefusesPointerList segments list) (one_of_pointers segments list) c.args.canonical c.measure.result (returns-in-Some-clause-returned g c)
+    measured_found (IsPointerListValue segments list) (PointerListValueError segments list) (one_of_pointers segments list) c.args.canonical c.measure.result (returns-in-Some-clause-returned g c)
 
 pub returns-in-Some-clause-exact : goal.returns-in-Some-clause-exact
 returns-in-Some-clause-exact g c =
     let segments = g.S.ReaderSegments.segments in
     let list = c.args.self.now in
-    measured_exactly (IsPointerListValue segments list) (RefusesPointerList segments list) (one_of_pointers segments list) c.args.canonical c.measure.result (returns-in-Some-clause-returned g c)
+    measured_exactly (IsPointerListValue segments list) (PointerListValueError segments list) (one_of_pointers segments list) c.args.canonical c.measure.result (returns-in-Some-clause-returned g c)

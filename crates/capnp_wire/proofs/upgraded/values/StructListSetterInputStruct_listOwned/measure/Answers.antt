@@ -1,6 +1,6 @@
 -- The words of a list that is read as a list of structs are those of its tree.
 use Rattle.capnp_layout.specs.Prelude.{words_of}
-use Rattle.capnp_wire.specs.Prelude.{IsRowsValue, RefusesRows}
+use Rattle.capnp_wire.specs.Prelude.{IsRowsValue, ElementsValueError}
 use Rattle.capnp_wire.proofs.views.OneValueLemmas.{measured_found, measured_exactly}
 use Rattle.capnp_wire.proofs.views.NumberValueLemmas.{numbers_measured}
 use Rattle.capnp_wire.proofs.views.UpgradedValueLemmas.{one_of_rows}
@@ -18,10 +18,10 @@ pub returns-in-Numbers-clause-found : goal.returns-in-Numbers-clause-found
 returns-in-Numbers-clause-found g c =
     let segments = g.S.ReaderSegments.segments in
     let rows = c.args.self.now.rows in
-    measured_found (IsRowsValue segments rows) (RefusesRows segments rows) (one_of_rows segments rows) c.args.canonical c.measure_numbers.result (returns-in-Numbers-clause-returned g c)
+    measured_found (IsRowsValue segments rows) (ElementsValueError segments rows) (one_of_rows segments rows) c.args.canonical c.measure_numbers.result (returns-in-Numbers-clause-returned g c)
 
 pub returns-in-Numbers-clause-exact : goal.returns-in-Numbers-clause-exact
 returns-in-Numbers-clause-exact g c =
     let segments = g.S.ReaderSegments.segments in
     let rows = c.args.self.now.rows in
-    measured_exactly (IsRowsValue segments rows) (RefusesRows segments rows) (one_of_rows segments rows) c.args.canonical c.measure_numbers.result (returns-in-Numbers-clause-returned g c)
+    measured_exactly (IsRowsValue segments rows) (ElementsValueError segments rows) (one_of_rows segments rows) c.args.canonical c.measure_numbers.result (returns-in-Numbers-clause-returned g c)

@@ -1,0 +1,15 @@
+-- What is shown is a front of what is unread.
+use Rattle.std.proofs.Common.{refl, le_refl}
+use Rattle.capnp_pack.proofs.unpacking.Shown.{front_taken, none_shown}
+use Rattle.capnp_frame_tests.proofs.sources.FailingBufRead.fill_buf.Goals as goal
+
+pub returns : goal.returns
+returns c = (
+  (refl, λ _. tt, record { kept = refl; shows = refl; failed = tt; counted = le_refl c.args.self.now.failures; same_source = tt }),
+  record {
+    front = front_taken _ _;
+    end = none_shown _ _ _ c.min-self.ensures c.args.self.now.source.some;
+    plain = tt;
+    after_borrow = tt;
+  },
+)

@@ -1,0 +1,232 @@
+//! A sink that fails at its nth chunk, and a caller-provided slice that is too short.
+use crate::assertions::{At, assert_bytes, assert_calls, assert_count, assert_holds, assert_kind};
+use crate::framing::{text_of, write, write_packed};
+use crate::messages::{MESSAGES, Message};
+use crate::packing::pack;
+use crate::parts::{PARTS, Parts};
+use crate::errors::kind_of;
+use crate::retried;
+use crate::sinks::FailingSink;
+use capnp_frame::{ErrorKind, Result};
+use std::alloc::{AllocError, Global};
+use std::process::Abort;
+
+// A message, and how many bytes are written before each of its chunks, and after the last.
+type Chunks = (&'static str, &'static [&'static [u8]], &'static [usize]);
+
+#[rattlefmt::skip]
+const CHUNKS: [Chunks; 6] = [
+    ("segments of 1 and 3 words", &[&[1; 8], &[2; 24]], &[0, 8, 16, 24, 48]),
+    ("a segment of 3 words", &[&[1; 24]], &[0, 8, 32]),
+    ("an empty segment", &[&[]], &[0, 8, 8]),
+    ("two-segments", &[&[], &[1, 2, 3, 4, 5, 6, 7, 8]], &[0, 8, 16, 16, 24]),
+    ("three segments of 1 word", &[&[1; 8], &[2; 8], &[3; 8]], &[0, 8, 16, 24, 32, 40]),
+    ("packed-five", &[&[0; 8], &[], &[], &[], &[]], &[0, 8, 24, 32, 32, 32, 32, 32]),
+];
+
+// What is written already.
+const FRONT: [u8; 3] = [0xff, 0, 7];
+
+// It takes what comes after the chunk that fails, so that a writer that goes on leaves a hole.
+fn sink_that_fails(alloc: Global, fails_at: u64) -> std::result::Result<FailingSink, AllocError> {
+    Ok(FailingSink::new(FRONT.to_vec(alloc)?, fails_at))
+}
+
+// What is written after what was written already.
+fn written(sink: &FailingSink) -> &[u8] {
+    sink.written
+        .as_slice()
+        .strip_prefix(&FRONT)
+        .unwrap_or(&[1; 99])
+}
+
+// Whether the sink took each chunk. A growth that failed is handed back.
+fn is_taken(rt: &impl Abort, returned: Result<()>, at: At<'_>) -> Result<bool> {
+    let error = kind_of(returned)?;
+    assert_holds(
+        rt,
+        error.is_none() || error == Some(ErrorKind::DeviceFailed),
+        at,
+    );
+    Ok(error.is_none())
+}
+
+#[test]
+fn whole_chunks_are_written(rt: HostRuntime) -> Result<()> {
+    for row in &CHUNKS {
+        write_to_each(&rt, row)?;
+        write_into_each(&rt, row)?;
+    }
+    Ok(())
+}
+
+fn write_to_each(rt: &(impl Abort + AllocGlobal), row: &Chunks) -> Result<()> {
+    let &(name, segments, ends) = row;
+    for (number, end) in (1..).zip(ends) {
+        retried!(write_to(rt, segments, ends.len(), *end, At::new(name, number)))?;
+    }
+    Ok(())
+}
+
+// The first run that meets no failure fails at a call after the last.
+fn write_to(
+    rt: &(impl Abort + AllocGlobal),
+    segments: &[&[u8]],
+    ends: usize,
+    end: usize,
+    at: At<'_>,
+) -> Result<()> {
+    let chunks = (ends as u64).saturating_sub(1);
+    let text = text_of(rt, segments)?;
+    let mut sink = sink_that_fails(rt.alloc(), at.number)?;
+    let returned = write(rt, &mut sink, segments);
+    let is_whole = is_taken(rt, returned, at)?;
+    assert_holds(rt, is_whole == (at.number > chunks), at);
+    assert_calls(rt, sink.failures, u64::from(!is_whole), at);
+    assert_calls(rt, sink.calls, at.number.min(chunks), at);
+    let written = written(&sink);
+    assert_count(rt, written.len(), end, at);
+    assert_bytes(rt, written, text.get(..end).unwrap_or(&[]), at);
+    Ok(())
+}
+
+#[test]
+fn packed_texts_before_the_error(rt: HostRuntime) -> Result<()> {
+    for message in &MESSAGES {
+        let mut calls = 0;
+        for fails_at in 1..=64 {
+            if retried!(pack_message_to(&rt, message, fails_at))? {
+                calls = fails_at;
+                break;
+            }
+        }
+        assert_holds(&rt, calls > 1, At::row(message.name));
+    }
+    Ok(())
+}
+
+fn pack_message_to(
+    rt: &(impl Abort + AllocGlobal),
+    message: &Message,
+    fails_at: u64,
+) -> Result<bool> {
+    let mut sink = sink_that_fails(rt.alloc(), fails_at)?;
+    let returned = write_packed(rt, &mut sink, message.segments);
+    let at = At::new(message.name, fails_at);
+    is_front(rt, returned, &sink, message.packed, at)
+}
+
+#[test]
+fn parts_of_chunks_before_the_error(rt: HostRuntime) -> Result<()> {
+    for row in &PARTS {
+        let mut calls = 0;
+        for fails_at in 1..=16 {
+            if retried!(pack_to(&rt, row, fails_at))? {
+                calls = fails_at;
+                break;
+            }
+        }
+        assert_holds(&rt, calls > row.parts, At::row(row.name));
+    }
+    Ok(())
+}
+
+fn pack_to(rt: &(impl Abort + AllocGlobal), row: &Parts, fails_at: u64) -> Result<bool> {
+    let mut sink = sink_that_fails(rt.alloc(), fails_at)?;
+    let returned = pack(&mut sink, &[row.words.as_flattened()]);
+    is_front(rt, returned, &sink, row.text, At::new(row.name, fails_at))
+}
+
+// Whether the run meets no failure. What was written stays at the front, and a front of the encoding
+// is after it, which is not the whole.
+fn is_front(
+    rt: &impl Abort,
+    returned: Result<()>,
+    sink: &FailingSink,
+    text: &[u8],
+    at: At<'_>,
+) -> Result<bool> {
+    let written = written(sink);
+    let is_whole = is_taken(rt, returned, at)?;
+    if is_whole {
+        assert_bytes(rt, written, text, at);
+        assert_calls(rt, sink.failures, 0, at);
+        return Ok(true);
+    }
+    assert_holds(
+        rt,
+        text.starts_with(written) && written.len() < text.len(),
+        at,
+    );
+    assert_holds(rt, written.is_empty() == (at.number == 1), at);
+    assert_calls(rt, sink.failures, 1, at);
+    assert_calls(rt, sink.calls, at.number, at);
+    Ok(false)
+}
+
+// A caller-provided slice takes the chunks that it has room for, and is unchanged after them.
+fn write_into_each(rt: &(impl Abort + AllocGlobal), row: &Chunks) -> Result<()> {
+    let &(name, segments, ends) = row;
+    for room in 0..=64 {
+        retried!(write_into(rt, segments, ends, room, At::new(name, room as u64)))?;
+    }
+    Ok(())
+}
+
+// How many bytes the chunks that fit take, and how many all of them.
+fn fitting(ends: &[usize], room: usize) -> (usize, usize) {
+    let mut fits = 0;
+    let mut whole = 0;
+    for end in ends {
+        if *end <= room {
+            fits = *end;
+        }
+        whole = *end;
+    }
+    (fits, whole)
+}
+
+fn write_into(
+    rt: &(impl Abort + AllocGlobal),
+    segments: &[&[u8]],
+    ends: &[usize],
+    room: usize,
+    at: At<'_>,
+) -> Result<()> {
+    let (fits, whole) = fitting(ends, room);
+    let mut space = [9; 64];
+    let (returned, left) = fill(rt, segments, &mut space[..room.min(64)])?;
+    let failed = if room < whole {
+        Some(ErrorKind::BufferNotLargeEnough)
+    } else {
+        None
+    };
+    assert_kind(rt, returned, failed, at);
+    assert_holds(rt, failed.is_some() || fits == whole, at);
+    assert_count(rt, left, room.saturating_sub(fits), at);
+    let text = text_of(rt, segments)?;
+    let front = text.get(..fits).unwrap_or(&[]);
+    assert_count(rt, front.len(), fits, at);
+    assert_filled(rt, &space, front, at);
+    Ok(())
+}
+
+// The error, and how many bytes are left of the slice.
+fn fill(
+    rt: &(impl Abort + AllocGlobal),
+    segments: &[&[u8]],
+    space: &mut [u8],
+) -> Result<(Option<ErrorKind>, usize)> {
+    let mut sink: &mut [u8] = space;
+    let returned = write(rt, &mut sink, segments);
+    let left = sink.len();
+    Ok((kind_of(returned)?, left))
+}
+
+// The slice begins with these bytes, and stays as it was after them.
+fn assert_filled(rt: &impl Abort, space: &[u8; 64], front: &[u8], at: At<'_>) {
+    let Some(rest) = space.as_slice().strip_prefix(front) else {
+        panic!(rt; "{space:?} at {}", at.row);
+    };
+    assert_bytes(rt, rest, &[9; 64][..rest.len().min(64)], at);
+}

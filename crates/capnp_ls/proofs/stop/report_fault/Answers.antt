@@ -1,9 +1,0 @@
--- Where there is no memory for the line, nothing is written.
-use Rattle.std.proofs.Common.{List, ℕ}
-use Rattle.capnp_ls.specs.Stop.{IsFaultLine}
-use Rattle.capnp_ls.proofs.LineLemmas.{none_left}
-use Rattle.capnp_ls.proofs.stop.report_fault.Goals as goal
-
-pub returns-in_err-line-clause-left : goal.returns-in_err-line-clause-left
-returns-in_err-line-clause-left g c =
-    none_left (λ part. (line : List ℕ) × IsFaultLine c.args.name.now line × g.W.Write.leaves line part) c.from_residual.result (g.W.Write.written c.args.sink.now)
